@@ -1,0 +1,10 @@
+-- The laws of the definitions of specs/, for any element.
+pub mod Choice
+pub mod All
+pub mod Sum
+pub mod Store
+pub mod Parts
+pub mod Views
+pub mod Concat
+pub mod Distinct
+pub mod Pairs
