@@ -1,0 +1,2 @@
+-- The machine's controls in terms of the rules.
+pub mod View
