@@ -215,10 +215,11 @@ op27 = do
   n ← word
   cs ← many patch n
   give (
-    let t = swizzle m output p (l .state .next) in
-    reply (swizzleRefusal imageRoom (l .room) (l .state) m output p)
-    (logOut (l .state) t ++ drivings (t .value) ++ asList (map (patchRefusal (swizzleLaid m p)) cs)
-    ++ asList (patched (swizzleLaid m p) cs (swizzleImage m p))))
+      let t = swizzle m output p (l .state .next) in
+      reply (swizzleRefusal imageRoom (l .room) (l .state) m output p)
+      (logOut (l .state) t ++ drivings (t .value) ++ asList (map (patchRefusal (swizzleLaid m p)) cs)
+      ++ asList (patched (swizzleLaid m p) cs (swizzleImage m p))))
+
 unfoldable pub op28 : Reader (List ℕ)
 op28 = do
   m ← memory
@@ -249,8 +250,8 @@ swizzleStep h = do
   output ← list
   p ← plan
   give (
-    let n = swizzleRefusal imageRoom (l .room) (l .state) m output p in
-    record { number = n; held = if eqb n 0 then record { laid = swizzleLaid m p; image = swizzleImage m p } else h })
+      let n = swizzleRefusal imageRoom (l .room) (l .state) m output p in
+      record { number = n; held = if eqb n 0 then record { laid = swizzleLaid m p; image = swizzleImage m p } else h })
 
 unfoldable pub fallbackStep : Held → Reader Stepped
 fallbackStep h = do
@@ -299,9 +300,9 @@ op32 = do
   room ← word
   bytes ← list
   give (
-    let z = headSizes bytes in
-    reply (readRecordRefusal room bytes)
-    (z .unit ∷ z .full ∷ z .fullDepth ∷ z .partial ∷ z .partialDepth ∷ asList (decodeImage bytes)))
+      let z = headSizes bytes in
+      reply (readRecordRefusal room bytes)
+      (z .unit ∷ z .full ∷ z .fullDepth ∷ z .partial ∷ z .partialDepth ∷ asList (decodeImage bytes)))
 
 unfoldable pub op33 : Reader (List ℕ)
 op33 = do
