@@ -13,3 +13,4 @@ pub mod Bits
 pub mod Records
 pub mod Written
 pub mod Answers
+pub mod Leaves
