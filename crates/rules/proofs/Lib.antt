@@ -12,3 +12,5 @@ pub mod Accepts
 pub mod Bits
 pub mod Records
 pub mod Written
+pub mod Answers
+pub mod Leaves

@@ -1,0 +1,3 @@
+-- Laws that several needs cite.
+pub mod Stores
+pub mod Selects
