@@ -1,0 +1,2 @@
+//! The oracle's program.
+fn main() {}
