@@ -14,6 +14,8 @@ pub struct Run {
     pub ops: Vec<u32>,
     pub max_case: usize,
     pub max_answer: usize,
+    /// Where a differing case is written to.
+    pub keep: Option<String>,
     /// The other program and its arguments; none: the oracle alone.
     pub program: Vec<String>,
 }
@@ -27,6 +29,7 @@ impl Run {
             ops: vec![],
             max_case: usize::MAX,
             max_answer: usize::MAX,
+            keep: None,
             program: vec![],
         };
         let mut given = given.iter();
@@ -39,6 +42,7 @@ impl Run {
                 "--max-answer" => run.max_answer = given.next()?.parse().ok()?,
                 "--small" => run.source = Source::Small,
                 "--cases" => run.source = Source::File(given.next()?.to_string()),
+                "--keep" => run.keep = Some(given.next()?.to_string()),
                 "--" => run.program = given.by_ref().map(|part| part.to_string()).collect(),
                 _ => return None,
             }

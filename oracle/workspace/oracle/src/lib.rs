@@ -5,6 +5,7 @@ pub mod cases;
 pub mod closed;
 pub mod compare;
 mod convert;
+mod features;
 pub mod image;
 pub mod limits;
 mod parts;

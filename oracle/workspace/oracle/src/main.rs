@@ -26,6 +26,7 @@ oracle run [OPTION..] [-- PROGRAM [ARG..]]
     --seed S --count N --ops OP,OP,..  which random cases (1, 10000, all)
     --small | --cases FILE             those of gen-small, or of a file, instead
     --max-case WORDS --max-answer WORDS  leaves out larger cases
+    --keep FILE                        writes a differing case and its smaller variant there
 status 0 equal; 1 a difference; 2 wrong call or file; 5 a finding on the oracle's own side
 ";
 
@@ -164,7 +165,14 @@ fn run_all(run: &Run) -> io::Result<u8> {
     match difference {
         Some(difference) => {
             tell("difference", &difference);
-            tell("made smaller", &program.shrink(difference)?);
+            let first = difference.case.clone();
+            let smaller = program.shrink(difference)?;
+            tell("made smaller", &smaller);
+            if let Some(file) = &run.keep {
+                let mut file = File::create(file)?;
+                write_block(&mut file, &first)?;
+                write_block(&mut file, &smaller.case)?;
+            }
             Ok(DIFFERENT)
         }
         None if findings != 0 => Ok(FOUND),
@@ -172,12 +180,27 @@ fn run_all(run: &Run) -> io::Result<u8> {
     }
 }
 
+/// The first lines of a text, none of them longer than a screen is wide.
+fn head(text: &str) -> String {
+    const LINES: usize = 60;
+    const LETTERS: usize = 200;
+    let cut = |line: &str| match line.char_indices().nth(LETTERS) {
+        Some((end, _)) => format!("{} ..\n", &line[..end]),
+        None => format!("{line}\n"),
+    };
+    let more = text.lines().count().saturating_sub(LINES);
+    let lines: String = text.lines().take(LINES).map(cut).collect();
+    if more == 0 { lines } else { format!("{lines}  .. and {more} lines more\n") }
+}
+
 fn tell(what: &str, difference: &Difference) {
     let Difference { case, oracle, other } = difference;
-    println!("\n== {what}\n{}", show::case(case));
-    println!("oracle: {}", show::answer(case[0], oracle));
-    println!("other: {}", show::answer(case[0], other));
+    println!("\n== {what}\n{}", head(&show::case(case)));
+    println!("oracle: {}", head(&show::answer(case[0], oracle)));
+    println!("other: {}", head(&show::answer(case[0], other)));
     let place = oracle.iter().zip(other).position(|(a, b)| a != b).unwrap_or(oracle.len().min(other.len()));
     println!("first differing word: {place}, {} and {}", word(oracle, place), word(other, place));
-    println!("case words: {case:?}");
+    if case.len() < 1_000 {
+        println!("case words: {case:?}");
+    }
 }

@@ -6,7 +6,7 @@ use crate::wire::*;
 /// Calls that have less of something than this one.
 pub fn smaller(call: &Call) -> Vec<Call> {
     let mut calls = shorter_lists(call);
-    for change in [halve_depth, no_init, shorter_addresses, narrower_ports, unclocked, fewer_entries, plain_log] {
+    for change in [halve_depth, no_init, shorter_addresses, narrower_ports, unclocked, fewer_entries, no_soft_bits, plain_log] {
         calls.extend(changed(call, change));
     }
     calls.extend(fewer_ports(call));
@@ -117,6 +117,12 @@ fn fewer_entries(call: &mut Call) {
         && let Some(place) = plan.entries.iter().rposition(|&entry| entry == NONE)
     {
         plan.entries.remove(place);
+    }
+}
+
+fn no_soft_bits(call: &mut Call) {
+    if let Some(plan) = call.plan_mut() {
+        plan.soft_mask = 0;
     }
 }
 

@@ -3,7 +3,8 @@
 use std::collections::BTreeMap;
 use std::fmt;
 
-use crate::wire::{Memory, Value, Wire, Words, name};
+use crate::features;
+use crate::wire::{Call, Memory, Value, Wire, Words, name};
 
 #[derive(Default)]
 pub struct Stats {
@@ -11,6 +12,8 @@ pub struct Stats {
     cases: BTreeMap<u32, BTreeMap<u32, u64>>,
     /// Patches of op 27, steps of op 30 and records that op 33 lists, by number.
     parts: BTreeMap<u32, BTreeMap<u32, u64>>,
+    /// Accepted calls by what they show.
+    features: BTreeMap<String, u64>,
 }
 
 impl Stats {
@@ -20,6 +23,9 @@ impl Stats {
         if number == 0 {
             for part in parts(op, &answer[2..]).unwrap_or_default() {
                 *self.parts.entry(op).or_default().entry(part).or_default() += 1;
+            }
+            for feature in Call::from_case(case).map(|mut call| features::of(&mut call)).unwrap_or_default() {
+                *self.features.entry(feature).or_default() += 1;
             }
         }
     }
@@ -40,7 +46,7 @@ impl Stats {
 }
 
 /// The numbers inside an accepted answer.
-fn parts(op: u32, payload: &[u32]) -> Option<Vec<u32>> {
+pub fn parts(op: u32, payload: &[u32]) -> Option<Vec<u32>> {
     let mut words = Words(payload);
     match op {
         27 => {
@@ -79,6 +85,7 @@ impl fmt::Display for Stats {
                 line(f, format!("     {what}"), parts)?;
             }
         }
-        writeln!(f, "{} cases", self.total())
+        writeln!(f, "{} cases; of the accepted calls over a memory so many have", self.total())?;
+        self.features.iter().try_for_each(|(feature, count)| writeln!(f, "   {feature:<48} {count:>8}"))
     }
 }

@@ -2,6 +2,8 @@
 //!
 //! Nothing here judges a value. A case that is not laid out as its op says is no case (`None`).
 
+use std::fmt;
+
 /// A list of net words.
 pub type Value = Vec<u32>;
 /// A list of trit codes.
@@ -106,10 +108,29 @@ macro_rules! record {
     };
 }
 
-record! {
-    /// A net that may be negated: 0 Pos, 1 Neg.
-    #[derive(Copy)]
-    Control { polarity: u32, net: u32 }
+/// A net that may be negated: 0 Pos, 1 Neg.
+#[derive(Clone, Copy, PartialEq, Eq)]
+pub struct Control {
+    pub polarity: u32,
+    pub net: u32,
+}
+
+impl Wire for Control {
+    fn read(words: &mut Words) -> Option<Self> {
+        Some(Control { polarity: words.word()?, net: words.word()? })
+    }
+
+    fn write(&self, out: &mut Vec<u32>) {
+        out.extend([self.polarity, self.net]);
+    }
+}
+
+/// Short, as ports have many: `Pos 5`, `Neg 5`.
+impl fmt::Debug for Control {
+    fn fmt(&self, f: &mut fmt::Formatter) -> fmt::Result {
+        let sign = ["Pos", "Neg"].get(self.polarity as usize).unwrap_or(&"?");
+        write!(f, "{sign} {}", self.net)
+    }
 }
 
 impl Control {

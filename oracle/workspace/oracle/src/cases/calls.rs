@@ -211,18 +211,19 @@ impl Maker {
         LowerFallback { log, output: self.output(&memory), memory }
     }
 
-    /// Swizzles, fallbacks and patches of the last swizzle that was made, accepted or not.
+    /// Mostly a swizzle first; then swizzles, fallbacks, and patches of the last swizzle, accepted or not.
     fn history(&mut self) -> History {
         let mut layout = Layout { depth: 2, width: 1, entries: vec![0], soft_mask: 0, hard: 1, unit: 1 };
         let mut steps = vec![];
-        for _ in 0..self.rng.weighted(&[(5, 0), (10, 1), (15, 2), (20, 3), (25, 4), (15, 6), (10, 9)]) {
+        for place in 0..self.rng.weighted(&[(5, 0), (10, 1), (15, 2), (20, 3), (25, 4), (15, 6), (10, 9)]) {
+            let first = place == 0 && self.rng.chance(80);
             steps.push(match self.rng.below(10) {
-                0..3 => {
+                kind if kind < 2 || first => {
                     let request = self.swizzle_request();
                     layout = Layout::of(&request.memory, &request.plan);
                     Step::Swizzle(request)
                 }
-                3 => Step::Fallback(self.lower_fallback()),
+                2 => Step::Fallback(self.lower_fallback()),
                 _ => Step::Patch(self.patch(&layout)),
             });
         }
