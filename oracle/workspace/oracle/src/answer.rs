@@ -4,7 +4,7 @@ use std::panic::{AssertUnwindSafe, catch_unwind};
 
 use prjunnamed_netlist::{Design, Recorded};
 
-use crate::closed::{self, Count};
+use crate::check::{self, Check};
 use crate::image::{LaidOut, Layout};
 use crate::wire::*;
 use crate::{record, refuse, rust};
@@ -44,32 +44,20 @@ pub fn answer(given: &[u32]) -> Vec<u32> {
 /// The payload of an accepted call's answer, or why there is none.
 pub fn outcome(call: &Call) -> Outcome {
     match call {
-        Call::ConstNot(c) => plain(refuse::const_not(c), || rust::const_not(c)),
-        Call::ConstAnd(c) => plain(refuse::const_pair(c), || rust::const_and(c)),
-        Call::ConstOr(c) => plain(refuse::const_pair(c), || rust::const_or(c)),
-        Call::IsUndef(c) => plain(refuse::is_undef(c), || rust::is_undef(c)),
-        Call::ControlInverse(c) => plain(refuse::control_inverse(c), || rust::control_inverse(c)),
-        Call::RemapReset(c) => logged(refuse::remap_reset(c), &c.log, |d| rust::remap_reset(d, c)),
-        Call::DedupMux(c) => logged(refuse::dedup_mux(c), &c.log, |d| rust::dedup_mux(d, c)),
-        Call::DedupDff(c) => logged(refuse::dedup_dff(c), &c.log, |d| rust::dedup_dff(d, c)),
-        Call::BitwiseMux(c) => logged(refuse::bitwise_mux(c), &c.log, |d| rust::bitwise_mux(d, c)),
-        Call::TransparencyMux(c) => logged(refuse::transparency_mux(c), &c.log, |d| rust::transparency_mux(d, c)),
-        Call::ExtractReadPorts(c) => plain(refuse::extract_read_ports(c), || rust::extract_read_ports(c)),
-        Call::UnmapReadDff(c) => logged(refuse::unmap_read_dff(c), &c.log, |d| rust::unmap_read_dff(d, c)),
-        Call::UnmapReadReset(c) => logged(refuse::unmap_read_reset(c), &c.log, |d| rust::unmap_read_reset(d, c)),
-        Call::EmulateReadBeforeWrite(c) => {
-            logged(refuse::emulate_read_before_write(c), &c.log, |d| rust::emulate_read_before_write(d, c))
-        }
-        Call::MakeDataSwizzle(c) => plain(refuse::make_data_swizzle(c), || rust::make_data_swizzle(c)),
-        Call::SwizzleDepths(c) => plain(refuse::swizzle_depths(c), || rust::swizzle_depths(c)),
-        Call::SwizzleMuxBits(c) => plain(refuse::swizzle_mux_bits(c), || rust::swizzle_mux_bits(c)),
         Call::Swizzle(c) => swizzle_and_patch(c),
-        Call::CanLowerFallback(c) => plain(refuse::can_lower_fallback(c), || rust::can_lower_fallback(c)),
         Call::LowerFallback(c) => lower_fallback(c),
         Call::History(c) => history(c),
-        Call::WriteRecord(c) => plain(refuse::write_record(c), || Ok(list(record::write(&c.sizes, &c.image)))),
-        Call::ReadRecord(c) => plain(refuse::read_record(c), || Ok(read_record(c))),
+        _ => refused(refuse::before_log(call)).and_then(|()| accepted(call)),
+    }
+}
+
+/// An accepted call that is no step of a history.
+fn accepted(call: &Call) -> Outcome {
+    match call {
+        Call::WriteRecord(c) => Ok(list(record::write(&c.sizes, &c.image))),
+        Call::ReadRecord(c) => Ok(read_record(c)),
         Call::Lister(c) => Ok(list(record::list(&c.bytes).bytes().map(u32::from).collect())),
+        _ => plain(call),
     }
 }
 
@@ -83,21 +71,18 @@ fn refused(number: u32) -> Result<(), Stop> {
     if number == 0 { Ok(()) } else { Err(Stop::Refused(number)) }
 }
 
-/// Runs the Rust on an accepted call. A panic or a difference from a closed form is a finding.
-fn guarded<T>(run: impl FnOnce() -> Result<T, String>) -> Result<T, Stop> {
-    catch_unwind(AssertUnwindSafe(run))
-        .unwrap_or_else(|_| Err("the Rust panics on an accepted call".into()))
-        .map_err(Stop::Finding)
+fn found(check: Check) -> Result<(), Stop> {
+    check.map_err(Stop::Finding)
 }
 
-/// A call without a log.
-fn plain(number: u32, run: impl FnOnce() -> rust::Ran) -> Outcome {
-    refused(number)?;
-    guarded(run)
+/// Runs the Rust on an accepted call. A panic is a finding.
+fn guarded<T>(run: impl FnOnce() -> T) -> Result<T, Stop> {
+    let panicked = |_| Stop::Finding("the Rust panics on an accepted call".into());
+    catch_unwind(AssertUnwindSafe(run)).map_err(panicked)
 }
 
 /// Runs an accepted call on a fresh record of the log, then tries the log's own numbers.
-fn recorded<T>(log: &Log, run: impl FnOnce(&Design) -> Result<T, String>) -> Result<(Recorded, T), Stop> {
+fn recorded<T>(log: &Log, run: impl FnOnce(&Design) -> T) -> Result<(Recorded, T), Stop> {
     let room = log.room.saturating_sub(log.used);
     let design = Design::recording(rust::first_net(log), room as u64);
     let result = guarded(|| run(&design))?;
@@ -106,13 +91,7 @@ fn recorded<T>(log: &Log, run: impl FnOnce(&Design) -> Result<T, String>) -> Res
     Ok((recorded, result))
 }
 
-/// A call with a log: used words and next net after it, the words it adds, then the rest of the answer.
-fn logged(number: u32, log: &Log, run: impl FnOnce(&Design) -> rust::Ran) -> Outcome {
-    refused(number)?;
-    let (recorded, rest) = recorded(log, run)?;
-    Ok(log_out(log, recorded, rest))
-}
-
+/// Used words and next net after a call, the words it adds, then the rest of the answer.
 fn log_out(log: &Log, recorded: Recorded, rest: Vec<u32>) -> Vec<u32> {
     let mut out = vec![log.used + recorded.count as u32, log.next + recorded.nets as u32];
     recorded.words.write(&mut out);
@@ -120,36 +99,33 @@ fn log_out(log: &Log, recorded: Recorded, rest: Vec<u32>) -> Vec<u32> {
     out
 }
 
-/// A call's words and nets against their closed form.
-fn check_count(recorded: &Recorded, plain: Count) -> Result<(), Stop> {
-    let rust = Count { words: recorded.count, nets: recorded.nets };
-    if rust == plain {
-        return Ok(());
-    }
-    Err(Stop::Finding(format!("counts: the Rust has {rust:?}, the closed form {plain:?}")))
+/// A call whose answer is the Rust's result, after the log's part if it has a log.
+fn plain(call: &Call) -> Outcome {
+    let Some(log) = call.log() else {
+        let result = guarded(|| rust::run(&Design::recording(crate::limits::FIRST_CELL, 0), call))?;
+        found(check::payload(call, &result))?;
+        return Ok(result);
+    };
+    let (recorded, rest) = recorded(log, |design| rust::run(design, call))?;
+    found(check::payload(call, &rest))?;
+    Ok(log_out(log, recorded, rest))
 }
 
-/// What a swizzle gives: its log, its memories as words, and the laid-out state.
+/// What a swizzle gives: its log, its memories, and the laid-out state.
 struct Swizzled {
     recorded: Recorded,
-    memories: Vec<u32>,
+    driven: Vec<Driven>,
     laid_out: LaidOut,
 }
 
 fn swizzle(call: &SwizzleRequest) -> Result<Swizzled, Stop> {
     refused(refuse::swizzle(call))?;
-    let (recorded, (memories, image)) = recorded(&call.log, |design| rust::swizzle(design, call))?;
-    let memory = &call.memory;
-    let count = if memory.width == 0 {
-        Count::default()
-    } else if memory.depth == 0 {
-        rust::count_unmaps(memory, &call.output, &call.log) + Count::replace(call.output.len() as u64)
-    } else {
-        closed::swizzle(memory, &call.plan)
-    };
-    check_count(&recorded, count)?;
-    let layout = Some(Layout::of(memory, &call.plan));
-    Ok(Swizzled { recorded, memories, laid_out: LaidOut { layout, image } })
+    let (recorded, driven) = recorded(&call.log, |design| rust::swizzle(design, call))?;
+    let image: Vec<u32> = driven.iter().flat_map(|driven| driven.memory.init.iter().copied()).collect();
+    found(check::image(call, &driven, &image))?;
+    found(check::swizzle_count(call, &recorded))?;
+    let layout = Some(Layout::of(&call.memory, &call.plan));
+    Ok(Swizzled { recorded, driven, laid_out: LaidOut { layout, image } })
 }
 
 /// Applies a patch unless a number refuses it, and answers the number.
@@ -162,33 +138,23 @@ fn patch(laid_out: &mut LaidOut, patch: &Patch) -> u32 {
 }
 
 fn swizzle_and_patch(call: &Swizzle) -> Outcome {
-    let Swizzled { recorded, memories, mut laid_out } = swizzle(&call.request)?;
+    let Swizzled { recorded, driven, mut laid_out } = swizzle(&call.request)?;
     let numbers: Vec<u32> = call.patches.iter().map(|p| patch(&mut laid_out, p)).collect();
-    let mut rest = memories;
-    numbers.write(&mut rest);
+    let mut rest = list(numbers);
     laid_out.image.write(&mut rest);
-    Ok(log_out(&call.request.log, recorded, rest))
+    let mut memories = vec![];
+    driven.write(&mut memories);
+    Ok(log_out(&call.request.log, recorded, [memories, rest].concat()))
 }
 
 fn lower_fallback(call: &LowerFallback) -> Outcome {
     refused(refuse::lower_fallback(call))?;
-    let (recorded, rest) = recorded(&call.log, |design| rust::lower_fallback(design, call))?;
-    let memory = &call.memory;
-    let unmaps = rust::count_unmaps(memory, &call.output, &call.log);
-    let lowering = if memory.width == 0 {
-        Count::default()
-    } else if memory.depth == 0 {
-        Count::replace(call.output.len() as u64)
-    } else {
-        let mut unclocked = memory.clone();
-        unclocked.read_ports.iter_mut().for_each(|port| port.flip_flop = None);
-        closed::fallback(&unclocked)
-    };
-    check_count(&recorded, unmaps + lowering)?;
-    Ok(log_out(&call.log, recorded, rest))
+    let (recorded, ()) = recorded(&call.log, |design| rust::lower_fallback(design, call))?;
+    found(check::fallback_count(call, &recorded))?;
+    Ok(log_out(&call.log, recorded, vec![]))
 }
 
-/// The number of a step that may be refused; a finding goes on.
+/// The number of a step, and its result where it is accepted. A finding is no number.
 fn number_of<T>(result: Result<T, Stop>) -> Result<(u32, Option<T>), Stop> {
     match result {
         Ok(result) => Ok((0, Some(result))),
@@ -224,4 +190,24 @@ fn read_record(call: &ReadRecord) -> Vec<u32> {
     record::head(&call.bytes).write(&mut out);
     record::read(&call.bytes).write(&mut out);
     out
+}
+
+#[cfg(test)]
+mod tests {
+    use super::*;
+
+    #[test]
+    fn a_panic_is_a_finding() {
+        let result = guarded(|| panic!("this panic is part of a test"));
+        assert!(matches!(result, Err::<(), _>(Stop::Finding(_))));
+    }
+
+    /// A depth list that is not the closed form's.
+    #[test]
+    fn a_difference_is_a_finding() {
+        let case = [25, 14, 9, 1, 1, 1, 0, 0, 0, 1, 0, 0, 0, 0, 0, 1];
+        let call = Call::from_case(&case).expect("a call for depths");
+        assert_eq!(check::payload(&call, &[1, 1]), Ok(()));
+        assert!(check::payload(&call, &[1, 2]).is_err());
+    }
 }

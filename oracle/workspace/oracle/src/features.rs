@@ -6,14 +6,14 @@ use crate::refuse::wide_log;
 use crate::wire::*;
 
 /// The features of an accepted call; one that occurs twice in a call is named once.
-pub fn of(call: &mut Call) -> Vec<String> {
+pub fn of(call: &Call) -> Vec<String> {
     let mut found = vec![];
-    let Some(memory) = call.memory_mut().cloned() else {
+    let Some(memory) = call.memory() else {
         return found;
     };
-    of_memory(&memory, &mut found);
-    if let Some(plan) = call.plan_mut() {
-        of_plan(&memory, plan, &mut found);
+    of_memory(memory, &mut found);
+    if let Some(plan) = call.plan() {
+        of_plan(memory, plan, &mut found);
     }
     if let Call::ExtractReadPorts(c) = call {
         let repeats = c.ports.iter().enumerate().any(|(place, port)| c.ports[..place].contains(port));

@@ -2,9 +2,10 @@
 
 mod answer;
 pub mod cases;
+pub mod check;
 pub mod closed;
 pub mod compare;
-mod convert;
+pub mod convert;
 mod features;
 pub mod image;
 pub mod limits;
@@ -16,6 +17,7 @@ pub mod show;
 mod shrink;
 pub mod stats;
 pub mod stream;
+pub mod stricter;
 pub mod wire;
 
 pub use answer::{FINDING, Outcome, Stop, answer, outcome};

@@ -12,7 +12,7 @@ use oracle::cases::{Calls, sample, small};
 use oracle::compare::{Difference, Program, Verdict, compare};
 use oracle::stats::Stats;
 use oracle::stream::{read_block, write_block};
-use oracle::{answer, show};
+use oracle::{answer, show, stricter};
 
 const USAGE: &str = "\
 oracle answer [--damage KIND]    answers the cases of standard input, in order
@@ -20,6 +20,7 @@ oracle gen SEED COUNT [OP..]     writes COUNT cases: examples first, then random
 oracle gen-small                 writes the systematic list of small cases
 oracle sample [short]            prints a sample: a case's words, =, the answer's words; short: no long lines
 oracle show [CASES [ANSWERS]]    prints cases and answers readably; answers by the oracle where no file has them
+oracle stricter                  prints, per op and number, the shortest refused case that the Rust takes
 oracle stats CASES ANSWERS       counts per op and refusal number
 oracle run [OPTION..] [-- PROGRAM [ARG..]]
                                  compares a program with the oracle; without one, only the oracle answers
@@ -51,6 +52,7 @@ fn main() -> ExitCode {
         ["gen-small"] => write_all(small::all().into_iter().map(|call| call.case())),
         ["sample"] => print_sample(false),
         ["sample", "short"] => print_sample(true),
+        ["stricter"] => print_stricter(),
         ["show", files @ ..] if files.len() <= 2 => show_all(files),
         ["stats", cases, answers] => count_all(cases, answers),
         ["run", rest @ ..] => match Run::read(rest) {
@@ -101,9 +103,19 @@ fn write_all(cases: impl Iterator<Item = Vec<u32>>) -> io::Result<u8> {
     Ok(EQUAL)
 }
 
+fn text(words: &[u32]) -> String {
+    words.iter().map(u32::to_string).collect::<Vec<_>>().join(" ")
+}
+
+fn print_stricter() -> io::Result<u8> {
+    for ((op, number), case) in stricter::all() {
+        println!("op {op} refused {number}: {}", text(&case));
+    }
+    Ok(EQUAL)
+}
+
 fn print_sample(short: bool) -> io::Result<u8> {
     let mut output = BufWriter::new(io::stdout().lock());
-    let text = |words: &[u32]| words.iter().map(u32::to_string).collect::<Vec<_>>().join(" ");
     for sampled in sample::all().iter().filter(|sampled| !short || sampled.is_short()) {
         writeln!(output, "{} = {}", text(&sampled.case), text(&sampled.answer))?;
     }

@@ -2,76 +2,102 @@
 
 use crate::wire::*;
 
-impl Call {
-    pub fn log_mut(&mut self) -> Option<&mut Log> {
-        match self {
-            Call::RemapReset(c) => Some(&mut c.log),
-            Call::DedupMux(c) => Some(&mut c.log),
-            Call::DedupDff(c) => Some(&mut c.log),
-            Call::BitwiseMux(c) => Some(&mut c.log),
-            Call::TransparencyMux(c) => Some(&mut c.log),
-            Call::UnmapReadDff(c) => Some(&mut c.log),
-            Call::UnmapReadReset(c) => Some(&mut c.log),
-            Call::EmulateReadBeforeWrite(c) => Some(&mut c.log),
-            Call::Swizzle(c) => Some(&mut c.request.log),
-            Call::LowerFallback(c) => Some(&mut c.log),
-            _ => None,
-        }
-    }
+/// Defines how to reach a part, to read it and to change it, in the calls that have it.
+macro_rules! part {
+    ($(#[$doc:meta])* $get:ident, $get_mut:ident: $kind:ty { $($call:ident: $($field:ident).+),* $(,)? }) => {
+        impl Call {
+            $(#[$doc])*
+            pub fn $get(&self) -> Option<&$kind> {
+                match self {
+                    $(Call::$call(c) => Some(&c.$($field).+),)*
+                    _ => None,
+                }
+            }
 
-    pub fn memory_mut(&mut self) -> Option<&mut Memory> {
-        match self {
-            Call::TransparencyMux(c) => Some(&mut c.memory),
-            Call::ExtractReadPorts(c) => Some(&mut c.memory),
-            Call::UnmapReadDff(c) => Some(&mut c.memory),
-            Call::UnmapReadReset(c) => Some(&mut c.memory),
-            Call::EmulateReadBeforeWrite(c) => Some(&mut c.memory),
-            Call::MakeDataSwizzle(c) => Some(&mut c.memory),
-            Call::SwizzleDepths(c) => Some(&mut c.memory),
-            Call::SwizzleMuxBits(c) => Some(&mut c.memory),
-            Call::Swizzle(c) => Some(&mut c.request.memory),
-            Call::CanLowerFallback(c) => Some(&mut c.memory),
-            Call::LowerFallback(c) => Some(&mut c.memory),
-            _ => None,
+            $(#[$doc])*
+            pub fn $get_mut(&mut self) -> Option<&mut $kind> {
+                match self {
+                    $(Call::$call(c) => Some(&mut c.$($field).+),)*
+                    _ => None,
+                }
+            }
         }
-    }
+    };
+}
 
-    pub fn output_mut(&mut self) -> Option<&mut Value> {
-        match self {
-            Call::ExtractReadPorts(c) => Some(&mut c.output),
-            Call::UnmapReadDff(c) => Some(&mut c.output),
-            Call::UnmapReadReset(c) => Some(&mut c.output),
-            Call::Swizzle(c) => Some(&mut c.request.output),
-            Call::LowerFallback(c) => Some(&mut c.output),
-            _ => None,
-        }
+part! {
+    log, log_mut: Log {
+        RemapReset: log,
+        DedupMux: log,
+        DedupDff: log,
+        BitwiseMux: log,
+        TransparencyMux: log,
+        UnmapReadDff: log,
+        UnmapReadReset: log,
+        EmulateReadBeforeWrite: log,
+        Swizzle: request.log,
+        LowerFallback: log,
     }
+}
 
-    pub fn plan_mut(&mut self) -> Option<&mut Plan> {
-        match self {
-            Call::SwizzleDepths(c) => Some(&mut c.plan),
-            Call::SwizzleMuxBits(c) => Some(&mut c.plan),
-            Call::Swizzle(c) => Some(&mut c.request.plan),
-            _ => None,
-        }
+part! {
+    memory, memory_mut: Memory {
+        TransparencyMux: memory,
+        ExtractReadPorts: memory,
+        UnmapReadDff: memory,
+        UnmapReadReset: memory,
+        EmulateReadBeforeWrite: memory,
+        MakeDataSwizzle: memory,
+        SwizzleDepths: memory,
+        SwizzleMuxBits: memory,
+        Swizzle: request.memory,
+        CanLowerFallback: memory,
+        LowerFallback: memory,
     }
+}
 
-    /// The port that a call names.
-    pub fn port_mut(&mut self) -> Option<&mut u32> {
-        match self {
-            Call::TransparencyMux(c) => Some(&mut c.read_port),
-            Call::UnmapReadDff(c) => Some(&mut c.port),
-            Call::UnmapReadReset(c) => Some(&mut c.port),
-            _ => None,
-        }
+part! {
+    output, output_mut: Value {
+        ExtractReadPorts: output,
+        UnmapReadDff: output,
+        UnmapReadReset: output,
+        Swizzle: request.output,
+        LowerFallback: output,
     }
+}
 
-    /// The list of ports that a call names.
-    pub fn ports_mut(&mut self) -> Option<&mut Vec<u32>> {
-        match self {
-            Call::ExtractReadPorts(c) => Some(&mut c.ports),
-            Call::SwizzleMuxBits(c) => Some(&mut c.ports),
-            _ => None,
-        }
+part! {
+    plan, plan_mut: Plan {
+        SwizzleDepths: plan,
+        SwizzleMuxBits: plan,
+        Swizzle: request.plan,
+    }
+}
+
+part! {
+    /// The read port that a call names.
+    port, port_mut: u32 {
+        TransparencyMux: read_port,
+        UnmapReadDff: port,
+        UnmapReadReset: port,
+    }
+}
+
+part! {
+    /// The list of read ports that a call names.
+    ports, ports_mut: Vec<u32> {
+        ExtractReadPorts: ports,
+        SwizzleMuxBits: ports,
+    }
+}
+
+part! {
+    /// A room that counts the elements of the answered list.
+    result_room, result_room_mut: u32 {
+        ConstNot: room,
+        ConstAnd: room,
+        ConstOr: room,
+        MakeDataSwizzle: room,
+        SwizzleDepths: room,
     }
 }

@@ -118,8 +118,7 @@ fn bad_codes(memory: &Memory, next: u32) -> bool {
             || [&flip_flop.clear_value, &flip_flop.reset_value, &flip_flop.init_value].iter().any(|v| bad_trits(v))
             || flip_flop.relations.iter().any(|&relation| relation > TRANSPARENT)
     };
-    let bad_read =
-        |port: &ReadPort| bad_value(&port.addr, next) || port.flip_flop.as_ref().is_some_and(bad_flip_flop);
+    let bad_read = |port: &ReadPort| bad_value(&port.addr, next) || port.flip_flop.as_ref().is_some_and(bad_flip_flop);
     bad_trits(&memory.init) || memory.write_ports.iter().any(bad_write) || memory.read_ports.iter().any(bad_read)
 }
 
@@ -172,13 +171,41 @@ pub fn by_log(log: &Log, words: u64, nets: u64) -> u32 {
     ])
 }
 
+/// The number of a call before the log's own 20 and 21. Histories and lists of records are always accepted.
+pub fn before_log(call: &Call) -> u32 {
+    match call {
+        Call::ConstNot(c) => const_not(c),
+        Call::ConstAnd(c) | Call::ConstOr(c) => const_pair(c),
+        Call::IsUndef(c) => first(&[(4, bad_trits(&c.a))]),
+        Call::ControlInverse(c) => first(&[(4, bad_control(&c.control, NETS))]),
+        Call::RemapReset(c) => remap_reset(c),
+        Call::DedupMux(c) => dedup_mux(c),
+        Call::DedupDff(c) => dedup_dff(c),
+        Call::BitwiseMux(c) => bitwise_mux(c),
+        Call::TransparencyMux(c) => transparency_mux(c),
+        Call::ExtractReadPorts(c) => extract_read_ports(c),
+        Call::UnmapReadDff(c) => unmap_read_dff(c),
+        Call::UnmapReadReset(c) => unmap_read_reset(c),
+        Call::EmulateReadBeforeWrite(c) => emulate_read_before_write(c),
+        Call::MakeDataSwizzle(c) => make_data_swizzle(c),
+        Call::SwizzleDepths(c) => swizzle_depths(c),
+        Call::SwizzleMuxBits(c) => swizzle_mux_bits(c),
+        Call::Swizzle(c) => swizzle(&c.request),
+        Call::CanLowerFallback(c) => one_to_four(&c.memory, NETS, &Beside::default()),
+        Call::LowerFallback(c) => lower_fallback(c),
+        Call::WriteRecord(c) => write_record(c),
+        Call::ReadRecord(c) => read_record(c),
+        Call::History(_) | Call::Lister(_) => 0,
+    }
+}
+
 // ---- leaves
 
-pub fn const_not(call: &ConstNot) -> u32 {
+fn const_not(call: &ConstNot) -> u32 {
     first(&[(4, bad_trits(&call.a)), (20, call.a.len() > call.room as usize)])
 }
 
-pub fn const_pair(call: &ConstPair) -> u32 {
+fn const_pair(call: &ConstPair) -> u32 {
     first(&[
         (2, call.a.len() != call.b.len()),
         (4, bad_trits(&call.a) || bad_trits(&call.b)),
@@ -186,21 +213,13 @@ pub fn const_pair(call: &ConstPair) -> u32 {
     ])
 }
 
-pub fn is_undef(call: &IsUndef) -> u32 {
-    first(&[(4, bad_trits(&call.a))])
-}
-
-pub fn control_inverse(call: &ControlInverse) -> u32 {
-    first(&[(4, bad_control(&call.control, NETS))])
-}
-
-pub fn remap_reset(call: &RemapReset) -> u32 {
+fn remap_reset(call: &RemapReset) -> u32 {
     first(&[(4, bad_control(&call.reset, call.log.next) || bad_control(&call.enable, call.log.next))])
 }
 
 // ---- merges
 
-pub fn dedup_mux(call: &DedupMux) -> u32 {
+fn dedup_mux(call: &DedupMux) -> u32 {
     let next = call.log.next;
     first(&[
         (1, call.then.len() > MERGE || call.other.len() > MERGE),
@@ -209,7 +228,7 @@ pub fn dedup_mux(call: &DedupMux) -> u32 {
     ])
 }
 
-pub fn dedup_dff(call: &DedupDff) -> u32 {
+fn dedup_dff(call: &DedupDff) -> u32 {
     let (next, flip_flop) = (call.log.next, &call.flip_flop);
     let values = [&flip_flop.clear_value, &flip_flop.reset_value, &flip_flop.init_value];
     let bad = bad_value(&flip_flop.data, next) || bad_controls(&flip_flop.controls, next);
@@ -220,7 +239,7 @@ pub fn dedup_dff(call: &DedupDff) -> u32 {
     ])
 }
 
-pub fn bitwise_mux(call: &BitwiseMux) -> u32 {
+fn bitwise_mux(call: &BitwiseMux) -> u32 {
     let values = [&call.select, &call.then, &call.other];
     first(&[
         (1, values.iter().any(|value| value.len() > MERGE)),
@@ -253,7 +272,7 @@ fn read_port(memory: &Memory, port: u32) -> Option<&ReadPort> {
     memory.read_ports.get(port as usize)
 }
 
-pub fn transparency_mux(call: &TransparencyMux) -> u32 {
+fn transparency_mux(call: &TransparencyMux) -> u32 {
     let memory = &call.memory;
     let read = read_port(memory, call.read_port);
     let write = memory.write_ports.get(call.write_port as usize);
@@ -270,7 +289,7 @@ pub fn transparency_mux(call: &TransparencyMux) -> u32 {
     }
 }
 
-pub fn extract_read_ports(call: &ExtractReadPorts) -> u32 {
+fn extract_read_ports(call: &ExtractReadPorts) -> u32 {
     let beside = Beside { output: Some(&call.output), ports: &call.ports, ..Beside::default() };
     let number = one_to_four(&call.memory, NETS, &beside);
     if number != 0 {
@@ -279,7 +298,7 @@ pub fn extract_read_ports(call: &ExtractReadPorts) -> u32 {
     first(&[(15, call.ports.iter().any(|&port| read_port(&call.memory, port).is_none()))])
 }
 
-pub fn unmap_read_dff(call: &UnmapReadDff) -> u32 {
+fn unmap_read_dff(call: &UnmapReadDff) -> u32 {
     let beside = Beside { output: Some(&call.output), ..Beside::default() };
     let number = one_to_four(&call.memory, call.log.next, &beside);
     if number != 0 {
@@ -289,7 +308,7 @@ pub fn unmap_read_dff(call: &UnmapReadDff) -> u32 {
     first(&[(14, port.is_some_and(|port| short_port(&call.memory, port))), (15, port.is_none())])
 }
 
-pub fn unmap_read_reset(call: &UnmapReadReset) -> u32 {
+fn unmap_read_reset(call: &UnmapReadReset) -> u32 {
     let beside = Beside { output: Some(&call.output), ..Beside::default() };
     let number = one_to_four(&call.memory, call.log.next, &beside);
     if number != 0 {
@@ -316,7 +335,7 @@ fn mixed_relations(memory: &Memory) -> bool {
     (0..memory.write_ports.len()).any(|write| has(write, READ_BEFORE_WRITE) && has(write, TRANSPARENT))
 }
 
-pub fn emulate_read_before_write(call: &EmulateReadBeforeWrite) -> u32 {
+fn emulate_read_before_write(call: &EmulateReadBeforeWrite) -> u32 {
     let memory = &call.memory;
     let number = one_to_four(memory, call.log.next, &Beside::default());
     if number != 0 {
@@ -412,7 +431,7 @@ fn pad(row: &mut Vec<u32>, granularities: &[u32]) {
     }
 }
 
-pub fn make_data_swizzle(call: &MakeDataSwizzle) -> u32 {
+fn make_data_swizzle(call: &MakeDataSwizzle) -> u32 {
     let (memory, granularities) = (&call.memory, &call.granularities);
     let number = one_to_four(memory, NETS, &Beside::default());
     if number != 0 {
@@ -429,7 +448,7 @@ pub fn make_data_swizzle(call: &MakeDataSwizzle) -> u32 {
     }
 }
 
-pub fn swizzle_depths(call: &SwizzleDepths) -> u32 {
+fn swizzle_depths(call: &SwizzleDepths) -> u32 {
     let (memory, plan) = (&call.memory, &call.plan);
     let number = one_to_four(memory, NETS, &Beside { plan: Some(plan), ..Beside::default() });
     if number != 0 {
@@ -444,7 +463,7 @@ pub fn swizzle_depths(call: &SwizzleDepths) -> u32 {
     ])
 }
 
-pub fn swizzle_mux_bits(call: &SwizzleMuxBits) -> u32 {
+fn swizzle_mux_bits(call: &SwizzleMuxBits) -> u32 {
     let (memory, plan) = (&call.memory, &call.plan);
     let beside = Beside { plan: Some(plan), ports: &call.ports, ..Beside::default() };
     let number = one_to_four(memory, NETS, &beside);
@@ -480,10 +499,6 @@ pub fn swizzle(call: &SwizzleRequest) -> u32 {
 
 // ---- fallback
 
-pub fn can_lower_fallback(call: &CanLowerFallback) -> u32 {
-    one_to_four(&call.memory, NETS, &Beside::default())
-}
-
 pub fn lower_fallback(call: &LowerFallback) -> u32 {
     let memory = &call.memory;
     let number = one_to_four(memory, call.log.next, &Beside { output: Some(&call.output), ..Beside::default() });
@@ -491,10 +506,7 @@ pub fn lower_fallback(call: &LowerFallback) -> u32 {
         return number;
     }
     let clock = memory.write_ports.first().map(|port| port.clock);
-    first(&[
-        (11, memory.write_ports.iter().any(|port| Some(port.clock) != clock)),
-        (14, short_ports(memory)),
-    ])
+    first(&[(11, memory.write_ports.iter().any(|port| Some(port.clock) != clock)), (14, short_ports(memory))])
 }
 
 // ---- patches and records
@@ -528,7 +540,7 @@ fn bad_sizes(sizes: &Sizes) -> bool {
 }
 
 /// The image is the first trits of the lent array, as many as the sizes say; 4 looks at those that are there.
-pub fn write_record(call: &WriteRecord) -> u32 {
+fn write_record(call: &WriteRecord) -> u32 {
     let trits = record::trits(&call.sizes);
     let lent = call.image.len();
     let image = &call.image[..lent.min(usize::try_from(trits).unwrap_or(lent))];
@@ -558,7 +570,7 @@ pub fn record(bytes: &[u32]) -> u32 {
     first(&[(18, stray || spare)])
 }
 
-pub fn read_record(call: &ReadRecord) -> u32 {
+fn read_record(call: &ReadRecord) -> u32 {
     let number = record(&call.bytes);
     if number != 0 {
         return number;

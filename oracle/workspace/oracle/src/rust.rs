@@ -1,20 +1,13 @@
-//! The unchanged Rust, run on an accepted call. Each function gives the answer's payload after the log's part.
-//!
-//! What a closed form says about a result is compared here; a difference is an `Err` that names it.
+//! The unchanged Rust, run on a call that is not refused. Nothing is judged here.
 
 use prjunnamed_memory::MemoryExt;
 use prjunnamed_memory_open::open;
 use prjunnamed_netlist as netlist;
 use prjunnamed_netlist::{ControlNet, Design};
 
-use crate::closed;
 use crate::convert::*;
-use crate::image::Layout;
-use crate::refuse;
+use crate::limits::{FIRST_CELL, NETS};
 use crate::wire::*;
-
-/// The payload, or what differs from a closed form.
-pub type Ran = Result<Vec<u32>, String>;
 
 /// The words of pieces, one after another.
 macro_rules! words {
@@ -25,73 +18,80 @@ macro_rules! words {
     }};
 }
 
-fn same<T: PartialEq + std::fmt::Debug>(what: &str, rust: &T, plain: &T) -> Result<(), String> {
-    if rust == plain { Ok(()) } else { Err(format!("{what}: the Rust has {rust:?}, the rules {plain:?}")) }
-}
-
-// ---- leaves
-
-pub fn const_not(call: &ConstNot) -> Ran {
-    Ok(words!(of_const(&to_const(&call.a).not())))
-}
-
-pub fn const_and(call: &ConstPair) -> Ran {
-    Ok(words!(of_const(&to_const(&call.a).and(&to_const(&call.b)))))
-}
-
-pub fn const_or(call: &ConstPair) -> Ran {
-    Ok(words!(of_const(&to_const(&call.a).or(&to_const(&call.b)))))
-}
-
-pub fn is_undef(call: &IsUndef) -> Ran {
-    Ok(words!(to_const(&call.a).is_undef()))
-}
-
-pub fn control_inverse(call: &ControlInverse) -> Ran {
-    Ok(words!(of_control(!to_control(&call.control))))
-}
-
-/// Run on a read port's flip-flop and counted on a plain one, which must give the same.
-pub fn remap_reset(design: &Design, call: &RemapReset) -> Ran {
-    let (reset, enable) = (to_control(&call.reset), to_control(&call.enable));
-    let mut port = netlist::MemoryReadPort::new_clocked(netlist::Value::new(), 0, ControlNet::ZERO);
-    let read = port.flip_flop.as_mut().expect("a clocked port");
-    (read.reset, read.enable, read.reset_over_enable) = (reset, enable, call.reset_over_enable);
-    read.remap_reset_over_enable(design);
-    let given = words!(of_control(read.reset), of_control(read.enable), read.reset_over_enable);
-
-    let other = Design::recording(first_net(&call.log), 0);
-    let mut plain = netlist::FlipFlop::new(netlist::Value::new(), ControlNet::ZERO);
-    (plain.reset, plain.enable, plain.reset_over_enable) = (reset, enable, call.reset_over_enable);
-    plain.remap_reset_over_enable(&other);
-    same("remap of both flip-flops", &given, &words!(of_control(plain.reset), of_control(plain.enable), plain.reset_over_enable))?;
-    Ok(given)
+/// Runs a call of an op from 1 to 29 and gives the answer's payload after the log's part; of a swizzle the
+/// memories with their outputs.
+pub fn run(design: &Design, call: &Call) -> Vec<u32> {
+    match call {
+        Call::ConstNot(c) => words!(of_const(&to_const(&c.a).not())),
+        Call::ConstAnd(c) => words!(of_const(&to_const(&c.a).and(to_const(&c.b)))),
+        Call::ConstOr(c) => words!(of_const(&to_const(&c.a).or(to_const(&c.b)))),
+        Call::IsUndef(c) => words!(to_const(&c.a).is_undef()),
+        Call::ControlInverse(c) => words!(of_control(!to_control(&c.control))),
+        Call::RemapReset(c) => remap_read_flip_flop(design, c),
+        Call::DedupMux(c) => dedup_mux(design, c),
+        Call::DedupDff(c) => words!(of_value(&open::add_dedup_dff(design, to_flip_flop(&c.flip_flop)))),
+        Call::BitwiseMux(c) => bitwise_mux(design, c),
+        Call::TransparencyMux(c) => transparency_mux(design, c),
+        Call::ExtractReadPorts(c) => extract_read_ports(c),
+        Call::UnmapReadDff(c) => unmap_read_dff(design, c),
+        Call::UnmapReadReset(c) => unmap_read_reset(design, c),
+        Call::EmulateReadBeforeWrite(c) => emulate_read_before_write(design, c),
+        Call::MakeDataSwizzle(c) => make_data_swizzle(c),
+        Call::SwizzleDepths(c) => words!(to_words(&to_memory(&c.memory).swizzle_depths(&to_swizzle(&c.plan)))),
+        Call::SwizzleMuxBits(c) => swizzle_mux_bits(c),
+        Call::Swizzle(c) => words!(swizzle(design, &c.request)),
+        Call::CanLowerFallback(c) => words!(to_memory(&c.memory).can_lower_fallback()),
+        Call::LowerFallback(c) => {
+            lower_fallback(design, c);
+            vec![]
+        }
+        Call::History(_) | Call::WriteRecord(_) | Call::ReadRecord(_) | Call::Lister(_) => vec![],
+    }
 }
 
 /// Where fresh nets start. Outside the limits the call is refused, but its words are counted without a clash.
 pub fn first_net(log: &Log) -> u32 {
-    log.next.clamp(crate::limits::FIRST_CELL, crate::limits::NETS)
+    log.next.clamp(FIRST_CELL, NETS)
 }
 
-// ---- merges
-
-pub fn dedup_mux(design: &Design, call: &DedupMux) -> Ran {
-    let value = open::add_dedup_mux(design, to_control(&call.select), to_value(&call.then), to_value(&call.other));
-    Ok(words!(of_value(&value)))
+fn to_usizes(words: &[u32]) -> Vec<usize> {
+    words.iter().map(|&word| word as usize).collect()
 }
 
-pub fn dedup_dff(design: &Design, call: &DedupDff) -> Ran {
-    Ok(words!(of_value(&open::add_dedup_dff(design, to_flip_flop(&call.flip_flop)))))
+fn to_words(numbers: &[usize]) -> Vec<u32> {
+    numbers.iter().map(|&number| number as u32).collect()
 }
 
-pub fn bitwise_mux(design: &Design, call: &BitwiseMux) -> Ran {
-    let value = open::add_bitwise_mux(design, to_value(&call.select), to_value(&call.then), to_value(&call.other));
-    Ok(words!(of_value(&value)))
+/// On a read port's flip-flop.
+pub fn remap_read_flip_flop(design: &Design, call: &RemapReset) -> Vec<u32> {
+    let port = netlist::MemoryReadPort::new_clocked(netlist::Value::new(), 0, ControlNet::ZERO);
+    let mut flip_flop = port.flip_flop.expect("a clocked port");
+    (flip_flop.reset, flip_flop.enable) = (to_control(&call.reset), to_control(&call.enable));
+    flip_flop.reset_over_enable = call.reset_over_enable;
+    flip_flop.remap_reset_over_enable(design);
+    words!(of_control(flip_flop.reset), of_control(flip_flop.enable), flip_flop.reset_over_enable)
 }
 
-// ---- calls on ports
+/// On a flip-flop cell, which must come out the same.
+pub fn remap_flip_flop(design: &Design, call: &RemapReset) -> Vec<u32> {
+    let mut flip_flop = netlist::FlipFlop::new(netlist::Value::new(), ControlNet::ZERO);
+    (flip_flop.reset, flip_flop.enable) = (to_control(&call.reset), to_control(&call.enable));
+    flip_flop.reset_over_enable = call.reset_over_enable;
+    flip_flop.remap_reset_over_enable(design);
+    words!(of_control(flip_flop.reset), of_control(flip_flop.enable), flip_flop.reset_over_enable)
+}
 
-pub fn transparency_mux(design: &Design, call: &TransparencyMux) -> Ran {
+fn dedup_mux(design: &Design, call: &DedupMux) -> Vec<u32> {
+    let (then, other) = (to_value(&call.then), to_value(&call.other));
+    words!(of_value(&open::add_dedup_mux(design, to_control(&call.select), then, other)))
+}
+
+fn bitwise_mux(design: &Design, call: &BitwiseMux) -> Vec<u32> {
+    let (then, other) = (to_value(&call.then), to_value(&call.other));
+    words!(of_value(&open::add_bitwise_mux(design, to_value(&call.select), then, other)))
+}
+
+fn transparency_mux(design: &Design, call: &TransparencyMux) -> Vec<u32> {
     let (data, mask) = open::transparency_mux(
         &to_memory(&call.memory),
         design,
@@ -100,99 +100,60 @@ pub fn transparency_mux(design: &Design, call: &TransparencyMux) -> Ran {
         to_value(&call.data),
         call.mask.as_deref().map(to_value),
     );
-    Ok(words!(of_value(&data), mask.map(|mask| of_value(&mask))))
+    words!(of_value(&data), mask.map(|mask| of_value(&mask)))
 }
 
-pub fn extract_read_ports(call: &ExtractReadPorts) -> Ran {
-    let ports: Vec<usize> = call.ports.iter().map(|&port| port as usize).collect();
+fn extract_read_ports(call: &ExtractReadPorts) -> Vec<u32> {
+    let ports = to_usizes(&call.ports);
     let (memory, output) = to_memory(&call.memory).extract_read_ports(&ports, &to_value(&call.output));
-    Ok(words!(of_memory(&memory), of_value(&output)))
+    words!(of_memory(&memory), of_value(&output))
 }
 
-pub fn unmap_read_dff(design: &Design, call: &UnmapReadDff) -> Ran {
+fn unmap_read_dff(design: &Design, call: &UnmapReadDff) -> Vec<u32> {
     let (mut memory, mut output) = (to_memory(&call.memory), to_value(&call.output));
     memory.unmap_read_dff(design, call.port as usize, &mut output);
-    Ok(words!(of_memory(&memory), of_value(&output)))
+    words!(of_memory(&memory), of_value(&output))
 }
 
-pub fn unmap_read_reset(design: &Design, call: &UnmapReadReset) -> Ran {
+fn unmap_read_reset(design: &Design, call: &UnmapReadReset) -> Vec<u32> {
     let (mut memory, mut output) = (to_memory(&call.memory), to_value(&call.output));
     let (port, transparency) = (call.port as usize, call.include_transparency);
     memory.unmap_read_init_reset_transparency(design, port, transparency, &mut output);
-    Ok(words!(of_memory(&memory), of_value(&output)))
+    words!(of_memory(&memory), of_value(&output))
 }
 
-pub fn emulate_read_before_write(design: &Design, call: &EmulateReadBeforeWrite) -> Ran {
+fn emulate_read_before_write(design: &Design, call: &EmulateReadBeforeWrite) -> Vec<u32> {
     let mut memory = to_memory(&call.memory);
     memory.emulate_read_before_write(design);
-    Ok(words!(of_memory(&memory)))
+    words!(of_memory(&memory))
 }
 
-// ---- calls with a plan
-
-pub fn make_data_swizzle(call: &MakeDataSwizzle) -> Ran {
-    let granularities: Vec<usize> = call.granularities.iter().map(|&granularity| granularity as usize).collect();
-    let entries = of_entries(&to_memory(&call.memory).make_data_swizzle(&granularities));
-    same("padded row", &Some(&entries), &refuse::padded_row(&call.memory, &call.granularities).as_ref())?;
-    Ok(words!(entries))
+fn make_data_swizzle(call: &MakeDataSwizzle) -> Vec<u32> {
+    words!(of_entries(&to_memory(&call.memory).make_data_swizzle(&to_usizes(&call.granularities))))
 }
 
-pub fn swizzle_depths(call: &SwizzleDepths) -> Ran {
-    let depths = to_memory(&call.memory).swizzle_depths(&to_swizzle(&call.plan));
-    let depths: Vec<u32> = depths.into_iter().map(|depth| depth as u32).collect();
-    same("depths", &depths, &closed::depths(&Layout::of(&call.memory, &call.plan)))?;
-    Ok(words!(depths))
+fn swizzle_mux_bits(call: &SwizzleMuxBits) -> Vec<u32> {
+    let memory = to_memory(&call.memory);
+    let (writes, reads) = memory.swizzle_mux_bits(&to_usizes(&call.ports), &to_swizzle(&call.plan));
+    words!(to_words(&writes), to_words(&reads))
 }
 
-pub fn swizzle_mux_bits(call: &SwizzleMuxBits) -> Ran {
-    let (memory, plan) = (&call.memory, &call.plan);
-    let ports: Vec<usize> = call.ports.iter().map(|&port| port as usize).collect();
-    let (writes, reads) = to_memory(memory).swizzle_mux_bits(&ports, &to_swizzle(plan));
-    let words = |bits: Vec<usize>| bits.into_iter().map(|bits| bits as u32).collect::<Vec<u32>>();
-    let (writes, reads) = (words(writes), words(reads));
-    same("write mux bits", &writes, &closed::write_mux_bits(memory, plan))?;
-    same("read mux bits", &reads, &closed::read_mux_bits(memory, &call.ports, plan))?;
-    Ok(words!(writes, reads))
-}
-
-/// The resulting memories with their outputs: their number, then each.
-pub fn swizzle(design: &Design, call: &SwizzleRequest) -> Result<(Vec<u32>, Vec<u32>), String> {
+/// The resulting memories, each with its output.
+pub fn swizzle(design: &Design, call: &SwizzleRequest) -> Vec<Driven> {
     let result = to_memory(&call.memory).swizzle(design, &to_value(&call.output), &to_swizzle(&call.plan));
-    let mut words = vec![result.len() as u32];
-    let mut image = vec![];
-    let mut depths = vec![];
-    for (memory, output) in &result {
-        let memory = of_memory(memory);
-        depths.push(memory.depth);
-        image.extend(&memory.init);
-        memory.write(&mut words);
-        of_value(output).write(&mut words);
-    }
-    let layout = Layout::of(&call.memory, &call.plan);
-    let none = call.memory.width == 0 || call.memory.depth == 0;
-    same("swizzle's depths", &depths, &if none { vec![] } else { closed::depths(&layout) })?;
-    same("image", &image, &layout.lay_out(&call.memory.init))?;
-    Ok((words, image))
+    let driven = |(memory, output)| Driven { memory: of_memory(&memory), output: of_value(&output) };
+    result.into_iter().map(driven).collect()
 }
 
-// ---- fallback
-
-pub fn can_lower_fallback(call: &CanLowerFallback) -> Ran {
-    Ok(words!(to_memory(&call.memory).can_lower_fallback()))
-}
-
-pub fn lower_fallback(design: &Design, call: &LowerFallback) -> Ran {
+/// Gives nothing but entries.
+pub fn lower_fallback(design: &Design, call: &LowerFallback) {
     to_memory(&call.memory).lower_fallback(design, &to_value(&call.output));
-    Ok(vec![])
 }
 
-/// The words and nets of unmapping every read port, which have no closed form: counted on a log of their own.
-pub fn count_unmaps(memory: &Memory, output: &[u32], log: &Log) -> closed::Count {
-    let design = Design::recording(first_net(log), 0);
+/// Unmaps every read port, as a fallback and a swizzle of depth 0 begin.
+pub fn unmap_all(design: &Design, memory: &Memory, output: &[u32]) {
     let (mut memory, mut output) = (to_memory(memory), to_value(output));
     for port in 0..memory.read_ports.len() {
-        memory.unmap_read_dff(&design, port, &mut output);
+        memory.unmap_read_dff(design, port, &mut output);
     }
-    let recorded = design.recorded();
-    closed::Count { words: recorded.count, nets: recorded.nets }
 }

@@ -22,32 +22,19 @@ pub fn answer(op: u32, given: &[u32]) -> String {
     }
 }
 
-/// A debug text with one field a line and X for its word.
+/// A debug text with one field a line, numbers of a list in one line, and X for its word.
 fn fields(thing: &impl Debug) -> String {
-    let text = format!("{thing:?}").replace(&X.to_string(), "X");
-    let (mut out, mut depth, mut inside) = (String::new(), 1, 0);
-    let mut characters = text.chars().peekable();
-    while let Some(character) = characters.next() {
-        match character {
-            '{' => {
-                depth += 1;
-                out += "\n";
-                out += &"  ".repeat(depth - 1);
-            }
-            '}' => depth -= 1,
-            '[' => inside = if characters.peek().is_some_and(|c| c.is_alphabetic() && *c != 'X') { inside } else { inside + 1 },
-            ']' => inside = i32::max(inside - 1, 0),
-            _ => (),
-        }
-        if character == ',' && inside == 0 {
-            out += "\n";
-            out += &"  ".repeat(depth - 1);
-            characters.next_if_eq(&' ');
-        } else if !"{}".contains(character) && !(character == ' ' && out.ends_with(' ')) {
-            out.push(character);
+    let mut out = String::new();
+    for line in format!("{thing:#?}").replace(&X.to_string(), "X").lines() {
+        let word = line.trim().trim_end_matches(',');
+        if word == "X" || word.parse::<u32>().is_ok() {
+            out += &format!(" {word}");
+        } else if !matches!(word, "]" | "}" | ")") {
+            // Indentation says what the brackets say.
+            out += &format!("\n  {}", line.trim_end_matches([',', ' ', '{', '(', '[']));
         }
     }
-    format!("  {}\n", out.trim_end())
+    format!("  {}\n", out.trim_start())
 }
 
 /// The pieces of an accepted answer; its bare words where they are not as WIRE.md lays them out.

@@ -6,7 +6,9 @@ use crate::wire::*;
 /// Calls that have less of something than this one.
 pub fn smaller(call: &Call) -> Vec<Call> {
     let mut calls = shorter_lists(call);
-    for change in [halve_depth, no_init, shorter_addresses, narrower_ports, unclocked, fewer_entries, no_soft_bits, plain_log] {
+    for change in
+        [halve_depth, no_init, shorter_addresses, narrower_ports, unclocked, fewer_entries, no_soft_bits, plain_log]
+    {
         calls.extend(changed(call, change));
     }
     calls.extend(fewer_ports(call));
@@ -135,8 +137,7 @@ fn plain_log(call: &mut Call) {
 
 /// Without each write port, and without each read port, and what goes with them.
 fn fewer_ports(call: &Call) -> Vec<Call> {
-    let mut other = call.clone();
-    let counts = other.memory_mut().map(|memory| (memory.write_ports.len(), memory.read_ports.len()));
+    let counts = call.memory().map(|memory| (memory.write_ports.len(), memory.read_ports.len()));
     let (writes, reads) = counts.unwrap_or((0, 0));
     let without_write = (0..writes).filter_map(|port| changed(call, |call| drop_write(call, port)));
     let without_read = (0..reads).filter_map(|port| changed(call, |call| drop_read(call, port)));

@@ -226,6 +226,11 @@ record! {
 }
 
 record! {
+    /// A resulting memory with its output.
+    Driven { memory: Memory, output: Value }
+}
+
+record! {
     LowerFallback { log: Log, memory: Memory, output: Value }
 }
 

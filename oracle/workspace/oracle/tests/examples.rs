@@ -38,16 +38,16 @@ fn lister_prints_document_01s_example() {
 /// Width, depth, mask, hard bits and unit with entries in order; then depths.
 #[test]
 fn starred_depths() {
-    let cases: [(u32, u32, u32, u32, u32, &[u32]); 6] = [
-        (2, 3, 0, 1, 2, &[2, 1]),
-        (3, 3, 0, 1, 2, &[2, 2, 1]),
-        (1, 4, 2, 1, 1, &[2, 2]),
-        (1, 8, 4, 1, 1, &[2, 2, 2, 2]),
-        (1, 6, 1, 2, 1, &[3, 3]),
-        (1, 5, 1, 2, 1, &[]),
+    let cases = [
+        ((2, 3, 0, 1, 2), &[2, 1][..]),
+        ((3, 3, 0, 1, 2), &[2, 2, 1]),
+        ((1, 4, 2, 1, 1), &[2, 2]),
+        ((1, 8, 4, 1, 1), &[2, 2, 2, 2]),
+        ((1, 6, 1, 2, 1), &[3, 3]),
+        ((1, 5, 1, 2, 1), &[]),
     ];
     let mut given = examples::all().into_iter().filter(|call| call.op() == 25);
-    for (width, depth, mask, hard, unit, depths) in cases {
+    for ((width, depth, mask, hard, unit), depths) in cases {
         let Some(Call::SwizzleDepths(c)) = given.next() else { panic!("a call for depths") };
         assert_eq!((c.memory.width, c.memory.depth), (width, depth));
         assert_eq!((c.plan.soft_mask, c.plan.hard, c.plan.unit), (mask, hard, unit));
@@ -62,7 +62,14 @@ fn starred_depths() {
 
 #[test]
 fn starred_places() {
-    let layout = |depth, width, soft_mask, hard, unit| Layout { depth, width, entries: (0..width).collect(), soft_mask, hard, unit };
+    let layout = |depth, width, soft_mask, hard, unit| Layout {
+        depth,
+        width,
+        entries: (0..width).collect(),
+        soft_mask,
+        hard,
+        unit,
+    };
     let place = |memory, row, bit| Place { memory, row, bit };
     assert_eq!(layout(3, 2, 0, 1, 2).place(2, 0), place(1, 0, 0));
     assert_eq!(layout(3, 3, 0, 1, 2).place(2, 0), place(1, 0, 1));

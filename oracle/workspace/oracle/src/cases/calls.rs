@@ -144,7 +144,9 @@ impl Maker {
     fn make_data_swizzle(&mut self) -> MakeDataSwizzle {
         self.no_log();
         let memory = self.memory(Style::ANY);
-        let choose = |maker: &mut Maker| maker.rng.weighted(&[(20, 1), (25, 2), (15, 3), (20, 4), (10, 8), (5, 9), (3, 16), (2, 64)]);
+        let choose = |maker: &mut Maker| {
+            maker.rng.weighted(&[(20, 1), (25, 2), (15, 3), (20, 4), (10, 8), (5, 9), (3, 16), (2, 64)])
+        };
         let granularities = memory.write_ports.iter().map(|_| choose(self)).collect();
         MakeDataSwizzle { room: 0, memory, granularities }
     }

@@ -69,7 +69,8 @@ fn row_masks() -> Vec<Call> {
 
 /// 1, 2 and 5 chunks.
 fn chunk_bits() -> Vec<Call> {
-    let call = |depth| mux_bits(memory(depth, 1).with_write(3, 0).with_read(3, 0), &[0], plan(1, 0, 0, 1).logs(&[0], &[0]));
+    let call =
+        |depth| mux_bits(memory(depth, 1).with_write(3, 0).with_read(3, 0), &[0], plan(1, 0, 0, 1).logs(&[0], &[0]));
     [1, 2, 5].map(call).to_vec()
 }
 

@@ -66,7 +66,8 @@ impl Maker {
     /// For each write port the relation codes that read ports choose from.
     fn relation_codes(&mut self, style: Style, writes: usize) -> Vec<Vec<u32>> {
         let unmixed = self.rng.chance(style.unmixed);
-        let kinds: [&[u32]; 4] = [&[UNDEFINED, READ_BEFORE_WRITE], &[UNDEFINED, TRANSPARENT], &[TRANSPARENT], &[UNDEFINED]];
+        let kinds: [&[u32]; 4] =
+            [&[UNDEFINED, READ_BEFORE_WRITE], &[UNDEFINED, TRANSPARENT], &[TRANSPARENT], &[UNDEFINED]];
         let codes = |maker: &mut Maker| if unmixed { maker.rng.pick(&kinds).to_vec() } else { vec![0, 1, 2] };
         (0..writes).map(|_| codes(self)).collect()
     }

@@ -245,16 +245,22 @@ fn plan_results() -> Vec<Numbered> {
         (9, swizzle(wide, simple.clone().logs(&[1], &[0]), vec![])),
         (1, mux_bits(one_bit(), &[0; PORTS + 1], simple.clone().logs(&[0], &[0; PORTS + 1]))),
         (15, mux_bits(one_bit(), &[1], simple.clone().logs(&[0], &[0]))),
-        (20, with(depths(memory(2, 1), simple.clone()), |call| {
-            if let Call::SwizzleDepths(c) = call {
-                c.room = 0;
-            }
-        })),
-        (20, with(swizzle(memory(2, 1), simple.clone(), vec![]), |call| {
-            if let Call::Swizzle(c) = call {
-                c.request.image_room = 1;
-            }
-        })),
+        (
+            20,
+            with(depths(memory(2, 1), simple.clone()), |call| {
+                if let Call::SwizzleDepths(c) = call {
+                    c.room = 0;
+                }
+            }),
+        ),
+        (
+            20,
+            with(swizzle(memory(2, 1), simple.clone(), vec![]), |call| {
+                if let Call::Swizzle(c) = call {
+                    c.request.image_room = 1;
+                }
+            }),
+        ),
     ];
     for mut memory in short_pairs() {
         (memory.depth, memory.init) = (0, vec![]);

@@ -62,7 +62,7 @@ impl Maker {
     fn settle_by_answer(&mut self, call: &mut Call) {
         widest(call);
         let payload = outcome(call);
-        if let Some(room) = result_room(call) {
+        if let Some(room) = call.result_room_mut() {
             let need = payload.as_ref().map_or(3, |words| words[0]);
             *room = if self.rng.chance(20) { u32::MAX } else { self.near(need) };
         }
@@ -93,7 +93,7 @@ impl Maker {
 
 /// Gives a call the largest rooms.
 pub fn widest(call: &mut Call) {
-    if let Some(room) = result_room(call) {
+    if let Some(room) = call.result_room_mut() {
         *room = u32::MAX;
     }
     if let Call::Swizzle(swizzle) = call {
@@ -101,16 +101,5 @@ pub fn widest(call: &mut Call) {
     }
     if let Some(log) = call.log_mut() {
         log.room = LOG_ROOM;
-    }
-}
-
-/// A room that counts the elements of the answered list.
-fn result_room(call: &mut Call) -> Option<&mut u32> {
-    match call {
-        Call::ConstNot(c) => Some(&mut c.room),
-        Call::ConstAnd(c) | Call::ConstOr(c) => Some(&mut c.room),
-        Call::MakeDataSwizzle(c) => Some(&mut c.room),
-        Call::SwizzleDepths(c) => Some(&mut c.room),
-        _ => None,
     }
 }

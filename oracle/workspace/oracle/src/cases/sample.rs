@@ -40,7 +40,7 @@ impl Sampled {
     fn features(&self) -> BTreeSet<String> {
         let (op, payload) = (self.case[0], &self.answer[2..]);
         let mut found: BTreeSet<String> =
-            Call::from_case(&self.case).map(|mut call| features::of(&mut call)).unwrap_or_default().into_iter().collect();
+            Call::from_case(&self.case).map(|call| features::of(&call)).unwrap_or_default().into_iter().collect();
         if matches!(op, 6 | 10..=13 | 21..=23 | 27 | 29) {
             found.extend(log_kinds(payload).windows(2).map(|two| format!("{} after {}", two[1], two[0])));
         }

@@ -334,7 +334,9 @@ fn histories() -> Vec<Call> {
 
 fn records() -> Vec<Call> {
     let mut calls = vec![];
-    for (unit, depths) in [0, 1, 3].into_iter().flat_map(|unit| pairs(&[0, 1, 2, 3]).into_iter().map(move |d| (unit, d))) {
+    for (unit, depths) in
+        [0, 1, 3].into_iter().flat_map(|unit| pairs(&[0, 1, 2, 3]).into_iter().map(move |d| (unit, d)))
+    {
         for (full, partial) in pairs(&[0, 1, 2]) {
             let sizes = Sizes { unit, full, full_depth: depths.0, partial, partial_depth: depths.1 };
             let image = pattern(record::trits(&sizes) as u32);

@@ -202,7 +202,9 @@ fn memory_shape(maker: &mut Maker, call: &mut Call) {
         match kind {
             1 => maker.spoil_length(&mut port.data, 0),
             2 => maker.spoil_length(&mut port.mask, 0),
-            3 => port.addr.resize(ADDRESS + 1 - port.data.len().checked_div(width).map_or(0, |n| n.max(1).ilog2() as usize), 0),
+            3 => port
+                .addr
+                .resize(ADDRESS + 1 - port.data.len().checked_div(width).map_or(0, |n| n.max(1).ilog2() as usize), 0),
             _ => {
                 let length = width * maker.rng.pick(&[0, 3, 32]);
                 port.data.resize(length, 0);
@@ -226,7 +228,14 @@ fn read_shape(maker: &mut Maker, port: &mut ReadPort, kind: u32, width: u32) {
             let k = port.data_len.checked_div(width).map_or(0, |n| n.max(1).ilog2());
             port.addr.resize(ADDRESS + 1 - k as usize, 0);
         }
-        _ => port.data_len = maker.rng.pick(&[port.data_len.saturating_add(1), port.data_len.saturating_sub(1), width * 32, u32::MAX]),
+        _ => {
+            port.data_len = maker.rng.pick(&[
+                port.data_len.saturating_add(1),
+                port.data_len.saturating_sub(1),
+                width * 32,
+                u32::MAX,
+            ])
+        }
     }
 }
 
@@ -280,7 +289,7 @@ fn output_net(maker: &mut Maker, call: &mut Call) {
 // ---- ports
 
 fn port_index(maker: &mut Maker, call: &mut Call) {
-    let reads = call.memory_mut().map_or(0, |memory| memory.read_ports.len() as u32);
+    let reads = call.memory().map_or(0, |memory| memory.read_ports.len() as u32);
     if let Call::TransparencyMux(c) = call
         && maker.rng.chance(50)
     {
@@ -299,7 +308,7 @@ fn list_long(maker: &mut Maker, call: &mut Call) {
 }
 
 fn list_index(maker: &mut Maker, call: &mut Call) {
-    let reads = call.memory_mut().map_or(0, |memory| memory.read_ports.len() as u32);
+    let reads = call.memory().map_or(0, |memory| memory.read_ports.len() as u32);
     let Some(ports) = call.ports_mut() else { return };
     let bad = maker.rng.pick(&[reads, reads + 1, u32::MAX]);
     if ports.is_empty() {
@@ -388,7 +397,7 @@ fn plan_size(maker: &mut Maker, call: &mut Call) {
 }
 
 fn plan_entries(maker: &mut Maker, call: &mut Call) {
-    let width = call.memory_mut().map_or(0, |memory| memory.width);
+    let width = call.memory().map_or(0, |memory| memory.width);
     let Some(plan) = call.plan_mut() else { return };
     let place = maker.rng.below(plan.entries.len() as u32 + 1) as usize;
     match maker.rng.below(4) {
@@ -400,7 +409,7 @@ fn plan_entries(maker: &mut Maker, call: &mut Call) {
 }
 
 fn plan_mask(maker: &mut Maker, call: &mut Call) {
-    let depth = call.memory_mut().map_or(0, |memory| memory.depth);
+    let depth = call.memory().map_or(0, |memory| memory.depth);
     if let Some(plan) = call.plan_mut() {
         let bit = (depth.trailing_zeros() + maker.rng.below(2)).min(31);
         plan.soft_mask |= 1 << bit;
