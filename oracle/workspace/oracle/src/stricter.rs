@@ -6,7 +6,7 @@ use std::panic::{AssertUnwindSafe, catch_unwind, set_hook, take_hook};
 use prjunnamed_netlist::Design;
 
 use crate::cases::{Calls, small};
-use crate::limits::{FIRST_CELL, GRANULARITY};
+use crate::limits::FIRST_CELL;
 use crate::wire::Call;
 use crate::{refuse, rust};
 
@@ -49,8 +49,20 @@ fn endless(call: &Call) -> bool {
         .plan()
         .is_some_and(|plan| plan.hard > 32 || plan.unit > 1_000 || plan.read_logs.iter().any(|&log| log > 8));
     let row = match call {
-        Call::MakeDataSwizzle(c) => c.granularities.iter().any(|&g| g == 0 || g >= GRANULARITY),
+        Call::MakeDataSwizzle(c) => common_multiple(&c.granularities) > LARGE as u64,
         _ => false,
     };
     large || plan || row
+}
+
+/// The length that every granularity divides; without end where one is 0.
+fn common_multiple(granularities: &[u32]) -> u64 {
+    let divisor = |mut a: u64, mut b: u64| {
+        while b != 0 {
+            (a, b) = (b, a % b);
+        }
+        a
+    };
+    let multiple = |a: u64, &b: &u32| if b == 0 { u64::MAX } else { a.saturating_mul(b as u64 / divisor(a, b as u64)) };
+    granularities.iter().fold(1, multiple)
 }
