@@ -1,5 +1,7 @@
 //! Smaller variants of a call: fewer patches, steps, ports, rows and bits.
 
+use std::ops::Range;
+
 use crate::limits::NONE;
 use crate::wire::*;
 
@@ -37,15 +39,19 @@ fn shorter_lists(call: &Call) -> Vec<Call> {
         })
     };
     let mut calls: Vec<Call> = (0..count).filter_map(without).collect();
-    for keep in [|length: usize| length / 2, |length: usize| length.saturating_sub(1)] {
+    let parts: [Part; 4] = [|n| 0..n / 2, |n| n / 2..n, |n| 0..n.saturating_sub(1), |n| n.min(1)..n];
+    for keep in parts {
         calls.extend(changed(call, |call| cut_values(call, keep)));
     }
     calls
 }
 
-/// Cuts all values of a leaf alike.
-fn cut_values(call: &mut Call, keep: fn(usize) -> usize) {
-    let cut = |lists: &mut [&mut Vec<u32>]| lists.iter_mut().for_each(|list| list.truncate(keep(list.len())));
+/// The part of a list of a length.
+type Part = fn(usize) -> Range<usize>;
+
+/// Keeps the same part of all values of a leaf.
+fn cut_values(call: &mut Call, keep: Part) {
+    let cut = |lists: &mut [&mut Vec<u32>]| lists.iter_mut().for_each(|list| **list = list[keep(list.len())].to_vec());
     match call {
         Call::ConstNot(c) => cut(&mut [&mut c.a]),
         Call::ConstAnd(c) | Call::ConstOr(c) => cut(&mut [&mut c.a, &mut c.b]),
