@@ -1,0 +1,79 @@
+//! Cases: examples first, then random calls, nearly valid ones, and calls at the limits.
+
+mod build;
+mod calls;
+mod edges;
+pub mod examples;
+mod memories;
+pub mod numbers;
+mod pieces;
+pub mod rng;
+mod rooms;
+pub mod sample;
+pub mod small;
+mod spoil;
+
+use pieces::Maker;
+use rng::Rng;
+
+use crate::answer::outcome;
+use crate::wire::{Call, OPS};
+
+/// What WIRE.md allows: words of a case's payload and of an answer's.
+const CASE_WORDS: usize = 400_000;
+const ANSWER_WORDS: usize = 4_000_000;
+
+/// An endless sequence of calls, the same for the same seed: the examples of the ops, then random ones.
+pub struct Calls {
+    maker: Maker,
+    ops: Vec<u32>,
+    examples: std::vec::IntoIter<Call>,
+}
+
+impl Calls {
+    /// Of these ops, or of all where there are none.
+    pub fn new(seed: u64, ops: &[u32]) -> Calls {
+        let ops = if ops.is_empty() { OPS.to_vec() } else { ops.to_vec() };
+        let examples: Vec<Call> = examples::all().into_iter().filter(|call| ops.contains(&call.op())).collect();
+        Calls { maker: Maker::new(Rng::new(seed)), ops, examples: examples.into_iter() }
+    }
+
+    /// A random call: two in three keep all rules, and one in fifty stands at a limit.
+    fn random(&mut self) -> Call {
+        let op = self.maker.rng.pick(&self.ops);
+        let edge = if self.maker.rng.chance(2) { self.maker.edge(op) } else { None };
+        let large = edge.is_some();
+        let mut call = edge.unwrap_or_else(|| self.maker.call(op));
+        if !large {
+            for chance in [36, 12] {
+                if self.maker.rng.chance(chance) {
+                    self.maker.spoil(&mut call);
+                }
+            }
+        }
+        self.maker.settle(&mut call);
+        call
+    }
+}
+
+impl Iterator for Calls {
+    type Item = Call;
+
+    fn next(&mut self) -> Option<Call> {
+        if let Some(example) = self.examples.next() {
+            return Some(example);
+        }
+        loop {
+            let call = self.random();
+            if fits(&call) {
+                return Some(call);
+            }
+        }
+    }
+}
+
+/// Whether case and answer keep WIRE.md's limits. Only a large case can have a large answer.
+fn fits(call: &Call) -> bool {
+    let words = call.case().len();
+    words <= CASE_WORDS && (words < 300 || outcome(call).map_or(0, |answer| answer.len()) <= ANSWER_WORDS)
+}

@@ -1,0 +1,80 @@
+//! What accepted calls show, so that a run can say what it met.
+
+use crate::image::Layout;
+use crate::limits::NONE;
+use crate::refuse::wide_log;
+use crate::wire::*;
+
+/// The features of an accepted call; one that occurs twice in a call is named once.
+pub fn of(call: &Call) -> Vec<String> {
+    let mut found = vec![];
+    let Some(memory) = call.memory() else {
+        return found;
+    };
+    of_memory(memory, &mut found);
+    if let Some(plan) = call.plan() {
+        of_plan(memory, plan, &mut found);
+    }
+    if let Call::ExtractReadPorts(c) = call {
+        let repeats = c.ports.iter().enumerate().any(|(place, port)| c.ports[..place].contains(port));
+        note(&mut found, repeats, "a port named twice");
+    }
+    found.sort();
+    found.dedup();
+    found
+}
+
+fn note(found: &mut Vec<String>, holds: bool, what: &str) {
+    if holds {
+        found.push(what.into());
+    }
+}
+
+fn of_memory(memory: &Memory, found: &mut Vec<String>) {
+    note(found, memory.width == 0, "width 0");
+    note(found, memory.depth == 0, "depth 0");
+    let writes = memory.write_ports.iter().map(|port| (port.data.len(), port.addr.len()));
+    let reads = memory.read_ports.iter().map(|port| (port.data_len as usize, port.addr.len()));
+    for (length, address) in writes.chain(reads) {
+        let k = wide_log(memory.width, length).unwrap_or(0);
+        let needed = (memory.depth.saturating_sub(1) >> k).checked_ilog2().map_or(0, |bits| bits as usize + 1);
+        found.push(format!("port of k {k}"));
+        note(found, address < needed, "address shorter than needed");
+        note(found, address > needed, "address longer than needed");
+    }
+    let flip_flops = || memory.read_ports.iter().filter_map(|port| port.flip_flop.as_ref());
+    let has = |relation: u32| flip_flops().any(|f| f.relations.contains(&relation));
+    note(found, flip_flops().next().is_some(), "clocked read port");
+    note(found, has(READ_BEFORE_WRITE), "read-before-write relation");
+    note(found, has(TRANSPARENT), "transparent relation");
+    let ports = memory.write_ports.len().max(memory.read_ports.len());
+    note(found, ports == crate::limits::PORTS, "eight ports of one kind");
+}
+
+fn of_plan(memory: &Memory, plan: &Plan, found: &mut Vec<String>) {
+    let layout = Layout::of(memory, plan);
+    let partial = layout.partial_depth() != 0;
+    note(found, plan.entries.contains(&NONE), "entry of None");
+    note(found, plan.entries.first() == Some(&NONE), "first entry None");
+    note(found, plan.soft_mask != 0, "soft bits");
+    note(found, soft_above_chunk(&layout), "soft bit above a chunk bit that is not soft");
+    note(found, partial, "partial chunk");
+    note(found, partial && layout.memories() == layout.full_memories(), "partial chunk inside the last full memory");
+    for log in plan.write_logs.iter().chain(&plan.read_logs) {
+        found.push(format!("new wide log {log}"));
+    }
+}
+
+/// Whether, below the depth, a soft bit follows a bit that is a chunk bit only because the row bits are taken.
+fn soft_above_chunk(layout: &Layout) -> bool {
+    let (mut taken, mut chunk) = (0, false);
+    for bit in (0..32).take_while(|&bit| 1_u64 << bit < layout.depth as u64) {
+        let soft = (layout.soft_mask >> bit) & 1 == 1;
+        if soft && chunk {
+            return true;
+        }
+        chunk |= !soft && taken == layout.hard;
+        taken += (!soft && taken < layout.hard) as u32;
+    }
+    false
+}

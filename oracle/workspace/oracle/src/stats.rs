@@ -1,0 +1,91 @@
+//! Counts of cases per op and refusal number.
+
+use std::collections::BTreeMap;
+use std::fmt;
+
+use crate::features;
+use crate::wire::{Call, Memory, Value, Wire, Words, name};
+
+#[derive(Default)]
+pub struct Stats {
+    /// Cases by op and number.
+    cases: BTreeMap<u32, BTreeMap<u32, u64>>,
+    /// Patches of op 27, steps of op 30 and records that op 33 lists, by number.
+    parts: BTreeMap<u32, BTreeMap<u32, u64>>,
+    /// Accepted calls by what they show.
+    features: BTreeMap<String, u64>,
+}
+
+impl Stats {
+    pub fn count(&mut self, case: &[u32], answer: &[u32]) {
+        let (op, number) = (case[0], answer.first().copied().unwrap_or(u32::MAX));
+        *self.cases.entry(op).or_default().entry(number).or_default() += 1;
+        if number == 0 {
+            for part in parts(op, &answer[2..]).unwrap_or_default() {
+                *self.parts.entry(op).or_default().entry(part).or_default() += 1;
+            }
+            for feature in Call::from_case(case).map(|call| features::of(&call)).unwrap_or_default() {
+                *self.features.entry(feature).or_default() += 1;
+            }
+        }
+    }
+
+    /// How often an op was answered by a number.
+    pub fn of(&self, op: u32, number: u32) -> u64 {
+        self.cases.get(&op).and_then(|numbers| numbers.get(&number)).copied().unwrap_or(0)
+    }
+
+    /// The same for its patches, steps or listed records.
+    pub fn part_of(&self, op: u32, number: u32) -> u64 {
+        self.parts.get(&op).and_then(|numbers| numbers.get(&number)).copied().unwrap_or(0)
+    }
+
+    pub fn total(&self) -> u64 {
+        self.cases.values().flat_map(|numbers| numbers.values()).sum()
+    }
+}
+
+/// The numbers inside an accepted answer.
+pub fn parts(op: u32, payload: &[u32]) -> Option<Vec<u32>> {
+    let mut words = Words(payload);
+    match op {
+        27 => {
+            words.word()?;
+            words.word()?;
+            Value::read(&mut words)?;
+            for _ in 0..words.word()? {
+                Memory::read(&mut words)?;
+                Value::read(&mut words)?;
+            }
+            Vec::read(&mut words)
+        }
+        30 => Vec::read(&mut words),
+        33 => {
+            let text: String = Vec::<u32>::read(&mut words)?.into_iter().filter_map(char::from_u32).collect();
+            Some(vec![text.strip_prefix("refused ").map_or(0, |number| number.trim().parse().unwrap_or(u32::MAX))])
+        }
+        _ => None,
+    }
+}
+
+impl fmt::Display for Stats {
+    fn fmt(&self, f: &mut fmt::Formatter) -> fmt::Result {
+        let line = |f: &mut fmt::Formatter, head: String, numbers: &BTreeMap<u32, u64>| {
+            let list: Vec<String> = numbers.iter().map(|(number, count)| format!("{number}:{count}")).collect();
+            writeln!(f, "{head:<42} {:>8}   {}", numbers.values().sum::<u64>(), list.join(" "))
+        };
+        for (op, numbers) in &self.cases {
+            line(f, format!("{op:>2} {}", name(*op)), numbers)?;
+            if let Some(parts) = self.parts.get(op) {
+                let what = match op {
+                    27 => "patches",
+                    30 => "steps",
+                    _ => "listed records",
+                };
+                line(f, format!("     {what}"), parts)?;
+            }
+        }
+        writeln!(f, "{} cases; of the accepted calls over a memory so many have", self.total())?;
+        self.features.iter().try_for_each(|(feature, count)| writeln!(f, "   {feature:<48} {count:>8}"))
+    }
+}
