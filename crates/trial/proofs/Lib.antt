@@ -1,0 +1,25 @@
+-- A sample of calls on which the rules give the Rust's own answers: one sentence for each call of the format.
+pub mod Op1
+pub mod Op2
+pub mod Op3
+pub mod Op4
+pub mod Op5
+pub mod Op6
+pub mod Op10
+pub mod Op11
+pub mod Op12
+pub mod Op13
+pub mod Op20
+pub mod Op21
+pub mod Op22
+pub mod Op23
+pub mod Op24
+pub mod Op25
+pub mod Op26
+pub mod Op27
+pub mod Op28
+pub mod Op29
+pub mod Op30
+pub mod Op31
+pub mod Op32
+pub mod Op33
