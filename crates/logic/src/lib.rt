@@ -72,9 +72,9 @@ pub fn trit_not(a: Trit) -> Trit
     ensures { λ r. ⌜ tritView r ≡ tritNot (tritView a) ⌝ }
 {
     match a {
-        Trit::Zero => Trit::One,
-        Trit::One => Trit::Zero,
-        Trit::Undef => Trit::Undef,
+        Trit::Zero => Trit::One, // not 0
+        Trit::One => Trit::Zero, // not 1
+        Trit::Undef => Trit::Undef, // not X
     }
 }
 
@@ -84,19 +84,19 @@ pub fn trit_and(a: Trit, b: Trit) -> Trit
 {
     match a {
         Trit::Zero => match b {
-            Trit::Zero => Trit::Zero,
-            Trit::One => Trit::Zero,
-            Trit::Undef => Trit::Zero,
+            Trit::Zero => Trit::Zero, // 0 and 0
+            Trit::One => Trit::Zero, // 0 and 1
+            Trit::Undef => Trit::Zero, // 0 and X
         },
         Trit::One => match b {
-            Trit::Zero => Trit::Zero,
-            Trit::One => Trit::One,
-            Trit::Undef => Trit::Undef,
+            Trit::Zero => Trit::Zero, // 1 and 0
+            Trit::One => Trit::One, // 1 and 1
+            Trit::Undef => Trit::Undef, // 1 and X
         },
         Trit::Undef => match b {
-            Trit::Zero => Trit::Zero,
-            Trit::One => Trit::Undef,
-            Trit::Undef => Trit::Undef,
+            Trit::Zero => Trit::Zero, // X and 0
+            Trit::One => Trit::Undef, // X and 1
+            Trit::Undef => Trit::Undef, // X and X
         },
     }
 }
@@ -107,19 +107,19 @@ pub fn trit_or(a: Trit, b: Trit) -> Trit
 {
     match a {
         Trit::Zero => match b {
-            Trit::Zero => Trit::Zero,
-            Trit::One => Trit::One,
-            Trit::Undef => Trit::Undef,
+            Trit::Zero => Trit::Zero, // 0 or 0
+            Trit::One => Trit::One, // 0 or 1
+            Trit::Undef => Trit::Undef, // 0 or X
         },
         Trit::One => match b {
-            Trit::Zero => Trit::One,
-            Trit::One => Trit::One,
-            Trit::Undef => Trit::One,
+            Trit::Zero => Trit::One, // 1 or 0
+            Trit::One => Trit::One, // 1 or 1
+            Trit::Undef => Trit::One, // 1 or X
         },
         Trit::Undef => match b {
-            Trit::Zero => Trit::Undef,
-            Trit::One => Trit::One,
-            Trit::Undef => Trit::Undef,
+            Trit::Zero => Trit::Undef, // X or 0
+            Trit::One => Trit::One, // X or 1
+            Trit::Undef => Trit::Undef, // X or X
         },
     }
 }
