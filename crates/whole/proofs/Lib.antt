@@ -1,0 +1,2 @@
+-- Laws of the pieces of a case.
+pub mod Laws

@@ -1,0 +1,3 @@
+-- When a case of the call format is whole.
+pub mod Whole
+pub mod View
