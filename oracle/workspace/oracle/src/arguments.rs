@@ -51,7 +51,7 @@ impl Run {
     }
 }
 
-/// Ops of WIRE.md.
+/// Ops of docs/CALLING.md.
 pub fn numbers(given: &[&str]) -> Option<Vec<u32>> {
     given.iter().map(|op| op.parse().ok().filter(|op| oracle::wire::OPS.contains(op))).collect()
 }

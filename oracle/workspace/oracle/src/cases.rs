@@ -19,7 +19,7 @@ use rng::Rng;
 use crate::answer::outcome;
 use crate::wire::{Call, OPS};
 
-/// What WIRE.md allows: words of a case's payload and of an answer's.
+/// What docs/CALLING.md allows: words of a case's payload and of an answer's.
 const CASE_WORDS: usize = 400_000;
 const ANSWER_WORDS: usize = 4_000_000;
 
@@ -72,7 +72,7 @@ impl Iterator for Calls {
     }
 }
 
-/// Whether case and answer keep WIRE.md's limits. Only a large case can have a large answer.
+/// Whether case and answer keep docs/CALLING.md's limits. Only a large case can have a large answer.
 fn fits(call: &Call) -> bool {
     let words = call.case().len();
     words <= CASE_WORDS && (words < 300 || outcome(call).map_or(0, |answer| answer.len()) <= ANSWER_WORDS)

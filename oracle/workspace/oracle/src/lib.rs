@@ -1,4 +1,4 @@
-//! The oracle: the unchanged Rust over a recording design, asked in the format of WIRE.md.
+//! The oracle: the unchanged Rust over a recording design, asked in the format of docs/CALLING.md.
 
 mod answer;
 pub mod cases;

@@ -37,7 +37,7 @@ fn fields(thing: &impl Debug) -> String {
     format!("  {}\n", out.trim_start())
 }
 
-/// The pieces of an accepted answer; its bare words where they are not as WIRE.md lays them out.
+/// The pieces of an accepted answer; its bare words where they are not as docs/CALLING.md lays them out.
 fn accepted(op: u32, payload: &[u32]) -> String {
     let mut words = Words(payload);
     pieces(op, &mut words).unwrap_or_else(|| format!("  {payload:?}\n"))

@@ -1,4 +1,4 @@
-//! The call format of WIRE.md: calls as plain records of words, read from a case and written as one.
+//! The call format of docs/CALLING.md: calls as plain records of words, read from a case and written as one.
 //!
 //! Nothing here judges a value. A case that is not laid out as its op says is no case (`None`).
 

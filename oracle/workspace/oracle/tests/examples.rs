@@ -1,4 +1,4 @@
-//! Document 01's examples and WIRE.md's worked examples, word by word, and each number of each op.
+//! Document 01's examples and docs/CALLING.md's worked examples, word by word, and each number of each op.
 
 use oracle::answer;
 use oracle::cases::{examples, numbers, small};

@@ -1,4 +1,4 @@
-//! The examples and traps of document 01, and the worked examples of WIRE.md. They come first in every run.
+//! The examples and traps of document 01, and the worked examples of docs/CALLING.md. They come first in every run.
 
 use super::build::*;
 use crate::wire::*;
@@ -12,7 +12,7 @@ fn first_rows() -> Memory {
     Memory { init: vec![1, 0, 2, 1, 0, 0], ..memory(3, 2) }
 }
 
-/// WIRE.md: the first example with a patch of row 2, and its record.
+/// docs/CALLING.md: the first example with a patch of row 2, and its record.
 fn worked() -> Vec<Call> {
     let request = SwizzleRequest {
         image_room: 6,
