@@ -1,4 +1,4 @@
-//! Closed forms of READINGS.md, which the Rust's own results are compared with on every accepted call:
+//! Closed forms of the counts of words and nets, which the Rust's own results are compared with on every accepted call:
 //! depths, mux bits, and the words and nets that a swizzle or a fallback gives.
 
 use crate::image::Layout;

@@ -1,4 +1,4 @@
-//! The refusal numbers, written from document 01 and READINGS.md, not from the Rust's panics.
+//! The refusal numbers, written from document 01 and docs/DECISIONS.md, not from the Rust's panics.
 //!
 //! One function per call gives the number that is tried first among those that hold, 0 where none does.
 //! They stop before the log's own 20 and 21, which need the words and nets that the rules give: `by_log`

@@ -107,7 +107,7 @@ fn trit_tables() {
     assert_eq!(answered("1 5 3 3 0 1 2")[3..], [1, 0, 2]);
 }
 
-/// READINGS.md: a fallback of width 0 with one clocked transparent port.
+/// A fallback of width 0 with one clocked transparent port.
 #[test]
 fn fallback_of_width_0() {
     let answer = answered("29 33  99 0 100  1 0 0 1 1  1 7 0 0 0 5  1 4 0 1 0 5 0 0 0 0 0 1 0  0 0 0  1 2  0");
