@@ -9,3 +9,4 @@ pub mod Concat
 pub mod Distinct
 pub mod Pairs
 pub mod Ups
+pub mod Joined
