@@ -1,9 +1,12 @@
 -- Whole arrays, one byte of each: the trits and the errors of the first bytes, and those of the rest.
-use mathlib.Core.Path.{_≡_, refl, sym, _∙_}
+use mathlib.Core.Path.{_≡_, refl, sym, ap, _∙_}
 use mathlib.Core.Bool.{Bool, true, false, _||_}
-use Prim.Native.Nat.{ℕ, _-_}
-use mathlib.Core.List.{List, _∷_, _++_}
-use lib.ListN.{length, take, drop}
+use Prim.Native.Nat.{ℕ, suc, _+_, _-_, _/_, _%_, _<_}
+use mathlib.Core.List.{List, [], _∷_, _++_}
+use lib.ListN.{length, take, drop, getD, List·getD-append}
+use lib.Seq.{getD-append-add}
+use native.Mathlib.Omega.{arith}
+use Rattle.lists.proofs.Choice.{cases-le}
 use lib.Dec.{eqb, ltb}
 use Rattle.lists.specs.Lists.{any, pairs}
 use Rattle.lists.proofs.Joined.{take-joined, drop-joined, any-joined, pairs-joined, map-joined}
@@ -11,7 +14,7 @@ use Rattle.lists.proofs.Pairs.{length-pairs}
 use Rattle.rules.specs.Value.{fromUint}
 use Rattle.rules.specs.Record.{bitsOf, tritBy}
 use Rattle.bits.specs.Groups.{tritsBy, badBy, groupTrits, badGroup}
-use Rattle.bits.proofs.Groups.{length-uint}
+use Rattle.rules.proofs.Written.{length-uint}
 
 taken : (t k v : ℕ) (ks vs : List ℕ) → take t (pairs (fromUint 8 k ++ ks) (fromUint 8 v ++ vs)) ≡ take t (pairs (fromUint 8 k) (fromUint 8 v)) ++ take (t - 8) (pairs ks vs)
 taken t k v ks vs =
@@ -53,3 +56,21 @@ module _ (t k v : ℕ) (ks vs : List ℕ) where
   pub bad-byte : badBy t (bitsOf (k ∷ ks)) (bitsOf (v ∷ vs)) ≡ (badGroup t k v || badBy (t - 8) (bitsOf ks) (bitsOf vs))
   unfolding badGroup bitsOf
   bad-byte = bad-joined t k v (bitsOf ks) (bitsOf vs)
+
+-- ---- one bit of an array
+pub bits-at : (ks : List ℕ) (i : ℕ) → i / 8 < length ks → getD (bitsOf ks) i 0 ≡ getD (fromUint 8 (getD ks (i / 8) 0)) (i % 8) 0
+unfolding bitsOf
+bits-at [] i h = absurd (omega arith)
+bits-at (k ∷ ks) i h = cases-le 8 i
+    (λ g.
+    let n : i ≡ length (fromUint 8 k) + (i - 8) = omega (arith, length-uint 8 k) in
+    let d : i / 8 ≡ suc ((i - 8) / 8) = omega arith in
+    let r : i % 8 ≡ (i - 8) % 8 = omega arith in
+    ap (λ (x : ℕ). getD (fromUint 8 k ++ bitsOf ks) x 0) n
+    ∙ getD-append-add (fromUint 8 k) (bitsOf ks) (i - 8) 0
+    ∙ bits-at ks (i - 8) (omega arith)
+    ∙ (rw (d, r)))
+    (λ g.
+    let d : i / 8 ≡ 0 = omega arith in
+    let r : i % 8 ≡ i = omega arith in
+    List·getD-append (fromUint 8 k) (bitsOf ks) 0 i (omega (arith, length-uint 8 k)) ∙ (rw (d, r)))

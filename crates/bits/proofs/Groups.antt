@@ -5,7 +5,7 @@ use mathlib.Core.Bool.{Bool, true, false, _||_}
 use Prim.Native.Nat.{ℕ, zero, suc, _+_, _-_, _/_, _%_, _<_, _≤_, min}
 use native.Mathlib.Omega.{arith}
 use mathlib.Core.List.{List, [], _∷_, _++_}
-use lib.ListN.{length, take, drop, getD, set}
+use lib.ListN.{take, drop, getD, set}
 use lib.Seq.{sets, take-nil, drop-nil}
 use lib.Dec.{eqb, ltb, leb}
 use borrow.Author.Tests.{le-leb, lt-leb}
@@ -36,11 +36,6 @@ unfolding fromUint
 uint-step n x i h =
     let e : n - i ≡ suc (n - (i + 1)) = omega arith in
     rw e
-
-pub length-uint : (n x : ℕ) → length (fromUint n x) ≡ n
-unfolding fromUint
-length-uint zero x = refl
-length-uint (suc n) x = ap suc (length-uint n (x / 2))
 
 -- ---- trits
 -- those left from bit i on

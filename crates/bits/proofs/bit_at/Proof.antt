@@ -1,5 +1,6 @@
 -- `bits::bit_at` meets its contract.
-use Rattle.bits.proofs.Groups.{length-uint, bit-turn, bit-end}
+use Rattle.bits.proofs.Groups.{bit-turn, bit-end}
+use Rattle.rules.proofs.Written.{length-uint}
 use Rattle.rules.specs.Value.{fromUint}
 use lib.ListN.{List·getD-eq-default, getD}
 use mathlib.Core.Path.{_≡_, sym, _∙_}
