@@ -21,7 +21,7 @@ use Rattle.rules.proofs.Written.{length-bits}
 use Rattle.bits.proofs.Arrays.{bits-at}
 use Rattle.reader.specs.Reading.{readerAt, hasWord, wordThere, hasTrit, tritThere, placeAfterTrit}
 use Rattle.reader.specs.declared.Word.the-variants.{Found, End}
-use Rattle.reader.specs.declared.TritFound.the-variants.{Code}
+use Rattle.reader.specs.declared.TritFound.the-variants.{Code, End as NoTrit}
 
 module _ (bytes : List ℕ) where
   abbrev T : ℕ

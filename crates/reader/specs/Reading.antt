@@ -11,7 +11,7 @@ use Rattle.sizes.specs.declared.Sizes.{Sizes}
 use Rattle.reader.specs.declared.Word.{Word}
 use Rattle.reader.specs.declared.Word.the-variants.{Found, End}
 use Rattle.reader.specs.declared.TritFound.{TritFound}
-use Rattle.reader.specs.declared.TritFound.the-variants.{Code}
+use Rattle.reader.specs.declared.TritFound.the-variants.{Code, End as NoTrit}
 
 abbrev pub readerAt : List ℕ → ℕ → rules.Reader
 readerAt bytes at = record { bytes = bytes; at = at }

@@ -1,6 +1,5 @@
 -- `reader::new` meets its contract: a walk of its MIR, by hand. A `Reader` is made of the slice passed and 0, in the result's local.
 -- A `&[u8]` is Copy, so what it owns is had twice: once for src at exit, and once inside the result, beside the facts of at.
--- Assumes nothing.
 use mathlib.Core.Path.{refl}
 use Prim.Native.Nat.{ℕ}
 use mathlib.Core.List.{List, [], _∷_}
@@ -38,6 +37,7 @@ use denote.Exit.{yes}
 use Rattle.reader.specs.declared.Reader.{Reader}
 use Rattle.reader.proofs.Reader as T
 use Rattle.reader.proofs.Reader.Laws as T′
+use Rattle.reader.proofs.new.Key.{name as #reader·new}
 use Rattle.reader.proofs.new as new
 use Rattle.reader.proofs.new.Statement as stated
 use Rattle.reader.proofs.new.Code as code

@@ -1,5 +1,4 @@
 -- `reader::next_trit` meets its contract: a walk of its MIR, by hand. The borrow of the reader is opened, the slice and the place are read, `place_after_trit` and `trit_there` are called on them, the place is stored between the calls, and the borrow is closed at the reader with the new place.
--- Assumes nothing.
 use mathlib.Core.Path.{_≡_, refl, ap}
 use Prim.Native.Nat.{ℕ, _<_, _^_}
 use mathlib.Core.List.{List, [], _∷_}
@@ -53,10 +52,13 @@ use Rattle.reader.proofs.TritFound as S
 use Rattle.reader.proofs.TritFound.Laws as S′
 use Rattle.reader.proofs.place_after_trit as place
 use Rattle.reader.proofs.place_after_trit.Symbol as place-def
+use Rattle.reader.proofs.place_after_trit.Symbol.{name as #reader·place-after-trit}
 use Rattle.reader.proofs.place_after_trit.Met as place-thm
 use Rattle.reader.proofs.trit_there as there
 use Rattle.reader.proofs.trit_there.Symbol as there-def
+use Rattle.reader.proofs.trit_there.Symbol.{name as #reader·trit-there}
 use Rattle.reader.proofs.trit_there.Met as there-thm
+use Rattle.reader.proofs.next_trit.Key.{name as #reader·next-trit}
 use Rattle.reader.proofs.next_trit as taking
 use Rattle.reader.proofs.next_trit.Statement as stated
 use Rattle.reader.proofs.next_trit.Code as code

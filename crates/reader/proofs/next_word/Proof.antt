@@ -1,5 +1,4 @@
 -- `reader::next_word` meets its contract: a walk of its MIR, by hand. The borrow of the reader is opened, the slice and the place are read, `place_after_word` and `word_there` are called on them, the place is stored between the calls, and the borrow is closed at the reader with the new place.
--- Assumes nothing.
 use mathlib.Core.Path.{_≡_, refl, ap}
 use Prim.Native.Nat.{ℕ, _<_, _^_}
 use mathlib.Core.List.{List, [], _∷_}
@@ -53,10 +52,13 @@ use Rattle.reader.proofs.Word as S
 use Rattle.reader.proofs.Word.Laws as S′
 use Rattle.reader.proofs.place_after_word as place
 use Rattle.reader.proofs.place_after_word.Symbol as place-def
+use Rattle.reader.proofs.place_after_word.Symbol.{name as #reader·place-after-word}
 use Rattle.reader.proofs.place_after_word.Met as place-thm
 use Rattle.reader.proofs.word_there as there
 use Rattle.reader.proofs.word_there.Symbol as there-def
+use Rattle.reader.proofs.word_there.Symbol.{name as #reader·word-there}
 use Rattle.reader.proofs.word_there.Met as there-thm
+use Rattle.reader.proofs.next_word.Key.{name as #reader·next-word}
 use Rattle.reader.proofs.next_word as taking
 use Rattle.reader.proofs.next_word.Statement as stated
 use Rattle.reader.proofs.next_word.Code as code

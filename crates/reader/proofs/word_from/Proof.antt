@@ -46,13 +46,17 @@ use Rattle.reader.proofs.Word as S
 use Rattle.reader.proofs.Word.Laws as S′
 use Rattle.reader.proofs.new as new
 use Rattle.reader.proofs.new.Symbol as new-def
+use Rattle.reader.proofs.new.Symbol.{name as #reader·new}
 use Rattle.reader.proofs.new.Met as new-thm
 use Rattle.reader.proofs.moved as moved
 use Rattle.reader.proofs.moved.Symbol as moved-def
+use Rattle.reader.proofs.moved.Symbol.{name as #reader·moved}
 use Rattle.reader.proofs.moved.Met as moved-thm
 use Rattle.reader.proofs.peek_word as next
 use Rattle.reader.proofs.peek_word.Symbol as next-def
+use Rattle.reader.proofs.peek_word.Symbol.{name as #reader·peek-word}
 use Rattle.reader.proofs.peek_word.Met as next-thm
+use Rattle.reader.proofs.word_from.Key.{name as #reader·word-from}
 use Rattle.reader.proofs.word_from as from-fn
 use Rattle.reader.proofs.word_from.Statement as stated
 use Rattle.reader.proofs.word_from.Code as code
