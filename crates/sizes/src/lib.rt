@@ -4,7 +4,7 @@ ghost use mathlib.Core.Bool.{false, _&&_, not};
 ghost use Prim.Native.Nat.{_+_, _*_, _≤_, min};
 ghost use lib.Dec.{eqb, ltb, leb};
 ghost use Rattle.rules.specs.Limits.{maxColumns, maxImage};
-ghost use Rattle.rules.specs.Record.{sizeMems, sizeTrits};
+ghost use Rattle.rules.specs.Record.{sizeMems, sizeTrits, recordImage};
 ghost use Rattle.rules.specs.Conditions.{isPower, badUnit, unlike, badDepths, badSizes};
 ghost use Rattle.sizes.specs.View.{viewSizes};
 
@@ -168,4 +168,12 @@ pub fn trits_within(s: Sizes, most: u64) -> u64
     let full = product_within(s.full as u64, s.full_depth as u64, most);
     let partial = product_within(s.partial as u64, s.partial_depth as u64, most);
     product_within(s.unit as u64, sum_within(full, partial, most), most)
+}
+
+// The image in a lent array: its first trits, as many as the sizes say.
+pub fn image_of(s: Sizes, image: &[u8]) -> &[u8]
+    ensures { λ r. ⌜ now r ≡ recordImage (viewSizes s) (now (image .entry)) ⌝ }
+{
+    let count = trits_within(s, image.len() as u64) as usize;
+    &image[..count]
 }
