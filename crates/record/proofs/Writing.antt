@@ -1,7 +1,7 @@
 -- Writing: the numbers in their order, what an accepted call knows, and the stores that make the record.
 use mathlib.Core.Path.{_≡_, refl, sym, ap, _∙_}
-use mathlib.Core.Bool.{Bool, true, false, not, _||_}
-use Prim.Native.Nat.{ℕ, _+_, _*_, _<_, _≤_, min}
+use mathlib.Core.Bool.{true, false, _||_}
+use Prim.Native.Nat.{ℕ, _+_, _*_, _<_, _≤_}
 use native.Mathlib.Omega.{arith}
 use mathlib.Core.List.{List, _++_, map, append-assoc}
 use lib.ListN.{length}
@@ -9,7 +9,6 @@ use lib.Seq.{sets, length-take-le}
 use borrow.Author.Tests.{lt-ltb, le-ltb, ltb-false}
 use Rattle.lists.proofs.Choice.{or-false, or-left, or-right, or-both, if-zero, hit, miss}
 use Rattle.lists.proofs.Store.{sets-at}
-use Rattle.rules.specs.Logic.{areTrits}
 use Rattle.rules.specs.Record.{Sizes, sizeTrits, recordImage, word16, packBits, arrayBytes, knownBit, valueBit, recordHead, encodeRecord, recordBytes}
 use Rattle.rules.specs.Conditions.{badTrits, badSizes, noRoom}
 use Rattle.rules.specs.Refusals.{writeRecordRefusal}
@@ -17,15 +16,6 @@ use Rattle.rules.proofs.Headers.{kept}
 use Rattle.sizes.specs.View.{viewSizes}
 use Rattle.sizes.specs.declared.Sizes.{Sizes as Machine}
 use Rattle.reader.specs.Reading.{Words}
-
--- the test of the trits that the code makes
-pub bad-trits : (r t : Bool) (x y : List ℕ) → x ≡ y → r ≡ areTrits x → not r ≡ t → badTrits y ≡ t
-unfolding badTrits
-bad-trits r t x y e q h = ap (λ (l : List ℕ). not (areTrits l)) (sym e) ∙ ap not (sym q) ∙ h
-
--- accepted sizes: the trits up to their limit are all
-pub all-trits : (z : Sizes) (n : ℕ) → badSizes z ≡ false → n ≡ min (sizeTrits z) 131072 → n ≡ sizeTrits z
-all-trits z n g e = omega (arith, kept z g .trits-max)
 
 pub bytes-are : (z : Sizes) (n r : ℕ) → n ≡ sizeTrits z → r ≡ 12 + 2 * arrayBytes n → r ≡ recordBytes z
 unfolding recordBytes

@@ -1,6 +1,6 @@
 -- The head of a whole record is what a reader refuses first; and the limits that accepted sizes keep.
-use Prim.Native.Nat.{ℕ, _+_, _*_, _<_, _≤_}
-use mathlib.Core.Path.{_≡_, refl}
+use Prim.Native.Nat.{ℕ, _+_, _*_, _<_, _≤_, min}
+use mathlib.Core.Path.{_≡_, refl, sym, ap, _∙_}
 use mathlib.Core.Bool.{Bool, true, false, not, _&&_}
 use mathlib.Core.List.{List}
 use native.Mathlib.Omega.{arith}
@@ -11,8 +11,9 @@ use Rattle.lists.proofs.Choice.{or-false}
 use Rattle.rules.specs.Limits.{maxUnit, maxDepth, maxPartial, maxColumns, maxImage}
 use lib.ListN.{length}
 use Rattle.lists.specs.Choice.{if_then_else_, _orElse_}
+use Rattle.rules.specs.Logic.{areTrits}
 use Rattle.rules.specs.Record.{Sizes, sizeMems, sizeTrits, headSizes}
-use Rattle.rules.specs.Conditions.{isPower, badUnit, unlike, badDepths, badHead, badSizes, badBits}
+use Rattle.rules.specs.Conditions.{badTrits, isPower, badUnit, unlike, badDepths, badHead, badSizes, badBits}
 use Rattle.rules.specs.Refusals.{recordRefusal}
 use Rattle.rules.specs.Header.{badHeadOf, headerRefusal}
 
@@ -41,7 +42,7 @@ pub record Kept (s : Sizes) : Type 0 where
   pub partial-depth-max : s .partialDepth ≤ 32767
   pub trits-max : sizeTrits s ≤ 131072
 
-factor : (a b : ℕ) → 0 < b → a ≤ a * b
+pub factor : (a b : ℕ) → 0 < b → a ≤ a * b
 factor a b h = omega (arith, mul-le-mul {n₁ = a} {m₁ = 1} {n₂ = a} {m₂ = b} (omega arith) (omega arith), mul-one a)
 
 positive : (n : ℕ) → (n ≡ 0 → ⊥) → 0 < n
@@ -87,3 +88,12 @@ module _ (s : Sizes) (e : badSizes s ≡ false) where
     partial-depth-max = depths-good .1;
     trits-max = columns-good .1;
   }
+
+-- the test of the trits that the code makes
+pub bad-trits : (r t : Bool) (x y : List ℕ) → x ≡ y → r ≡ areTrits x → not r ≡ t → badTrits y ≡ t
+unfolding badTrits
+bad-trits r t x y e q h = ap (λ (l : List ℕ). not (areTrits l)) (sym e) ∙ ap not (sym q) ∙ h
+
+-- accepted sizes: the trits up to their limit are all
+pub all-trits : (z : Sizes) (n : ℕ) → badSizes z ≡ false → n ≡ min (sizeTrits z) 131072 → n ≡ sizeTrits z
+all-trits z n g e = omega (arith, kept z g .trits-max)

@@ -12,4 +12,6 @@ pub mod Accepts
 pub mod Bits
 pub mod Records
 pub mod Written
+pub mod Calls
 pub mod Headers
+pub mod Memories

@@ -1,6 +1,6 @@
 -- `record::read_record` meets its contract.
 use Rattle.rules.specs.Answers.{readRecordCall}
-use Rattle.record.proofs.Heads.{refused, accepted}
+use Rattle.rules.proofs.Calls.{refused, accepted}
 use Rattle.record.proofs.Reading.{read-good, record-good}
 use Rattle.lists.proofs.Choice.{leaves-refused, leaves-accepted}
 use mathlib.Core.Path.{sym, _∙_}

@@ -1,6 +1,6 @@
 -- `record::record_header` meets its contract.
 use Rattle.rules.specs.Header.{headerCall}
-use Rattle.record.proofs.Heads.{refused, accepted}
+use Rattle.rules.proofs.Calls.{refused, accepted}
 use mathlib.Core.Path.{sym, _∙_}
 use Prim.Native.Nat.{_-_}
 use borrow.Author.Needs.{needs}

@@ -1,6 +1,7 @@
 -- `record::write_refusal` meets its contract.
 use Rattle.sizes.specs.View.{viewSizes}
-use Rattle.record.proofs.Writing.{bad-trits, all-trits, write-4, write-17, write-short, write-full, write-0, bytes-are}
+use Rattle.rules.proofs.Headers.{bad-trits, all-trits}
+use Rattle.record.proofs.Writing.{write-4, write-17, write-short, write-full, write-0, bytes-are}
 use mathlib.Core.Path.{sym, _∙_}
 use mathlib.Core.Bool.{true, false}
 use Prim.Native.Nat.{_-_}
