@@ -96,3 +96,10 @@ module _ {ℓ} {A : Type ℓ} where
   pub leaves-accepted : (n : ℕ) (before after : A) → n ≡ 0 → leaves n before after ≡ after
   unfolding leaves
   leaves-accepted n before after e = rw e
+
+-- ---- a chain of tests joined by `or`: the test that holds, and one that does not
+pub or-stop : {a : Bool} (b : Bool) → a ≡ true → true ≡ (a || b)
+or-stop b e = sym (or-left b e)
+
+pub or-skip : {a b x : Bool} → a ≡ false → x ≡ b → x ≡ (a || b)
+or-skip {a} {b} e q = q ∙ ap (λ (t : Bool). t || b) (sym e)

@@ -9,3 +9,5 @@ pub mod Concat
 pub mod Distinct
 pub mod Pairs
 pub mod Maps
+pub mod Ups
+pub mod Joined

@@ -1,11 +1,12 @@
 -- Laws of parts of lists: what is taken of what is dropped, and lists that agree on a front, a middle or a back.
 use mathlib.Core.Path.{_≡_, refl, sym, ap, _∙_}
-use Prim.Native.Nat.{ℕ, zero, suc, _+_, _-_, _≤_}
+use Prim.Native.Nat.{ℕ, zero, suc, _+_, _-_, _≤_, min}
 use native.Mathlib.Nat.{zero-add, suc-add, le-add-right}
 use native.Mathlib.Omega.{arith}
 use mathlib.Core.List.{List, [], _∷_}
 use lib.ListN.{length, take, drop, set, replicate, length-drop}
-use lib.Seq.{take-take, drop-drop, take-nil, length-take-le}
+use Rattle.lists.proofs.Choice.{cases-le}
+use lib.Seq.{take-all, take-take, drop-drop, take-nil, length-take-le}
 use Rattle.lists.specs.Lists.{part}
 
 module _ {ℓ} {A : Type ℓ} where
@@ -56,3 +57,10 @@ module _ {ℓ} {A : Type ℓ} where
   take-set (suc n) [] i a = refl
   take-set (suc n) (x ∷ l) zero a = refl
   take-set (suc n) (x ∷ l) (suc i) a = ap (λ (r : List A). x ∷ r) (take-set n l i a)
+
+  -- no more is taken than is there
+  pub take-most : (n : ℕ) (l : List A) → take (min n (length l)) l ≡ take n l
+  take-most n l =
+      cases-le n (length l)
+      (λ h. let e : min n (length l) ≡ n = omega arith in ap (λ (k : ℕ). take k l) e)
+      (λ h. let e : min n (length l) ≡ length l = omega arith in ap (λ (k : ℕ). take k l) e ∙ take-all (length l) l (omega arith) ∙ sym (take-all n l (omega arith)))

@@ -6,7 +6,7 @@ use native.Mathlib.Numerals.{add-one}
 use native.Mathlib.Omega.{arith}
 use mathlib.Core.List.{List, [], _∷_, _++_, append-assoc}
 use lib.ListN.{length, take, drop, getD, set, replicate, length-replicate, take-append-drop}
-use lib.Seq.{sets, length-sets, sets-eq, set-out, take-all, take-suc, take-set-le, drop-set-lt, length-take-le, take-at, drop-at}
+use lib.Seq.{sets, length-sets, sets-eq, set-out, set-comm, take-all, take-suc, take-set-le, drop-set-lt, length-take-le, take-at, drop-at}
 use Rattle.lists.proofs.Choice.{cases-le}
 
 module _ {ℓ} {A : Type ℓ} where
@@ -100,3 +100,10 @@ module _ {ℓ} {A : Type ℓ} where
 
       pub fill-done : (count : ℕ) → i ≡ min count (length to₀ - at) → to ≡ sets to₀ at (replicate count v)
       fill-done count h = e ∙ ap (λ (n : ℕ). sets to₀ at (replicate n v)) h ∙ fill-fit to₀ at count v
+
+module _ {ℓ} {A : Type ℓ} where
+  -- a store past a run of stores may come first
+  pub sets-set : (ws l : List A) (i j : ℕ) (v : A) → i + length ws ≤ j → sets (set l j v) i ws ≡ set (sets l i ws) j v
+  sets-set [] l i j v h = refl
+  sets-set (w ∷ ws) l i j v h =
+      ap (λ (m : List A). sets m (suc i) ws) (set-comm l j i v w (λ e. absurd (omega arith))) ∙ sets-set ws (set l i w) (suc i) j v (omega arith)

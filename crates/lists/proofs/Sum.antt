@@ -1,10 +1,11 @@
 -- Laws of `sumBy`.
 use mathlib.Core.Path.{_≡_, refl}
-use Prim.Native.Nat.{ℕ, zero, suc, _+_, _≤_}
+use Prim.Native.Nat.{ℕ, zero, suc, _+_, _<_, _≤_}
 use native.Mathlib.Numerals.{add-one}
 use native.Mathlib.Omega.{arith}
 use mathlib.Core.List.{List, [], _∷_}
-use lib.ListN.{take, getD, set}
+use lib.ListN.{length, take, drop, getD, set, drop-of-length-le}
+use lib.Seq.{drop-cons}
 use Rattle.lists.specs.Lists.{sumBy}
 
 module _ {ℓ} {A : Type ℓ} (f : A → ℕ) (d : A) (z : f d ≡ 0) where
@@ -30,3 +31,11 @@ module _ {ℓ} {A : Type ℓ} (f : A → ℕ) (d : A) (z : f d ≡ 0) where
   sum-set [] i a e = refl
   sum-set (b ∷ l) zero a e = omega arith
   sum-set (b ∷ l) (suc i) a e = omega (arith, sum-set l i a e)
+
+module _ {ℓ} {A : Type ℓ} (f : A → ℕ) where
+  -- a turn of a loop that sums
+  pub sum-drop : (l : List A) (i : ℕ) (d : A) → i < length l → sumBy f (drop i l) ≡ f (getD l i d) + sumBy f (drop (i + 1) l)
+  sum-drop l i d h = rw (add-one, drop-cons l i d h)
+
+  pub sum-end : (l : List A) (i : ℕ) → length l ≤ i → sumBy f (drop i l) ≡ 0
+  sum-end l i h = rw (drop-of-length-le l h)

@@ -14,3 +14,6 @@ pub mod Records
 pub mod Written
 pub mod Answers
 pub mod Leaves
+pub mod Calls
+pub mod Headers
+pub mod Memories

@@ -13,7 +13,7 @@ use Rattle.rules.proofs.Walks.{In, inside, walk-inj, lt-or-le}
 
 -- ---- the rows of the memories before one
 module _ (full H P : ℕ) where
-  before-suc : (m : ℕ) → rowsBefore full H P (suc m) ≡ rowsBefore full H P m + depthAt full H P m
+  pub before-suc : (m : ℕ) → rowsBefore full H P (suc m) ≡ rowsBefore full H P m + depthAt full H P m
   unfolding rowsBefore depthAt
   before-suc m = ⊎-elim
       (λ l. rw (lt-ltb m full l, min-eq-left {n = suc m} {m = full} l, min-eq-left {n = m} {m = full} (omega arith))
@@ -22,7 +22,7 @@ module _ (full H P : ℕ) where
       (let e : suc m - full ≡ suc (m - full) = omega arith in rw e (omega (arith, suc-mul (m - full) P))))
       (lt-or-le m full)
 
-  before-mono : (m m′ : ℕ) → m ≤ m′ → rowsBefore full H P m ≤ rowsBefore full H P m′
+  pub before-mono : (m m′ : ℕ) → m ≤ m′ → rowsBefore full H P m ≤ rowsBefore full H P m′
   unfolding rowsBefore
   before-mono m m′ l = add-le-add (mul-le-mul-right H (omega arith)) (mul-le-mul-right P (omega arith))
 

@@ -24,7 +24,7 @@ abbrev pub areBytes : List ℕ → Bool
 areBytes l = all (λ b. ltb b 256) l
 
 -- ---- one byte
-length-uint : (k x : ℕ) → length (fromUint k x) ≡ k
+pub length-uint : (k x : ℕ) → length (fromUint k x) ≡ k
 unfolding fromUint
 length-uint zero x = refl
 length-uint (suc k) x = ap suc (length-uint k (x / 2))
@@ -90,7 +90,7 @@ no-one (suc zero ∷ l) e f = let z : _≡_ {A = ℕ} 0 1 = cc in absurd (omega 
 no-one (suc (suc b) ∷ l) e f = absurd (omega (arith, leb-true (suc (suc b)) 1 (and-true (leb (suc (suc b)) 1) (areBits l) e .0)))
 
 -- ---- the two bits of a trit, as read, are those that are written
-known-of : (k v : ℕ) → k ≤ 1 → v ≤ k → knownBit (tritBy k v) ≡ k
+pub known-of : (k v : ℕ) → k ≤ 1 → v ≤ k → knownBit (tritBy k v) ≡ k
 unfolding knownBit tritBy
 known-of zero v h g = refl
 known-of (suc zero) zero h g = refl
@@ -98,7 +98,7 @@ known-of (suc zero) (suc zero) h g = refl
 known-of (suc zero) (suc (suc v)) h g = absurd (omega arith)
 known-of (suc (suc k)) v h g = absurd (omega arith)
 
-value-of : (k v : ℕ) → k ≤ 1 → v ≤ k → valueBit (tritBy k v) ≡ v
+pub value-of : (k v : ℕ) → k ≤ 1 → v ≤ k → valueBit (tritBy k v) ≡ v
 unfolding valueBit tritBy
 value-of zero zero h g = refl
 value-of zero (suc v) h g = absurd (omega arith)
@@ -140,12 +140,12 @@ any-append f (x ∷ a) b e =
     let d = any-append f a b (c .1) in
     (rw (c .0) (d .0), d .1)
 
-bits-of : (l : List ℕ) → areBits (bitsOf l) ≡ true
+pub bits-of : (l : List ℕ) → areBits (bitsOf l) ≡ true
 unfolding bitsOf
 bits-of [] = refl
 bits-of (a ∷ l) = all-append (λ b. leb b 1) (fromUint 8 a) (bitsOf l) (uint-bits 8 a) (bits-of l)
 
-length-bits : (l : List ℕ) → length (bitsOf l) ≡ 8 * length l
+pub length-bits : (l : List ℕ) → length (bitsOf l) ≡ 8 * length l
 unfolding bitsOf
 length-bits [] = refl
 length-bits (a ∷ l) = simp length-append (omega (arith, length-uint 8 a, length-bits l))
@@ -172,7 +172,7 @@ twelve : (l : List ℕ) → 12 ≤ length l
     → l ≡ getD l 0 0 ∷ getD l 1 0 ∷ getD l 2 0 ∷ getD l 3 0 ∷ getD l 4 0 ∷ getD l 5 0 ∷ getD l 6 0 ∷ getD l 7 0 ∷ getD l 8 0 ∷ getD l 9 0 ∷ getD l 10 0 ∷ getD l 11 0 ∷ drop 12 l
 twelve l h = drop-cons l 0 0 (omega arith) ∙ ap (λ (r : List ℕ). getD l 0 0 ∷ r) (drop-cons l 1 0 (omega arith) ∙ ap (λ (r : List ℕ). getD l 1 0 ∷ r) (drop-cons l 2 0 (omega arith) ∙ ap (λ (r : List ℕ). getD l 2 0 ∷ r) (drop-cons l 3 0 (omega arith) ∙ ap (λ (r : List ℕ). getD l 3 0 ∷ r) (drop-cons l 4 0 (omega arith) ∙ ap (λ (r : List ℕ). getD l 4 0 ∷ r) (drop-cons l 5 0 (omega arith) ∙ ap (λ (r : List ℕ). getD l 5 0 ∷ r) (drop-cons l 6 0 (omega arith) ∙ ap (λ (r : List ℕ). getD l 6 0 ∷ r) (drop-cons l 7 0 (omega arith) ∙ ap (λ (r : List ℕ). getD l 7 0 ∷ r) (drop-cons l 8 0 (omega arith) ∙ ap (λ (r : List ℕ). getD l 8 0 ∷ r) (drop-cons l 9 0 (omega arith) ∙ ap (λ (r : List ℕ). getD l 9 0 ∷ r) (drop-cons l 10 0 (omega arith) ∙ ap (λ (r : List ℕ). getD l 10 0 ∷ r) (drop-cons l 11 0 (omega arith))))))))))))
 
-byte-at : (l : List ℕ) → areBytes l ≡ true → (i : ℕ) → getD l i 0 < 256
+pub byte-at : (l : List ℕ) → areBytes l ≡ true → (i : ℕ) → getD l i 0 < 256
 byte-at [] e i = omega arith
 byte-at (a ∷ l) e zero = ltb-true a 256 (and-true (ltb a 256) (areBytes l) e .0)
 byte-at (a ∷ l) e (suc i) = byte-at l (and-true (ltb a 256) (areBytes l) e .1) i

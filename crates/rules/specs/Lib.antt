@@ -18,4 +18,5 @@ pub mod Refusals
 pub mod Patch
 pub mod Lister
 pub mod Answers
+pub mod Header
 pub mod Examples

@@ -1,0 +1,3 @@
+-- Laws of words and trits at a place.
+pub mod Heads
+pub mod Places

@@ -1,0 +1,2 @@
+-- What a reader takes at its place.
+pub mod Reading

@@ -1,0 +1,5 @@
+-- Laws of the record's calls.
+pub mod Heads
+pub mod Writing
+pub mod Arrays
+pub mod Reading

@@ -1,0 +1,58 @@
+-- Reading: the numbers in their order, and what they leave known.
+use mathlib.Core.Path.{_≡_, refl, sym, _∙_}
+use mathlib.Core.Logic.{_≢_}
+use mathlib.Core.Bool.{true, false}
+use Prim.Native.Nat.{ℕ, _<_, _≤_}
+use mathlib.Core.List.{List}
+use lib.ListN.{length}
+use borrow.Author.Tests.{lt-ltb, le-ltb}
+use Rattle.lists.proofs.Choice.{if-zero, else-first, else-rest, else-zero, hit, miss}
+use Rattle.rules.specs.Record.{sizeTrits, headSizes}
+use Rattle.rules.specs.Conditions.{badHead, badSizes, badBits, noRoom}
+use Rattle.rules.specs.Refusals.{recordRefusal, readRecordRefusal}
+use Rattle.rules.specs.Header.{badHeadOf, headerRefusal}
+use Rattle.rules.proofs.Headers.{head-whole, record-head}
+
+module _ (bytes : List ℕ) where
+  -- a head that no number refuses
+  pub head-good : headerRefusal bytes (length bytes) ≡ 0 → (badHead bytes ≡ false) × (badSizes (headSizes bytes) ≡ false)
+  unfolding headerRefusal
+  head-good e =
+      let a = if-zero (badHeadOf bytes (length bytes)) 15 _ e in
+      (sym (head-whole bytes) ∙ a .0, if-zero (badSizes (headSizes bytes)) 16 0 (a .1) .0)
+
+  pub record-good : recordRefusal bytes ≡ 0 → (badHead bytes ≡ false) × (badSizes (headSizes bytes) ≡ false) × (badBits bytes ≡ false)
+  record-good e =
+      let z = else-zero (headerRefusal bytes (length bytes)) _ (sym (record-head bytes) ∙ e) in
+      let h = head-good (z .0) in
+      (h .0, h .1, if-zero (badBits bytes) 17 0 (z .1) .0)
+
+  -- ---- 16, 17, 18
+  pub by-head : (n : ℕ) → n ≡ headerRefusal bytes (length bytes) → n ≢ 0 → n ≡ recordRefusal bytes
+  by-head n e h = e ∙ sym (record-head bytes ∙ else-first (headerRefusal bytes (length bytes)) _ (λ z. h (e ∙ z)))
+
+  module _ (e : headerRefusal bytes (length bytes) ≡ 0) where
+    pub record-18 : badBits bytes ≡ true → 18 ≡ recordRefusal bytes
+    record-18 b = hit 18 0 b ∙ sym (record-head bytes ∙ else-rest (headerRefusal bytes (length bytes)) _ e)
+
+    pub record-0 : badBits bytes ≡ false → 0 ≡ recordRefusal bytes
+    record-0 b = miss 18 0 0 b refl ∙ sym (record-head bytes ∙ else-rest (headerRefusal bytes (length bytes)) _ e)
+
+  -- ---- and 20
+  module _ (room : ℕ) where
+    pub by-record : (n : ℕ) → n ≡ recordRefusal bytes → n ≢ 0 → n ≡ readRecordRefusal room bytes
+    unfolding readRecordRefusal
+    by-record n e h = e ∙ sym (else-first (recordRefusal bytes) _ (λ z. h (e ∙ z)))
+
+    module _ (e : recordRefusal bytes ≡ 0) where
+      pub read-20 : room < sizeTrits (headSizes bytes) → 20 ≡ readRecordRefusal room bytes
+      unfolding readRecordRefusal noRoom
+      read-20 h = hit 20 0 (lt-ltb room (sizeTrits (headSizes bytes)) h) ∙ sym (else-rest (recordRefusal bytes) _ e)
+
+      pub read-0 : sizeTrits (headSizes bytes) ≤ room → 0 ≡ readRecordRefusal room bytes
+      unfolding readRecordRefusal noRoom
+      read-0 h = miss 20 0 0 (le-ltb room (sizeTrits (headSizes bytes)) h) refl ∙ sym (else-rest (recordRefusal bytes) _ e)
+
+    pub read-good : readRecordRefusal room bytes ≡ 0 → recordRefusal bytes ≡ 0
+    unfolding readRecordRefusal
+    read-good e = else-zero (recordRefusal bytes) _ e .0

@@ -1,0 +1,3 @@
+-- Laws of the sizes.
+pub mod Counts
+pub mod Powers

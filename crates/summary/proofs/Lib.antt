@@ -1,0 +1,3 @@
+-- Laws of the summaries.
+pub mod Starts
+pub mod Numbers
