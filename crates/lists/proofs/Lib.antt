@@ -3,6 +3,7 @@ pub mod Choice
 pub mod All
 pub mod Sum
 pub mod Store
+pub mod Stores
 pub mod Parts
 pub mod Views
 pub mod Concat

@@ -16,8 +16,9 @@ use Rattle.lists.proofs.Same.{same-refl, same-true}
 use Rattle.rules.specs.Value.{Control, Pos, Neg, controlWords}
 use Rattle.rules.specs.Cell.{Controls, FlipFlop}
 use Rattle.rules.specs.Log.{Entry, Void, Not, And, Or, Mux, Eq, Shl, Ushr, Dff, Replace, entry, flag, dffOperands, encode, words}
+use Rattle.rules.proofs.Entries.{length-control}
 use Rattle.rules.specs.Conditions.{unequal, badTritLens}
-use Rattle.rules.specs.Decode.{controlAt, controlsOf, flipFlopFrom, firstHalf, secondHalf, entryFrom, formed, decode, before, readOn, decodeBy, decodeAll}
+use Rattle.rules.specs.Decode.{controlsWords, controlAt, controlsOf, flipFlopFrom, firstHalf, secondHalf, entryFrom, formed, decode, before, readOn, decodeBy, decodeAll}
 
 -- an entry whose words are these is read back, where its operands make it
 read-back : (e : Entry) (kind width first : ℕ) (ops rest : List ℕ) → encode e ≡ entry kind width first ops → entryFrom kind width first ops ≡ e → formed e ≡ true
@@ -104,16 +105,28 @@ controls-back c l = λ i. record { clock = ck i; clear = cl i; reset = rs i; ena
 drop-nine : (c : Controls) (l : List ℕ) → drop 9 (nine c l) ≡ l
 drop-nine c l = drop-control (c .clock) _ 7 ∙ drop-control (c .clear) _ 5 ∙ drop-control (c .reset) _ 3 ∙ drop-control (c .enable) _ 1
 
-operands-right : (f : FlipFlop) → dffOperands f ≡ f .bits ++ nine (f .controls) (f .clearValue ++ (f .resetValue ++ f .initValue))
-unfolding dffOperands
+nine-words : (c : Controls) (l : List ℕ) → controlsWords c ++ l ≡ nine c l
+unfolding controlsWords
+nine-words c l = simp append-assoc
+
+pub length-controls : (c : Controls) → length (controlsWords c) ≡ 9
+unfolding controlsWords
+length-controls c = simp (length-append, length-control) refl
+
+-- a flip-flop's operands: data, the words of the controls, and the trits
+pub operands-right : (f : FlipFlop) → dffOperands f ≡ f .bits ++ (controlsWords (f .controls) ++ (f .clearValue ++ (f .resetValue ++ f .initValue)))
+unfolding dffOperands controlsWords
 operands-right f = simp append-assoc
+
+operands-nine : (f : FlipFlop) → dffOperands f ≡ f .bits ++ nine (f .controls) (f .clearValue ++ (f .resetValue ++ f .initValue))
+operands-nine f = operands-right f ∙ ap (λ (l : List ℕ). f .bits ++ l) (nine-words (f .controls) (f .clearValue ++ (f .resetValue ++ f .initValue)))
 
 module _ (w : ℕ) (f : FlipFlop) (b : length (f .bits) ≡ w) (c : length (f .clearValue) ≡ w) (r : length (f .resetValue) ≡ w) where
   flip-flop-back : flipFlopFrom w (dffOperands f) ≡ f
   unfolding flipFlopFrom
   flip-flop-back =
       let t = f .clearValue ++ (f .resetValue ++ f .initValue) in
-      rw (operands-right f, take-at (f .bits) (nine (f .controls) t) w b, drop-at (f .bits) (nine (f .controls) t) w b, controls-back (f .controls) t, drop-nine (f .controls) t, take-at (f .clearValue) (f .resetValue ++ f .initValue) w c, drop-at (f .clearValue) (f .resetValue ++ f .initValue) w c, take-at (f .resetValue) (f .initValue) w r, drop-at (f .resetValue) (f .initValue) w r)
+      rw (operands-nine f, take-at (f .bits) (nine (f .controls) t) w b, drop-at (f .bits) (nine (f .controls) t) w b, controls-back (f .controls) t, drop-nine (f .controls) t, take-at (f .clearValue) (f .resetValue ++ f .initValue) w c, drop-at (f .clearValue) (f .resetValue ++ f .initValue) w c, take-at (f .resetValue) (f .initValue) w r, drop-at (f .resetValue) (f .initValue) w r)
 
 trit-lens : (n : ℕ) (a b c : List ℕ) → not (badTritLens n a b c) ≡ true → (length a ≡ n) × (length b ≡ n)
 unfolding badTritLens

@@ -7,10 +7,15 @@ use lib.ListN.{length, getD, take, drop}
 use lib.Dec.{eqb}
 use Rattle.lists.specs.Choice.{if_then_else_}
 use Rattle.lists.specs.Lists.{sameList}
-use Rattle.rules.specs.Value.{Value, Control, Pos, Neg}
+use Rattle.rules.specs.Value.{Value, Control, Pos, Neg, controlWords}
 use Rattle.rules.specs.Cell.{Controls, FlipFlop}
-use Rattle.rules.specs.Log.{Entry, Void, Not, And, Or, Mux, Eq, Shl, Ushr, Dff, Replace, encode}
+use Rattle.rules.specs.Log.{Entry, Void, Not, And, Or, Mux, Eq, Shl, Ushr, Dff, Replace, flag, encode}
 use Rattle.rules.specs.Conditions.{unequal, badTritLens}
+
+-- the words of a flip-flop's controls
+unfoldable pub controlsWords : Controls → List ℕ
+controlsWords c =
+    controlWords (c .clock) ++ (controlWords (c .clear) ++ (controlWords (c .reset) ++ (controlWords (c .enable) ++ (flag (c .resetOverEnable) ∷ []))))
 
 -- ---- the entry that these words would be
 -- the two words of a control from place i on
