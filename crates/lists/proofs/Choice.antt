@@ -96,3 +96,8 @@ module _ {ℓ} {A : Type ℓ} where
   pub leaves-accepted : (n : ℕ) (before after : A) → n ≡ 0 → leaves n before after ≡ after
   unfolding leaves
   leaves-accepted n before after e = rw e
+
+-- what follows matters only where there is no first number
+pub else-same : (n x y : ℕ) → (n ≡ 0 → x ≡ y) → (n orElse x) ≡ (n orElse y)
+else-same zero x y f = else-rest 0 x refl ∙ f refl ∙ sym (else-rest 0 y refl)
+else-same (suc n) x y f = else-first (suc n) x (nonzero n) ∙ sym (else-first (suc n) y (nonzero n))

@@ -4,6 +4,7 @@ pub mod Entries
 pub mod Traces
 pub mod Chain
 pub mod Decode
+pub mod Counted
 pub mod Shapes
 pub mod Walks
 pub mod Writes
