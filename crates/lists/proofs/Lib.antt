@@ -3,6 +3,7 @@ pub mod Choice
 pub mod All
 pub mod Sum
 pub mod Store
+pub mod Stores
 pub mod Parts
 pub mod Views
 pub mod Concat
@@ -11,3 +12,4 @@ pub mod Pairs
 pub mod Maps
 pub mod Ups
 pub mod Joined
+pub mod Same

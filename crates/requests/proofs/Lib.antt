@@ -1,0 +1,3 @@
+-- Laws of the numbers before the log's, and of a call's answer.
+pub mod Numbers
+pub mod Answers

@@ -1,0 +1,2 @@
+-- The machine's answers to requests, in terms of the rules.
+pub mod Answers
