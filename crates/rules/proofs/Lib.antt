@@ -8,7 +8,11 @@ pub mod Writes
 pub mod Places
 pub mod Rows
 pub mod Demand
+pub mod Named
+pub mod Meaning
+pub mod GoodLayouts
 pub mod Accepts
 pub mod Bits
 pub mod Records
 pub mod Written
+pub mod ReadBack
