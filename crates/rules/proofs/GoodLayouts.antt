@@ -1,5 +1,5 @@
 -- What a layout has that passes the test of 23: its sizes, its entries, and what demand 3 asks of it.
-use Prim.Native.Nat.{ℕ, _*_, _^_, _≤_, _<_}
+use Prim.Native.Nat.{ℕ, _*_, _^_, _<_}
 use mathlib.Core.Path.{_≡_}
 use mathlib.Core.Logic.{_≢_}
 use mathlib.Core.Bool.{Bool, true, false, not, _&&_}
@@ -15,19 +15,10 @@ use Rattle.rules.specs.Limits.{maxDepth, maxWidth, maxBits, maxRow, maxU
 use Rattle.rules.specs.Numbers.{topBits}
 use Rattle.rules.specs.Geometry.{Layout, rowLen}
 use Rattle.rules.specs.Conditions.{indivisible, badEntry, badNames, badEntries, resultTooLarge, badLayoutSizes, badLayout}
-use Rattle.rules.specs.Shape.{handedOn}
+use Rattle.rules.specs.Shape.{Small, handedOn}
 use Rattle.rules.proofs.Demand.{Accepted}
 
 -- ---- sizes within number 1's limits
-pub record Small (depth width len unit hard : ℕ) : Type 0 where
-  pub depth-max : depth ≤ maxDepth
-  pub width-max : width ≤ maxWidth
-  pub bits-max : depth * width ≤ maxBits
-  pub len-max : len ≤ maxRow
-  pub unit-pos : 0 < unit
-  pub unit-max : unit ≤ maxUnit
-  pub hard-max : hard ≤ maxHard
-
 pos-of : {n : ℕ} → n ≢ 0 → 0 < n
 pos-of h = omega (arith, h)
 
@@ -51,13 +42,13 @@ small d w l u h e =
     }
 
 -- ---- a layout that passes
-abbrev badSizes : Layout → Bool
+abbrev pub badSizes : Layout → Bool
 badSizes q = badLayoutSizes (q .depth) (q .width) (rowLen q) (q .unit) (q .hard)
 
-abbrev badSoft : Layout → Bool
+abbrev pub badSoft : Layout → Bool
 badSoft q = indivisible (q .depth) (topBits addrBits (q .softMask))
 
-abbrev badResult : Layout → Bool
+abbrev pub badResult : Layout → Bool
 badResult q = not (eqb (q .width) 0) && resultTooLarge q
 
 pub record Good (q : Layout) : Type 0 where

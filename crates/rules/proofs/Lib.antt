@@ -11,6 +11,9 @@ pub mod Demand
 pub mod Named
 pub mod Meaning
 pub mod GoodLayouts
+pub mod Extents
+pub mod Answering
+pub mod Shaping
 pub mod Accepts
 pub mod Bits
 pub mod Records

@@ -1,5 +1,5 @@
 -- The sizes that a layout gives and the place of an entry: calls that document 01 does not name, with their numbers and whole answers.
-use Prim.Native.Nat.{ℕ}
+use Prim.Native.Nat.{ℕ, _*_, _≤_, _<_}
 use mathlib.Core.Bool.{_||_}
 use mathlib.Core.Option.{Option, none, some}
 use mathlib.Core.List.{List}
@@ -9,10 +9,20 @@ use Rattle.rules.specs.Geometry.{Layout, rowLen, fullDepth, partDepth, f
 use Rattle.rules.specs.Image.{Place, placeOf, indexOf, trits, imageSize, Laid}
 use Rattle.rules.specs.Conditions.{badEntries, indivisible, resultTooLarge, notBelow, noRoom, badLayoutSizes, badLayout}
 use Rattle.rules.specs.Numbers.{topBits}
-use Rattle.rules.specs.Limits.{addrBits}
+use Rattle.rules.specs.Limits.{addrBits, maxDepth, maxWidth, maxBits, maxRow, maxUnit, maxHard}
 use Rattle.rules.specs.Answers.{Answer, answerOf, Filled, filled}
 
 -- ---- sizes
+-- within number 1's limits
+pub record Small (depth width len unit hard : ℕ) : Type 0 where
+  pub depth-max : depth ≤ maxDepth
+  pub width-max : width ≤ maxWidth
+  pub bits-max : depth * width ≤ maxBits
+  pub len-max : len ≤ maxRow
+  pub unit-pos : 0 < unit
+  pub unit-max : unit ≤ maxUnit
+  pub hard-max : hard ≤ maxHard
+
 pub record Shape : Type 0 where
   pub fullMems : ℕ
   pub allMems : ℕ
