@@ -9,7 +9,7 @@ ghost use Rattle.rules.specs.Limits.{addrBits};
 ghost use Rattle.rules.specs.Numbers.{ceilDiv, topBits};
 ghost use Rattle.rules.specs.Geometry.{softBits, chunkMuxBits, toChunk, walk};
 ghost use Rattle.rules.specs.Conditions.{badLayoutSizes};
-ghost use Rattle.rules.specs.Shape.{shapeOf, shapeCall, depthsCall};
+ghost use Rattle.rules.specs.Shape.{shapeOf, shapeCall, depthsCall, softMaskNumber, resultNumber};
 ghost use Rattle.geometry.specs.View.{spotOf, layoutBy, shapeBy, measuredOf, filledWith};
 ghost use Rattle.geometry.specs.Steps.{Narrow, memsOf, Roomy, stepped};
 
@@ -241,6 +241,32 @@ pub fn depths(p: Params, entries: &[u32], out: &mut [u32]) -> u32
     let all = s.all_mems as usize;
     lists::fill_u32(out, 0, full, s.full_depth as u32);
     lists::fill_u32(out, full, all - full, s.part_depth as u32);
+    0
+}
+
+// Number 8: the depth is no multiple of 2^(top soft bit + 1).
+pub fn soft_mask_refusal(depth: u32, mask: u32) -> u32
+    ensures { λ r. ⌜ r ≡ softMaskNumber depth mask ⌝ }
+{
+    if wide32(depth) % pow2(top_bits(mask)) != 0 {
+        return 8;
+    }
+    0
+}
+
+// Number 10, or 1 where the sizes pass their limits.
+pub fn result_refusal(p: Params, entries: &[u32]) -> u32
+    ensures { λ r. ⌜ r ≡ resultNumber (layoutBy p (now (entries .entry))) ⌝ }
+{
+    let Measured::Done(s) = measure(p, entries) else {
+        return 1;
+    };
+    if rules::MAX_COLUMNS < s.columns {
+        return 10;
+    }
+    if rules::MAX_IMAGE < s.trits {
+        return 10;
+    }
     0
 }
 

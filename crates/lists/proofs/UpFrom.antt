@@ -1,6 +1,7 @@
 -- Laws of `upFrom`, the numbers from one on.
 use mathlib.Core.Path.{_≡_, refl, sym, ap, _∙_}
-use Prim.Native.Nat.{ℕ, zero, suc, _+_, _<_}
+use Prim.Native.Nat.{ℕ, zero, suc, _+_, _-_, _<_, _≤_}
+use native.Mathlib.Numerals.{add-one}
 use native.Mathlib.Nat.{zero-add, add-zero, suc-add, add-suc}
 use native.Mathlib.Omega.{arith}
 use mathlib.Core.Bool.{Bool, true, false, _||_}
@@ -36,3 +37,29 @@ module _ (f : ℕ → Bool) where
   any-none a zero e i h = absurd (omega arith)
   any-none a (suc n) e zero h = ap f (add-zero a) ∙ or-false (f a) _ e .0
   any-none a (suc n) e (suc i) h = ap f (add-suc a i ∙ sym (suc-add a i)) ∙ any-none (suc a) n (or-false (f a) _ e .1) i (omega arith)
+
+  -- a turn of a loop over the numbers from 0 to below n
+  up-step : (i n : ℕ) → i < n → any f (upFrom i (n - i)) ≡ (f i || any f (upFrom (i + 1) (n - (i + 1))))
+  up-step i n h =
+      let e : n - i ≡ suc (n - (i + 1)) = omega arith in
+      ap (λ (k : ℕ). any f (upFrom i k)) e ∙ ap (λ (k : ℕ). f i || any f (upFrom k (n - (i + 1)))) (sym (add-one i))
+
+  pub up-pass : (i n : ℕ) → i < n → f i ≡ false → any f (upFrom i (n - i)) ≡ any f (upFrom 0 n) → any f (upFrom (i + 1) (n - (i + 1))) ≡ any f (upFrom 0 n)
+  up-pass i n h t e = sym (up-step i n h ∙ rw t) ∙ e
+
+  pub up-found : (i n : ℕ) → i < n → f i ≡ true → any f (upFrom i (n - i)) ≡ any f (upFrom 0 n) → true ≡ any f (upFrom 0 n)
+  up-found i n h t e = sym (up-step i n h ∙ rw t) ∙ e
+
+  pub up-end : (i n : ℕ) → n ≤ i → any f (upFrom i (n - i)) ≡ any f (upFrom 0 n) → false ≡ any f (upFrom 0 n)
+  up-end i n h e =
+      let z : n - i ≡ 0 = omega arith in
+      sym (ap (λ (k : ℕ). any f (upFrom i k)) z) ∙ e
+
+-- two tests that agree on the numbers, each from its own start
+pub any-same : (f g : ℕ → Bool) (a b n : ℕ) → ((j : ℕ) → j < n → f (a + j) ≡ g (b + j)) → any f (upFrom a n) ≡ any g (upFrom b n)
+any-same f g a b zero h = refl
+any-same f g a b (suc n) h =
+    let head : f a ≡ g b = ap f (sym (add-zero a)) ∙ h 0 (omega arith) ∙ ap g (add-zero b) in
+    let tail : any f (upFrom (suc a) n) ≡ any g (upFrom (suc b) n) =
+    any-same f g (suc a) (suc b) n (λ j l. ap f (suc-add a j ∙ sym (add-suc a j)) ∙ h (suc j) (omega arith) ∙ ap g (add-suc b j ∙ sym (suc-add b j))) in
+    λ k. head k || tail k

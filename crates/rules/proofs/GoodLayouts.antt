@@ -1,21 +1,22 @@
 -- What a layout has that passes the test of 23: its sizes, its entries, and what demand 3 asks of it.
 use Prim.Native.Nat.{ℕ, _*_, _^_, _<_}
-use mathlib.Core.Path.{_≡_}
+use mathlib.Core.Path.{_≡_, refl, sym, ap, _∙_}
 use mathlib.Core.Logic.{_≢_}
 use mathlib.Core.Bool.{Bool, true, false, not, _&&_}
 use mathlib.Core.List.{List}
-use mathlib.Core.Option.{none, some}
+use mathlib.Core.Option.{Option, none, some}
 use native.Mathlib.Omega.{arith}
 use lib.Dec.{eqb, ltb}
 use lib.ListN.{length, getD}
-use borrow.Author.Tests.{eqb-true, eqb-false, ltb-false, leb-false, ne-eqb, not-false}
-use Rattle.lists.proofs.Choice.{or-false, or-both, and-false, not-is-true}
+use borrow.Author.Tests.{eq-eqb, eqb-true, eqb-false, ltb-false, leb-false, ne-eqb, not-false}
+use Rattle.lists.proofs.Choice.{or-left, or-right, or-false, or-both, and-false, not-is-true}
+use Rattle.lists.specs.Choice.{if_then_else_}
 use Rattle.lists.proofs.All.{any-at}
 use Rattle.rules.specs.Limits.{maxDepth, maxWidth, maxBits, maxRow, maxUnit, maxHard, addrBits, None}
 use Rattle.rules.specs.Numbers.{topBits}
 use Rattle.rules.specs.Geometry.{Layout, rowLen}
 use Rattle.rules.specs.Conditions.{indivisible, badEntry, badNames, badEntries, resultTooLarge, badLayoutSizes, badLayout}
-use Rattle.rules.specs.Shape.{Small, handedOn}
+use Rattle.rules.specs.Shape.{Small, Shape, shapeOf, handedOn, laidShape}
 use Rattle.rules.proofs.Demand.{Accepted}
 
 -- ---- sizes within number 1's limits
@@ -104,3 +105,59 @@ handed-none q e = rw e
 pub handed-some : (q : Layout) → badLayout q ≡ false → handedOn q ≡ some q
 unfolding handedOn
 handed-some q e = rw e
+
+-- ---- a layout that fails, by its first test that does
+module _ (q : Layout) where
+  pub bad-1 : badSizes q ≡ true → badLayout q ≡ true
+  unfolding badLayout
+  bad-1 a = or-left _ a
+
+  pub bad-7 : badSizes q ≡ false → badEntries (q .width) (q .entries) ≡ true → badLayout q ≡ true
+  unfolding badLayout
+  bad-7 a b = or-right a (or-left _ b)
+
+  pub bad-8 : badSizes q ≡ false → badEntries (q .width) (q .entries) ≡ false → badSoft q ≡ true → badLayout q ≡ true
+  unfolding badLayout
+  bad-8 a b c = or-right a (or-right b (or-left _ c))
+
+  pub bad-10 : badSizes q ≡ false → badEntries (q .width) (q .entries) ≡ false → badSoft q ≡ false → badResult q ≡ true → badLayout q ≡ true
+  unfolding badLayout
+  bad-10 a b c d = or-right a (or-right b (or-right c d))
+
+  -- width 0 has no result to be too large
+  pub no-result : q .width ≡ 0 → badResult q ≡ false
+  no-result e = ap (λ (t : Bool). not t && resultTooLarge q) (eq-eqb (q .width) 0 e)
+
+  pub some-result : (t : Bool) → q .width ≢ 0 → resultTooLarge q ≡ t → badResult q ≡ t
+  some-result t n e = ap (λ (t : Bool). not t && resultTooLarge q) (ne-eqb (q .width) 0 n) ∙ e
+
+-- ---- the sizes of a layout that passes
+module _ (q : Layout) where
+  pub shape-none : badLayout q ≡ true → none ≡ laidShape q
+  unfolding laidShape
+  shape-none e = sym (ap (λ (t : Bool). if t then none else some (shapeOf q)) e)
+
+  pub shape-some : (s : Shape) → badLayout q ≡ false → s ≡ shapeOf q → some s ≡ laidShape q
+  unfolding laidShape
+  shape-some s e h = ap some h ∙ sym (ap (λ (t : Bool). if t then none else some (shapeOf q)) e)
+
+  -- what a caller learns
+  never : {s : Shape} → _≡_ {A = Option Shape} none (some s) → ⊥
+  never e = let z : _≡_ {A = ℕ} 0 1 = cc in omega arith
+
+  same : {s t : Shape} → _≡_ {A = Option Shape} (some s) (some t) → s ≡ t
+  same e = cc
+
+  pub none-told : none ≡ laidShape q → badLayout q ≡ true
+  none-told e = on (badLayout q) refl
+    where
+      on : (t : Bool) → badLayout q ≡ t → badLayout q ≡ true
+      on true h = h
+      on false h = absurd (never (e ∙ sym (shape-some (shapeOf q) h refl)))
+
+  pub some-told : (s : Shape) → some s ≡ laidShape q → (badLayout q ≡ false) × (s ≡ shapeOf q)
+  some-told s e = on (badLayout q) refl
+    where
+      on : (t : Bool) → badLayout q ≡ t → (badLayout q ≡ false) × (s ≡ shapeOf q)
+      on true h = absurd (never (shape-none h ∙ sym e))
+      on false h = (h, same (e ∙ sym (shape-some (shapeOf q) h refl)))

@@ -1,20 +1,23 @@
 -- The sizes of a layout as a call: what its answer is, and what it tells.
-use Prim.Native.Nat.{ℕ, _-_, _≤_, _<_}
+use Prim.Native.Nat.{ℕ, _-_, _%_, _^_, _≤_, _<_}
 use native.Mathlib.Nat.{zero-add}
 use lib.Seq.{sets}
-use borrow.Author.Tests.{lt-ltb, le-ltb}
+use borrow.Author.Tests.{lt-ltb, le-ltb, eq-eqb, ne-eqb}
 use Rattle.lists.proofs.Store.{sets-at}
-use mathlib.Core.Path.{_≡_, refl, sym, ap, _∙_}
+use mathlib.Core.Path.{_≡_, refl, sym, ap, _∙_, subst}
 use mathlib.Core.Logic.{_≢_}
 use mathlib.Core.Bool.{Bool, true, false}
 use mathlib.Core.List.{List, _++_}
 use native.Mathlib.Omega.{arith}
 use lib.ListN.{length, replicate, length-replicate}
-use Rattle.lists.proofs.Choice.{if-zero}
-use Rattle.rules.specs.Geometry.{Layout, rowLen, fullMems, allMems, fullDepth, partDepth, swizzleDepths}
-use Rattle.rules.specs.Conditions.{noRoom}
+use Rattle.lists.proofs.Choice.{if-zero, or-left, or-right, or-both}
+use Rattle.rules.specs.Geometry.{Layout, rowLen, fullMems, allMems, fullDepth, partDepth, columns, swizzleDepths}
+use Rattle.rules.specs.Limits.{addrBits, maxColumns, maxImage}
+use Rattle.rules.specs.Numbers.{topBits}
+use Rattle.rules.specs.Image.{trits}
+use Rattle.rules.specs.Conditions.{noRoom, indivisible, resultTooLarge}
 use Rattle.rules.specs.Answers.{Refused, Accepted}
-use Rattle.rules.specs.Shape.{Shape, Small, shapeOf, shapeNumber, shapeCall, depthsNumber}
+use Rattle.rules.specs.Shape.{Shape, Small, shapeOf, shapeNumber, shapeCall, depthsNumber, softMaskNumber, resultNumber}
 use Rattle.rules.proofs.Answering.{answer-refused, answer-accepted, tells-accepted, tells-refused}
 use Rattle.rules.proofs.GoodLayouts.{badSizes, small}
 
@@ -86,3 +89,65 @@ depths-stored q out mid after full all deep part a b c d e f =
     f ∙ ap (λ (l : List ℕ). sets l full (replicate (all - full) part)) e
     ∙ sets-at out 0 full (replicate full deep) (replicate (all - full) part) (sym (zero-add (length (replicate full deep)) ∙ length-replicate full deep))
     ∙ (λ i. sets out 0 (replicate (a i) (c i) ++ replicate (b i - a i) (d i)))
+
+-- ---- number 8
+pub soft-8 : (depth mask : ℕ) → depth % 2 ^ topBits addrBits mask ≢ 0 → softMaskNumber depth mask ≡ 8
+unfolding softMaskNumber indivisible
+soft-8 depth mask h = rw (ne-eqb _ 0 h)
+
+pub soft-0 : (depth mask : ℕ) → depth % 2 ^ topBits addrBits mask ≡ 0 → softMaskNumber depth mask ≡ 0
+unfolding softMaskNumber indivisible
+soft-0 depth mask h = rw (eq-eqb _ 0 h)
+
+-- what the number tells
+pub soft-passed : (depth mask : ℕ) → softMaskNumber depth mask ≡ 0 → indivisible depth (topBits addrBits mask) ≡ false
+unfolding softMaskNumber
+soft-passed depth mask e = if-zero (indivisible depth (topBits addrBits mask)) 7 0 e .0
+
+soft-zero : (depth mask : ℕ) → indivisible depth (topBits addrBits mask) ≡ false → softMaskNumber depth mask ≡ 0
+unfolding softMaskNumber
+soft-zero depth mask e = rw e
+
+pub soft-failed : (depth mask : ℕ) → softMaskNumber depth mask ≢ 0 → indivisible depth (topBits addrBits mask) ≡ true
+soft-failed depth mask h = on (indivisible depth (topBits addrBits mask)) refl
+  where
+    on : (t : Bool) → indivisible depth (topBits addrBits mask) ≡ t → indivisible depth (topBits addrBits mask) ≡ true
+    on true e = e
+    on false e = absurd (h (soft-zero depth mask e))
+
+-- ---- number 10
+module _ (q : Layout) (s : Shape) (e : s ≡ shapeOf q) where
+  columns-is : s .columns ≡ columns q
+  unfolding shapeOf
+  columns-is = ap (λ (x : Shape). x .columns) e
+
+  trits-is : s .trits ≡ trits q
+  unfolding shapeOf
+  trits-is = ap (λ (x : Shape). x .trits) e
+
+  pub large-columns : maxColumns < s .columns → resultTooLarge q ≡ true
+  unfolding resultTooLarge
+  large-columns l = or-left _ (lt-ltb maxColumns (columns q) (subst (λ (n : ℕ). maxColumns < n) columns-is l))
+
+  pub large-trits : s .columns ≤ maxColumns → maxImage < s .trits → resultTooLarge q ≡ true
+  unfolding resultTooLarge
+  large-trits l m =
+      or-right (le-ltb maxColumns (columns q) (subst (λ (n : ℕ). n ≤ maxColumns) columns-is l)) (lt-ltb maxImage (trits q) (subst (λ (n : ℕ). maxImage < n) trits-is m))
+
+  pub not-large : s .columns ≤ maxColumns → s .trits ≤ maxImage → resultTooLarge q ≡ false
+  unfolding resultTooLarge
+  not-large l m =
+      or-both (le-ltb maxColumns (columns q) (subst (λ (n : ℕ). n ≤ maxColumns) columns-is l)) (le-ltb maxImage (trits q) (subst (λ (n : ℕ). n ≤ maxImage) trits-is m))
+
+module _ (q : Layout) where
+  pub result-1 : badSizes q ≡ true → resultNumber q ≡ 1
+  unfolding resultNumber
+  result-1 e = rw e
+
+  pub result-10 : badSizes q ≡ false → resultTooLarge q ≡ true → resultNumber q ≡ 10
+  unfolding resultNumber
+  result-10 e f = rw (e, f)
+
+  pub result-0 : badSizes q ≡ false → resultTooLarge q ≡ false → resultNumber q ≡ 0
+  unfolding resultNumber
+  result-0 e f = rw (e, f)

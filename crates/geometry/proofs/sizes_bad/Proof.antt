@@ -1,11 +1,11 @@
 -- `geometry::sizes_bad` meets its contract.
-use mathlib.Core.Path.{_≡_, sym, ap, _∙_, subst}
+use mathlib.Core.Path.{_≡_, sym, _∙_, subst}
 use Prim.Native.Nat.{ℕ, _*_, _<_, _≤_}
 use lib.Dec.{ltb}
-use mathlib.Core.Bool.{Bool, true, false, _||_}
+use mathlib.Core.Bool.{true, false}
 use borrow.Author.Tests.{lt-ltb, le-ltb, eq-eqb, ne-eqb}
 use native.Mathlib.Nat.{mul-le-mul}
-use Rattle.lists.proofs.Choice.{or-left, or-right}
+use Rattle.lists.proofs.Choice.{or-left, or-right, or-rest}
 use Rattle.rules.specs.Limits.{maxDepth, maxWidth, maxBits}
 use Rattle.rules.specs.Conditions.{badLayoutSizes}
 use borrow.Author.Needs.{needs}
@@ -60,16 +60,12 @@ returns-6 c =
     (or-right (within _ _ _ _ (c .before .before .before .before .before .before .before .wide32 .ensures) (c .before .before .before .before .before .before .wide322 .ensures) (c .before .before .before .before .before .if3 .left))
     (or-right (le-ltb _ _ (c .before .before .before .before .if4 .left)) (or-right (ne-eqb _ _ (c .before .before .if5 .left)) (or-left _ (lt-ltb _ _ (c .if6 .taken))))))))
 
--- the last test is the answer
-last : {a b : Bool} → a ≡ false → (a || b) ≡ b
-last {a} {b} e = ap (λ (t : Bool). t || b) e
-
 returns-7 : tie.Need-returns-7
 unfolding badLayoutSizes
 returns-7 c =
-    sym (last (le-ltb _ _ (c .before .before .before .before .before .before .before .before .before .before .before .if1 .left)) ∙ last (le-ltb _ _ (c .before .before .before .before .before .before .before .before .before .if2 .left))
-    ∙ last (within _ _ _ _ (c .before .before .before .before .before .before .before .before .wide32 .ensures) (c .before .before .before .before .before .before .before .wide322 .ensures) (c .before .before .before .before .before .before .if3 .left))
-    ∙ last (le-ltb _ _ (c .before .before .before .before .before .if4 .left)) ∙ last (ne-eqb _ _ (c .before .before .before .if5 .left)) ∙ last (le-ltb _ _ (c .before .if6 .left)))
+    sym (or-rest (le-ltb _ _ (c .before .before .before .before .before .before .before .before .before .before .before .if1 .left)) ∙ or-rest (le-ltb _ _ (c .before .before .before .before .before .before .before .before .before .if2 .left))
+    ∙ or-rest (within _ _ _ _ (c .before .before .before .before .before .before .before .before .wide32 .ensures) (c .before .before .before .before .before .before .before .wide322 .ensures) (c .before .before .before .before .before .before .if3 .left))
+    ∙ or-rest (le-ltb _ _ (c .before .before .before .before .before .if4 .left)) ∙ or-rest (ne-eqb _ _ (c .before .before .before .if5 .left)) ∙ or-rest (le-ltb _ _ (c .before .if6 .left)))
 
 wide32-requires : tie.Need-wide32-requires
 wide32-requires c κs = search needs
