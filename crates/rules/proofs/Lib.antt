@@ -11,6 +11,12 @@ pub mod Writes
 pub mod Places
 pub mod Rows
 pub mod Demand
+pub mod Named
+pub mod Meaning
+pub mod GoodLayouts
+pub mod Extents
+pub mod Answering
+pub mod Shaping
 pub mod Accepts
 pub mod Bits
 pub mod Records
@@ -20,3 +26,4 @@ pub mod Leaves
 pub mod Calls
 pub mod Headers
 pub mod Memories
+pub mod ReadBack

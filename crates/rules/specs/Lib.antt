@@ -21,4 +21,6 @@ pub mod Patch
 pub mod Lister
 pub mod Answers
 pub mod Header
+pub mod Shape
+pub mod Layouts
 pub mod Examples
