@@ -103,10 +103,12 @@ or-stop b e = sym (or-left b e)
 
 pub or-skip : {a b x : Bool} → a ≡ false → x ≡ b → x ≡ (a || b)
 or-skip {a} {b} e q = q ∙ ap (λ (t : Bool). t || b) (sym e)
+
 -- what follows matters only where there is no first number
 pub else-same : (n x y : ℕ) → (n ≡ 0 → x ≡ y) → (n orElse x) ≡ (n orElse y)
 else-same zero x y f = else-rest 0 x refl ∙ f refl ∙ sym (else-rest 0 y refl)
 else-same (suc n) x y f = else-first (suc n) x (nonzero n) ∙ sym (else-first (suc n) y (nonzero n))
+
 -- what is left of a chain once its first test does not hold
 pub or-rest : {a b : Bool} → a ≡ false → (a || b) ≡ b
 or-rest {a} {b} e = ap (λ (t : Bool). t || b) e
