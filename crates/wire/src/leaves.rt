@@ -36,7 +36,7 @@ fn answer(words: &mut [u32], number: u32, out: &[u8]) -> Reply {
         return read::unknown();
     }
     read::put_list_u8(words, 0, out);
-    read::given(need)
+    read::given(0, need)
 }
 
 fn const_not(given: &[u32], words: &mut [u32], trits: &mut [u8]) -> Reply {
@@ -109,7 +109,7 @@ fn is_undef(given: &[u32], words: &mut [u32], trits: &mut [u8]) -> Reply {
 fn flag(words: &mut [u32], b: bool) -> Reply {
     let w = if b { 1 } else { 0 };
     read::put(words, 0, w);
-    read::given(1)
+    read::given(0, 1)
 }
 
 fn inverse(given: &[u32], words: &mut [u32]) -> Reply {
@@ -117,19 +117,11 @@ fn inverse(given: &[u32], words: &mut [u32]) -> Reply {
     let r = value::control_not(c);
     match r {
         ControlAnswer::Refused(n) => read::refused(n),
-        ControlAnswer::Accepted(d) => put_control(words, d),
+        ControlAnswer::Accepted(d) => control(words, d),
     }
 }
 
-fn put_control(words: &mut [u32], c: ControlNet) -> Reply {
-    match c {
-        ControlNet::Pos(n) => pair_of(words, 0, n.0),
-        ControlNet::Neg(n) => pair_of(words, 1, n.0),
-    }
-}
-
-fn pair_of(words: &mut [u32], sign: u32, net: u32) -> Reply {
-    read::put(words, 0, sign);
-    read::put(words, 1, net);
-    read::given(2)
+fn control(words: &mut [u32], c: ControlNet) -> Reply {
+    let end = read::put_control(words, 0, c);
+    read::given_to(0, end)
 }

@@ -9,6 +9,7 @@ use crate::read::Reply;
 
 mod leaves;
 mod read;
+mod records;
 
 // Writes an answer: the number, the length, and the payload where the number is 0. Gives the words that it has, 0 where they do not fit.
 fn finish(answer: &mut [u32], number: u32, payload: &[u32]) -> usize
@@ -40,7 +41,7 @@ fn reply(answer: &mut [u32], words: &[u32], r: Reply) -> usize
     if r.number != 0 {
         return finish(answer, r.number, &words[..0]);
     }
-    let payload = read::part(words, 0, r.len);
+    let payload = read::part(words, r.at, r.len);
     if payload.len() != r.len {
         return 0;
     }
@@ -52,6 +53,12 @@ fn call(given: &[u32], words: &mut [u32], trits: &mut [u8]) -> Reply {
     let op = read::word(given, 0);
     if op <= 5 {
         return leaves::call(given, op, words, trits);
+    }
+    if op == 31 {
+        return records::write(given, words, trits);
+    }
+    if op == 32 {
+        return records::read(given, words, trits);
     }
     read::unknown()
 }

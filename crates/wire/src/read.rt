@@ -5,10 +5,11 @@ ghost use lib.ListN.{length};
 use value::ControlNet;
 use value::Net;
 
-// What a call gave: its number and, where that is 0, how many words of payload. Not done: no such call, or no room.
+// What a call gave: its number and, where that is 0, where its payload stands in `words`. Not done: no such call, or no room.
 pub(crate) struct Reply {
     pub(crate) done: bool,
     pub(crate) number: u32,
+    pub(crate) at: usize,
     pub(crate) len: usize,
 }
 
@@ -16,6 +17,7 @@ pub(crate) fn unknown() -> Reply {
     Reply {
         done: false,
         number: 0,
+        at: 0,
         len: 0,
     }
 }
@@ -24,16 +26,26 @@ pub(crate) fn refused(number: u32) -> Reply {
     Reply {
         done: true,
         number: number,
+        at: 0,
         len: 0,
     }
 }
 
-pub(crate) fn given(len: usize) -> Reply {
+pub(crate) fn given(at: usize, len: usize) -> Reply {
     Reply {
         done: true,
         number: 0,
+        at: at,
         len: len,
     }
+}
+
+// A payload from `at` up to `end`.
+pub(crate) fn given_to(at: usize, end: usize) -> Reply {
+    if end < at {
+        return unknown();
+    }
+    given(at, end - at)
 }
 
 // The word at an index, 0 past the end.
@@ -144,6 +156,27 @@ pub(crate) fn put(to: &mut [u32], at: usize, w: u32) {
 
 fn wide(x: u8) -> u32 {
     x as u32
+}
+
+// A word of an answer, and the index after it.
+pub(crate) fn put_next(to: &mut [u32], at: usize, w: u32) -> usize {
+    if at < to.len() {
+        to[at] = w;
+        return at + 1;
+    }
+    to.len()
+}
+
+pub(crate) fn put_control(to: &mut [u32], at: usize, c: ControlNet) -> usize {
+    match c {
+        ControlNet::Pos(n) => put_two(to, at, 0, n.0),
+        ControlNet::Neg(n) => put_two(to, at, 1, n.0),
+    }
+}
+
+fn put_two(to: &mut [u32], at: usize, a: u32, b: u32) -> usize {
+    let next = put_next(to, at, a);
+    put_next(to, next, b)
 }
 
 // Bytes or codes as words of an answer, where there is room.
