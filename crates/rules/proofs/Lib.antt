@@ -15,3 +15,4 @@ pub mod Written
 pub mod Calls
 pub mod Headers
 pub mod Memories
+pub mod SwizzleSizes
