@@ -120,3 +120,14 @@ module _ {ℓ} {A : Type ℓ} (f : A → Bool) where
   all-drop zero l e = e
   all-drop (suc n) [] e = refl
   all-drop (suc n) (a ∷ l) e = all-drop n l (and-true (f a) (all f l) e .1)
+
+module _ {ℓ} {A : Type ℓ} (f : A → Bool) where
+  -- one element for which the test holds is enough
+  pub any-has : (l : List A) (i : ℕ) (d : A) → i < length l → f (getD l i d) ≡ true → any f l ≡ true
+  any-has [] i d h e = absurd (omega arith)
+  any-has (a ∷ l) zero d h e = ap (λ (t : Bool). t || any f l) e
+  any-has (a ∷ l) (suc i) d h e = or-one (f a) (any-has l i d (omega arith) e)
+    where
+      or-one : (t : Bool) {u : Bool} → u ≡ true → (t || u) ≡ true
+      or-one true q = refl
+      or-one false q = q

@@ -4,7 +4,7 @@ use Prim.Native.Nat.{ℕ, zero, suc, _+_, _-_, _≤_, min}
 use native.Mathlib.Nat.{zero-add, suc-add, le-add-right}
 use native.Mathlib.Omega.{arith}
 use mathlib.Core.List.{List, [], _∷_}
-use lib.ListN.{length, take, drop, set, replicate, length-drop}
+use lib.ListN.{length, take, drop, set, replicate, length-drop, drop-of-length-le}
 use Rattle.lists.proofs.Choice.{cases-le}
 use lib.Seq.{take-all, take-take, drop-drop, take-nil, length-take-le}
 use Rattle.lists.specs.Lists.{part}
@@ -64,3 +64,22 @@ module _ {ℓ} {A : Type ℓ} where
       cases-le n (length l)
       (λ h. let e : min n (length l) ≡ n = omega arith in ap (λ (k : ℕ). take k l) e)
       (λ h. let e : min n (length l) ≡ length l = omega arith in ap (λ (k : ℕ). take k l) e ∙ take-all (length l) l (omega arith) ∙ sym (take-all n l (omega arith)))
+
+  pub drop-most : (n : ℕ) (l : List A) → drop (min n (length l)) l ≡ drop n l
+  drop-most n l =
+      cases-le n (length l)
+      (λ h. let e : min n (length l) ≡ n = omega arith in ap (λ (k : ℕ). drop k l) e)
+      (λ h. let e : min n (length l) ≡ length l = omega arith in ap (λ (k : ℕ). drop k l) e ∙ drop-of-length-le l {i = length l} (omega arith) ∙ sym (drop-of-length-le l {i = n} (omega arith)))
+
+  -- a part between ends that are cut at the list's
+  pub part-between : (a n s e : ℕ) (l : List A) → e ≡ min (a + n) (length l) → s ≡ min a e → take (e - s) (drop s l) ≡ part a n l
+  part-between a n s e l p q =
+      cases-le a (length l)
+      (λ h.
+      let x : s ≡ a = omega arith in
+      let y : e - s ≡ min n (length (drop a l)) = omega (arith, length-drop a l) in
+      rw (y, x) (take-most n (drop a l)))
+      (λ h.
+      let x : drop s l ≡ [] = drop-of-length-le l {i = s} (omega arith) in
+      let y : drop a l ≡ [] = drop-of-length-le l {i = a} (omega arith) in
+      rw (x, y) (take-nil (e - s) ∙ sym (take-nil n)))

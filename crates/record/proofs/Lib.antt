@@ -3,3 +3,4 @@ pub mod Heads
 pub mod Writing
 pub mod Arrays
 pub mod Reading
+pub mod RoundTrips

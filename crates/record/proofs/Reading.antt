@@ -5,7 +5,7 @@ use mathlib.Core.Bool.{true, false}
 use Prim.Native.Nat.{ℕ, _<_, _≤_}
 use mathlib.Core.List.{List}
 use lib.ListN.{length}
-use borrow.Author.Tests.{lt-ltb, le-ltb}
+use borrow.Author.Tests.{lt-ltb, le-ltb, ltb-false}
 use Rattle.lists.proofs.Choice.{if-zero, else-first, else-rest, else-zero, hit, miss}
 use Rattle.rules.specs.Record.{sizeTrits, headSizes}
 use Rattle.rules.specs.Conditions.{badHead, badSizes, badBits, noRoom}
@@ -56,3 +56,7 @@ module _ (bytes : List ℕ) where
     pub read-good : readRecordRefusal room bytes ≡ 0 → recordRefusal bytes ≡ 0
     unfolding readRecordRefusal
     read-good e = else-zero (recordRefusal bytes) _ e .0
+
+    pub read-room : readRecordRefusal room bytes ≡ 0 → sizeTrits (headSizes bytes) ≤ room
+    unfolding readRecordRefusal noRoom
+    read-room e = ltb-false room (sizeTrits (headSizes bytes)) (if-zero (noRoom room (sizeTrits (headSizes bytes))) 19 0 (else-zero (recordRefusal bytes) _ e .1) .0)

@@ -1,9 +1,10 @@
 // The image record: its head, writing one and reading one.
 ghost use mathlib.Core.Path.{_≡_};
 ghost use mathlib.Core.Bool.{false};
-ghost use Prim.Native.Nat.{_+_, _-_, _*_, _<_, _≤_};
-ghost use lib.ListN.{length, take, drop};
+ghost use Prim.Native.Nat.{_+_, _-_, _*_, _<_, _≤_, min};
+ghost use lib.ListN.{length, drop};
 ghost use lib.Seq.{sets};
+ghost use Rattle.lists.specs.Lists.{part};
 ghost use Rattle.rules.specs.Record.{sizeTrits, recordImage, word16, arrayBytes, recordHead, encodeRecord, headSizes, recordBytes, bitsOf, decodeImage};
 ghost use Rattle.rules.specs.Conditions.{badHead, badSizes, badBits};
 ghost use Rattle.rules.specs.Refusals.{recordRefusal, readRecordRefusal, writeRecordRefusal};
@@ -44,8 +45,8 @@ fn bad_head(first: &[u8], total: usize) -> bool
     total as u64 != bytes_for(reader::head_trits(first))
 }
 
-// 16, then 17.
-fn header_refusal(first: &[u8], total: usize) -> u32
+// 16, then 17, of a record of `total` bytes whose first are given.
+pub fn header_refusal(first: &[u8], total: usize) -> u32
     ensures { λ r. ⌜ r ≡ headerRefusal (now (first .entry)) total ⌝ }
 {
     if bad_head(first, total) {
@@ -169,29 +170,33 @@ fn less_eight(left: usize) -> usize
     left - 8
 }
 
-// Where the second array starts in a record whose head is good.
+// Where the second array starts.
 fn middle_of(bytes: &[u8]) -> usize
-    requires { ⌜ badHead (now bytes) ≡ false ⌝ }
     ensures { λ r. ⌜ (r ≡ 12 + arrayBytes (sizeTrits (headSizes (now (bytes .entry))))) × (r < 1125899906842624) ⌝ }
 {
     rules::HEAD_BYTES + (reader::head_trits(bytes) as usize + 7) / 8
 }
 
-// The known bits of a record whose head is good, and its value bits.
-fn known_array(bytes: &[u8]) -> &[u8]
-    requires { ⌜ badHead (now bytes) ≡ false ⌝ }
-    ensures { λ r. ⌜ (now r ≡ take (arrayBytes (sizeTrits (headSizes (now (bytes .entry))))) (drop 12 (now (bytes .entry)))) × (length (now r) < 1125899906842624) ⌝ }
+fn least(a: usize, b: usize) -> usize
+    ensures { λ r. ⌜ r ≡ min a b ⌝ }
 {
-    let middle = middle_of(bytes);
-    &bytes[rules::HEAD_BYTES..middle]
+    if b < a { b } else { a }
 }
 
-fn value_array(bytes: &[u8]) -> &[u8]
-    requires { ⌜ badHead (now bytes) ≡ false ⌝ }
+// The bytes of a record's known bits, and those of its value bits; of other bytes, what stands there.
+pub fn known_array(bytes: &[u8]) -> &[u8]
+    ensures { λ r. ⌜ (now r ≡ part 12 (arrayBytes (sizeTrits (headSizes (now (bytes .entry))))) (now (bytes .entry))) × (length (now r) < 1125899906842624) ⌝ }
+{
+    let end = least(middle_of(bytes), bytes.len());
+    let start = least(rules::HEAD_BYTES, end);
+    &bytes[start..end]
+}
+
+pub fn value_array(bytes: &[u8]) -> &[u8]
     ensures { λ r. ⌜ now r ≡ drop (12 + arrayBytes (sizeTrits (headSizes (now (bytes .entry))))) (now (bytes .entry)) ⌝ }
 {
-    let middle = middle_of(bytes);
-    &bytes[middle..]
+    let start = least(middle_of(bytes), bytes.len());
+    &bytes[start..]
 }
 
 // Number 18, of a record whose head is good.

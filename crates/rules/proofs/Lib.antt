@@ -27,3 +27,4 @@ pub mod Calls
 pub mod Headers
 pub mod Memories
 pub mod ReadBack
+pub mod SwizzleSizes

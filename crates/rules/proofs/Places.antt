@@ -39,7 +39,7 @@ ceil-gt : (a b c : ℕ) → 0 < b → c < a → c / b < ceilDiv a b
 unfolding ceilDiv
 ceil-gt a b c pos l = le-div-iff-mul-le pos .1 (omega (arith, suc-mul (c / b) b, div-add-mod' c b))
 
-ceil-mono : (a a′ b : ℕ) → 0 < b → a ≤ a′ → ceilDiv a b ≤ ceilDiv a′ b
+pub ceil-mono : (a a′ b : ℕ) → 0 < b → a ≤ a′ → ceilDiv a b ≤ ceilDiv a′ b
 unfolding ceilDiv
 ceil-mono a a′ b pos l = le-div-iff-mul-le pos .1 (omega (arith, div-mul-le-self (a + (b - 1)) b))
 

@@ -7,10 +7,11 @@ use native.Mathlib.Omega.{arith}
 use lib.Dec.{eqb, ltb, leb}
 use lib.ListN.{length, getD, take, drop, replicate, length-append, length-map, length-drop, take-append-drop}
 use lib.Seq.{take-at, drop-at, drop-drop, drop-cons, length-take-le}
-use borrow.Author.Tests.{leb-true, ltb-true, ltb-false, eqb-true, not-false}
-use Rattle.rules.specs.Limits.{headBytes, recordMark}
+use borrow.Author.Tests.{leb-true, ltb-true, ltb-false, eqb-true, ne-eqb, le-leb, not-false}
+use Rattle.rules.specs.Limits.{headBytes, recordMark, tritX}
 use Rattle.lists.specs.Lists.{all, any, pairs}
 use Rattle.rules.specs.Numbers.{ceilDiv}
+use Rattle.rules.specs.Logic.{areTrits}
 use Rattle.rules.specs.Value.{fromUint}
 use Rattle.rules.specs.Record.{sizeTrits, word16, wordAt, byteOf, packBits, bitsOf, arrayBytes, knownBit, valueBit, tritBy, recordHead, encodeRecord, headSizes, recordBytes, knownBits, valueBits, bitPairs, decodeImage}
 use Rattle.rules.specs.Conditions.{badHead, badSizes, badBits, spareBits}
@@ -158,6 +159,20 @@ array-back t l e f =
     ∙ ap (λ (r : List ℕ). packBits (length l) (take t (bitsOf l) ++ r)) (sym z)
     ∙ ap (packBits (length l)) (take-append-drop t (bitsOf l))
     ∙ pack-of l e
+
+-- the trits of bits are trits' codes
+code-of : (k v : ℕ) → leb v 1 ≡ true → leb (tritBy k v) tritX ≡ true
+unfolding tritBy
+code-of zero v e = refl
+code-of (suc k) v e = rw (ne-eqb (suc k) 0 (λ z. absurd (omega arith))) (le-leb v tritX (omega (arith, leb-true v 1 e)))
+
+codes : (n : ℕ) (a b : List ℕ) → areBits b ≡ true → all (λ t. leb t tritX) (map (λ p. tritBy (p .0) (p .1)) (take n (pairs a b))) ≡ true
+codes zero a b e = refl
+codes (suc n) [] b e = refl
+codes (suc n) (k ∷ a) [] e = refl
+codes (suc n) (k ∷ a) (v ∷ b) e =
+    let c = and-true (leb v 1) (areBits b) e in
+    rw (code-of k v (c .0)) (codes n a b (c .1))
 
 -- a word's two bytes
 word-back : (a b : ℕ) → a < 256 → word16 (a + 256 * b) ≡ a ∷ b ∷ []
@@ -307,3 +322,12 @@ module _ (bytes : List ℕ) (good : areBytes bytes ≡ true) (e : recordRefusal 
   pub writes-back : WritesBack bytes
   unfolding WritesBack encodeRecord
   writes-back = rw (head-is, arrays, rest) (sym (twelve bytes long))
+
+  -- the image has as many trits as the sizes say, each of them a trit's code
+  pub decoded-length : length (decodeImage bytes) ≡ sizeTrits (headSizes bytes)
+  unfolding T
+  decoded-length = length-image
+
+  pub decoded-trits : areTrits (decodeImage bytes) ≡ true
+  unfolding areTrits
+  decoded-trits = rw decoded (codes T (bitsOf A) (bitsOf B) (bits-of B))
