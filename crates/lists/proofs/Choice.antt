@@ -101,3 +101,11 @@ module _ {ℓ} {A : Type ℓ} where
 pub else-same : (n x y : ℕ) → (n ≡ 0 → x ≡ y) → (n orElse x) ≡ (n orElse y)
 else-same zero x y f = else-rest 0 x refl ∙ f refl ∙ sym (else-rest 0 y refl)
 else-same (suc n) x y f = else-first (suc n) x (nonzero n) ∙ sym (else-first (suc n) y (nonzero n))
+
+-- ---- a choice that is settled
+module _ {ℓ} {A : Type ℓ} where
+  pub if-true : (b : Bool) (x y : A) → b ≡ true → (if b then x else y) ≡ x
+  if-true b x y e = rw e
+
+  pub if-false : (b : Bool) (x y : A) → b ≡ false → (if b then x else y) ≡ y
+  if-false b x y e = rw e

@@ -3,7 +3,7 @@ use mathlib.Core.Path.{_≡_, refl, sym, ap, _∙_}
 use Prim.Native.Nat.{ℕ, zero, suc, _+_, _-_, _≤_}
 use native.Mathlib.Nat.{zero-add, suc-add, le-add-right}
 use native.Mathlib.Omega.{arith}
-use mathlib.Core.List.{List, [], _∷_}
+use mathlib.Core.List.{List, [], _∷_, _++_}
 use lib.ListN.{length, take, drop, set, replicate, length-drop}
 use lib.Seq.{take-take, drop-drop, take-nil, length-take-le}
 use Rattle.lists.specs.Lists.{part}
@@ -56,3 +56,8 @@ module _ {ℓ} {A : Type ℓ} where
   take-set (suc n) [] i a = refl
   take-set (suc n) (x ∷ l) zero a = refl
   take-set (suc n) (x ∷ l) (suc i) a = ap (λ (r : List A). x ∷ r) (take-set n l i a)
+
+  -- no elements in front
+  pub none-front : (a l : List A) → length a ≡ 0 → a ++ l ≡ l
+  none-front [] l e = refl
+  none-front (x ∷ a) l e = absurd (omega arith)
