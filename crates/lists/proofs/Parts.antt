@@ -3,10 +3,16 @@ use mathlib.Core.Path.{_≡_, refl, sym, ap, _∙_}
 use Prim.Native.Nat.{ℕ, zero, suc, _+_, _-_, _≤_, min}
 use native.Mathlib.Nat.{zero-add, suc-add, le-add-right}
 use native.Mathlib.Omega.{arith}
+<<<<<<< HEAD
 use mathlib.Core.List.{List, [], _∷_}
 use lib.ListN.{length, take, drop, set, replicate, length-drop, drop-of-length-le}
 use Rattle.lists.proofs.Choice.{cases-le}
 use lib.Seq.{take-all, take-take, drop-drop, take-nil, length-take-le}
+=======
+use mathlib.Core.List.{List, [], _∷_, _++_}
+use lib.ListN.{length, take, drop, set, replicate, length-drop}
+use lib.Seq.{take-take, drop-drop, take-nil, length-take-le}
+>>>>>>> 2dc597529a0f12921a7b1c3524e22f892ccc9a72
 use Rattle.lists.specs.Lists.{part}
 
 module _ {ℓ} {A : Type ℓ} where
@@ -58,6 +64,7 @@ module _ {ℓ} {A : Type ℓ} where
   take-set (suc n) (x ∷ l) zero a = refl
   take-set (suc n) (x ∷ l) (suc i) a = ap (λ (r : List A). x ∷ r) (take-set n l i a)
 
+<<<<<<< HEAD
   -- no more is taken than is there
   pub take-most : (n : ℕ) (l : List A) → take (min n (length l)) l ≡ take n l
   take-most n l =
@@ -83,3 +90,9 @@ module _ {ℓ} {A : Type ℓ} where
       let x : drop s l ≡ [] = drop-of-length-le l {i = s} (omega arith) in
       let y : drop a l ≡ [] = drop-of-length-le l {i = a} (omega arith) in
       rw (x, y) (take-nil (e - s) ∙ sym (take-nil n)))
+=======
+  -- no elements in front
+  pub none-front : (a l : List A) → length a ≡ 0 → a ++ l ≡ l
+  none-front [] l e = refl
+  none-front (x ∷ a) l e = absurd (omega arith)
+>>>>>>> 2dc597529a0f12921a7b1c3524e22f892ccc9a72

@@ -8,7 +8,7 @@ use mathlib.Core.List.{List, [], _∷_, _++_, append-nil}
 use lib.ListN.{length, length-append}
 use lib.Seq.{sets}
 use lib.Dec.{leb, ltb}
-use borrow.Author.Tests.{eqb-true, leb-true, ltb-true, le-leb, lt-leb, lt-ltb, le-ltb}
+use borrow.Author.Tests.{ne-eqb, eqb-true, leb-true, ltb-true, le-leb, lt-leb, lt-ltb, le-ltb}
 use Rattle.lists.specs.Choice.{if_then_else_}
 use Rattle.lists.proofs.Choice.{cases-le, and-true}
 use Rattle.lists.proofs.Store.{sets-append}
@@ -17,10 +17,10 @@ use Rattle.rules.specs.Log.{Entry, entry, encode, words, Trace, _>>=_, done, Lo
 use Rattle.rules.specs.Chain.{resultWidth, Chained, Chains}
 use Rattle.rules.specs.Refusals.{roomRefusal, logRefusal}
 use Rattle.rules.proofs.Entries.{length-entry}
-use Rattle.rules.proofs.Traces.{next-after}
+use Rattle.rules.proofs.Traces.{next-after, start-same}
 use Rattle.rules.proofs.Chain.{chained-next}
 use Rattle.log.specs.Emission.{Lent, counts, advanced, overflowed, isOver, emitWords, emit, run, dryStart, dryRefusal}
-use Rattle.log.proofs.Rooms.{room-20}
+use Rattle.log.proofs.Rooms.{Fits, room-20, room-fits}
 
 -- ---- what can be counted
 pub count-words : (s : LogState) (w k : ℕ) → maxWords < s .used + w → false ≡ counts s w k
@@ -130,6 +130,10 @@ over-emitted l e es q =
     ∙ ap (λ (x : Lent). isOver (x .state)) (emit-stays l′ es refl)
     ∙ over-true (l .state)
 
+pub not-over : (s : LogState) → (s .next ≡ X → ⊥) → isOver s ≡ false
+unfolding isOver
+not-over s h = ne-eqb (s .next) X h
+
 pub is-over : (s : LogState) → isOver s ≡ true → s .next ≡ X
 unfolding isOver
 is-over s e = eqb-true (s .next) X e
@@ -183,6 +187,19 @@ module _ {A : Type 0} where
   pub run-done : (a : A) (l : Lent) → run (done a) l ≡ l
   unfolding run emit done
   run-done a l = refl
+
+-- where a run does not overflow it did not start so, and its next free net is the trace's
+module _ {A : Type 0} (t : Trace A) (l : Lent) where
+  pub run-next : Chains t → isOver (run t l .state) ≡ false → run t l .state .next ≡ t (l .state .next) .next
+  run-next c o = ap (λ (x : Lent). x .state .next) (run-exact t l c o) ∙ next-after (l .state) (t (l .state .next))
+
+  pub run-held : isOver (run t l .state) ≡ false → isOver (l .state) ≡ false
+  unfolding run
+  run-held o = on (isOver (l .state)) refl
+    where
+      on : (b : Bool) → isOver (l .state) ≡ b → isOver (l .state) ≡ false
+      on true q = ap (λ (x : Lent). isOver (x .state)) (sym (emit-stays l (t (l .state .next) .entries) (is-over (l .state) q))) ∙ o
+      on false q = q
 
 -- one trace and then the trace of its value are one; the second may take any value where the first overflowed
 module _ {A B : Type 0} (l l1 l2 : Lent) (t : Trace A) (f : A → Trace B) (v : A) where
@@ -264,3 +281,40 @@ module _ {A : Type 0} (t : Trace A) (room : ℕ) (s : LogState) (log : List ℕ)
       on : (o : Bool) → isOver (run t dry .state) ≡ o → (if o then 20 else roomRefusal room s (run t dry .state .used) (run t dry .state .next - startNet s)) ≡ logRefusal room s t
       on true q = cases-le (length (added (t (startNet s)))) maxWords (λ g. absurd (dry-short g (is-over _ q))) dry-full
       on false q = ap (λ (y : LogState). roomRefusal room s (y .used) (y .next - startNet s)) (dry-exact (run-exact t dry c q))
+
+  -- the same, as a call of code sees it: what the dry run left, and the number by it
+  pub dry-called : (front : List ℕ) (start after : LogState) (n : ℕ) → start ≡ dryStart s → record { log = front; state = after } ≡ run t (record { log = log; state = start })
+      → n ≡ dryRefusal room s after → n ≡ logRefusal room s t
+  dry-called front start after n e f g =
+      g ∙ ap (λ (x : Lent). dryRefusal room s (x .state)) (f ∙ ap (λ (x : LogState). run t (record { log = log; state = x })) e) ∙ dry-number
+
+-- ---- accepted calls
+module _ {A : Type 0} (t : Trace A) (room : ℕ) (s : LogState) (log : List ℕ) (c : Chains t) where
+  climbs : (n : ℕ) → n ≤ t n .next
+  unfolding Chains
+  climbs n = omega (arith, chained-next n (t n .next) (t n .entries) (c n))
+
+  -- no number of the log: it fits
+  accepted-fits : logRefusal room s t ≡ 0 → (s .used + length (added (t (s .next))) ≤ maxWords) × (t (s .next) .next < X)
+  unfolding logRefusal
+  accepted-fits e =
+      let f : Fits room s (length (added (t (startNet s)))) (t (startNet s) .next - startNet s) = room-fits room s _ _ e in
+      let h = start-same s (f .low) (below _ (f .high)) in
+      (rw h at (f .short), last (climbs (s .next)) (rw h at (f .high)))
+    where
+      below : (k : ℕ) → s .next + k ≤ maxNets → s .next ≤ maxNets
+      below k h = omega arith
+
+      last : {m : ℕ} → s .next ≤ m → s .next + (m - s .next) ≤ maxNets → m < X
+      last h g = omega arith
+
+  -- the run is the trace's, and does not overflow
+  pub accepted-run : logRefusal room s t ≡ 0 → run t (record { log = log; state = s }) ≡ ran t (record { log = log; state = s })
+  accepted-run e = run-fits t (record { log = log; state = s }) c (accepted-fits e .0) (accepted-fits e .1)
+
+  pub accepted-held : logRefusal room s t ≡ 0 → isOver (run t (record { log = log; state = s }) .state) ≡ false
+  accepted-held e =
+      ap (λ (x : Lent). isOver (x .state)) (accepted-run e) ∙ held (stateAfter s (t (s .next))) (next-after s (t (s .next)))
+    where
+      held : (x : LogState) → x .next ≡ t (s .next) .next → isOver x ≡ false
+      held x q = not-over x (λ z. omega (arith, accepted-fits e .1))

@@ -6,20 +6,22 @@ use native.Mathlib.Omega.{arith}
 use mathlib.Core.List.{List, []}
 use lib.ListN.{length}
 use borrow.Author.Tests.{ne-eqb}
+use mathlib.Core.Bool.{false}
 use Rattle.lists.specs.Choice.{_orElse_, leaves}
-use Rattle.lists.proofs.Choice.{else-same, else-zero}
+use Rattle.lists.proofs.Choice.{else-rest, else-same, else-zero}
 use Rattle.rules.specs.Limits.{X}
 use Rattle.lists.specs.Lists.{upFrom}
 use Rattle.rules.specs.Value.{Value}
 use Rattle.rules.specs.Log.{Trace, request, addNot, addAnd, addOr, addEq, addShl, addUshr, replaceValue, LogState, stateAfter, logAfter}
+use Rattle.rules.specs.Chain.{Chains}
 use Rattle.rules.specs.Refusals.{roomRefusal, logRefusal}
 use Rattle.rules.specs.Answers as rules
 use Rattle.rules.proofs.Counted.{Counted, counted-refusal}
-use Rattle.log.specs.Emission.{Lent, run}
+use Rattle.log.specs.Emission.{Lent, isOver, run}
 use Rattle.log.specs.View.{stateOf, lent}
 use Rattle.log.specs.declared.LogState as machine
 use Rattle.log.proofs.Rooms.{Fits, room-fits}
-use Rattle.log.proofs.Emission.{ran, run-fits}
+use Rattle.log.proofs.Emission.{ran, run-fits, accepted-run, accepted-held}
 use Rattle.requests.specs.Answers.{answerOf, loggedOf}
 use Rattle.requests.specs.declared.Answer.the-variants.{Refused, Done}
 
@@ -88,3 +90,19 @@ value-ushr stride s a n = refl
 pub value-replace : (from to : Value) (n : ℕ) → [] ≡ replaceValue from to n .value
 unfolding replaceValue request
 value-replace from to n = refl
+
+-- ---- a trace that is run dry first, after a number for the input that is 0
+module _ {A : Type 0} (v : A) (t : Trace A) (c : Chains t) (number n : ℕ) (z : number ≡ 0) (log : List ℕ) (s : LogState) where
+  dry-whole : n ≡ logRefusal (length log) s t → n ≡ (number orElse logRefusal (length log) s t)
+  dry-whole e = e ∙ sym (else-rest number _ z)
+
+  pub dry-refused : n ≡ logRefusal (length log) s t → n ≢ 0 → loggedOf v (Refused n) log ≡ rules.logged (number orElse logRefusal (length log) s t) log s t
+  dry-refused e h = refused v _ log s t n (dry-whole e) h
+
+  pub dry-done : (after : List ℕ) (r : machine.LogState) → n ≡ logRefusal (length log) s t → n ≡ 0 → (isOver (stateOf r) ≡ false → v ≡ t (s .next) .value)
+      → lent r after ≡ run t (record { log = log; state = s }) → loggedOf v (Done r) after ≡ rules.logged (number orElse logRefusal (length log) s t) log s t
+  dry-done after r e y g h =
+      let x = sym e ∙ y in
+      let q = h ∙ accepted-run t (length log) s log c x in
+      let o = ap (λ (m : Lent). isOver (m .state)) h ∙ accepted-held t (length log) s log c x in
+      accepted v _ log s t after r (sym (dry-whole e) ∙ y) (g o) (ap (λ (m : Lent). m .state) q) (ap (λ (m : Lent). m .log) q)

@@ -1,2 +1,3 @@
--- The machine's answers to requests, in terms of the rules.
+-- The machine's answers to requests, in terms of the rules, and parts of its definitions.
 pub mod Answers
+pub mod Remap

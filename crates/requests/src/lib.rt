@@ -5,15 +5,17 @@ ghost use Prim.Native.Nat.{_+_, _*_, _<_, _≤_};
 ghost use lib.ListN.{length};
 ghost use Rattle.lists.specs.Choice.{_orElse_};
 ghost use Rattle.lists.specs.Lists.{upFrom};
-ghost use Rattle.rules.specs.Log.{addAnd, addOr, addEq, addShl, addUshr, replaceValue};
-ghost use mathlib.Core.Bool.{_||_};
+ghost use mathlib.Core.Bool.{false, _||_};
+ghost use Rattle.rules.specs.Log.{addAnd, addOr, addEq, addShl, addUshr, replaceValue, intoPos, withReset, remapResetOverEnable};
 ghost use Rattle.rules.specs.Conditions.{badTritLens, badTrits};
-ghost use Rattle.rules.specs.Refusals.{roomRefusal, valueNumber, pairNumber, shiftNumber, muxNumber, dffNumber};
-ghost use Rattle.rules.specs.Answers.{addVoidCall, addNotCall, addPairCall, addShiftCall, addMuxCall, addDffCall};
+ghost use Rattle.rules.specs.Refusals.{roomRefusal, valueNumber, pairNumber, shiftNumber, muxNumber, dffNumber, controlNumber, remapNumber};
+ghost use Rattle.rules.specs.Answers.{addVoidCall, addNotCall, addPairCall, addShiftCall, addMuxCall, addDffCall, intoPosCall, remapCall};
 ghost use Rattle.value.specs.View.{controlOf};
 ghost use Rattle.flip_flop.specs.View.{controlsOf, flipFlop};
-ghost use Rattle.log.specs.View.{stateOf};
-ghost use Rattle.requests.specs.Answers.{loggedOf};
+ghost use Rattle.log.specs.Emission.{isOver, run};
+ghost use Rattle.log.specs.View.{stateOf, lent};
+ghost use Rattle.requests.specs.Answers.{loggedOf, netLoggedOf, controlsLoggedOf};
+ghost use Rattle.requests.specs.Remap.{notsOf, gatedReset};
 use flip_flop::Controls;
 use log::LogState;
 use value::ControlNet;
@@ -318,4 +320,171 @@ pub fn add_dff(
     }
     let after = log::emit_dff(log, st, c, bits, clear, reset, init);
     Answer::Done(after)
+}
+
+// The nots that into_pos logs: 1 where the control is Neg.
+fn nots(c: ControlNet) -> usize
+    ensures { λ r. ⌜ (r ≡ notsOf (controlOf c)) × (r ≤ 1) ⌝ }
+{
+    match c {
+        ControlNet::Pos(_) => 0,
+        ControlNet::Neg(_) => 1,
+    }
+}
+
+// 4, 20 and 21 of into_pos.
+fn into_pos_refusal(room: usize, st: LogState, c: ControlNet) -> u32
+    ensures { λ r. ⌜ r ≡ (controlNumber (st .next) (controlOf c) orElse roomRefusal room (stateOf st) (5 * notsOf (controlOf c)) (notsOf (controlOf c))) ⌝ }
+{
+    if !value::control_good(st.next, c) {
+        return 4;
+    }
+    let k = nots(c);
+    log::room_refusal(room, st, 5 * k, k)
+}
+
+// A control's net, and the state after.
+struct PosNet {
+    net: Net,
+    state: LogState,
+}
+
+// The net of a control, with a not where it is Neg.
+fn emit_into_pos(log: &mut [u32], st: LogState, c: ControlNet) -> PosNet
+    ensures { λ r. ⌜ lent (r .state) (now (log .exit)) ≡ run (intoPos (controlOf c)) (lent st (now (log .entry))) ⌝ }
+    ensures { λ r. ⌜ r .net .0 ∷ [] ≡ intoPos (controlOf c) (st .next) .value ⌝ }
+{
+    match c {
+        ControlNet::Pos(n) => PosNet { net: n, state: st },
+        ControlNet::Neg(n) => {
+            let a = [n.0];
+            let after = log::emit_not(log, st, &a);
+            PosNet {
+                net: Net(st.next),
+                state: after,
+            }
+        }
+    }
+}
+
+// into_pos: a net that is the control.
+pub fn into_pos(log: &mut [u32], st: LogState, c: ControlNet) -> NetAnswer
+    ensures { λ r. ⌜ netLoggedOf r (now (log .exit)) ≡ intoPosCall (now (log .entry)) (stateOf st) (controlOf c) ⌝ }
+{
+    let n = into_pos_refusal(log.len(), st, c);
+    if n != 0 {
+        return NetAnswer::Refused(n);
+    }
+    let done = emit_into_pos(log, st, c);
+    let net = done.net;
+    let state = done.state;
+    NetAnswer::Done(net, state)
+}
+
+// Controls, and the state after.
+struct Remapped {
+    controls: Controls,
+    state: LogState,
+}
+
+// The controls with another reset, which is over the enable.
+fn with_reset(c: Controls, reset: ControlNet) -> Controls
+    ensures { λ r. ⌜ controlsOf r ≡ withReset (controlsOf c) (controlOf reset) ⌝ }
+{
+    let clock = c.clock;
+    let clear = c.clear;
+    let enable = c.enable;
+    Controls {
+        clock,
+        clear,
+        reset,
+        enable,
+        reset_over_enable: true,
+    }
+}
+
+// A reset that is its and with the enable: not of the reset, not of the enable, and.
+fn emit_gated(log: &mut [u32], st: LogState, c: Controls) -> Remapped
+    ensures { λ r. ⌜ lent (r .state) (now (log .exit)) ≡ run (gatedReset (controlsOf c)) (lent st (now (log .entry))) ⌝ }
+    ensures { λ r. ⌜ (isOver (stateOf (r .state)) ≡ false → controlsOf (r .controls) ≡ gatedReset (controlsOf c) (st .next) .value) ⌝ }
+{
+    let reset = c.reset;
+    let enable = c.enable;
+    let r = emit_into_pos(log, st, reset);
+    let s1 = r.state;
+    let e = emit_into_pos(log, s1, enable);
+    let s2 = e.state;
+    let x = r.net;
+    let y = e.net;
+    let a = [x.0];
+    let b = [y.0];
+    let state = log::emit_and(log, s2, &a, &b);
+    let controls = with_reset(c, ControlNet::Pos(Net(s2.next)));
+    Remapped { controls, state }
+}
+
+// remap_reset_over_enable, without its numbers.
+fn emit_remap(log: &mut [u32], st: LogState, c: Controls) -> Remapped
+    ensures { λ r. ⌜ lent (r .state) (now (log .exit)) ≡ run (remapResetOverEnable (controlsOf c)) (lent st (now (log .entry))) ⌝ }
+    ensures { λ r. ⌜ (isOver (stateOf (r .state)) ≡ false → controlsOf (r .controls) ≡ remapResetOverEnable (controlsOf c) (st .next) .value) ⌝ }
+{
+    let reset = c.reset;
+    let enable = c.enable;
+    if c.reset_over_enable {
+        return Remapped {
+            controls: c,
+            state: st,
+        };
+    }
+    if flip_flop::is_always(0, reset) {
+        let controls = with_reset(c, reset);
+        return Remapped {
+            controls,
+            state: st,
+        };
+    }
+    if flip_flop::is_always(1, enable) {
+        let controls = with_reset(c, reset);
+        return Remapped {
+            controls,
+            state: st,
+        };
+    }
+    emit_gated(log, st, c)
+}
+
+// 4 of the two controls that remap_reset_over_enable reads.
+fn remap_number(next: u32, c: Controls) -> u32
+    ensures { λ r. ⌜ r ≡ remapNumber next (controlsOf c) ⌝ }
+{
+    let reset = c.reset;
+    let enable = c.enable;
+    if !value::control_good(next, reset) {
+        return 4;
+    }
+    if !value::control_good(next, enable) {
+        return 4;
+    }
+    0
+}
+
+// remap_reset_over_enable, of a flip-flop's controls or of a read port's.
+pub fn remap_reset_over_enable(log: &mut [u32], st: LogState, c: Controls) -> ControlsAnswer
+    ensures { λ r. ⌜ controlsLoggedOf r (now (log .exit)) ≡ remapCall (now (log .entry)) (stateOf st) (controlsOf c) ⌝ }
+{
+    let number = remap_number(st.next, c);
+    if number != 0 {
+        return ControlsAnswer::Refused(number);
+    }
+    let start = log::dry_start(st);
+    let dry = emit_remap(&mut log[..0], start, c);
+    let after = dry.state;
+    let n = log::dry_refusal(log.len(), st, after);
+    if n != 0 {
+        return ControlsAnswer::Refused(n);
+    }
+    let done = emit_remap(log, st, c);
+    let controls = done.controls;
+    let state = done.state;
+    ControlsAnswer::Done(controls, state)
 }
