@@ -13,7 +13,7 @@ use Rattle.rules.proofs.Walks.{In, inside, walk-inj, lt-or-le}
 
 -- ---- the rows of the memories before one
 module _ (full H P : ℕ) where
-  before-suc : (m : ℕ) → rowsBefore full H P (suc m) ≡ rowsBefore full H P m + depthAt full H P m
+  pub before-suc : (m : ℕ) → rowsBefore full H P (suc m) ≡ rowsBefore full H P m + depthAt full H P m
   unfolding rowsBefore depthAt
   before-suc m = ⊎-elim
       (λ l. rw (lt-ltb m full l, min-eq-left {n = suc m} {m = full} l, min-eq-left {n = m} {m = full} (omega arith))
