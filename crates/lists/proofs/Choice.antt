@@ -119,3 +119,8 @@ module _ {ℓ} {A : Type ℓ} where
 
   pub if-false : (b : Bool) (x y : A) → b ≡ false → (if b then x else y) ≡ y
   if-false b x y e = rw e
+
+-- a later test that holds
+pub or-later : (a : Bool) {b : Bool} → b ≡ true → (a || b) ≡ true
+or-later true e = refl
+or-later false e = e

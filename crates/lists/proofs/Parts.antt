@@ -1,16 +1,24 @@
 -- Laws of parts of lists: what is taken of what is dropped, and lists that agree on a front, a middle or a back.
 use mathlib.Core.Path.{_≡_, refl, sym, ap, _∙_}
+<<<<<<< HEAD
 use Prim.Native.Nat.{ℕ, zero, suc, _+_, _-_, _≤_, min}
+=======
+use Prim.Native.Nat.{ℕ, zero, suc, _+_, _-_, _≤_, _<_}
+>>>>>>> a95824d077e8260434b36028cb8cea8ab38e59df
 use native.Mathlib.Nat.{zero-add, suc-add, le-add-right}
 use native.Mathlib.Omega.{arith}
 <<<<<<< HEAD
 use mathlib.Core.List.{List, [], _∷_}
+<<<<<<< HEAD
 use lib.ListN.{length, take, drop, set, replicate, length-drop, drop-of-length-le}
 use Rattle.lists.proofs.Choice.{cases-le}
 use lib.Seq.{take-all, take-take, drop-drop, take-nil, length-take-le}
 =======
 use mathlib.Core.List.{List, [], _∷_, _++_}
 use lib.ListN.{length, take, drop, set, replicate, length-drop}
+=======
+use lib.ListN.{length, take, drop, getD, set, replicate, length-drop}
+>>>>>>> a95824d077e8260434b36028cb8cea8ab38e59df
 use lib.Seq.{take-take, drop-drop, take-nil, length-take-le}
 >>>>>>> 2dc597529a0f12921a7b1c3524e22f892ccc9a72
 use Rattle.lists.specs.Lists.{part}
@@ -65,6 +73,7 @@ module _ {ℓ} {A : Type ℓ} where
   take-set (suc n) (x ∷ l) (suc i) a = ap (λ (r : List A). x ∷ r) (take-set n l i a)
 
 <<<<<<< HEAD
+<<<<<<< HEAD
   -- no more is taken than is there
   pub take-most : (n : ℕ) (l : List A) → take (min n (length l)) l ≡ take n l
   take-most n l =
@@ -96,3 +105,10 @@ module _ {ℓ} {A : Type ℓ} where
   none-front [] l e = refl
   none-front (x ∷ a) l e = absurd (omega arith)
 >>>>>>> 2dc597529a0f12921a7b1c3524e22f892ccc9a72
+=======
+  -- within a list the default does not matter
+  pub getD-any : (l : List A) (j : ℕ) (d d′ : A) → j < length l → getD l j d ≡ getD l j d′
+  getD-any [] j d d′ h = absurd (omega arith)
+  getD-any (x ∷ l) zero d d′ h = refl
+  getD-any (x ∷ l) (suc j) d d′ h = getD-any l j d d′ (omega arith)
+>>>>>>> a95824d077e8260434b36028cb8cea8ab38e59df

@@ -1,0 +1,6 @@
+-- Laws that the proofs of the functions cite.
+pub mod Cursors
+pub mod Laying
+pub mod Taking
+pub mod Patching
+pub mod Fields

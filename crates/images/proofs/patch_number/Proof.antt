@@ -1,0 +1,58 @@
+use Prim.Native.Nat.{ℕ, _≤_, _<_}
+use mathlib.Core.Path.{_≡_, sym, _∙_, subst}
+use borrow.Author.Tests.{not-true, not-false}
+use Rattle.images.proofs.Patching.{by-4-width, by-4-trit, by-15, by-20, by-0}
+use borrow.Author.Needs.{needs}
+use native.Mathlib.Omega.{arith}
+use Rattle.images.proofs.patch_number.Statement.{statement}
+use Rattle.images.proofs.patch_number.Tie as tie
+use Rattle.images.proofs.patch_number.Reads as reads
+use Rattle.images.proofs.patch_number.Lts as lts
+use Rattle.images.proofs.from_len.Reads as from-len-reads
+use Rattle.images.proofs.index32.Reads as index32-reads
+use Rattle.images.proofs.trits_good.Reads as trits-good-reads
+
+returns : tie.Need-returns
+returns c = sym (by-4-width _ _ _ _ _ _ (λ e. c .if1 .taken (e ∙ sym (c .before .index32 .ensures))))
+
+returns-2 : tie.Need-returns-2
+returns-2 c = sym (by-4-trit _ _ _ _ _ _ (c .before .before .if1 .left ∙ c .before .before .before .index32 .ensures) (sym (c .before .trits-good .ensures) ∙ not-true _ (c .if2 .taken)))
+
+returns-3 : tie.Need-returns-3
+returns-3 c =
+    sym (by-15 _ _ _ _ _ _ (c .before .before .before .before .if1 .left ∙ c .before .before .before .before .before .index32 .ensures) (sym (c .before .before .before .trits-good .ensures) ∙ not-false _ (c .before .before .if2 .left)) (c .if3 .taken))
+
+returns-4 : tie.Need-returns-4
+returns-4 c =
+    sym (by-20 _ _ _ _ _ _ (c .before .before .before .before .before .before .if1 .left ∙ c .before .before .before .before .before .before .before .index32 .ensures) (sym (c .before .before .before .before .before .trits-good .ensures) ∙ not-false _ (c .before .before .before .before .if2 .left)) (c .before .before .if3 .left)
+    (subst (λ (n : ℕ). n < c .before .before .before .before .before .before .before .before .before .args .size) (c .before .from-len .ensures) (c .if4 .taken)))
+
+returns-5 : tie.Need-returns-5
+returns-5 c =
+    sym (by-0 _ _ _ _ _ _ (c .before .before .before .before .before .before .if1 .left ∙ c .before .before .before .before .before .before .before .index32 .ensures) (sym (c .before .before .before .before .before .trits-good .ensures) ∙ not-false _ (c .before .before .before .before .if2 .left)) (c .before .before .if3 .left)
+    (subst (λ (n : ℕ). c .before .before .before .before .before .before .before .before .before .args .size ≤ n) (c .before .from-len .ensures) (c .if4 .left)))
+
+-- src/lib.rt:292:23
+index32-requires : tie.Need-index32-requires
+index32-requires c κs = search needs
+
+-- src/lib.rt:295:9
+trits-good-requires : tie.Need-trits-good-requires
+trits-good-requires c κs = search needs
+
+-- src/lib.rt:301:8
+from-len-requires : tie.Need-from-len-requires
+from-len-requires c κs = search needs
+
+pub patch-number-spec : {M : Type 1} → statement M
+patch-number-spec =
+    tie.close
+    (tie.spec
+    index32-requires
+    returns
+    trits-good-requires
+    returns-2
+    returns-3
+    from-len-requires
+    returns-4
+    returns-5)
