@@ -6,7 +6,7 @@ ghost use lib.ListN.{length};
 ghost use Rattle.lists.specs.Lists.{part};
 ghost use Rattle.rules.specs.Limits.{maxPorts};
 ghost use Rattle.rules.specs.Cell.{writeAt, readAt, outputStart};
-ghost use Rattle.cell.specs.View.{writeSize, tritSize, writeBy, readBy, memoryOf, readsStart, writeStart, readStart, tritStart, netsTotal, tritsTotal, writeNets, readNets, readTrits};
+ghost use Rattle.cell.specs.View.{writeSize, addrSize, tritSize, writeBy, readBy, memoryOf, readsStart, writeStart, readStart, tritStart, netsTotal, tritsTotal, writeNets, readNets, readTrits};
 use flip_flop::Controls;
 use value::ControlNet;
 use value::Net;
@@ -97,6 +97,20 @@ pub fn write_size(p: MemoryWritePort) -> usize
     ensures { λ r. ⌜ (r ≡ writeSize p) × (r < 0x300000000) ⌝ }
 {
     wide(p.addr_len) + wide(p.data_len) + wide(p.mask_len)
+}
+
+// How many nets a read port has.
+pub fn addr_size(p: MemoryReadPort) -> usize
+    ensures { λ r. ⌜ (r ≡ addrSize p) × (r < 0x100000000) ⌝ }
+{
+    wide(p.addr_len)
+}
+
+// How many initial trits a memory has.
+pub fn init_size(m: Memory) -> usize
+    ensures { λ r. ⌜ (r ≡ m .«init_len») × (r < 0x100000000) ⌝ }
+{
+    wide(m.init_len)
 }
 
 // How many trits a read port has.

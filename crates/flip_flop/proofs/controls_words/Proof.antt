@@ -68,7 +68,7 @@ array-read-t35 c = search needs
 
 -- src/lib.rt:83:1
 returns : tie.Need-returns
-returns c = 
+returns c =
     let k = c .before in
     nine (controlsOf (k .before .before .before .before .args .c)) _ _ _ _ _ (k .before .before .before .control-words .ensures) (k .before .before .control-words2 .ensures) (k .before .control-words3 .ensures) (k .control-words4 .ensures) (c .flag-word .ensures)
 

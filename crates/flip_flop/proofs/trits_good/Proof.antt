@@ -32,7 +32,7 @@ shared-slice-read-if1 c = omega arith
 -- src/lib.rt:58:13
 returns : tie.Need-returns Inv-loop μ-loop
 unfolding areTrits
-returns c = 
+returns c =
     let h = c .before .before .before in
     let t = h .before .args .t .now in
     all-fail (λ (n : ℕ). leb n tritX) t (h .loop .i) 0 (omega arith) (lt-leb _ _ (c .if1 .taken)) (h .loop .inv .1)
@@ -47,7 +47,7 @@ loop-less c = omega arith
 
 -- src/lib.rt:56:5
 loop-again : tie.Need-loop-again Inv-loop μ-loop
-loop-again c = 
+loop-again c =
     let h = c .before .before .before in
     let t = h .before .args .t .now in
     (omega arith, all-pass (λ (n : ℕ). leb n tritX) t (h .loop .i) 0 (omega arith) (le-leb _ _ (c .if1 .left)) (h .loop .inv .1))
@@ -55,7 +55,7 @@ loop-again c =
 -- src/lib.rt:52:1
 returns-2 : tie.Need-returns-2 Inv-loop μ-loop
 unfolding areTrits
-returns-2 c = 
+returns-2 c =
     let h = c .before in
     all-end (λ (n : ℕ). leb n tritX) (h .before .args .t .now) (h .loop .i) (omega arith) (h .loop .inv .1)
 
