@@ -12,3 +12,4 @@ pub mod Accepts
 pub mod Bits
 pub mod Records
 pub mod Written
+pub mod Answers
