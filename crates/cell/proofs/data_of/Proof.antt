@@ -1,0 +1,19 @@
+-- `cell::data_of` meets its contract.
+use borrow.Author.Needs.{needs}
+use Rattle.cell.proofs.data_of.Statement.{statement}
+use Rattle.cell.proofs.data_of.Tie as tie
+
+wide-requires : tie.Need-wide-requires
+wide-requires c κs = search needs
+
+wide-requires-2 : tie.Need-wide-requires-2
+wide-requires-2 c κs = search needs
+
+net-part-requires : tie.Need-net-part-requires
+net-part-requires c κs = search needs
+
+returns : tie.Need-returns
+returns c = cc
+
+pub data-of-spec : {M : Type 1} → statement M
+data-of-spec = tie.close (tie.spec wide-requires wide-requires-2 net-part-requires returns)

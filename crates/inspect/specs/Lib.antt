@@ -1,0 +1,2 @@
+-- The answers of the calls that only look at a memory.
+pub mod Calls

@@ -1,0 +1,2 @@
+-- When the machine's memory is refused.
+pub mod Number

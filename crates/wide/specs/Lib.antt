@@ -1,0 +1,2 @@
+-- The machine's answers in terms of the rules.
+pub mod View
