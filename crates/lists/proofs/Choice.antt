@@ -112,6 +112,7 @@ else-same (suc n) x y f = else-first (suc n) x (nonzero n) ∙ sym (else-first (
 -- what is left of a chain once its first test does not hold
 pub or-rest : {a b : Bool} → a ≡ false → (a || b) ≡ b
 or-rest {a} {b} e = ap (λ (t : Bool). t || b) e
+
 -- ---- a choice that is settled
 module _ {ℓ} {A : Type ℓ} where
   pub if-true : (b : Bool) (x y : A) → b ≡ true → (if b then x else y) ≡ x

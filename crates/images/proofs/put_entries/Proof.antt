@@ -75,7 +75,6 @@ returns c =
     let l = c .before .loop in
     sym (row-end _ _ (c .before .before .before .before .before .args .entries .now) (l .i) (l .image) (c .loop-test .left)) ∙ l .inv .3
 
-
 pub put-entries-spec : {M : Type 1} → statement M
 put-entries-spec =
     tie.close

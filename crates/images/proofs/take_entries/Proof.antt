@@ -75,7 +75,6 @@ returns c =
     let l = c .before .loop in
     sym (take-end _ _ (c .before .before .before .before .before .args .entries .now) (l .i) (l .room) (c .loop-test .left)) ∙ l .inv .3
 
-
 pub take-entries-spec : {M : Type 1} → statement M
 take-entries-spec =
     tie.close

@@ -43,7 +43,6 @@ returns-2 : tie.Need-returns-2 Inv-loop μ-loop
 unfolding areTrits
 returns-2 c = all-end _ (c .before .before .args .trits .now) (c .before .loop .i) (omega arith) (c .before .loop .inv .1)
 
-
 pub trits-good-spec : {M : Type 1} → statement M
 trits-good-spec =
     tie.close

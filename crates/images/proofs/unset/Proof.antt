@@ -10,6 +10,5 @@ use Rattle.images.proofs.unset.Lts as lts
 returns : tie.Need-returns
 returns c = unset-none
 
-
 pub unset-spec : {M : Type 1} → statement M
 unset-spec = tie.close (tie.spec returns)
