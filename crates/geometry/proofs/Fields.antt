@@ -13,3 +13,6 @@ module _ (p : spec.Params) (vs : List Val) (g : Is (declared.row Params.the-type
 
   pub mask-word : p .«soft_mask» < 2 ^ 32
   mask-word = g .1 .1 .1 .1 .0 .1
+
+  pub width-word : p .width < 4294967296
+  width-word = g .1 .1 .1 .0 .1

@@ -1,20 +1,18 @@
 -- The cursor over a row's places: its index, its step, and how large its numbers are.
 use Prim.Native.Nat.{ℕ, zero, suc, _+_, _-_, _*_, _/_, _%_, _≤_, _<_, min}
 use mathlib.Core.Path.{_≡_, refl, sym, ap, _∙_, subst}
-use mathlib.Core.Bool.{Bool, true, false}
+use mathlib.Core.Bool.{Bool}
 use native.Mathlib.Omega.{arith}
 use native.Mathlib.Numerals.{add-one}
-use native.Mathlib.Nat.{add-mul, mul-assoc, mul-comm, mul-le-mul, mul-le-mul-left, mul-le-mul-right, div-le-self, div-add-mod', mod-lt, le-trans, le-of-lt, lt-of-le-of-lt, add-zero, zero-mul, one-mul}
+use native.Mathlib.Nat.{add-mul, mul-assoc, mul-le-mul, mul-le-mul-left, div-le-self, div-add-mod', mod-lt, le-trans, lt-of-le-of-lt, add-zero, one-mul}
 use lib.Arith.{digits-div, digits-mod}
-use lib.Dec.{ltb}
-use lib.ListN.{length}
 use borrow.Author.Tests.{lt-ltb, le-ltb}
 use Rattle.lists.specs.Choice.{if_then_else_}
 use Rattle.lists.proofs.Choice.{cases-le}
 use Rattle.rules.specs.Limits.{addrBits, maxDepth, maxRow, maxUnit}
-use Rattle.rules.specs.Geometry.{Layout, rowLen, fullDepth, partDepth, fullMems, walk}
+use Rattle.rules.specs.Geometry.{Layout, rowLen, fullDepth, partDepth, fullMems}
 use Rattle.rules.specs.Image.{spotOf, column, placeOf, depthAt, rowsBefore, flatAt, flat, indexOf}
-use Rattle.rules.specs.Shape.{Small}
+use Rattle.rules.specs.Shape.{Small, Located}
 use Rattle.rules.proofs.Walks.{walk-le}
 use Rattle.rules.proofs.Places.{before-suc, before-low, before-high}
 use Rattle.rules.proofs.Extents.{full-max, deep-max, part-max}
@@ -292,3 +290,9 @@ module _ (q : Layout) (s : Small (q .depth) (q .width) (rowLen q) (q .unit) (q .
 
   pub indexes : indexFrom g c ≡ indexOf q row
   indexes = ap (λ (g : Steps). indexFrom g c) e ∙ index-from q row (s .unit-pos) c h
+
+-- ---- the place of an entry
+pub place-is : (q : Layout) (row i m : ℕ) (c : Cursor) → At q row i c → m ≡ spotOf q row .row
+    → _≡_ {A = Located} (record { place = record { memory = c .memory; row = m; bit = c .bit }; index = c .start + c .bit }) (record { place = placeOf q row i; index = indexOf q row i })
+unfolding placeOf
+place-is q row i m c h e = λ k. record { place = record { memory = mem q row i c h k; row = e k; bit = bit q row i c h k }; index = at-index q row i c h k }

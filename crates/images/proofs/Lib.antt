@@ -4,3 +4,5 @@ pub mod Laying
 pub mod Taking
 pub mod Patching
 pub mod Fields
+pub mod Filling
+pub mod Reading

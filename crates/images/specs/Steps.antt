@@ -1,7 +1,7 @@
 -- What the private functions ask and give: the cursor over a row's places, and a row taken out of an image.
-use Prim.Native.Nat.{ℕ, zero, suc, _+_, _*_, _/_, _%_, _≤_, _<_}
+use Prim.Native.Nat.{ℕ, zero, suc, _+_, _*_, _≤_, _<_}
 use mathlib.Core.Path.{_≡_}
-use mathlib.Core.Bool.{Bool, false, not, _||_}
+use mathlib.Core.Bool.{false, not, _||_}
 use mathlib.Core.List.{List, [], _∷_}
 use lib.Dec.{eqb, ltb}
 use lib.ListN.{length, getD}
@@ -72,3 +72,11 @@ patchNumber width depth size row trits room =
     else if notBelow depth row then 15
     else if noRoom room size then 20
     else 0
+
+-- those of a layout, and of a row read back
+unfoldable pub fillNumber : ℕ → ℕ → ℕ → ℕ → ℕ → ℕ
+fillNumber depth width size room len = if not (eqb len (depth * width)) then 2 else if noRoom room size then 20 else 0
+
+unfoldable pub readNumber : ℕ → ℕ → ℕ → ℕ → ℕ → ℕ → ℕ
+readNumber depth width size room len row =
+    if notBelow depth row then 15 else if noRoom len size || noRoom room width then 20 else 0

@@ -1,5 +1,4 @@
 -- The crate's structs as the rules' records.
-use Prim.Native.Nat.{ℕ}
 use mathlib.Core.Option.{none}
 use lib.ListN.{take}
 use lib.Dec.{ltb}

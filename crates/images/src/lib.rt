@@ -7,7 +7,7 @@ ghost use lib.Dec.{eqb};
 ghost use lib.ListN.{length, getD, set, drop, replicate};
 ghost use Rattle.rules.specs.Limits.{None, tritX};
 ghost use Rattle.rules.specs.Logic.{areTrits};
-ghost use Rattle.rules.specs.Image.{put, putRow, writeRow, imageSize};
+ghost use Rattle.rules.specs.Image.{put, putRow, writeRow, writeRows, indexOf};
 ghost use Rattle.rules.specs.Refusals.{patchRefusalOf};
 ghost use Rattle.rules.specs.Patch.{laidOut};
 ghost use Rattle.rules.specs.Shape.{handedOn, placeCall};
@@ -15,7 +15,7 @@ ghost use Rattle.rules.specs.Layouts.{fillRefusalOf, fillCall, readRowRefusalOf
 ghost use Rattle.rules.specs.Answers.{patchCall};
 ghost use Rattle.geometry.specs.View.{layoutBy, filledWith};
 ghost use Rattle.images.specs.View.{paramsOf, laidOf, placedOf};
-ghost use Rattle.images.specs.Steps.{stepsBy, Ready, Low, Lows, nextOf, At, indexFrom, takeRow, patchNumber};
+ghost use Rattle.images.specs.Steps.{stepsBy, Ready, Low, Lows, nextOf, At, indexFrom, takeRow, patchNumber, fillNumber, readNumber};
 
 // What a swizzle hands on for patches: the layout's numbers, and the entries of a row, of which the first `len` are in use. The unit is 0 where
 // no swizzle was accepted yet.
@@ -335,4 +335,144 @@ pub fn patch(image: &mut [u8], laid: Laid, row: u32, trits: &[u8]) -> u32
     }
     let entries = laid.entries;
     patch_row(image, params(laid), &entries[..len], row, trits)
+}
+
+// Writes every row, row 0 first.
+fn write_rows(image: &mut [u8], p: geometry::Params, g: Steps, entries: &[u32], rows: &[u8])
+    requires { ⌜ Ready p g (now entries) ⌝ }
+    requires { ⌜ length (now rows) ≡ p .depth * p .width ⌝ }
+    ensures { λ _. ⌜ now (image .exit) ≡ writeRows (layoutBy p (now (entries .entry))) (now (rows .entry)) (p .depth) (now (image .entry)) ⌝ }
+{
+    let width = index32(p.width);
+    let mut from: usize = 0;
+    let mut row: u32 = 0;
+    while row < p.depth {
+        let to = from + width;
+        write_row(image, p, g, entries, row, &rows[from..to]);
+        from = to;
+        row += 1;
+    }
+}
+
+// Numbers 2 and 20 of a layout of `len` trits, where the image has `size`.
+fn fill_number(p: geometry::Params, size: u64, room: usize, len: usize) -> u32
+    ensures { λ r. ⌜ r ≡ fillNumber (p .depth) (p .width) size room len ⌝ }
+{
+    if from_len(len) != wide32(p.depth) * wide32(p.width) {
+        return 2;
+    }
+    if from_len(room) < size {
+        return 20;
+    }
+    0
+}
+
+// Lays the rows out in an image with this layout, or refuses by a number. The rows' trit codes are not looked at: number 4 is the swizzle's.
+pub fn fill_rows(image: &mut [u8], p: geometry::Params, entries: &[u32], rows: &[u8]) -> u32
+    ensures { λ r. ⌜ filledWith r (now (image .exit)) ≡ fillCall (handedOn (layoutBy p (now (entries .entry)))) (now (rows .entry)) (now (image .entry)) ⌝ }
+{
+    let plan::Checked::Good(s) = plan::check_layout(p, entries) else {
+        return 23;
+    };
+    let n = fill_number(p, s.image_size, image.len(), rows.len());
+    if n != 0 {
+        return n;
+    }
+    lists::fill_u8(image, 0, index64(s.image_size), rules::TRIT_X);
+    write_rows(image, p, steps_of(s, p.unit), entries, rows);
+    0
+}
+
+// Lays the rows out in the image of a swizzle, or refuses by a number.
+pub fn fill(image: &mut [u8], laid: Laid, rows: &[u8]) -> u32
+    ensures { λ r. ⌜ filledWith r (now (image .exit)) ≡ fillCall (laidOf laid) (now (rows .entry)) (now (image .entry)) ⌝ }
+{
+    let len = index32(laid.len);
+    if rules::MAX_ROW < len {
+        return 23;
+    }
+    let entries = laid.entries;
+    fill_rows(image, params(laid), &entries[..len], rows)
+}
+
+// Takes one row.
+fn take_row(room: &mut [u8], p: geometry::Params, g: Steps, entries: &[u32], row: u32, image: &[u8])
+    requires { ⌜ Ready p g (now entries) ⌝ }
+    requires { ⌜ row < p .depth ⌝ }
+    ensures { λ _. ⌜ now (room .exit) ≡ takeRow (indexOf (layoutBy p (now (entries .entry))) row) (now (entries .entry)) 0 (now (image .entry)) (now (room .entry)) ⌝ }
+{
+    let first = cursor_at(p, g, entries, row, 0);
+    take_entries(room, first, g, entries, image);
+}
+
+// Numbers 15 and 20 of a row read back, where the image has `size` trits.
+fn read_number(p: geometry::Params, size: u64, room: usize, len: usize, row: u32) -> u32
+    ensures { λ r. ⌜ r ≡ readNumber (p .depth) (p .width) size room len row ⌝ }
+{
+    if p.depth <= row {
+        return 15;
+    }
+    if from_len(len) < size {
+        return 20;
+    }
+    if room < index32(p.width) {
+        return 20;
+    }
+    0
+}
+
+// The trits at a row's places in an image with this layout, into `room`, or a number.
+pub fn read_places(
+    room: &mut [u8],
+    p: geometry::Params,
+    entries: &[u32],
+    image: &[u8],
+    row: u32,
+) -> u32
+    ensures { λ r. ⌜ filledWith r (now (room .exit)) ≡ readRowCall (handedOn (layoutBy p (now (entries .entry)))) (now (room .entry)) (now (image .entry)) row ⌝ }
+{
+    let plan::Checked::Good(s) = plan::check_layout(p, entries) else {
+        return 23;
+    };
+    let n = read_number(p, s.image_size, room.len(), image.len(), row);
+    if n != 0 {
+        return n;
+    }
+    take_row(room, p, steps_of(s, p.unit), entries, row, image);
+    0
+}
+
+// The trits that the image of a swizzle holds at a row's places, into `room`, or a number.
+pub fn read_row(room: &mut [u8], laid: Laid, image: &[u8], row: u32) -> u32
+    ensures { λ r. ⌜ filledWith r (now (room .exit)) ≡ readRowCall (laidOf laid) (now (room .entry)) (now (image .entry)) row ⌝ }
+{
+    let len = index32(laid.len);
+    if rules::MAX_ROW < len {
+        return 23;
+    }
+    let entries = laid.entries;
+    read_places(room, params(laid), &entries[..len], image, row)
+}
+
+// The place of entry number `entry` of a row, or a number: 1 for sizes past their limits, 15 for no such row or entry.
+pub fn place_of(p: geometry::Params, entries: &[u32], row: u32, entry: usize) -> Placed
+    ensures { λ r. ⌜ placedOf r ≡ placeCall (layoutBy p (now (entries .entry))) row entry ⌝ }
+{
+    let geometry::Measured::Done(s) = geometry::measure(p, entries) else {
+        return Placed::Refused(1);
+    };
+    if p.depth <= row {
+        return Placed::Refused(15);
+    }
+    if entries.len() <= entry {
+        return Placed::Refused(15);
+    }
+    let c = cursor_at(p, steps_of(s, p.unit), entries, row, entry);
+    let spot = geometry::walk_row(p.soft_mask, p.hard, row);
+    Placed::At(Place {
+        memory: c.memory,
+        row: wide32(spot.row),
+        bit: c.bit,
+        index: c.start + c.bit,
+    })
 }

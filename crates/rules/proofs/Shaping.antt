@@ -1,12 +1,12 @@
 -- The sizes of a layout as a call: what its answer is, and what it tells.
-use Prim.Native.Nat.{ℕ, _-_, _%_, _^_, _≤_, _<_}
+use Prim.Native.Nat.{ℕ, suc, _-_, _%_, _^_, _≤_, _<_}
 use native.Mathlib.Nat.{zero-add}
 use lib.Seq.{sets}
-use borrow.Author.Tests.{lt-ltb, le-ltb, eq-eqb, ne-eqb}
+use borrow.Author.Tests.{lt-ltb, le-ltb, eq-eqb, ne-eqb, le-leb, lt-leb}
 use Rattle.lists.proofs.Store.{sets-at}
 use mathlib.Core.Path.{_≡_, refl, sym, ap, _∙_, subst}
 use mathlib.Core.Logic.{_≢_}
-use mathlib.Core.Bool.{Bool, true, false}
+use mathlib.Core.Bool.{Bool, true, false, _||_}
 use mathlib.Core.List.{List, _++_}
 use native.Mathlib.Omega.{arith}
 use lib.ListN.{length, replicate, length-replicate}
@@ -14,10 +14,10 @@ use Rattle.lists.proofs.Choice.{if-zero, or-left, or-right, or-both}
 use Rattle.rules.specs.Geometry.{Layout, rowLen, fullMems, allMems, fullDepth, partDepth, columns, swizzleDepths}
 use Rattle.rules.specs.Limits.{addrBits, maxColumns, maxImage}
 use Rattle.rules.specs.Numbers.{topBits}
-use Rattle.rules.specs.Image.{trits}
-use Rattle.rules.specs.Conditions.{noRoom, indivisible, resultTooLarge}
+use Rattle.rules.specs.Image.{trits, placeOf, indexOf}
+use Rattle.rules.specs.Conditions.{noRoom, indivisible, resultTooLarge, notBelow}
 use Rattle.rules.specs.Answers.{Refused, Accepted}
-use Rattle.rules.specs.Shape.{Shape, Small, shapeOf, shapeNumber, shapeCall, depthsNumber, softMaskNumber, resultNumber}
+use Rattle.rules.specs.Shape.{Shape, Small, shapeOf, shapeNumber, shapeCall, depthsNumber, softMaskNumber, resultNumber, Located, placeNumber, placeCall}
 use Rattle.rules.proofs.Answering.{answer-refused, answer-accepted, tells-accepted, tells-refused}
 use Rattle.rules.proofs.GoodLayouts.{badSizes, small}
 
@@ -151,3 +151,39 @@ module _ (q : Layout) where
   pub result-0 : badSizes q ≡ false → resultTooLarge q ≡ false → resultNumber q ≡ 0
   unfolding resultNumber
   result-0 e f = rw (e, f)
+
+-- ---- the place of an entry
+module _ (q : Layout) (row i : ℕ) where
+  place-1 : badSizes q ≡ true → placeNumber q row i ≡ 1
+  unfolding placeNumber
+  place-1 e = rw e
+
+  place-15 : badSizes q ≡ false → (notBelow (q .depth) row || notBelow (rowLen q) i) ≡ true → placeNumber q row i ≡ 15
+  unfolding placeNumber
+  place-15 e f = rw (e, f)
+
+  place-0 : badSizes q ≡ false → (notBelow (q .depth) row || notBelow (rowLen q) i) ≡ false → placeNumber q row i ≡ 0
+  unfolding placeNumber
+  place-0 e f = rw (e, f)
+
+  refused-by : (n : ℕ) → placeNumber q row i ≡ suc n → Refused (suc n) ≡ placeCall q row i
+  unfolding placeCall
+  refused-by n e = sym (answer-refused (placeNumber q row i) _ (λ z. not-zero (sym e ∙ z)) ∙ ap Refused e)
+    where
+      not-zero : suc n ≡ 0 → ⊥
+      not-zero h = omega arith
+
+  pub placed-1 : badSizes q ≡ true → Refused 1 ≡ placeCall q row i
+  placed-1 e = refused-by 0 (place-1 e)
+
+  pub placed-15-row : badSizes q ≡ false → q .depth ≤ row → Refused 15 ≡ placeCall q row i
+  unfolding notBelow
+  placed-15-row e l = refused-by 14 (place-15 e (or-left _ (le-leb (q .depth) row l)))
+
+  pub placed-15-entry : badSizes q ≡ false → row < q .depth → rowLen q ≤ i → Refused 15 ≡ placeCall q row i
+  unfolding notBelow
+  placed-15-entry e l k = refused-by 14 (place-15 e (or-right (lt-leb (q .depth) row l) (le-leb (rowLen q) i k)))
+
+  pub placed-at : (p : Located) → badSizes q ≡ false → row < q .depth → i < rowLen q → p ≡ record { place = placeOf q row i; index = indexOf q row i } → Accepted p ≡ placeCall q row i
+  unfolding placeCall notBelow
+  placed-at p e l k h = ap Accepted h ∙ sym (answer-accepted (placeNumber q row i) _ (place-0 e (or-both (lt-leb (q .depth) row l) (lt-leb (rowLen q) i k))))

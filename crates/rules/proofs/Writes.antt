@@ -7,8 +7,8 @@ use mathlib.Core.List.{List, [], _∷_}
 use native.Mathlib.Omega.{arith}
 use lib.Dec.{eqb}
 use native.Mathlib.Numerals.{add-one}
-use lib.ListN.{length, getD, take, drop, length-set, length-take, drop-of-length-le}
-use lib.Seq.{set-comm, set-set, getD-set-same, getD-set-other, take-set-lt, drop-set-lt, drop-cons, getD-take}
+use lib.ListN.{length, getD, take, drop, length-set, drop-of-length-le}
+use lib.Seq.{set-comm, set-set, getD-set-same, getD-set-other, take-set-lt, drop-set-lt, drop-cons}
 use Rattle.rules.specs.Limits.{None}
 use Rattle.rules.specs.Image.{trits, put, putRow}
 

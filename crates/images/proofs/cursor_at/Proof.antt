@@ -1,6 +1,6 @@
-use mathlib.Core.Path.{_≡_, refl, sym, ap, _∙_}
-use Prim.Native.Nat.{ℕ, _≤_}
-use lib.ListN.{length}
+-- `images::cursor_at` meets its contract.
+use mathlib.Core.Path.{refl, ap, _∙_}
+use Prim.Native.Nat.{_≤_}
 use Rattle.rules.specs.Geometry.{Layout, Spot, rowLen}
 use Rattle.rules.specs.Image.{spotOf}
 use Rattle.rules.specs.Shape.{Small}
@@ -11,10 +11,6 @@ use borrow.Author.Needs.{needs}
 use native.Mathlib.Omega.{arith}
 use Rattle.images.proofs.cursor_at.Statement.{statement}
 use Rattle.images.proofs.cursor_at.Tie as tie
-use Rattle.images.proofs.cursor_at.Reads as reads
-use Rattle.images.proofs.cursor_at.Lts as lts
-use Rattle.images.proofs.from_len.Reads as from-len-reads
-use Rattle.images.proofs.wide32.Reads as wide32-reads
 
 -- the layout, and that its sizes are within the limits
 layout-of : tie.Start → Layout
@@ -95,23 +91,18 @@ add-t19 c =
 returns-2 : tie.Need-returns-2
 returns-2 c = made-high _ (small (c .before .before .before .before .before .before .before .before .before .before .before .before .before .before)) _ _ _ (c .before .before .before .before .before .before .before .before .before .before .before .before .before .before .pre .1 .0) (inside (c .before .before .before .before .before .before .before .before .before .before .before .before .before .before)) _ _ _ _ (held-to (c .before .before .before .before .before .before)) (c .before .before .before .if1 .left)
 
--- src/lib.rt:183:9
 walk-row-requires : tie.Need-walk-row-requires
 walk-row-requires c κs = search needs
 
--- src/lib.rt:184:18
 wide32-requires : tie.Need-wide32-requires
 wide32-requires c κs = search needs
 
--- src/lib.rt:184:39
 from-len-requires : tie.Need-from-len-requires
 from-len-requires c κs = search needs
 
--- src/lib.rt:184:65
 from-len-requires-2 : tie.Need-from-len-requires-2
 from-len-requires-2 c κs = search needs
 
--- src/lib.rt:187:17
 wide32-requires-2 : tie.Need-wide32-requires-2
 wide32-requires-2 c κs = search needs
 

@@ -1,11 +1,9 @@
-use mathlib.Core.Path.{_≡_, sym}
+-- `images::next_place` meets its contract.
+use mathlib.Core.Path.{sym}
 use borrow.Author.Tests.{lt-ltb, le-ltb}
 use borrow.Author.Needs.{needs}
-use native.Mathlib.Omega.{arith}
 use Rattle.images.proofs.next_place.Statement.{statement}
 use Rattle.images.proofs.next_place.Tie as tie
-use Rattle.images.proofs.next_place.Reads as reads
-use Rattle.images.proofs.next_place.Lts as lts
 
 returns : tie.Need-returns
 returns c = sym (rw (lt-ltb _ _ (c .if1 .taken)))
@@ -16,23 +14,18 @@ returns-2 c = sym (rw (le-ltb _ _ (c .before .before .before .before .before .be
 returns-3 : tie.Need-returns-3
 returns-3 c = sym (rw (le-ltb _ _ (c .before .before .before .before .before .before .if1 .left), le-ltb _ _ (c .before .before .before .if2 .left)))
 
--- src/lib.rt:207:15
 add-bit : tie.Need-add-bit
 add-bit c = search needs
 
--- src/lib.rt:217:21
 add-t5 : tie.Need-add-t5
 add-t5 c = search needs
 
--- src/lib.rt:219:20
 add-t6 : tie.Need-add-t6
 add-t6 c = search needs
 
--- src/lib.rt:223:17
 add-t7 : tie.Need-add-t7
 add-t7 c = search needs
 
--- src/lib.rt:225:16
 add-t8 : tie.Need-add-t8
 add-t8 c = search needs
 

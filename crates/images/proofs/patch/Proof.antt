@@ -1,13 +1,10 @@
-use Prim.Native.Nat.{ℕ, _≤_, _<_}
-use mathlib.Core.Path.{_≡_, sym, ap, _∙_, subst}
-use mathlib.Core.List.{List}
-use lib.ListN.{length, take, length-take}
+-- `images::patch` meets its contract.
+use Prim.Native.Nat.{ℕ, _<_}
+use mathlib.Core.Path.{ap, _∙_, subst}
+use lib.ListN.{length, length-take}
 use Rattle.rules.specs.Limits.{maxRow}
 use Rattle.rules.specs.Image as rules
-use Rattle.rules.specs.Shape.{handedOn}
 use Rattle.rules.specs.Answers.{patchCall}
-use Rattle.geometry.specs.declared.Params.{Params}
-use Rattle.geometry.specs.View.{layoutBy}
 use Rattle.images.proofs.Fields.{entries-256}
 use Rattle.images.proofs.Laying.{laid-long, laid-lent}
 use Rattle.images.proofs.Patching.{patch-unset}
@@ -15,11 +12,6 @@ use borrow.Author.Needs.{needs}
 use native.Mathlib.Omega.{arith}
 use Rattle.images.proofs.patch.Statement.{statement}
 use Rattle.images.proofs.patch.Tie as tie
-use Rattle.images.proofs.patch.Reads as reads
-use Rattle.images.proofs.patch.Lts as lts
-use Rattle.images.proofs.index32.Reads as index32-reads
-use Rattle.images.proofs.params.Reads as params-reads
-use Rattle.images.proofs.patch_row.Reads as patch-row-reads
 
 returns : tie.Need-returns
 returns c = patch-unset _ _ _ (laid-long (c .before .before .before .before .args .laid) (subst (λ (n : ℕ). maxRow < n) (c .before .index32 .ensures) (c .if1 .taken)))
@@ -37,19 +29,15 @@ returns-2 c =
     ∙ ap (λ (l : rules.Laid). patchCall l (record { row = a .row; trits = a .trits .now; room = length (a .image .now) }) (a .image .now))
     (laid-lent (a .laid) _ _ (c .before .before .before .before .params .ensures) (c .before .before .before .before .before .before .before .before .index32 .ensures) (c .before .before .before .before .before .before .before .if1 .left))
 
--- src/lib.rt:332:9
 index32-requires : tie.Need-index32-requires
 index32-requires c κs = search needs
 
--- src/lib.rt:337:22
 params-requires : tie.Need-params-requires
 params-requires c κs = search needs
 
--- src/lib.rt:337:5
 patch-row-requires : tie.Need-patch-row-requires
 patch-row-requires c κs = search needs
 
--- src/lib.rt:329:1
 same-length : tie.Need-same-length
 same-length c = search needs
 

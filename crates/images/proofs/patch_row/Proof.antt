@@ -1,24 +1,17 @@
-use Prim.Native.Nat.{ℕ}
+-- `images::patch_row` meets its contract.
 use mathlib.Core.Path.{_≡_, sym, ap, _∙_}
 use mathlib.Core.Option.{some}
 use lib.ListN.{length}
-use Rattle.rules.specs.Image.{Patch}
 use Rattle.rules.specs.Shape.{handedOn, laidShape}
 use Rattle.rules.specs.Refusals.{patchRefusalOf}
-use Rattle.rules.proofs.Demand.{Taken, taken}
+use Rattle.rules.proofs.Demand.{taken}
 use Rattle.geometry.specs.View.{layoutBy, shapeBy}
 use Rattle.plan.specs.View.{checkedOf}
 use Rattle.images.proofs.Laying.{handed, size-is, shallow, ready, not-passed}
 use Rattle.images.proofs.Patching.{number-is, patch-unset, patch-refused, patch-done}
 use borrow.Author.Needs.{needs}
-use native.Mathlib.Omega.{arith}
 use Rattle.images.proofs.patch_row.Statement.{statement}
 use Rattle.images.proofs.patch_row.Tie as tie
-use Rattle.images.proofs.patch_row.Reads as reads
-use Rattle.images.proofs.patch_row.Lts as lts
-use Rattle.images.proofs.patch_number.Reads as patch-number-reads
-use Rattle.images.proofs.steps_of.Reads as steps-of-reads
-use Rattle.images.proofs.write_row.Reads as write-row-reads
 
 -- the layout's sizes
 told : (c : tie.After-s) → some (shapeBy (c .s .given .0 .0)) ≡ laidShape (layoutBy (c .before .before .before .before .before .before .args .p) (c .before .before .before .before .before .before .args .entries .now))
@@ -52,23 +45,18 @@ returns-3 c =
     let a = c .before .before .before .before .before .before .before .before .before .before .before .before .before .before .args in
     patch-done _ _ _ (layoutBy (a .p) (a .entries .now)) (handed _ _ _ (told (c .before .before .before .before .before .before .before .before))) _ (accepted (c .before .before .before .before .before)) (c .before .before .write-row .ensures)
 
--- src/lib.rt:317:34
 check-layout-requires : tie.Need-check-layout-requires
 check-layout-requires c κs = search needs
 
--- src/lib.rt:317:29
 enum-known-s : tie.Need-enum-known-s
 enum-known-s c = search needs
 
--- src/lib.rt:318:9
 enum-told : tie.Need-enum-told
 enum-told c = search needs
 
--- src/lib.rt:320:9
 patch-number-requires : tie.Need-patch-number-requires
 patch-number-requires c κs = search needs
 
--- src/lib.rt:308:1
 same-length : tie.Need-same-length
 same-length c = search needs
 

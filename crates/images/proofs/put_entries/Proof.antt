@@ -1,24 +1,18 @@
+-- `images::put_entries` meets its contract.
 use mathlib.Core.Path.{_≡_, refl, sym, ap, _∙_, subst}
-use mathlib.Core.Bool.{Bool}
-use mathlib.Core.List.{List}
-use Prim.Native.Nat.{ℕ, _+_, _-_, _≤_}
+use Prim.Native.Nat.{_+_, _-_, _≤_}
 use native.Mathlib.Nat.{le-of-lt}
 use lib.Dec.{eqb}
 use lib.ListN.{length, drop, getD}
 use Rattle.rules.specs.Limits.{None}
 use Rattle.rules.specs.Image.{put, putRow}
 use Rattle.rules.proofs.Writes.{row-again, row-end}
-use Rattle.images.specs.Steps.{Low, Lows, after, indexFrom, nextOf}
+use Rattle.images.specs.Steps.{Low, after, indexFrom, nextOf}
 use Rattle.images.specs.declared.Cursor.{Cursor}
 use Rattle.images.proofs.Cursors.{after-suc, after-zero}
-use borrow.Author.Needs.{needs}
 use native.Mathlib.Omega.{arith}
 use Rattle.images.proofs.put_entries.Statement.{statement}
 use Rattle.images.proofs.put_entries.Tie as tie
-use Rattle.images.proofs.put_entries.Reads as reads
-use Rattle.images.proofs.put_entries.Lts as lts
-use Rattle.images.proofs.next_place.Reads as next-place-reads
-use Rattle.images.proofs.put_trit.Reads as put-trit-reads
 
 abbrev Inv-loop : tie.InvT-loop
 Inv-loop image₀ g entries trits c₀ i₀ image c i =

@@ -1,18 +1,12 @@
-use mathlib.Core.Path.{_≡_, sym, ap, _∙_}
+-- `images::put_trit` meets its contract.
+use mathlib.Core.Path.{sym, ap, _∙_}
 use mathlib.Core.Bool.{Bool}
-use Prim.Native.Nat.{ℕ}
 use lib.ListN.{getD, set}
 use borrow.Author.Tests.{eq-eqb, ne-eqb}
 use Rattle.rules.specs.Image.{put}
 use borrow.Author.Needs.{needs}
-use native.Mathlib.Omega.{arith}
 use Rattle.images.proofs.put_trit.Statement.{statement}
 use Rattle.images.proofs.put_trit.Tie as tie
-use Rattle.images.proofs.put_trit.Reads as reads
-use Rattle.images.proofs.put_trit.Lts as lts
-use Rattle.images.proofs.index32.Reads as index32-reads
-use Rattle.images.proofs.index64.Reads as index64-reads
-use Rattle.images.proofs.store.Reads as store-reads
 
 returns : tie.Need-returns
 unfolding put
@@ -27,19 +21,15 @@ returns-2 c =
     c .before .before .store .ensures ∙ (λ k. set (a .image .now) (c .before .before .before .before .index64 .ensures k) (getD (a .trits .now) (c .before .before .before .index32 .ensures k) 0))
     ∙ sym (ap (λ (t : Bool). put t (a .at) (getD (a .trits .now) (a .entry) 0) (a .image .now)) (ne-eqb _ _ (c .before .before .before .before .before .before .if1 .left)))
 
--- src/lib.rt:152:18
 index64-requires : tie.Need-index64-requires
 index64-requires c κs = search needs
 
--- src/lib.rt:152:38
 index32-requires : tie.Need-index32-requires
 index32-requires c κs = search needs
 
--- src/lib.rt:152:5
 store-requires : tie.Need-store-requires
 store-requires c κs = search needs
 
--- src/lib.rt:146:1
 same-length : tie.Need-same-length
 same-length c = search needs
 

@@ -1,3 +1,4 @@
+-- `images::steps_of` meets its contract.
 use mathlib.Core.Path.{_≡_}
 use Prim.Native.Nat.{ℕ, _*_, _≤_, _<_}
 use native.Mathlib.Nat.{mul-le-mul}
@@ -5,9 +6,6 @@ use borrow.Author.Needs.{needs}
 use native.Mathlib.Omega.{arith}
 use Rattle.images.proofs.steps_of.Statement.{statement}
 use Rattle.images.proofs.steps_of.Tie as tie
-use Rattle.images.proofs.steps_of.Reads as reads
-use Rattle.images.proofs.steps_of.Lts as lts
-use Rattle.images.proofs.wide32.Reads as wide32-reads
 
 product : (a b u : ℕ) → a ≤ 1048576 → b ≡ u → u < 4294967296 → a * b ≤ 1048576 * 4294967296
 product a b u h e l = mul-le-mul {n₂ = 1048576} {m₂ = 4294967296} h (omega arith)
@@ -23,15 +21,12 @@ returns c =
     let s = c .before .before .before .before .before .args .s in
     λ k. record { full = s .«full_mems»; «full_step» = s .«full_depth» * c .before .before .before .before .wide32 .ensures k; «part_step» = s .«part_depth» * c .before .before .wide322 .ensures k; unit = c .wide323 .ensures k }
 
--- src/lib.rt:171:35
 wide32-requires : tie.Need-wide32-requires
 wide32-requires c κs = search needs
 
--- src/lib.rt:172:35
 wide32-requires-2 : tie.Need-wide32-requires-2
 wide32-requires-2 c κs = search needs
 
--- src/lib.rt:173:15
 wide32-requires-3 : tie.Need-wide32-requires-3
 wide32-requires-3 c κs = search needs
 

@@ -1,14 +1,11 @@
-use mathlib.Core.Path.{_≡_, sym, ap, _∙_}
-use Prim.Native.Nat.{ℕ}
+-- `images::store` meets its contract.
+use mathlib.Core.Path.{sym, ap}
 use lib.ListN.{set, List·getD-eq-default}
 use lib.Seq.{set-out}
 use Rattle.lists.proofs.Parts.{getD-any}
 use borrow.Author.Needs.{needs}
-use native.Mathlib.Omega.{arith}
 use Rattle.images.proofs.store.Statement.{statement}
 use Rattle.images.proofs.store.Tie as tie
-use Rattle.images.proofs.store.Reads as reads
-use Rattle.images.proofs.store.Lts as lts
 
 returns : tie.Need-returns
 returns c = sym (set-out (c .before .args .to .now) (c .before .args .at) _ (c .if1 .taken))
@@ -19,23 +16,18 @@ returns-2 c = ap (set (c .before .before .args .to .now) (c .before .before .arg
 returns-3 : tie.Need-returns-3
 returns-3 c = ap (set (c .before .before .before .args .to .now) (c .before .before .before .args .at)) (getD-any (c .before .before .before .args .from .now) (c .before .before .before .args .i) 0 (c .before .before .before .args .other) (c .before .if2 .left))
 
--- src/lib.rt:139:9
 slice-write-to : tie.Need-slice-write-to
 slice-write-to c = search needs
 
--- src/lib.rt:140:9
 same-length : tie.Need-same-length
 same-length c = search needs
 
--- src/lib.rt:142:14
 shared-slice-read-to : tie.Need-shared-slice-read-to
 shared-slice-read-to c = search needs
 
--- src/lib.rt:142:5
 slice-write-to-2 : tie.Need-slice-write-to-2
 slice-write-to-2 c = search needs
 
--- src/lib.rt:132:1
 same-length-2 : tie.Need-same-length-2
 same-length-2 c = search needs
 

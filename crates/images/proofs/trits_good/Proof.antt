@@ -1,3 +1,4 @@
+-- `images::trits_good` meets its contract.
 use mathlib.Core.Path.{_≡_, refl}
 use Prim.Native.Nat.{ℕ, _-_, _≤_}
 use lib.Dec.{leb}
@@ -7,12 +8,9 @@ use Rattle.lists.specs.Lists.{all}
 use Rattle.lists.proofs.All.{all-pass, all-fail, all-end}
 use Rattle.rules.specs.Limits.{tritX}
 use Rattle.rules.specs.Logic.{areTrits}
-use borrow.Author.Needs.{needs}
 use native.Mathlib.Omega.{arith}
 use Rattle.images.proofs.trits_good.Statement.{statement}
 use Rattle.images.proofs.trits_good.Tie as tie
-use Rattle.images.proofs.trits_good.Reads as reads
-use Rattle.images.proofs.trits_good.Lts as lts
 
 abbrev Inv-loop : tie.InvT-loop
 Inv-loop trits i₀ i = (i ≤ length trits) × (all (λ (t : ℕ). leb t tritX) (drop i trits) ≡ all (λ (t : ℕ). leb t tritX) trits)

@@ -1,18 +1,14 @@
+-- `images::write_row` meets its contract.
 use Prim.Native.Nat.{ℕ}
-use mathlib.Core.Path.{_≡_, ap, _∙_}
+use mathlib.Core.Path.{ap, _∙_}
 use Rattle.rules.specs.Geometry.{rowLen}
 use Rattle.rules.specs.Image.{putRow, writeRow}
 use Rattle.rules.proofs.Shaping.{shape-small}
 use Rattle.geometry.specs.View.{layoutBy}
 use Rattle.images.proofs.Cursors.{lows, indexes}
 use borrow.Author.Needs.{needs}
-use native.Mathlib.Omega.{arith}
 use Rattle.images.proofs.write_row.Statement.{statement}
 use Rattle.images.proofs.write_row.Tie as tie
-use Rattle.images.proofs.write_row.Reads as reads
-use Rattle.images.proofs.write_row.Lts as lts
-use Rattle.images.proofs.cursor_at.Reads as cursor-at-reads
-use Rattle.images.proofs.put_entries.Reads as put-entries-reads
 
 put-entries-requires : tie.Need-put-entries-requires
 unfolding rowLen
@@ -29,11 +25,9 @@ returns c =
     c .before .before .put-entries .ensures
     ∙ ap (λ (f : ℕ → ℕ). putRow f (s .args .entries .now) 0 (s .args .trits .now) (s .args .image .now)) (indexes q (shape-small q (s .pre .0 .sizes)) (s .args .g) (s .pre .0 .steps) (s .args .row) _ (c .before .before .before .before .cursor-at .ensures))
 
--- src/lib.rt:270:9
 cursor-at-requires : tie.Need-cursor-at-requires
 cursor-at-requires c κs = search needs
 
--- src/lib.rt:258:1
 same-length : tie.Need-same-length
 same-length c = search needs
 
