@@ -341,7 +341,7 @@ fn skip_pieces(given: &[u32], code: u32, c: Cursor) -> Cursor
 }
 
 // The kinds of each call's pieces, by its number: the first one is the lowest digit.
-const PAYLOADS: [u32; 34] = [
+const PAYLOADS: [u32; 41] = [
     0,
     0x21,
     0x221,
@@ -376,6 +376,13 @@ const PAYLOADS: [u32; 34] = [
     0x2111111,
     0x21,
     0x2,
+    0,
+    0,
+    0,
+    0,
+    0,
+    0,
+    0x972111,
 ];
 
 // The code of a call's payload, 0 where there is no such call.
@@ -383,7 +390,7 @@ fn payload_of(op: u32) -> u32
     ensures { λ r. ⌜ r ≡ payloadOf op ⌝ }
 {
     let at = op as usize;
-    if 34 <= at {
+    if 41 <= at {
         return 0;
     }
     let table = PAYLOADS;

@@ -7,7 +7,9 @@ ghost use Rattle.whole.specs.Whole.{isWhole};
 ghost use Rattle.wire.specs.Wire.{Answered};
 use crate::read::Reply;
 
+mod layouts;
 mod leaves;
+mod logs;
 mod read;
 mod records;
 
@@ -53,6 +55,12 @@ fn call(given: &[u32], words: &mut [u32], trits: &mut [u8]) -> Reply {
     let op = read::word(given, 0);
     if op <= 5 {
         return leaves::call(given, op, words, trits);
+    }
+    if op == 6 {
+        return logs::call(given, words);
+    }
+    if op == 40 {
+        return layouts::call(given, words, trits);
     }
     if op == 31 {
         return records::write(given, words, trits);

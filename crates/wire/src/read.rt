@@ -81,6 +81,18 @@ pub(crate) fn part_u8(s: &[u8], at: usize, len: usize) -> &[u8] {
     &s[at..end]
 }
 
+pub(crate) fn part_mut(s: &mut [u32], at: usize, len: usize) -> &mut [u32] {
+    let n = s.len();
+    if n < at {
+        return &mut s[n..n];
+    }
+    if n - at < len {
+        return &mut s[at..n];
+    }
+    let end = at + len;
+    &mut s[at..end]
+}
+
 pub(crate) fn part_u8_mut(s: &mut [u8], at: usize, len: usize) -> &mut [u8] {
     let n = s.len();
     if n < at {
