@@ -19,4 +19,5 @@ pub mod Patch
 pub mod Lister
 pub mod Answers
 pub mod Header
+pub mod Stored
 pub mod Examples
