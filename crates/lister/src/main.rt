@@ -32,14 +32,22 @@ fn rest() -> usize
     count
 }
 
-// Room for the longest record.
-fn record_room() -> [u8; 32780] {
-    [0u8; 32780]
+// The length of an input of which n bytes were read first.
+fn total_of(n: usize) -> usize
+    requires { ⌜ n ≤ 32780 ⌝ }
+{
+    if n < listing::MAX_RECORD {
+        return n;
+    }
+    n + rest()
 }
 
-// Room for the longest text.
-fn text_room() -> [u8; 1638437] {
-    [0u8; 1638437]
+fn record_room() -> [u8; listing::MAX_RECORD] {
+    [0u8; listing::MAX_RECORD]
+}
+
+fn text_room() -> [u8; listing::MAX_TEXT] {
+    [0u8; listing::MAX_TEXT]
 }
 
 // Writes the first bytes of a text.
@@ -53,7 +61,7 @@ fn main() {
     let mut bytes = record_room();
     let mut out = text_room();
     let n = io::read_full(STDIN_FILENO, &mut bytes);
-    let total = n + rest();
+    let total = total_of(n);
     let size = listing::list_input(&bytes[..n], total, &mut out);
     write_front(&out, size);
 }

@@ -12,10 +12,15 @@ ghost use Rattle.rules.specs.Header.{headerRefusal};
 ghost use Rattle.rules.specs.Stored.{listerStored};
 ghost use Rattle.sizes.specs.View.{viewSizes};
 ghost use Rattle.summary.specs.View.{viewSummary};
-ghost use Rattle.listing.specs.Put.{Put};
+ghost use Rattle.listing.specs.Put.{maxText, Put};
 ghost use Rattle.listing.specs.Starts.{Accepted, Starts};
 use sizes::Sizes;
 use summary::Summary;
+
+// The bytes of the longest record that is accepted, and of the longest text: no line is longer than 50 bytes.
+pub const MAX_RECORD: usize = 32780;
+
+pub const MAX_TEXT: usize = 1638437;
 
 // ---- text
 
@@ -161,7 +166,7 @@ fn put_memories(bytes: &[u8], s: Sizes, count: usize, out: &mut [u8], at: usize)
 // Of a record that no number refuses.
 fn put_listed(bytes: &[u8], out: &mut [u8]) -> usize
     requires { ⌜ recordRefusal (now bytes) ≡ 0 ⌝ }
-    ensures { λ r. ⌜ Put (now (out .entry)) 0 (listed (now (bytes .entry))) (now (out .exit)) r × (r ≤ 1638437) ⌝ }
+    ensures { λ r. ⌜ Put (now (out .entry)) 0 (listed (now (bytes .entry))) (now (out .exit)) r × (r ≤ maxText) ⌝ }
 {
     let s = reader::head_sizes(bytes);
     let count = sizes::memories(s) as usize;
@@ -171,7 +176,7 @@ fn put_listed(bytes: &[u8], out: &mut [u8]) -> usize
 
 // Stores the lister's output for a record on its standard input, as far as the room goes; its length.
 pub fn list_record(bytes: &[u8], out: &mut [u8]) -> usize
-    ensures { λ r. ⌜ Put (now (out .entry)) 0 (lister (now (bytes .entry))) (now (out .exit)) r × (r ≤ 1638437) ⌝ }
+    ensures { λ r. ⌜ Put (now (out .entry)) 0 (lister (now (bytes .entry))) (now (out .exit)) r × (r ≤ maxText) ⌝ }
 {
     let n = record::record_refusal(bytes);
     if n != 0 {
@@ -193,7 +198,7 @@ fn stored_refusal(first: &[u8], total: usize) -> u32
 
 // The same for an input of `total` bytes, of which the first are stored.
 pub fn list_input(first: &[u8], total: usize, out: &mut [u8]) -> usize
-    ensures { λ r. ⌜ Put (now (out .entry)) 0 (listerStored (now (first .entry)) total) (now (out .exit)) r × (r ≤ 1638437) ⌝ }
+    ensures { λ r. ⌜ Put (now (out .entry)) 0 (listerStored (now (first .entry)) total) (now (out .exit)) r × (r ≤ maxText) ⌝ }
 {
     if first.len() == total {
         return list_record(first, out);
