@@ -31,3 +31,7 @@ module _ {K P A B R : Type 0} (s t : P → ℕ) (read : P → List A → List B 
   views-concat (k ∷ ks) l m =
       rw (append-assoc (x k) (concatMap x ks) l, append-assoc (y k) (concatMap y ks) m, take-at (x k) (concatMap x ks ++ l) (s (p k)) (ex k), take-at (y k) (concatMap y ks ++ m) (t (p k)) (ey k), drop-at (x k) (concatMap x ks ++ l) (s (p k)) (ex k), drop-at (y k) (concatMap y ks ++ m) (t (p k)) (ey k))
       (ap (λ (r : List R). read (p k) (x k) (y k) ∷ r) (views-concat ks l m))
+
+pub concat-map : {A B C : Type 0} (f : B → List C) (g : A → B) (l : List A) → concatMap f (map g l) ≡ concatMap (λ a. f (g a)) l
+concat-map f g [] = refl
+concat-map f g (a ∷ l) = ap (λ r. f (g a) ++ r) (concat-map f g l)

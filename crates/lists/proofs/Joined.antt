@@ -1,5 +1,5 @@
 -- Laws of lists joined by `++`: what is taken, dropped, paired, tested and summed of them; and `map` of what is taken and dropped.
-use mathlib.Core.Path.{_≡_, refl, sym, ap}
+use mathlib.Core.Path.{_≡_, refl, sym, ap, _∙_}
 use mathlib.Core.Bool.{Bool, true, false, _||_}
 use Prim.Native.Nat.{ℕ, zero, suc, _+_, _-_}
 use native.Mathlib.Omega.{arith}
@@ -7,7 +7,7 @@ use native.Mathlib.Nat.{suc-sub-suc, sub-zero, zero-sub, zero-add, add-assoc}
 use mathlib.Core.List.{List, [], _∷_, _++_, map}
 use lib.ListN.{length, take, drop}
 use lib.Seq.{take-nil, drop-nil}
-use Rattle.lists.specs.Lists.{any, sumBy, pairs}
+use Rattle.lists.specs.Lists.{any, sumBy, part, pairs}
 
 pub or-assoc : (a b c : Bool) → ((a || b) || c) ≡ (a || (b || c))
 or-assoc true b c = refl
@@ -52,3 +52,12 @@ module _ {ℓ ℓ′} {A : Type ℓ} {B : Type ℓ′} where
   map-drop f zero l = refl
   map-drop f (suc n) [] = refl
   map-drop f (suc n) (x ∷ l) = map-drop f n l
+
+-- a part of what is mapped, and a sum of what is mapped
+module _ {ℓ ℓ′} {A : Type ℓ} {B : Type ℓ′} (f : A → B) where
+  pub map-part : (a n : ℕ) (l : List A) → map f (part a n l) ≡ part a n (map f l)
+  map-part a n l = map-take f n (drop a l) ∙ ap (take n) (map-drop f a l)
+
+pub sum-map : {A : Type 0} (f : A → ℕ) (l : List A) → sumBy f l ≡ sumBy (λ (n : ℕ). n) (map f l)
+sum-map f [] = refl
+sum-map f (x ∷ l) = ap (λ (n : ℕ). f x + n) (sum-map f l)

@@ -1,12 +1,21 @@
 -- Laws of parts of lists: what is taken of what is dropped, and lists that agree on a front, a middle or a back.
 use mathlib.Core.Path.{_≡_, refl, sym, ap, _∙_}
+<<<<<<< HEAD
 use Prim.Native.Nat.{ℕ, zero, suc, _+_, _-_, _≤_, min, _<_}
 use native.Mathlib.Nat.{zero-add, suc-add, le-add-right}
 use native.Mathlib.Omega.{arith}
 use mathlib.Core.List.{List, [], _∷_, _++_}
 use lib.ListN.{length, take, drop, set, replicate, length-drop, drop-of-length-le, getD}
+=======
+use Prim.Native.Nat.{ℕ, zero, suc, _+_, _-_, _<_, _≤_, min}
+use native.Mathlib.Numerals.{add-one}
+use native.Mathlib.Nat.{zero-add, suc-add, le-add-right}
+use native.Mathlib.Omega.{arith}
+use mathlib.Core.List.{List, [], _∷_}
+use lib.ListN.{length, take, drop, getD, set, replicate, length-drop, drop-of-length-le}
+>>>>>>> 4a14b49dd8263842b9be05c34853e324d55c3b28
 use Rattle.lists.proofs.Choice.{cases-le}
-use lib.Seq.{take-all, take-take, drop-drop, take-nil, length-take-le}
+use lib.Seq.{take-all, take-take, drop-drop, take-nil, length-take-le, drop-cons}
 use Rattle.lists.specs.Lists.{part}
 
 module _ {ℓ} {A : Type ℓ} where
@@ -84,6 +93,7 @@ module _ {ℓ} {A : Type ℓ} where
       let y : drop a l ≡ [] = drop-of-length-le l {i = a} (omega arith) in
       rw (x, y) (take-nil (e - s) ∙ sym (take-nil n)))
 
+<<<<<<< HEAD
   -- no elements in front
   pub none-front : (a l : List A) → length a ≡ 0 → a ++ l ≡ l
   none-front [] l e = refl
@@ -94,3 +104,8 @@ module _ {ℓ} {A : Type ℓ} where
   getD-any [] j d d′ h = absurd (omega arith)
   getD-any (x ∷ l) zero d d′ h = refl
   getD-any (x ∷ l) (suc j) d d′ h = getD-any l j d d′ (omega arith)
+=======
+  -- the first element of a part
+  pub part-cons : (a n : ℕ) (l : List A) (d : A) → a < length l → part a (suc n) l ≡ getD l a d ∷ part (a + 1) n l
+  part-cons a n l d h = rw (drop-cons l a d h, add-one)
+>>>>>>> 4a14b49dd8263842b9be05c34853e324d55c3b28

@@ -97,3 +97,6 @@ bad-trits r t x y e q h = ap (λ (l : List ℕ). not (areTrits l)) (sym e) ∙ a
 -- accepted sizes: the trits up to their limit are all
 pub all-trits : (z : Sizes) (n : ℕ) → badSizes z ≡ false → n ≡ min (sizeTrits z) 131072 → n ≡ sizeTrits z
 all-trits z n g e = omega (arith, kept z g .trits-max)
+
+pub mems-max : (s : Sizes) → badSizes s ≡ false → sizeMems s ≤ 32768
+mems-max s e = omega (arith, factor (sizeMems s) (s .unit) (unit-good s e .0), columns-good s e .0)

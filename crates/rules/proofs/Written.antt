@@ -7,7 +7,7 @@ use native.Mathlib.Omega.{arith}
 use lib.Dec.{eqb, ltb, leb}
 use lib.ListN.{length, getD, take, drop, replicate, length-append, length-map, length-drop, take-append-drop}
 use lib.Seq.{take-at, drop-at, drop-drop, drop-cons, length-take-le}
-use borrow.Author.Tests.{leb-true, ltb-true, ltb-false, eqb-true, ne-eqb, le-leb, not-false}
+use borrow.Author.Tests.{leb-true, lt-ltb, ltb-true, ltb-false, eqb-true, ne-eqb, le-leb, not-false}
 use Rattle.rules.specs.Limits.{headBytes, recordMark, tritX}
 use Rattle.lists.specs.Lists.{all, any, pairs}
 use Rattle.rules.specs.Numbers.{ceilDiv}
@@ -187,6 +187,11 @@ twelve : (l : List ℕ) → 12 ≤ length l
     → l ≡ getD l 0 0 ∷ getD l 1 0 ∷ getD l 2 0 ∷ getD l 3 0 ∷ getD l 4 0 ∷ getD l 5 0 ∷ getD l 6 0 ∷ getD l 7 0 ∷ getD l 8 0 ∷ getD l 9 0 ∷ getD l 10 0 ∷ getD l 11 0 ∷ drop 12 l
 twelve l h = drop-cons l 0 0 (omega arith) ∙ ap (λ (r : List ℕ). getD l 0 0 ∷ r) (drop-cons l 1 0 (omega arith) ∙ ap (λ (r : List ℕ). getD l 1 0 ∷ r) (drop-cons l 2 0 (omega arith) ∙ ap (λ (r : List ℕ). getD l 2 0 ∷ r) (drop-cons l 3 0 (omega arith) ∙ ap (λ (r : List ℕ). getD l 3 0 ∷ r) (drop-cons l 4 0 (omega arith) ∙ ap (λ (r : List ℕ). getD l 4 0 ∷ r) (drop-cons l 5 0 (omega arith) ∙ ap (λ (r : List ℕ). getD l 5 0 ∷ r) (drop-cons l 6 0 (omega arith) ∙ ap (λ (r : List ℕ). getD l 6 0 ∷ r) (drop-cons l 7 0 (omega arith) ∙ ap (λ (r : List ℕ). getD l 7 0 ∷ r) (drop-cons l 8 0 (omega arith) ∙ ap (λ (r : List ℕ). getD l 8 0 ∷ r) (drop-cons l 9 0 (omega arith) ∙ ap (λ (r : List ℕ). getD l 9 0 ∷ r) (drop-cons l 10 0 (omega arith) ∙ ap (λ (r : List ℕ). getD l 10 0 ∷ r) (drop-cons l 11 0 (omega arith))))))))))))
 
+-- bytes one by one
+pub all-bytes : (l : List ℕ) → ((i : ℕ) → getD l i 0 < 256) → areBytes l ≡ true
+all-bytes [] h = refl
+all-bytes (a ∷ l) h = rw (lt-ltb a 256 (h 0)) (all-bytes l (λ i. h (suc i)))
+
 pub byte-at : (l : List ℕ) → areBytes l ≡ true → (i : ℕ) → getD l i 0 < 256
 byte-at [] e i = omega arith
 byte-at (a ∷ l) e zero = ltb-true a 256 (and-true (ltb a 256) (areBytes l) e .0)
@@ -331,3 +336,12 @@ module _ (bytes : List ℕ) (good : areBytes bytes ≡ true) (e : recordRefusal 
   pub decoded-trits : areTrits (decodeImage bytes) ≡ true
   unfolding areTrits
   decoded-trits = rw decoded (codes T (bitsOf A) (bitsOf B) (bits-of B))
+
+  -- the bits of the image's trits are those of the record
+  pub decoded-known : map knownBit (decodeImage bytes) ≡ take (sizeTrits (headSizes bytes)) (knownBits bytes)
+  unfolding T
+  decoded-known = rw (decoded, known-A) (knowns T (bitsOf A) (bitsOf B) (bits-of A) same-length known-good)
+
+  pub decoded-value : map valueBit (decodeImage bytes) ≡ take (sizeTrits (headSizes bytes)) (valueBits bytes)
+  unfolding T
+  decoded-value = rw (decoded, value-B) (values T (bitsOf A) (bitsOf B) (bits-of A) same-length known-good)

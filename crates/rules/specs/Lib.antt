@@ -23,4 +23,5 @@ pub mod Answers
 pub mod Header
 pub mod Shape
 pub mod Layouts
+pub mod Stored
 pub mod Examples

@@ -1,0 +1,67 @@
+// Lists the memories of the record that standard input holds, or the number that refuses it.
+ghost use Prim.Native.Nat.{_≤_};
+ghost use lib.ListN.{length};
+use libc::STDIN_FILENO;
+use libc::STDOUT_FILENO;
+
+// Turns of the count of a longer input, more than any run takes.
+const TURNS: usize = 1099511627776;
+
+// Reads on, and answers how many bytes came.
+fn more() -> usize
+    ensures { λ r. ⌜ r ≤ 65536 ⌝ }
+{
+    let mut chunk = io::large_buffer();
+    io::read_full(STDIN_FILENO, &mut chunk)
+}
+
+// How many bytes are left of the input.
+fn rest() -> usize
+    ensures { λ r. ⌜ r ≤ 72057594037927936 ⌝ }
+{
+    let mut count: usize = 0;
+    let mut turns: usize = 0;
+    while turns < TURNS {
+        let got = more();
+        if got == 0 {
+            return count;
+        }
+        count += got;
+        turns += 1;
+    }
+    count
+}
+
+// The length of an input of which n bytes were read first.
+fn total_of(n: usize) -> usize
+    requires { ⌜ n ≤ 32780 ⌝ }
+{
+    if n < listing::MAX_RECORD {
+        return n;
+    }
+    n + rest()
+}
+
+fn record_room() -> [u8; listing::MAX_RECORD] {
+    [0u8; listing::MAX_RECORD]
+}
+
+fn text_room() -> [u8; listing::MAX_TEXT] {
+    [0u8; listing::MAX_TEXT]
+}
+
+// Writes the first bytes of a text.
+fn write_front(text: &[u8], size: usize)
+    requires { ⌜ size ≤ length (now text) ⌝ }
+{
+    io::write_all(STDOUT_FILENO, &text[..size]);
+}
+
+fn main() {
+    let mut bytes = record_room();
+    let mut out = text_room();
+    let n = io::read_full(STDIN_FILENO, &mut bytes);
+    let total = total_of(n);
+    let size = listing::list_input(&bytes[..n], total, &mut out);
+    write_front(&out, size);
+}

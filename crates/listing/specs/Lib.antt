@@ -1,0 +1,3 @@
+-- What a function that puts text leaves.
+pub mod Put
+pub mod Starts
