@@ -1,12 +1,13 @@
 -- Laws of parts of lists: what is taken of what is dropped, and lists that agree on a front, a middle or a back.
 use mathlib.Core.Path.{_≡_, refl, sym, ap, _∙_}
-use Prim.Native.Nat.{ℕ, zero, suc, _+_, _-_, _≤_}
+use Prim.Native.Nat.{ℕ, zero, suc, _+_, _-_, _≤_, min}
 use native.Mathlib.Nat.{zero-add, suc-add, le-add-right}
 use native.Mathlib.Omega.{arith}
 use mathlib.Core.List.{List, [], _∷_, _++_}
 use lib.ListN.{length, take, drop, set, replicate, length-drop}
-use lib.Seq.{take-take, drop-drop, take-nil, length-take-le}
+use lib.Seq.{take-take, drop-drop, take-nil, take-all, length-take-le}
 use Rattle.lists.specs.Lists.{part}
+use Rattle.lists.proofs.Choice.{cases-le}
 
 module _ {ℓ} {A : Type ℓ} where
   -- what is dropped of what is taken
@@ -61,3 +62,9 @@ module _ {ℓ} {A : Type ℓ} where
   pub none-front : (a l : List A) → length a ≡ 0 → a ++ l ≡ l
   none-front [] l e = refl
   none-front (x ∷ a) l e = absurd (omega arith)
+
+  -- no more can be taken than there is
+  pub take-min : (n : ℕ) (l : List A) → take (min n (length l)) l ≡ take n l
+  take-min n l =
+      cases-le n (length l) (λ h. let e : min n (length l) ≡ n = omega arith in rw e)
+      (λ h. take-all (min n (length l)) l (omega arith) ∙ sym (take-all n l (omega arith)))
