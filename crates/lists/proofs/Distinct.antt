@@ -86,3 +86,13 @@ module _ {ℓ} {A : Type ℓ} (same : A → A → Bool) where
   pub length-places : (acc l : List A) → length (placesFrom same acc l) ≡ length l
   length-places acc [] = refl
   length-places acc (x ∷ l) = ap suc (length-places (withNew same x acc) l)
+
+  with-new-step : (t : Bool) (x y : A) (l : List A) → same y x ≡ t → placeIn same x (withNew same x l) ≡ placeIn same x l
+      → placeIn same x (if t then y ∷ l else y ∷ withNew same x l) ≡ (if t then 0 else suc (placeIn same x l))
+  with-new-step true x y l e f = rw e
+  with-new-step false x y l e f = rw e (ap suc f)
+
+  -- the place of an element that was just kept, or found
+  pub place-with-new : (x : A) (l : List A) → same x x ≡ true → placeIn same x (withNew same x l) ≡ placeIn same x l
+  place-with-new x [] r = rw r
+  place-with-new x (y ∷ l) r = with-new-step (same y x) x y l refl (place-with-new x l r)

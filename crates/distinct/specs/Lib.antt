@@ -1,0 +1,2 @@
+-- The definitions that the contracts of distinct cite.
+pub mod Keys
