@@ -13,7 +13,7 @@ use Rattle.lists.proofs.Choice.{cases-le}
 use Rattle.lists.specs.Lists.{pairs}
 use Rattle.lists.specs.Distinct.{placeIn, withNew, keptFrom, placesFrom, kept}
 use Rattle.lists.proofs.Store.{sets-at, part-sets}
-use Rattle.lists.proofs.Parts.{take-min}
+use Rattle.lists.proofs.Parts.{take-most}
 use Rattle.lists.proofs.Pairs.{pairs-size, pairs-at, take-pairs, pairs-columns}
 use Rattle.lists.proofs.Distinct.{with-new-found, with-new-new, place-with-new, place-le, length-kept, kept-more, places-more, length-places}
 use Rattle.rules.specs.Limits.{maxMerge}
@@ -156,4 +156,4 @@ pub merging-first : (x y kx ky at : List ℕ) (n : ℕ) → n ≡ min (min maxMe
 unfolding merging room
 merging-first x y kx ky at n e =
     ap (λ (k : ℕ). take k (pairs x y)) (e ∙ ap (min (min maxMerge (min (length kx) (min (length ky) (length at))))) (sym (pairs-size x y)))
-    ∙ take-min (min maxMerge (min (length kx) (min (length ky) (length at)))) (pairs x y)
+    ∙ take-most (min maxMerge (min (length kx) (min (length ky) (length at)))) (pairs x y)

@@ -1,34 +1,17 @@
 -- Laws of parts of lists: what is taken of what is dropped, and lists that agree on a front, a middle or a back.
 use mathlib.Core.Path.{_≡_, refl, sym, ap, _∙_}
-<<<<<<< HEAD
-<<<<<<< HEAD
 use Prim.Native.Nat.{ℕ, zero, suc, _+_, _-_, _≤_, min, _<_}
 use native.Mathlib.Nat.{zero-add, suc-add, le-add-right}
 use native.Mathlib.Omega.{arith}
 use mathlib.Core.List.{List, [], _∷_, _++_}
 use lib.ListN.{length, take, drop, set, replicate, length-drop, drop-of-length-le, getD}
-=======
-use Prim.Native.Nat.{ℕ, zero, suc, _+_, _-_, _<_, _≤_, min}
 use native.Mathlib.Numerals.{add-one}
-use native.Mathlib.Nat.{zero-add, suc-add, le-add-right}
-use native.Mathlib.Omega.{arith}
-use mathlib.Core.List.{List, [], _∷_}
-use lib.ListN.{length, take, drop, getD, set, replicate, length-drop, drop-of-length-le}
->>>>>>> 4a14b49dd8263842b9be05c34853e324d55c3b28
 use Rattle.lists.proofs.Choice.{cases-le}
 use lib.Seq.{take-all, take-take, drop-drop, take-nil, length-take-le, drop-cons}
-=======
-use Prim.Native.Nat.{ℕ, zero, suc, _+_, _-_, _≤_, min}
-use native.Mathlib.Nat.{zero-add, suc-add, le-add-right}
-use native.Mathlib.Omega.{arith}
-use mathlib.Core.List.{List, [], _∷_, _++_}
-use lib.ListN.{length, take, drop, set, replicate, length-drop}
-use lib.Seq.{take-take, drop-drop, take-nil, take-all, length-take-le}
->>>>>>> 2157fa7f58535c42d9dd7dcd37eb417a30a4ecbe
 use Rattle.lists.specs.Lists.{part}
-use Rattle.lists.proofs.Choice.{cases-le}
 
 module _ {ℓ} {A : Type ℓ} where
+
   -- what is dropped of what is taken
   pub drop-take : (n k : ℕ) (l : List A) → drop n (take (n + k) l) ≡ take k (drop n l)
   drop-take zero k l = ap (λ (i : ℕ). take i l) (zero-add k)
@@ -103,27 +86,17 @@ module _ {ℓ} {A : Type ℓ} where
       let y : drop a l ≡ [] = drop-of-length-le l {i = a} (omega arith) in
       rw (x, y) (take-nil (e - s) ∙ sym (take-nil n)))
 
-<<<<<<< HEAD
   -- no elements in front
   pub none-front : (a l : List A) → length a ≡ 0 → a ++ l ≡ l
   none-front [] l e = refl
   none-front (x ∷ a) l e = absurd (omega arith)
 
-<<<<<<< HEAD
   -- within a list the default does not matter
   pub getD-any : (l : List A) (j : ℕ) (d d′ : A) → j < length l → getD l j d ≡ getD l j d′
   getD-any [] j d d′ h = absurd (omega arith)
   getD-any (x ∷ l) zero d d′ h = refl
   getD-any (x ∷ l) (suc j) d d′ h = getD-any l j d d′ (omega arith)
-=======
+
   -- the first element of a part
   pub part-cons : (a n : ℕ) (l : List A) (d : A) → a < length l → part a (suc n) l ≡ getD l a d ∷ part (a + 1) n l
   part-cons a n l d h = rw (drop-cons l a d h, add-one)
->>>>>>> 4a14b49dd8263842b9be05c34853e324d55c3b28
-=======
-  -- no more can be taken than there is
-  pub take-min : (n : ℕ) (l : List A) → take (min n (length l)) l ≡ take n l
-  take-min n l =
-      cases-le n (length l) (λ h. let e : min n (length l) ≡ n = omega arith in rw e)
-      (λ h. take-all (min n (length l)) l (omega arith) ∙ sym (take-all n l (omega arith)))
->>>>>>> 2157fa7f58535c42d9dd7dcd37eb417a30a4ecbe
