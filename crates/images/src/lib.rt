@@ -116,7 +116,8 @@ pub fn laid_out(p: geometry::Params, entries: &[u32]) -> Laid
     }
 }
 
-fn params(laid: Laid) -> geometry::Params
+// The state's numbers.
+pub fn params(laid: Laid) -> geometry::Params
     ensures { λ r. ⌜ r ≡ paramsOf laid ⌝ }
 {
     geometry::Params {
