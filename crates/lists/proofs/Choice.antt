@@ -96,3 +96,12 @@ module _ {ℓ} {A : Type ℓ} where
   pub leaves-accepted : (n : ℕ) (before after : A) → n ≡ 0 → leaves n before after ≡ after
   unfolding leaves
   leaves-accepted n before after e = rw e
+
+-- what is left of a chain once its first test does not hold
+pub or-rest : {a b : Bool} → a ≡ false → (a || b) ≡ b
+or-rest {a} {b} e = ap (λ (t : Bool). t || b) e
+
+-- a later test that holds
+pub or-later : (a : Bool) {b : Bool} → b ≡ true → (a || b) ≡ true
+or-later true e = refl
+or-later false e = e

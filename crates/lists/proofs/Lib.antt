@@ -8,3 +8,4 @@ pub mod Views
 pub mod Concat
 pub mod Distinct
 pub mod Pairs
+pub mod UpFrom

@@ -1,10 +1,10 @@
 -- Laws of parts of lists: what is taken of what is dropped, and lists that agree on a front, a middle or a back.
 use mathlib.Core.Path.{_≡_, refl, sym, ap, _∙_}
-use Prim.Native.Nat.{ℕ, zero, suc, _+_, _-_, _≤_}
+use Prim.Native.Nat.{ℕ, zero, suc, _+_, _-_, _≤_, _<_}
 use native.Mathlib.Nat.{zero-add, suc-add, le-add-right}
 use native.Mathlib.Omega.{arith}
 use mathlib.Core.List.{List, [], _∷_}
-use lib.ListN.{length, take, drop, set, replicate, length-drop}
+use lib.ListN.{length, take, drop, getD, set, replicate, length-drop}
 use lib.Seq.{take-take, drop-drop, take-nil, length-take-le}
 use Rattle.lists.specs.Lists.{part}
 
@@ -56,3 +56,9 @@ module _ {ℓ} {A : Type ℓ} where
   take-set (suc n) [] i a = refl
   take-set (suc n) (x ∷ l) zero a = refl
   take-set (suc n) (x ∷ l) (suc i) a = ap (λ (r : List A). x ∷ r) (take-set n l i a)
+
+  -- within a list the default does not matter
+  pub getD-any : (l : List A) (j : ℕ) (d d′ : A) → j < length l → getD l j d ≡ getD l j d′
+  getD-any [] j d d′ h = absurd (omega arith)
+  getD-any (x ∷ l) zero d d′ h = refl
+  getD-any (x ∷ l) (suc j) d d′ h = getD-any l j d d′ (omega arith)

@@ -8,8 +8,15 @@ pub mod Writes
 pub mod Places
 pub mod Rows
 pub mod Demand
+pub mod Named
+pub mod Meaning
+pub mod GoodLayouts
+pub mod Extents
+pub mod Answering
+pub mod Shaping
 pub mod Accepts
 pub mod Bits
 pub mod Records
 pub mod Written
 pub mod Answers
+pub mod ReadBack

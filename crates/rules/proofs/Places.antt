@@ -13,7 +13,7 @@ use Rattle.rules.proofs.Walks.{In, inside, walk-inj, lt-or-le}
 
 -- ---- the rows of the memories before one
 module _ (full H P : ℕ) where
-  before-suc : (m : ℕ) → rowsBefore full H P (suc m) ≡ rowsBefore full H P m + depthAt full H P m
+  pub before-suc : (m : ℕ) → rowsBefore full H P (suc m) ≡ rowsBefore full H P m + depthAt full H P m
   unfolding rowsBefore depthAt
   before-suc m = ⊎-elim
       (λ l. rw (lt-ltb m full l, min-eq-left {n = suc m} {m = full} l, min-eq-left {n = m} {m = full} (omega arith))
@@ -57,6 +57,14 @@ deep full H P m r l k = ⊎-elim
     (λ a. rw (le-ltb m full a) (⊎-elim (λ b. absurd (omega arith)) (λ b. b) k))
     (lt-or-le m full)
 
+-- the full memories are some of all
+pub full-all : (q : Layout) → 0 < q .unit → fullMems q ≤ allMems q
+unfolding allMems allChunks fullMems
+full-all q pos = ⊎-elim
+    (λ e. rw (eq-eqb (partDepth q) 0 e) (omega arith))
+    (λ l. rw (ne-eqb (partDepth q) 0 (λ e. omega arith)) (ceil-mono _ _ (q .unit) pos (mul-le-mul-left (rowLen q * 2 ^ soft q) (omega arith))))
+    (eq-zero-or-pos (partDepth q))
+
 -- what the sizes of a swizzle that is accepted give
 pub record Sized (q : Layout) : Type 0 where
   pub unit-pos : 0 < q .unit
@@ -81,11 +89,7 @@ module _ (q : Layout) (z : Sized q) where
   all-is l = rw (ne-eqb (partDepth q) 0 (λ e. omega arith))
 
   pub all-full : fullMems q ≤ allMems q
-  unfolding allMems allChunks fullMems
-  all-full = ⊎-elim
-      (λ e. rw (eq-eqb (partDepth q) 0 e) (omega arith))
-      (λ l. rw (ne-eqb (partDepth q) 0 (λ e. omega arith)) (ceil-mono _ _ (q .unit) (z .unit-pos) (mul-le-mul-left (rowLen q * 2 ^ soft q) (omega arith))))
-      (eq-zero-or-pos (partDepth q))
+  all-full = full-all q (z .unit-pos)
 
   -- the row number in a memory is below that memory's depth, and the memory is one of all
   pub placed : (r i : ℕ) → r < q .depth → i < rowLen q

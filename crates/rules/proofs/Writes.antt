@@ -7,8 +7,8 @@ use mathlib.Core.List.{List, [], _∷_}
 use native.Mathlib.Omega.{arith}
 use lib.Dec.{eqb}
 use native.Mathlib.Numerals.{add-one}
-use lib.ListN.{length, getD, take, drop, length-set, length-take, drop-of-length-le}
-use lib.Seq.{set-comm, set-set, getD-set-same, getD-set-other, take-set-lt, drop-set-lt, drop-cons, getD-take}
+use lib.ListN.{length, getD, take, drop, length-set, drop-of-length-le}
+use lib.Seq.{set-comm, set-set, getD-set-same, getD-set-other, take-set-lt, drop-set-lt, drop-cons}
 use Rattle.rules.specs.Limits.{None}
 use Rattle.rules.specs.Image.{trits, put, putRow}
 
@@ -156,19 +156,16 @@ row-drop at v (e ∷ es) i n l c =
     ∙ drop-put (eqb e None) (at i) (getD v e 0) n l (below-head at e es i n c)
 
 -- ---- for the code: one entry more, and the end
-pub row-step : (at : ℕ → ℕ) (v es : List ℕ) (n i : ℕ) (l : List ℕ) → i < n → n ≤ length es
-    → putRow at (drop i (take n es)) i v l ≡ putRow at (drop (i + 1) (take n es)) (i + 1) v (put (eqb (getD es i 0) None) (at i) (getD v (getD es i 0) 0) l)
+row-step : (at : ℕ → ℕ) (v es : List ℕ) (i : ℕ) (l : List ℕ) → i < length es
+    → putRow at (drop i es) i v l ≡ putRow at (drop (i + 1) es) (i + 1) v (put (eqb (getD es i 0) None) (at i) (getD v (getD es i 0) 0) l)
 unfolding putRow
-row-step at v es n i l a b =
-    let e : drop i (take n es) ≡ getD es i 0 ∷ drop (suc i) (take n es) =
-    drop-cons (take n es) i 0 (omega (arith, length-take n es)) ∙ ap (λ (x : ℕ). x ∷ drop (suc i) (take n es)) (getD-take n es i 0 a) in
-    rw (e, add-one i)
+row-step at v es i l a = rw (drop-cons es i 0 a, add-one i)
 
-pub row-end : (at : ℕ → ℕ) (v es : List ℕ) (n i : ℕ) (l : List ℕ) → n ≤ i → putRow at (drop i (take n es)) i v l ≡ l
+pub row-again : (at : ℕ → ℕ) (v es : List ℕ) (i : ℕ) (l l′ g : List ℕ) → i < length es
+    → l′ ≡ put (eqb (getD es i 0) None) (at i) (getD v (getD es i 0) 0) l → putRow at (drop i es) i v l ≡ g
+    → putRow at (drop (i + 1) es) (i + 1) v l′ ≡ g
+row-again at v es i l l′ g a e k = ap (putRow at (drop (i + 1) es) (i + 1) v) e ∙ sym (row-step at v es i l a) ∙ k
+
+pub row-end : (at : ℕ → ℕ) (v es : List ℕ) (i : ℕ) (l : List ℕ) → length es ≤ i → putRow at (drop i es) i v l ≡ l
 unfolding putRow
-row-end at v es n i l a = ap (λ (x : List ℕ). putRow at x i v l) (drop-of-length-le (take n es) {i = i} (omega (arith, length-take n es)))
-
-pub row-again : (at : ℕ → ℕ) (v es : List ℕ) (n i : ℕ) (l l′ g : List ℕ) → i < n → n ≤ length es
-    → l′ ≡ put (eqb (getD es i 0) None) (at i) (getD v (getD es i 0) 0) l → putRow at (drop i (take n es)) i v l ≡ g
-    → putRow at (drop (i + 1) (take n es)) (i + 1) v l′ ≡ g
-row-again at v es n i l l′ g a b e k = ap (putRow at (drop (i + 1) (take n es)) (i + 1) v) e ∙ sym (row-step at v es n i l a b) ∙ k
+row-end at v es i l a = ap (λ (x : List ℕ). putRow at x i v l) (drop-of-length-le es {i = i} a)

@@ -248,11 +248,18 @@ unfoldable pub unclocked : ReadPort → Bool
 unclocked p = not (isSome (p .flipFlop))
 
 -- ---- 23 no swizzle was accepted yet: the laid-out state is none, or a layout that no accepted swizzle has
+-- 1, of what a layout holds
 unfoldable pub badLayoutSizes : ℕ → ℕ → ℕ → ℕ → ℕ → Bool
 badLayoutSizes depth width len unit hard =
-    ltb maxDepth depth || (ltb maxWidth width || (ltb maxRow len || (eqb unit 0 || (ltb maxUnit unit || ltb maxHard hard))))
+    ltb maxDepth depth
+    || (ltb maxWidth width
+    || (ltb maxBits (depth * width)
+    || (ltb maxRow len || (eqb unit 0 || (ltb maxUnit unit || ltb maxHard hard)))))
 
+-- 1, 7, 8 and 10 of a swizzle with this layout
 unfoldable pub badLayout : Layout → Bool
 badLayout q =
     badLayoutSizes (q .depth) (q .width) (rowLen q) (q .unit) (q .hard)
-    || (badNames (q .width) (q .entries) || indivisible (q .depth) (topBits addrBits (q .softMask)))
+    || (badEntries (q .width) (q .entries)
+    || (indivisible (q .depth) (topBits addrBits (q .softMask))
+    || not (eqb (q .width) 0) && resultTooLarge q))

@@ -18,4 +18,6 @@ pub mod Refusals
 pub mod Patch
 pub mod Lister
 pub mod Answers
+pub mod Shape
+pub mod Layouts
 pub mod Examples

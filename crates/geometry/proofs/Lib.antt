@@ -1,0 +1,4 @@
+-- Laws that the proofs of the functions cite.
+pub mod Walking
+pub mod Sizing
+pub mod Fields

@@ -1,0 +1,29 @@
+-- `images::laid_out` meets its contract.
+use mathlib.Core.Path.{sym, _∙_}
+use Rattle.images.proofs.Laying.{long-none, laid-made}
+use borrow.Author.Needs.{needs}
+use Rattle.images.proofs.laid_out.Statement.{statement}
+use Rattle.images.proofs.laid_out.Tie as tie
+
+returns : tie.Need-returns
+returns c = c .unset .ensures ∙ sym (long-none (c .before .before .before .args .p) (c .before .before .before .args .entries .now) (c .before .if1 .taken))
+
+returns-2 : tie.Need-returns-2
+returns-2 c = laid-made (c .before .before .before .before .before .args .p) (c .before .before .before .before .before .args .entries .now) _ (c .before .before .before .if1 .left) (c .before .copy-u32 .ensures)
+
+unset-requires : tie.Need-unset-requires
+unset-requires c κs = search needs
+
+slice-aggregate-copy-u32 : tie.Need-slice-aggregate-copy-u32
+slice-aggregate-copy-u32 c = search needs
+
+copy-u32-requires : tie.Need-copy-u32-requires
+copy-u32-requires c κs = search needs
+
+cast-t9 : tie.Need-cast-t9
+cast-t9 c = search needs
+
+pub laid-out-spec : {M : Type 1} → statement M
+laid-out-spec =
+    tie.close
+    (tie.spec unset-requires returns slice-aggregate-copy-u32 copy-u32-requires cast-t9 returns-2)

@@ -1,0 +1,10 @@
+-- `images::unset` meets its contract.
+use Rattle.images.proofs.Laying.{unset-none}
+use Rattle.images.proofs.unset.Statement.{statement}
+use Rattle.images.proofs.unset.Tie as tie
+
+returns : tie.Need-returns
+returns c = unset-none
+
+pub unset-spec : {M : Type 1} → statement M
+unset-spec = tie.close (tie.spec returns)

@@ -1,0 +1,65 @@
+-- An image laid out from rows, and a row read back: numbers and whole answers.
+use Prim.Native.Nat.{ℕ, _*_}
+use mathlib.Core.Bool.{_||_, not}
+use mathlib.Core.Option.{none, some}
+use mathlib.Core.List.{List, [], map}
+use lib.ListN.{length, getD}
+use lib.Dec.{eqb}
+use Rattle.lists.specs.Choice.{if_then_else_, leaves}
+use Rattle.lists.specs.Lists.{upFrom}
+use Rattle.lists.specs.Distinct.{placeIn}
+use Rattle.rules.specs.Limits.{tritX}
+use Rattle.rules.specs.Logic.{Const}
+use Rattle.rules.specs.Geometry.{Layout}
+use Rattle.rules.specs.Image.{imageSize, indexOf, Laid, Patch}
+use Rattle.rules.specs.Conditions.{notBelow, noRoom}
+use Rattle.rules.specs.Patch.{patched, laidOut}
+use Rattle.rules.specs.Answers.{Filled, filled}
+
+-- ---- an image laid out: the rows are the memory's initial trits, which the swizzle's own numbers have tried
+unfoldable pub fillRefusalOf : Layout → ℕ → ℕ → ℕ
+fillRefusalOf q room size = if not (eqb size (q .depth * q .width)) then 2 else if noRoom room (imageSize q) then 20 else 0
+
+unfoldable pub fillRefusal : Laid → ℕ → ℕ → ℕ
+fillRefusal none room size = 23
+fillRefusal (some q) room size = fillRefusalOf q room size
+
+-- the lent image once the rows are laid out in it
+unfoldable pub filledBy : Laid → List ℕ → List ℕ → List ℕ
+filledBy none rows image = image
+filledBy (some q) rows image = laidOut q rows image
+
+unfoldable pub fillCall : Laid → List ℕ → List ℕ → Filled
+fillCall laid rows image =
+    let n = fillRefusal laid (length image) (length rows) in
+    record { number = n; out = leaves n image (filledBy laid rows image) }
+
+-- laid out, and then a list of patch calls
+unfoldable pub fillAndPatchCall : Laid → List ℕ → List Patch → List ℕ → Filled
+fillAndPatchCall laid rows cs image =
+    let n = fillRefusal laid (length image) (length rows) in
+    record { number = n; out = leaves n image (patched laid cs (filledBy laid rows image)) }
+
+-- ---- a row read back
+-- the trit at the place of the entry that names bit b
+unfoldable pub bitOf : Layout → List ℕ → ℕ → ℕ → ℕ
+bitOf q image row b = getD image (indexOf q row (placeIn eqb b (q .entries))) tritX
+
+unfoldable pub readRow : Layout → List ℕ → ℕ → Const
+readRow q image row = map (bitOf q image row) (upFrom 0 (q .width))
+
+-- 15, then 20 for the image or the room for the row
+unfoldable pub readRowRefusalOf : Layout → ℕ → ℕ → ℕ → ℕ
+readRowRefusalOf q room size row =
+    if notBelow (q .depth) row then 15 else if noRoom size (imageSize q) || noRoom room (q .width) then 20 else 0
+
+unfoldable pub readRowRefusal : Laid → ℕ → ℕ → ℕ → ℕ
+readRowRefusal none room size row = 23
+readRowRefusal (some q) room size row = readRowRefusalOf q room size row
+
+unfoldable pub rowRead : Laid → List ℕ → ℕ → Const
+rowRead none image row = []
+rowRead (some q) image row = readRow q image row
+
+unfoldable pub readRowCall : Laid → List ℕ → List ℕ → ℕ → Filled
+readRowCall laid room image row = filled (readRowRefusal laid (length room) (length image) row) room (rowRead laid image row)
