@@ -1,13 +1,12 @@
 -- The words of a flip-flop's controls, one by one: two for each control, nine for all.
-use mathlib.Core.Path.{_≡_, refl, sym, ap, _∙_}
+use mathlib.Core.Path.{_≡_, refl, ap, _∙_}
 use Prim.Native.Nat.{ℕ}
-use native.Mathlib.Omega.{arith}
-use mathlib.Core.List.{List, [], _∷_, _++_, append-assoc}
-use lib.ListN.{length, getD, length-append}
+use mathlib.Core.List.{List, [], _∷_, _++_}
+use lib.ListN.{getD}
 use Rattle.rules.specs.Value.{Control, Pos, Neg, controlWords}
-use Rattle.rules.specs.Cell.{Controls, FlipFlop}
-use Rattle.rules.specs.Log.{flag, dffOperands}
-use Rattle.flip_flop.specs.View.{controlsWords}
+use Rattle.rules.specs.Cell.{Controls}
+use Rattle.rules.specs.Log.{flag}
+use Rattle.rules.specs.Decode.{controlsWords}
 
 -- the two words of a control, one by one
 two-words : (c : Control) (l : List ℕ) → getD (controlWords c) 0 0 ∷ getD (controlWords c) 1 0 ∷ l ≡ controlWords c ++ l

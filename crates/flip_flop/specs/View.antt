@@ -1,8 +1,6 @@
 -- What a machine's controls are in terms of the rules, and a flip-flop of controls and lists.
 use Prim.Native.Nat.{ℕ}
-use mathlib.Core.List.{List, [], _∷_, _++_}
-use Rattle.rules.specs.Value.{controlWords}
-use Rattle.rules.specs.Log.{flag}
+use mathlib.Core.List.{List}
 use Rattle.rules.specs.Cell as rules
 use Rattle.value.specs.View.{controlOf}
 use Rattle.flip_flop.specs.declared.Controls.{Controls}
@@ -19,8 +17,3 @@ controlsOf c = record {
 -- controls, data, and clear, reset and init trits
 abbrev pub flipFlop : rules.Controls → List ℕ → List ℕ → List ℕ → List ℕ → rules.FlipFlop
 flipFlop c bits clear reset init = record { bits = bits; controls = c; clearValue = clear; resetValue = reset; initValue = init }
-
--- the words of a flip-flop's controls
-unfoldable pub controlsWords : rules.Controls → List ℕ
-controlsWords c =
-    controlWords (c .clock) ++ (controlWords (c .clear) ++ (controlWords (c .reset) ++ (controlWords (c .enable) ++ (flag (c .resetOverEnable) ∷ []))))

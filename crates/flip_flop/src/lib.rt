@@ -5,7 +5,8 @@ ghost use Rattle.rules.specs.Value.{isAlways, controlWords};
 ghost use Rattle.rules.specs.Log.{flag};
 ghost use Rattle.rules.specs.Conditions.{badControls};
 ghost use Rattle.value.specs.View.{controlOf};
-ghost use Rattle.flip_flop.specs.View.{controlsOf, controlsWords};
+ghost use Rattle.rules.specs.Decode.{controlsWords};
+ghost use Rattle.flip_flop.specs.View.{controlsOf};
 use value::ControlNet;
 
 // What a flip-flop and a clocked read port share.

@@ -3,9 +3,11 @@ pub mod Choice
 pub mod All
 pub mod Sum
 pub mod Store
+pub mod Stores
 pub mod Parts
 pub mod Views
 pub mod Concat
 pub mod Distinct
 pub mod Pairs
 pub mod UpFrom
+pub mod Same

@@ -62,3 +62,15 @@ pub fn fill_u8(to: &mut [u8], at: usize, count: usize, value: u8)
         i += 1;
     }
 }
+
+// Copies bytes into words.
+pub fn copy_u8_to_u32(to: &mut [u32], at: usize, from: &[u8])
+    ensures { λ _. ⌜ now (to .exit) ≡ sets (now (to .entry)) at (now (from .entry)) ⌝ }
+{
+    let n = fitting(to.len(), at, from.len());
+    let mut i = 0;
+    while i < n {
+        to[at + i] = from[i] as u32;
+        i += 1;
+    }
+}

@@ -113,12 +113,12 @@ words-shl stride s a n = words-2 7 (length a) n (stride ∷ length s ∷ s) a _ 
 pub words-ushr : (stride : ℕ) (s a : Value) (n : ℕ) → length (added (addUshr stride s a n)) ≡ 6 + (length s + length a)
 words-ushr stride s a n = words-2 8 (length a) n (stride ∷ length s ∷ s) a _ (added-ushr stride s a n) ∙ omega arith
 
-length-control : (c : Control) → length (controlWords c) ≡ 2
+pub length-control : (c : Control) → length (controlWords c) ≡ 2
 unfolding controlWords
 length-control (Pos n) = refl
 length-control (Neg n) = refl
 
-length-operands : (f : FlipFlop) → length (dffOperands f) ≡ length (f .bits) + (2 + (2 + (2 + (2 + (1 + (length (f .clearValue) + (length (f .resetValue) + length (f .initValue))))))))
+pub length-operands : (f : FlipFlop) → length (dffOperands f) ≡ length (f .bits) + (2 + (2 + (2 + (2 + (1 + (length (f .clearValue) + (length (f .resetValue) + length (f .initValue))))))))
 unfolding dffOperands
 length-operands f = simp (length-append, length-control) (omega arith)
 

@@ -2,6 +2,8 @@
 pub mod Starred
 pub mod Entries
 pub mod Traces
+pub mod Chain
+pub mod Decode
 pub mod Shapes
 pub mod Walks
 pub mod Writes

@@ -5,6 +5,7 @@ pub mod Logic
 pub mod Value
 pub mod Cell
 pub mod Log
+pub mod Chain
 pub mod Merge
 pub mod Ports
 pub mod Geometry
@@ -14,6 +15,7 @@ pub mod Counts
 pub mod Fallback
 pub mod Record
 pub mod Conditions
+pub mod Decode
 pub mod Refusals
 pub mod Patch
 pub mod Lister

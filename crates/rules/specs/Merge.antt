@@ -1,41 +1,15 @@
--- Merging: equal bits are kept once, in order of first appearance. One definition, over the keys of the bits and a test of two keys.
+-- Merging: equal bits are kept once, in order of first appearance: `kept` and `places` of lists, over the keys of the bits and a test of two keys.
 use Prim.Native.Nat.{ℕ, suc}
 use mathlib.Core.Bool.{Bool, true, false, _&&_}
 use mathlib.Core.List.{List, [], _∷_, _++_, map}
 use lib.ListN.{getD, take, drop}
 use lib.Dec.{eqb}
 use Rattle.rules.specs.Limits.{X}
-use Rattle.lists.specs.Choice.{if_then_else_}
 use Rattle.lists.specs.Lists.{pairs}
+use Rattle.lists.specs.Distinct.{kept, places}
 use Rattle.rules.specs.Value.{Value, Control, Pos}
 use Rattle.rules.specs.Cell.{Controls, FlipFlop}
 use Rattle.rules.specs.Log.{Trace, _>>=_, _>>_, done, addMux, addDff}
-
-module _ {ℓ} {A : Type ℓ} (same : A → A → Bool) where
-  -- the place of the first key that is the same as x, or the length where none is
-  abbrev pub placeIn : A → List A → ℕ
-  placeIn x [] = 0
-  placeIn x (y ∷ l) = if same y x then 0 else suc (placeIn x l)
-
-  -- the list with x at its end, unless a key is the same as x
-  abbrev pub withNew : A → List A → List A
-  withNew x [] = x ∷ []
-  withNew x (y ∷ l) = if same y x then y ∷ l else y ∷ withNew x l
-
-  -- the keys kept of l after those kept already, and each key's place among them
-  abbrev pub keptFrom : List A → List A → List A
-  keptFrom acc [] = acc
-  keptFrom acc (x ∷ l) = keptFrom (withNew x acc) l
-
-  abbrev pub placesFrom : List A → List A → List ℕ
-  placesFrom acc [] = []
-  placesFrom acc (x ∷ l) = placeIn x acc ∷ placesFrom (withNew x acc) l
-
-  abbrev pub kept : List A → List A
-  kept l = keptFrom [] l
-
-  abbrev pub places : List A → List ℕ
-  places l = placesFrom [] l
 
 -- the net of each bit, from the nets of the kept bits
 unfoldable pub spread : List ℕ → Value → Value
