@@ -319,3 +319,11 @@ pub fn output_start(m: Memory, i: usize) -> usize
     }
     at
 }
+
+// How many data nets a write port with these nets has.
+pub fn data_count(p: MemoryWritePort, nets: &[u32]) -> usize
+    ensures { λ r. ⌜ (r ≡ length (writeBy p (now (nets .entry)) [] .bits)) × (r < 0x100000000) ⌝ }
+{
+    let bits = net_part(nets, wide(p.addr_len), wide(p.data_len));
+    bits.len()
+}

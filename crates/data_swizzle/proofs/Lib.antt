@@ -1,0 +1,5 @@
+-- Laws that belong to no one function.
+pub mod Slices
+pub mod Padding
+pub mod Changes
+pub mod Entries

@@ -1,0 +1,2 @@
+-- `make_data_swizzle` on a machine's memory.
+pub mod Calls

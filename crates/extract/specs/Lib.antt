@@ -1,0 +1,2 @@
+-- Extraction of read ports on a machine's memory.
+pub mod Extract
