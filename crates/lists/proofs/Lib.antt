@@ -14,4 +14,3 @@ pub mod Ups
 pub mod Joined
 pub mod Same
 pub mod UpFrom
-pub mod Same
