@@ -22,7 +22,7 @@ use Rattle.rules.specs.Lister.{sizeDepth, sizeStart, memTrits, Summary, summary
 use Rattle.rules.proofs.Headers.{kept, mems-max}
 use Rattle.rules.proofs.Memories.{start-next, start-fits}
 use Rattle.rules.proofs.Written.{areBytes, all-bytes, length-bits, decoded-known, decoded-value}
-use Rattle.lists.proofs.Ups.{up-step, up-end}
+use Rattle.lists.proofs.UpFrom.{count-step, count-end}
 use Rattle.lists.proofs.Concat.{concat-map}
 use Rattle.lists.proofs.Store.{sets-at}
 use Rattle.sizes.specs.View.{viewSizes}
@@ -137,10 +137,10 @@ module _ (bytes : List ℕ) (count : ℕ) where
   rest i = concatMap lineAt (upFrom i (count - i))
 
   rest-turn : (i : ℕ) → i < count → rest i ≡ lineAt i ++ rest (i + 1)
-  rest-turn i h = ap (concatMap lineAt) (up-step i count h)
+  rest-turn i h = ap (concatMap lineAt) (count-step i count h)
 
   pub rest-end : (i : ℕ) → count ≤ i → rest i ≡ []
-  rest-end i h = ap (concatMap lineAt) (up-end i count h)
+  rest-end i h = ap (concatMap lineAt) (count-end i count h)
 
   pub rest-all : count ≡ sizeMems (headSizes bytes) → rest 0 ≡ concatMap memoryLine (summaries (headSizes bytes) (decodeImage bytes))
   unfolding summaries

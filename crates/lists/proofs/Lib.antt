@@ -10,7 +10,6 @@ pub mod Concat
 pub mod Distinct
 pub mod Pairs
 pub mod Maps
-pub mod Ups
 pub mod Joined
 pub mod Same
 pub mod UpFrom

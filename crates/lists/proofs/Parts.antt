@@ -11,7 +11,6 @@ use lib.Seq.{take-all, take-take, drop-drop, take-nil, length-take-le, drop-cons
 use Rattle.lists.specs.Lists.{part}
 
 module _ {ℓ} {A : Type ℓ} where
-
   -- what is dropped of what is taken
   pub drop-take : (n k : ℕ) (l : List A) → drop n (take (n + k) l) ≡ take k (drop n l)
   drop-take zero k l = ap (λ (i : ℕ). take i l) (zero-add k)

@@ -5,7 +5,7 @@ use native.Mathlib.Numerals.{add-one}
 use native.Mathlib.Nat.{zero-add, add-zero, suc-add, add-suc}
 use native.Mathlib.Omega.{arith}
 use mathlib.Core.Bool.{Bool, true, false, _||_}
-use mathlib.Core.List.{map}
+use mathlib.Core.List.{[], _∷_, map}
 use lib.ListN.{length, getD}
 use Rattle.lists.specs.Lists.{any, upFrom}
 use Rattle.lists.proofs.Choice.{or-false}
@@ -63,3 +63,17 @@ any-same f g a b (suc n) h =
     let tail : any f (upFrom (suc a) n) ≡ any g (upFrom (suc b) n) =
     any-same f g (suc a) (suc b) n (λ j l. ap f (suc-add a j ∙ sym (add-suc a j)) ∙ h (suc j) (omega arith) ∙ ap g (add-suc b j ∙ sym (suc-add b j))) in
     λ k. head k || tail k
+
+-- a turn of a loop that counts up
+pub count-step : (i n : ℕ) → i < n → upFrom i (n - i) ≡ i ∷ upFrom (i + 1) (n - (i + 1))
+count-step i n h =
+    let e : n - i ≡ suc (n - (i + 1)) = omega arith in
+    ap (upFrom i) e ∙ (rw add-one)
+
+pub count-end : (i n : ℕ) → n ≤ i → upFrom i (n - i) ≡ []
+count-end i n h = let e : n - i ≡ 0 = omega arith in ap (upFrom i) e
+
+pub up-at : (a n i d : ℕ) → i < n → getD (upFrom a n) i d ≡ a + i
+up-at a zero i d h = absurd (omega arith)
+up-at a (suc n) zero d h = omega arith
+up-at a (suc n) (suc i) d h = up-at (suc a) n i d (omega arith) ∙ omega arith

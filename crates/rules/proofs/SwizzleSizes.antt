@@ -13,7 +13,7 @@ use Rattle.lists.specs.Choice.{if_then_else_}
 use Rattle.lists.specs.Lists.{upFrom}
 use Rattle.lists.proofs.Choice.{or-both, or-false, and-false, not-is-true, if-zero, else-zero}
 use Rattle.lists.proofs.All.{any-has}
-use Rattle.lists.proofs.Ups.{getD-up, length-up}
+use Rattle.lists.proofs.UpFrom.{up-at, length-up}
 use Rattle.rules.specs.Limits.{maxHard, maxUnit, maxRow, maxDepth, maxPartial, maxColumns, maxImage}
 use Rattle.rules.specs.Value.{Value}
 use Rattle.rules.specs.Cell.{Mem, Plan}
@@ -41,7 +41,7 @@ positive n f = omega arith
 pub power-is : (e : ℕ) → e ≤ 15 → isPower (2 ^ e) ≡ true
 unfolding isPower
 power-is e h =
-    let x : getD (upFrom 0 16) e 0 ≡ e = getD-up 0 16 e 0 (omega arith) ∙ zero-add e in
+    let x : getD (upFrom 0 16) e 0 ≡ e = up-at 0 16 e 0 (omega arith) ∙ zero-add e in
     any-has (λ k. eqb (2 ^ e) (2 ^ k)) (upFrom 0 16) e 0 (omega (arith, length-up 0 16)) (eq-eqb (2 ^ e) _ (ap (λ (k : ℕ). 2 ^ k) (sym x)))
 
 power-max : (e : ℕ) → e ≤ 15 → 2 ^ e ≤ 32768

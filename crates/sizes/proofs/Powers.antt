@@ -8,7 +8,7 @@ use native.Mathlib.Nat.{pow-suc, pow-le-pow-right}
 use lib.Dec.{eqb}
 use borrow.Author.Tests.{eq-eqb, ne-eqb}
 use Rattle.lists.specs.Lists.{any, upFrom}
-use Rattle.lists.proofs.Ups.{up-step, up-end}
+use Rattle.lists.proofs.UpFrom.{count-step, count-end}
 use Rattle.rules.specs.Conditions.{isPower}
 
 -- one of the powers from 2 ^ e on, up to the last
@@ -20,7 +20,7 @@ unfolding isPower
 power-all n = refl
 
 power-step : (n e : ℕ) → e < 16 → powerFrom n e ≡ (eqb n (2 ^ e) || powerFrom n (e + 1))
-power-step n e h = ap (any (λ k. eqb n (2 ^ k))) (up-step e 16 h)
+power-step n e h = ap (any (λ k. eqb n (2 ^ k))) (count-step e 16 h)
 
 module _ (n e p : ℕ) (h : e < 16) (q : p ≡ 2 ^ e) where
   pub power-found : n ≡ p → powerFrom n e ≡ true
@@ -36,4 +36,4 @@ module _ (n e p : ℕ) (h : e < 16) (q : p ≡ 2 ^ e) where
   power-max = let z : 2 ^ e ≤ 2 ^ 15 = pow-le-pow-right {n = 2} (omega arith) {i = e} {j = 15} (omega arith) in omega arith
 
 pub power-none : (n e : ℕ) → 16 ≤ e → powerFrom n e ≡ false
-power-none n e h = ap (any (λ k. eqb n (2 ^ k))) (up-end e 16 h)
+power-none n e h = ap (any (λ k. eqb n (2 ^ k))) (count-end e 16 h)

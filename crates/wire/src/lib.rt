@@ -68,6 +68,9 @@ fn call(given: &[u32], words: &mut [u32], trits: &mut [u8]) -> Reply {
     if op == 32 {
         return records::read(given, words, trits);
     }
+    if op == 33 {
+        return records::list(given, words, trits);
+    }
     read::unknown()
 }
 

@@ -1,4 +1,4 @@
-// Calls 31 and 32: image records written and read.
+// Calls 31 to 33: image records written, read and listed.
 use crate::read;
 use crate::read::Reply;
 use record::Head;
@@ -81,4 +81,22 @@ fn decoded(words: &mut [u32], s: Sizes, image: &[u8]) -> Reply {
     let e = read::put_next(words, d, s.partial_depth);
     let end = read::put_list_u8(words, e, sizes::image_of(s, image));
     read::given_to(0, end)
+}
+
+// The lister's text for its standard input, of which no more is kept than a record may have.
+pub(crate) fn list(given: &[u32], words: &mut [u32], trits: &mut [u8]) -> Reply {
+    let input = read::list(given, 2);
+    let total = input.len();
+    let mut first = [0; 32780];
+    let k = if total < listing::MAX_RECORD {
+        total
+    } else {
+        listing::MAX_RECORD
+    };
+    read::codes(&mut first, 0, read::part(input, 0, k));
+    let n = listing::list_input(read::part_u8(&first, 0, k), total, trits);
+    if trits.len() < n {
+        return read::unknown();
+    }
+    bytes(words, read::part_u8(trits, 0, n))
 }
