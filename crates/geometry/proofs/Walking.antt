@@ -13,15 +13,15 @@ use Rattle.geometry.specs.Steps.{Roomy, stepped}
 
 -- a spot of the bits that are left
 abbrev pub onto : Walk → Spot → Spot
-onto w s = record { chunk = w .chunk + w .«chunk_bit» * s .chunk; row = w .row + w .«row_bit» * s .row }
+onto w s = record { chunk = w .chunk + w .cb * s .chunk; row = w .row + w .rb * s .row }
 
 spread : (c k b x : ℕ) → c + k * (b + 2 * x) ≡ c + b * k + 2 * k * x
 spread c k b x = omega (arith, mul-add k b (2 * x), mul-comm k b, mul-left-comm k 2 x, mul-assoc 2 k x)
 
 onto-step : (t : Bool) (b : ℕ) (w : Walk) (s : Spot) → onto w (under t b s) ≡ onto (stepped t b w) s
 unfolding under
-onto-step true b w s = λ i. record { chunk = spread (w .chunk) (w .«chunk_bit») b (s .chunk) i; row = w .row + w .«row_bit» * s .row }
-onto-step false b w s = λ i. record { chunk = w .chunk + w .«chunk_bit» * s .chunk; row = spread (w .row) (w .«row_bit») b (s .row) i }
+onto-step true b w s = λ i. record { chunk = spread (w .chunk) (w .cb) b (s .chunk) i; row = w .row + w .rb * s .row }
+onto-step false b w s = λ i. record { chunk = w .chunk + w .cb * s .chunk; row = spread (w .row) (w .rb) b (s .row) i }
 
 hard-step : (t : Bool) (b : ℕ) (w : Walk) → stepped t b w .hard ≡ hardLeft t (w .hard)
 unfolding hardLeft
@@ -32,13 +32,13 @@ hard-step false b w = refl
 under-weight : (c k b : ℕ) → b ≤ 1 → c < k → c + b * k < 2 * k
 under-weight c k b h l = omega (arith, mul-le-mul-right k h, one-mul k)
 
-chunk-under : (t : Bool) (b : ℕ) (w : Walk) → b ≤ 1 → w .chunk < w .«chunk_bit» → stepped t b w .chunk < stepped t b w .«chunk_bit»
-chunk-under true b w h l = under-weight (w .chunk) (w .«chunk_bit») b h l
+chunk-under : (t : Bool) (b : ℕ) (w : Walk) → b ≤ 1 → w .chunk < w .cb → stepped t b w .chunk < stepped t b w .cb
+chunk-under true b w h l = under-weight (w .chunk) (w .cb) b h l
 chunk-under false b w h l = l
 
-row-under : (t : Bool) (b : ℕ) (w : Walk) → b ≤ 1 → w .row < w .«row_bit» → stepped t b w .row < stepped t b w .«row_bit»
+row-under : (t : Bool) (b : ℕ) (w : Walk) → b ≤ 1 → w .row < w .rb → stepped t b w .row < stepped t b w .rb
 row-under true b w h l = l
-row-under false b w h l = under-weight (w .row) (w .«row_bit») b h l
+row-under false b w h l = under-weight (w .row) (w .rb) b h l
 
 double : (k n : ℕ) → 0 < n → 2 * k * 2 ^ (n - 1) ≡ k * 2 ^ n
 double k n l = mul-assoc 2 k (2 ^ (n - 1)) ∙ mul-left-comm 2 k (2 ^ (n - 1)) ∙ ap (λ (x : ℕ). k * x) (sym (pow-pos-suc n l))
@@ -49,26 +49,26 @@ keep k n m l h = le-trans (mul-le-mul-left k (pow-mono (omega arith))) h
 twice : (k n m : ℕ) → 0 < n → k * 2 ^ n ≤ m → 2 * k * 2 ^ (n - 1) ≤ m
 twice k n m l h = subst (λ (x : ℕ). x ≤ m) (sym (double k n l)) h
 
-chunk-room : (t : Bool) (b n m : ℕ) (w : Walk) → 0 < n → w .«chunk_bit» * 2 ^ n ≤ m → stepped t b w .«chunk_bit» * 2 ^ (n - 1) ≤ m
-chunk-room true b n m w l h = twice (w .«chunk_bit») n m l h
-chunk-room false b n m w l h = keep (w .«chunk_bit») n m l h
+chunk-room : (t : Bool) (b n m : ℕ) (w : Walk) → 0 < n → w .cb * 2 ^ n ≤ m → stepped t b w .cb * 2 ^ (n - 1) ≤ m
+chunk-room true b n m w l h = twice (w .cb) n m l h
+chunk-room false b n m w l h = keep (w .cb) n m l h
 
-row-room : (t : Bool) (b n m : ℕ) (w : Walk) → 0 < n → w .«row_bit» * 2 ^ n ≤ m → stepped t b w .«row_bit» * 2 ^ (n - 1) ≤ m
-row-room true b n m w l h = keep (w .«row_bit») n m l h
-row-room false b n m w l h = twice (w .«row_bit») n m l h
+row-room : (t : Bool) (b n m : ℕ) (w : Walk) → 0 < n → w .rb * 2 ^ n ≤ m → stepped t b w .rb * 2 ^ (n - 1) ≤ m
+row-room true b n m w l h = keep (w .rb) n m l h
+row-room false b n m w l h = twice (w .rb) n m l h
 
 -- the loop: `rest` and `soft` are what is left of the row number and the mask, `left` the bits that are left
 pub record Walking (mask hard row : ℕ) (w : Walk) (soft rest : ℕ) : Type 0 where
   pub left : ℕ
   pub rest-fits : rest < 2 ^ left
-  pub chunk-low : w .chunk < w .«chunk_bit»
-  pub row-low : w .row < w .«row_bit»
-  pub chunk-fits : w .«chunk_bit» * 2 ^ left ≤ 4294967296
-  pub row-fits : w .«row_bit» * 2 ^ left ≤ 4294967296
+  pub chunk-low : w .chunk < w .cb
+  pub row-low : w .row < w .rb
+  pub chunk-fits : w .cb * 2 ^ left ≤ 4294967296
+  pub row-fits : w .rb * 2 ^ left ≤ 4294967296
   pub whole : walk addrBits mask hard row ≡ onto w (walk left soft (w .hard) rest)
 
 pub starts : (mask hard row : ℕ) → row < 4294967296
-    → Walking mask hard row (record { chunk = 0; «chunk_bit» = 1; row = 0; «row_bit» = 1; hard = hard }) mask row
+    → Walking mask hard row (record { chunk = 0; cb = 1; row = 0; rb = 1; hard = hard }) mask row
 starts mask hard row h = record {
   left = addrBits;
   rest-fits = h;
@@ -139,8 +139,12 @@ module _ (mask hard row : ℕ) (w : Walk) (soft rest : ℕ) (h : Walking mask ha
   ends e =
       let s = walk (h .left) soft (w .hard) rest in
       let l = walk-le (h .left) soft (w .hard) rest in
-      sym (h .whole ∙ λ i. record { chunk = nothing (w .chunk) (w .«chunk_bit») (s .chunk) (l .0) e i; row = nothing (w .row) (w .«row_bit») (s .row) (l .1) e i })
+      sym (h .whole ∙ λ i. record { chunk = nothing (w .chunk) (w .cb) (s .chunk) (l .0) e i; row = nothing (w .row) (w .rb) (s .row) (l .1) e i })
 
 -- a bit times its weight
 pub bit-times : (b k : ℕ) → b ≤ 1 → k ≤ 4294967296 → b * k ≤ 4294967296
 bit-times b k h l = omega (arith, mul-le-mul-right k h, one-mul k)
+
+-- no hard bits are left
+pub hard-none : (b : ℕ) (w : Walk) → w .hard ≡ 0 → _≡_ {A = Walk} (record { chunk = w .chunk + b * w .cb; cb = 2 * w .cb; row = w .row; rb = w .rb; hard = 0 }) (stepped true b w)
+hard-none b w e = λ i. record { chunk = w .chunk + b * w .cb; cb = 2 * w .cb; row = w .row; rb = w .rb; hard = sym e i }

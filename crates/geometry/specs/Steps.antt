@@ -20,22 +20,22 @@ pub record Roomy (w : Walk) (bit : ℕ) : Type 0 where
   pub bit-max : bit ≤ 1
   pub chunk-max : w .chunk ≤ 4294967296
   pub row-max : w .row ≤ 4294967296
-  pub chunk-bit-max : w .«chunk_bit» ≤ 4294967296
-  pub row-bit-max : w .«row_bit» ≤ 4294967296
+  pub chunk-bit-max : w .cb ≤ 4294967296
+  pub row-bit-max : w .rb ≤ 4294967296
 
 -- a bit that goes to the chunk number, or to the row number
 abbrev pub stepped : Bool → ℕ → Walk → Walk
 stepped true b w = record {
-  chunk = w .chunk + b * w .«chunk_bit»;
-  «chunk_bit» = 2 * w .«chunk_bit»;
+  chunk = w .chunk + b * w .cb;
+  cb = 2 * w .cb;
   row = w .row;
-  «row_bit» = w .«row_bit»;
+  rb = w .rb;
   hard = w .hard;
 }
 stepped false b w = record {
   chunk = w .chunk;
-  «chunk_bit» = w .«chunk_bit»;
-  row = w .row + b * w .«row_bit»;
-  «row_bit» = 2 * w .«row_bit»;
+  cb = w .cb;
+  row = w .row + b * w .rb;
+  rb = 2 * w .rb;
   hard = w .hard - 1;
 }

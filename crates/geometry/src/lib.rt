@@ -45,12 +45,12 @@ pub enum Measured {
     Done(Shape),
 }
 
-// A walk on its way: what the bits so far give, the weight of the next chunk bit and row bit, and the hard bits left.
+// A walk on its way: what the bits so far give, the weights of the next chunk bit and of the next row bit, and the hard bits left.
 struct Walk {
     chunk: u64,
-    chunk_bit: u64,
+    cb: u64,
     row: u64,
-    row_bit: u64,
+    rb: u64,
     hard: u32,
 }
 
@@ -270,51 +270,37 @@ pub fn result_refusal(p: Params, entries: &[u32]) -> u32
     0
 }
 
-// The next bit of a row number goes to the chunk number.
-fn chunk_step(w: Walk, bit: u64) -> Walk
-    requires { ⌜ Roomy w bit ⌝ }
-    ensures { λ r. ⌜ r ≡ stepped true bit w ⌝ }
+fn walked(chunk: u64, cb: u64, row: u64, rb: u64, hard: u32) -> Walk
+    ensures { λ r. ⌜ r ≡ record { chunk = chunk; cb = cb; row = row; rb = rb; hard = hard } ⌝ }
 {
     Walk {
-        chunk: w.chunk + bit * w.chunk_bit,
-        chunk_bit: 2 * w.chunk_bit,
-        row: w.row,
-        row_bit: w.row_bit,
-        hard: w.hard,
+        chunk,
+        cb,
+        row,
+        rb,
+        hard,
     }
 }
 
-// A soft bit, or any once the hard bits are taken, goes to the chunk number; another goes to the row number.
+// A bit of a row number: a soft one, or any once the hard bits are taken, is the next chunk bit; another is the next row bit.
 fn step(w: Walk, mask: u32, bit: u64) -> Walk
     requires { ⌜ Roomy w bit ⌝ }
     ensures { λ r. ⌜ r ≡ stepped (toChunk mask (w .hard)) bit w ⌝ }
 {
     if mask % 2 == 1 {
-        return chunk_step(w, bit);
+        return walked(w.chunk + bit * w.cb, 2 * w.cb, w.row, w.rb, w.hard);
     }
     if w.hard == 0 {
-        return chunk_step(w, bit);
+        return walked(w.chunk + bit * w.cb, 2 * w.cb, w.row, w.rb, 0);
     }
-    Walk {
-        chunk: w.chunk,
-        chunk_bit: w.chunk_bit,
-        row: w.row + bit * w.row_bit,
-        row_bit: 2 * w.row_bit,
-        hard: w.hard - 1,
-    }
+    walked(w.chunk, w.cb, w.row + bit * w.rb, 2 * w.rb, w.hard - 1)
 }
 
 // Walks the bits of a row number upward. Those above its highest are 0 and add nothing.
 pub fn walk_row(mask: u32, hard: u32, row: u32) -> Spot
     ensures { λ r. ⌜ spotOf r ≡ walk addrBits mask hard row ⌝ }
 {
-    let mut w = Walk {
-        chunk: 0,
-        chunk_bit: 1,
-        row: 0,
-        row_bit: 1,
-        hard,
-    };
+    let mut w = walked(0, 1, 0, 1, hard);
     let mut soft = mask;
     let mut rest = row;
     while 0 < rest {

@@ -1,3 +1,2 @@
--- The state as the rules' layout, and what the private functions ask and give.
+-- The state as the rules' layout.
 pub mod View
-pub mod Steps

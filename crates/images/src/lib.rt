@@ -1,21 +1,13 @@
-// Images: the state that a swizzle hands on, the place of an entry, an image laid out from rows, a row patched and a row read back.
+// Images: the state that a swizzle hands on, and by it an image laid out from rows, a row patched and a row read back.
 ghost use mathlib.Core.Path.{_≡_};
-ghost use mathlib.Core.List.{_++_};
 ghost use mathlib.Core.Option.{none};
-ghost use Prim.Native.Nat.{ℕ, _+_, _*_, _≤_, _<_};
-ghost use lib.Dec.{eqb};
-ghost use lib.ListN.{length, getD, set, drop, replicate};
-ghost use Rattle.rules.specs.Limits.{None, tritX};
-ghost use Rattle.rules.specs.Logic.{areTrits};
-ghost use Rattle.rules.specs.Image.{put, putRow, writeRow, writeRows, indexOf};
-ghost use Rattle.rules.specs.Refusals.{patchRefusalOf};
-ghost use Rattle.rules.specs.Patch.{laidOut};
-ghost use Rattle.rules.specs.Shape.{handedOn, placeCall};
-ghost use Rattle.rules.specs.Layouts.{fillRefusalOf, fillCall, readRowRefusalOf, readRow, readRowCall};
+ghost use Prim.Native.Nat.{_<_};
+ghost use lib.ListN.{length};
+ghost use Rattle.rules.specs.Shape.{handedOn};
+ghost use Rattle.rules.specs.Layouts.{fillCall, readRowCall};
 ghost use Rattle.rules.specs.Answers.{patchCall};
 ghost use Rattle.geometry.specs.View.{layoutBy, filledWith};
-ghost use Rattle.images.specs.View.{paramsOf, laidOf, placedOf};
-ghost use Rattle.images.specs.Steps.{stepsBy, Ready, Low, Lows, nextOf, At, indexFrom, takeRow, patchNumber, fillNumber, readNumber};
+ghost use Rattle.images.specs.View.{paramsOf, laidOf};
 
 // What a swizzle hands on for patches: the layout's numbers, and the entries of a row, of which the first `len` are in use. The unit is 0 where
 // no swizzle was accepted yet.
@@ -29,56 +21,10 @@ pub struct Laid {
     pub entries: [u32; 256],
 }
 
-// The place of an entry: the memory, the row in it, the bit of that row, and the index in the flat image.
-pub struct Place {
-    pub memory: u64,
-    pub row: u64,
-    pub bit: u64,
-    pub index: u64,
-}
-
-pub enum Placed {
-    Refused(u32),
-    At(Place),
-}
-
-// The full memories, the trits of a full one and of another, and the trits of a row in each.
-struct Steps {
-    full: u64,
-    full_step: u64,
-    part_step: u64,
-    unit: u64,
-}
-
-// Where the next entry of a row goes: its memory, its bit there, and the index of the row's bit 0.
-struct Cursor {
-    memory: u64,
-    bit: u64,
-    start: u64,
-}
-
-fn wide32(x: u32) -> u64
-    ensures { λ r. ⌜ r ≡ x ⌝ }
-{
-    x as u64
-}
-
 fn index32(x: u32) -> usize
     ensures { λ r. ⌜ r ≡ x ⌝ }
 {
     x as usize
-}
-
-fn index64(x: u64) -> usize
-    ensures { λ r. ⌜ r ≡ x ⌝ }
-{
-    x as usize
-}
-
-fn from_len(x: usize) -> u64
-    ensures { λ r. ⌜ r ≡ x ⌝ }
-{
-    x as u64
 }
 
 // The state before any swizzle is accepted.
@@ -129,203 +75,6 @@ pub fn params(laid: Laid) -> geometry::Params
     }
 }
 
-// Stores element `i` of `from` at `at`, or `other` where there is none.
-fn store(to: &mut [u8], at: usize, from: &[u8], i: usize, other: u8)
-    ensures { λ _. ⌜ now (to .exit) ≡ set (now (to .entry)) at (getD (now (from .entry)) i other) ⌝ }
-{
-    if to.len() <= at {
-        return;
-    }
-    if from.len() <= i {
-        to[at] = other;
-        return;
-    }
-    to[at] = from[i];
-}
-
-// The trit of an entry's bit goes to index `at` of the image.
-fn put_trit(image: &mut [u8], at: u64, trits: &[u8], entry: u32)
-    ensures { λ _. ⌜ now (image .exit) ≡ put (eqb entry None) at (getD (now (trits .entry)) entry 0) (now (image .entry)) ⌝ }
-{
-    if entry == rules::NO_BIT {
-        return;
-    }
-    store(image, index64(at), trits, index32(entry), 0);
-}
-
-// The trit at index `at` of the image goes to the entry's bit.
-fn take_trit(room: &mut [u8], entry: u32, image: &[u8], at: u64)
-    ensures { λ _. ⌜ now (room .exit) ≡ put (eqb entry None) entry (getD (now (image .entry)) at tritX) (now (room .entry)) ⌝ }
-{
-    if entry == rules::NO_BIT {
-        return;
-    }
-    store(room, index32(entry), image, index64(at), rules::TRIT_X);
-}
-
-fn steps_of(s: geometry::Shape, unit: u32) -> Steps
-    requires { ⌜ (s .«full_depth» ≤ 1048576) × (s .«part_depth» ≤ 1048576) ⌝ }
-    ensures { λ r. ⌜ r ≡ stepsBy s unit ⌝ }
-{
-    Steps {
-        full: s.full_mems,
-        full_step: s.full_depth * wide32(unit),
-        part_step: s.part_depth * wide32(unit),
-        unit: wide32(unit),
-    }
-}
-
-// The cursor at entry number `entry` of a row: the one division of a row's places.
-fn cursor_at(p: geometry::Params, g: Steps, entries: &[u32], row: u32, entry: usize) -> Cursor
-    requires { ⌜ Ready p g (now entries) ⌝ }
-    requires { ⌜ (row < p .depth) × (entry ≤ length (now entries)) ⌝ }
-    ensures { λ r. ⌜ At (layoutBy p (now (entries .entry))) row entry r ⌝ }
-{
-    let spot = geometry::walk_row(p.soft_mask, p.hard, row);
-    let column = wide32(spot.chunk) * from_len(entries.len()) + from_len(entry);
-    let memory = column / g.unit;
-    let bit = column % g.unit;
-    let above = wide32(spot.row) * g.unit;
-    if memory < g.full {
-        return Cursor {
-            memory,
-            bit,
-            start: memory * g.full_step + above,
-        };
-    }
-    Cursor {
-        memory,
-        bit,
-        start: g.full * g.full_step + (memory - g.full) * g.part_step + above,
-    }
-}
-
-// The next bit of the memory, or bit 0 of the next memory.
-fn next_place(c: Cursor, g: Steps) -> Cursor
-    requires { ⌜ Low c g ⌝ }
-    ensures { λ r. ⌜ r ≡ nextOf g c ⌝ }
-{
-    let bit = c.bit + 1;
-    if bit < g.unit {
-        return Cursor {
-            memory: c.memory,
-            bit,
-            start: c.start,
-        };
-    }
-    if c.memory < g.full {
-        return Cursor {
-            memory: c.memory + 1,
-            bit: 0,
-            start: c.start + g.full_step,
-        };
-    }
-    Cursor {
-        memory: c.memory + 1,
-        bit: 0,
-        start: c.start + g.part_step,
-    }
-}
-
-// Writes the trits of a row to its places, from the first entry's on.
-fn put_entries(image: &mut [u8], first: Cursor, g: Steps, entries: &[u32], trits: &[u8])
-    requires { ⌜ Lows first g (length (now entries)) ⌝ }
-    ensures { λ _. ⌜ now (image .exit) ≡ putRow (indexFrom g first) (now (entries .entry)) 0 (now (trits .entry)) (now (image .entry)) ⌝ }
-{
-    let mut c = first;
-    let mut i: usize = 0;
-    while i < entries.len() {
-        put_trit(image, c.start + c.bit, trits, entries[i]);
-        c = next_place(c, g);
-        i += 1;
-    }
-}
-
-// Takes the trits at a row's places, from the first entry's on.
-fn take_entries(room: &mut [u8], first: Cursor, g: Steps, entries: &[u32], image: &[u8])
-    requires { ⌜ Lows first g (length (now entries)) ⌝ }
-    ensures { λ _. ⌜ now (room .exit) ≡ takeRow (indexFrom g first) (now (entries .entry)) 0 (now (image .entry)) (now (room .entry)) ⌝ }
-{
-    let mut c = first;
-    let mut i: usize = 0;
-    while i < entries.len() {
-        take_trit(room, entries[i], image, c.start + c.bit);
-        c = next_place(c, g);
-        i += 1;
-    }
-}
-
-// Writes one row.
-fn write_row(
-    image: &mut [u8],
-    p: geometry::Params,
-    g: Steps,
-    entries: &[u32],
-    row: u32,
-    trits: &[u8],
-)
-    requires { ⌜ Ready p g (now entries) ⌝ }
-    requires { ⌜ row < p .depth ⌝ }
-    ensures { λ _. ⌜ now (image .exit) ≡ writeRow (layoutBy p (now (entries .entry))) row (now (trits .entry)) (now (image .entry)) ⌝ }
-{
-    let first = cursor_at(p, g, entries, row, 0);
-    put_entries(image, first, g, entries, trits);
-}
-
-// Each is a trit's code.
-fn trits_good(trits: &[u8]) -> bool
-    ensures { λ r. ⌜ r ≡ areTrits (now (trits .entry)) ⌝ }
-{
-    let mut i: usize = 0;
-    while i < trits.len() {
-        if rules::TRIT_X < trits[i] {
-            return false;
-        }
-        i += 1;
-    }
-    true
-}
-
-// Numbers 4, 15 and 20 of a patch, where the image has `size` trits.
-fn patch_number(p: geometry::Params, size: u64, row: u32, trits: &[u8], room: usize) -> u32
-    ensures { λ r. ⌜ r ≡ patchNumber (p .width) (p .depth) size row (now (trits .entry)) room ⌝ }
-{
-    if trits.len() != index32(p.width) {
-        return 4;
-    }
-    if !trits_good(trits) {
-        return 4;
-    }
-    if p.depth <= row {
-        return 15;
-    }
-    if from_len(room) < size {
-        return 20;
-    }
-    0
-}
-
-// Exchanges one row of an image with this layout, or refuses by a number.
-pub fn patch_row(
-    image: &mut [u8],
-    p: geometry::Params,
-    entries: &[u32],
-    row: u32,
-    trits: &[u8],
-) -> u32
-    ensures { λ r. ⌜ filledWith r (now (image .exit)) ≡ patchCall (handedOn (layoutBy p (now (entries .entry)))) (record { row = row; trits = now (trits .entry); room = length (now (image .entry)) }) (now (image .entry)) ⌝ }
-{
-    let plan::Checked::Good(s) = plan::check_layout(p, entries) else {
-        return 23;
-    };
-    let n = patch_number(p, s.image_size, row, trits, image.len());
-    if n != 0 {
-        return n;
-    }
-    write_row(image, p, steps_of(s, p.unit), entries, row, trits);
-    0
-}
-
 // Exchanges one row of the last accepted swizzle, or refuses by a number.
 pub fn patch(image: &mut [u8], laid: Laid, row: u32, trits: &[u8]) -> u32
     ensures { λ r. ⌜ filledWith r (now (image .exit)) ≡ patchCall (laidOf laid) (record { row = row; trits = now (trits .entry); room = length (now (image .entry)) }) (now (image .entry)) ⌝ }
@@ -335,53 +84,7 @@ pub fn patch(image: &mut [u8], laid: Laid, row: u32, trits: &[u8]) -> u32
         return 23;
     }
     let entries = laid.entries;
-    patch_row(image, params(laid), &entries[..len], row, trits)
-}
-
-// Writes every row, row 0 first.
-fn write_rows(image: &mut [u8], p: geometry::Params, g: Steps, entries: &[u32], rows: &[u8])
-    requires { ⌜ Ready p g (now entries) ⌝ }
-    requires { ⌜ length (now rows) ≡ p .depth * p .width ⌝ }
-    ensures { λ _. ⌜ now (image .exit) ≡ writeRows (layoutBy p (now (entries .entry))) (now (rows .entry)) (p .depth) (now (image .entry)) ⌝ }
-{
-    let width = index32(p.width);
-    let mut from: usize = 0;
-    let mut row: u32 = 0;
-    while row < p.depth {
-        let to = from + width;
-        write_row(image, p, g, entries, row, &rows[from..to]);
-        from = to;
-        row += 1;
-    }
-}
-
-// Numbers 2 and 20 of a layout of `len` trits, where the image has `size`.
-fn fill_number(p: geometry::Params, size: u64, room: usize, len: usize) -> u32
-    ensures { λ r. ⌜ r ≡ fillNumber (p .depth) (p .width) size room len ⌝ }
-{
-    if from_len(len) != wide32(p.depth) * wide32(p.width) {
-        return 2;
-    }
-    if from_len(room) < size {
-        return 20;
-    }
-    0
-}
-
-// Lays the rows out in an image with this layout, or refuses by a number. The rows' trit codes are not looked at: number 4 is the swizzle's.
-pub fn fill_rows(image: &mut [u8], p: geometry::Params, entries: &[u32], rows: &[u8]) -> u32
-    ensures { λ r. ⌜ filledWith r (now (image .exit)) ≡ fillCall (handedOn (layoutBy p (now (entries .entry)))) (now (rows .entry)) (now (image .entry)) ⌝ }
-{
-    let plan::Checked::Good(s) = plan::check_layout(p, entries) else {
-        return 23;
-    };
-    let n = fill_number(p, s.image_size, image.len(), rows.len());
-    if n != 0 {
-        return n;
-    }
-    lists::fill_u8(image, 0, index64(s.image_size), rules::TRIT_X);
-    write_rows(image, p, steps_of(s, p.unit), entries, rows);
-    0
+    rows::patch_row(image, params(laid), &entries[..len], row, trits)
 }
 
 // Lays the rows out in the image of a swizzle, or refuses by a number.
@@ -393,54 +96,7 @@ pub fn fill(image: &mut [u8], laid: Laid, rows: &[u8]) -> u32
         return 23;
     }
     let entries = laid.entries;
-    fill_rows(image, params(laid), &entries[..len], rows)
-}
-
-// Takes one row.
-fn take_row(room: &mut [u8], p: geometry::Params, g: Steps, entries: &[u32], row: u32, image: &[u8])
-    requires { ⌜ Ready p g (now entries) ⌝ }
-    requires { ⌜ row < p .depth ⌝ }
-    ensures { λ _. ⌜ now (room .exit) ≡ takeRow (indexOf (layoutBy p (now (entries .entry))) row) (now (entries .entry)) 0 (now (image .entry)) (now (room .entry)) ⌝ }
-{
-    let first = cursor_at(p, g, entries, row, 0);
-    take_entries(room, first, g, entries, image);
-}
-
-// Numbers 15 and 20 of a row read back, where the image has `size` trits.
-fn read_number(p: geometry::Params, size: u64, room: usize, len: usize, row: u32) -> u32
-    ensures { λ r. ⌜ r ≡ readNumber (p .depth) (p .width) size room len row ⌝ }
-{
-    if p.depth <= row {
-        return 15;
-    }
-    if from_len(len) < size {
-        return 20;
-    }
-    if room < index32(p.width) {
-        return 20;
-    }
-    0
-}
-
-// The trits at a row's places in an image with this layout, into `room`, or a number.
-pub fn read_places(
-    room: &mut [u8],
-    p: geometry::Params,
-    entries: &[u32],
-    image: &[u8],
-    row: u32,
-) -> u32
-    ensures { λ r. ⌜ filledWith r (now (room .exit)) ≡ readRowCall (handedOn (layoutBy p (now (entries .entry)))) (now (room .entry)) (now (image .entry)) row ⌝ }
-{
-    let plan::Checked::Good(s) = plan::check_layout(p, entries) else {
-        return 23;
-    };
-    let n = read_number(p, s.image_size, room.len(), image.len(), row);
-    if n != 0 {
-        return n;
-    }
-    take_row(room, p, steps_of(s, p.unit), entries, row, image);
-    0
+    rows::fill_rows(image, params(laid), &entries[..len], rows)
 }
 
 // The trits that the image of a swizzle holds at a row's places, into `room`, or a number.
@@ -452,28 +108,5 @@ pub fn read_row(room: &mut [u8], laid: Laid, image: &[u8], row: u32) -> u32
         return 23;
     }
     let entries = laid.entries;
-    read_places(room, params(laid), &entries[..len], image, row)
-}
-
-// The place of entry number `entry` of a row, or a number: 1 for sizes past their limits, 15 for no such row or entry.
-pub fn place_of(p: geometry::Params, entries: &[u32], row: u32, entry: usize) -> Placed
-    ensures { λ r. ⌜ placedOf r ≡ placeCall (layoutBy p (now (entries .entry))) row entry ⌝ }
-{
-    let geometry::Measured::Done(s) = geometry::measure(p, entries) else {
-        return Placed::Refused(1);
-    };
-    if p.depth <= row {
-        return Placed::Refused(15);
-    }
-    if entries.len() <= entry {
-        return Placed::Refused(15);
-    }
-    let c = cursor_at(p, steps_of(s, p.unit), entries, row, entry);
-    let spot = geometry::walk_row(p.soft_mask, p.hard, row);
-    Placed::At(Place {
-        memory: c.memory,
-        row: wide32(spot.row),
-        bit: c.bit,
-        index: c.start + c.bit,
-    })
+    rows::read_row(room, params(laid), &entries[..len], image, row)
 }

@@ -24,7 +24,7 @@ use Rattle.rules.proofs.GoodLayouts.{good-accepted, handed-none, handed-some}
 use Rattle.rules.proofs.Accepts.{layout-good, swizzle-then-patches}
 use Rattle.images.specs.declared.Laid as images
 use Rattle.images.specs.View.{laidOf}
-use Rattle.images.proofs.Filling.{fills}
+use Rattle.rows.proofs.Filling.{fills}
 use Rattle.patches.specs.Calls.{Demanded}
 
 -- ---- the whole answer

@@ -46,9 +46,9 @@ pub fn call_one(
     ensures { λ r. ⌜ filledWith r (now (buffer .exit)) ≡ callOn (handedOn (layoutBy p (now (entries .entry)))) (record { row = row; trits = now (trits .entry); room = room }) (now (buffer .entry)) ⌝ }
 {
     if buffer.len() <= room {
-        return images::patch_row(buffer, p, entries, row, trits);
+        return rows::patch_row(buffer, p, entries, row, trits);
     }
-    images::patch_row(&mut buffer[..room], p, entries, row, trits)
+    rows::patch_row(&mut buffer[..room], p, entries, row, trits)
 }
 
 // Call number `i` of a list.
@@ -117,7 +117,7 @@ pub fn fill_then_patch(
     ensures { λ r. ⌜ filledWith r (now (buffer .exit)) ≡ fillAndPatchCall (handedOn (layoutBy p (now (entries .entry)))) (now (rows .entry)) (callsOf (now (calls .entry)) (now (trits .entry))) (now (buffer .entry)) ⌝ }
     ensures { λ r. ⌜ (r ≡ 0 → Demanded (handedOn (layoutBy p (now (entries .entry)))) (now (rows .entry)) (now (buffer .entry)) (callsOf (now (calls .entry)) (now (trits .entry))) (now (buffer .exit))) ⌝ }
 {
-    let n = images::fill_rows(buffer, p, entries, rows);
+    let n = rows::fill_rows(buffer, p, entries, rows);
     if n != 0 {
         return n;
     }

@@ -1,9 +1,9 @@
 // Tests of a plan: each bit of the width named exactly once (number 7), and the test of a laid-out state behind number 23.
 ghost use mathlib.Core.Path.{_≡_};
-ghost use mathlib.Core.Bool.{Bool, not};
-ghost use Prim.Native.Nat.{ℕ, _+_, _-_, _≤_, _<_, min};
+ghost use mathlib.Core.Bool.{not};
+ghost use Prim.Native.Nat.{_+_, _-_, _≤_, _<_};
 ghost use lib.Dec.{eqb};
-ghost use lib.ListN.{length, getD, replicate};
+ghost use lib.ListN.{getD, replicate};
 ghost use Rattle.lists.specs.Lists.{any, upFrom};
 ghost use Rattle.rules.specs.Conditions.{badEntry, badNames, badEntries};
 ghost use Rattle.rules.specs.Shape.{entriesNumber, laidShape};

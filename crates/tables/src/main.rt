@@ -98,12 +98,12 @@ fn place(p: geometry::Params, entries: &[u32], row: u32, entry: usize) {
     text(b"place");
     number(row as u64);
     number(entry as u64);
-    match images::place_of(p, entries, row, entry) {
-        images::Placed::Refused(n) => {
+    match rows::place_of(p, entries, row, entry) {
+        rows::Placed::Refused(n) => {
             text(b" refused");
             number(n as u64);
         }
-        images::Placed::At(q) => {
+        rows::Placed::At(q) => {
             text(b" at");
             number(q.memory);
             number(q.row);

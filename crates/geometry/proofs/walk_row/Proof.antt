@@ -1,7 +1,8 @@
 -- `geometry::walk_row` meets its contract.
-use mathlib.Core.Path.{ap, _∙_}
+use mathlib.Core.Path.{sym, ap, _∙_, subst}
 use Prim.Native.Nat.{ℕ}
 use Rattle.rules.specs.Geometry.{toChunk}
+use Rattle.geometry.specs.declared.Walk.{Walk}
 use Rattle.geometry.specs.Steps.{stepped}
 use Rattle.geometry.proofs.Walking.{Walking, starts, roomy, turn, chunk-word, row-word, ends}
 use native.Mathlib.Omega.{arith}
@@ -14,8 +15,13 @@ Inv-loop mask hard row w₀ soft₀ rest₀ w soft rest = Walking mask hard row 
 abbrev μ-loop : tie.MeasureT-loop
 μ-loop mask hard row w₀ soft₀ rest₀ w soft rest = rest
 
+walked-requires : tie.Need-walked-requires Inv-loop μ-loop
+walked-requires c κs = tt
+
 loop-holds : tie.Need-loop-holds Inv-loop μ-loop
-loop-holds c = starts (c .args .mask) (c .args .hard) (c .args .row) (omega (arith, c .fits .row))
+loop-holds c =
+    let a = c .before .args in
+    subst (λ (w : Walk). Walking (a .mask) (a .hard) (a .row) w (a .mask) (a .row)) (sym (c .walked .ensures)) (starts (a .mask) (a .hard) (a .row) (omega (arith, c .before .fits .row)))
 
 wide32-requires : tie.Need-wide32-requires Inv-loop μ-loop
 wide32-requires c κs = tt
@@ -46,6 +52,7 @@ walk-row-spec =
     (tie.spec
     Inv-loop
     μ-loop
+    walked-requires
     loop-holds
     wide32-requires
     step-requires

@@ -7,7 +7,7 @@ use Rattle.rules.specs.Image as rules
 use Rattle.rules.specs.Layouts.{fillCall}
 use Rattle.images.proofs.Fields.{entries-256}
 use Rattle.images.proofs.Laying.{laid-long, laid-lent}
-use Rattle.images.proofs.Filling.{fill-unset}
+use Rattle.rows.proofs.Filling.{fill-unset}
 use borrow.Author.Needs.{needs}
 use native.Mathlib.Omega.{arith}
 use Rattle.images.proofs.fill.Statement.{statement}

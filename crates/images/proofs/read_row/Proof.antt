@@ -7,7 +7,7 @@ use Rattle.rules.specs.Image as rules
 use Rattle.rules.specs.Layouts.{readRowCall}
 use Rattle.images.proofs.Fields.{entries-256}
 use Rattle.images.proofs.Laying.{laid-long, laid-lent}
-use Rattle.images.proofs.Reading.{read-unset}
+use Rattle.rows.proofs.Reading.{read-unset}
 use borrow.Author.Needs.{needs}
 use native.Mathlib.Omega.{arith}
 use Rattle.images.proofs.read_row.Statement.{statement}
@@ -19,13 +19,13 @@ returns c = read-unset _ _ _ _ (laid-long (c .before .before .before .before .ar
 array-share-prefix-entries : tie.Need-array-share-prefix-entries
 array-share-prefix-entries c = omega (arith, c .before .before .before .if1 .left, entries-256 (c .before .before .before .before .before .before .before .args .laid) _ (c .before .before .before .before .before .before .before .good .1 .0))
 
-slice-aggregate-read-places : tie.Need-slice-aggregate-read-places
-slice-aggregate-read-places c = omega (arith, length-take (c .before .before .before .before .before .index32 .result) (c .before .before .before .before .before .before .before .before .args .laid .entries), array-share-prefix-entries (c .before))
+slice-aggregate-read-row : tie.Need-slice-aggregate-read-row
+slice-aggregate-read-row c = omega (arith, length-take (c .before .before .before .before .before .index32 .result) (c .before .before .before .before .before .before .before .before .args .laid .entries), array-share-prefix-entries (c .before))
 
 returns-2 : tie.Need-returns-2
 returns-2 c =
     let a = c .before .before .before .before .before .before .before .before .before .before .before .args in
-    c .before .before .read-places .ensures
+    c .before .before .read-row .ensures
     ∙ ap (λ (l : rules.Laid). readRowCall l (a .room .now) (a .image .now) (a .row)) (laid-lent (a .laid) _ _ (c .before .before .before .before .params .ensures) (c .before .before .before .before .before .before .before .before .index32 .ensures) (c .before .before .before .before .before .before .before .if1 .left))
 
 index32-requires : tie.Need-index32-requires
@@ -34,8 +34,8 @@ index32-requires c κs = search needs
 params-requires : tie.Need-params-requires
 params-requires c κs = search needs
 
-read-places-requires : tie.Need-read-places-requires
-read-places-requires c κs = search needs
+read-row-requires : tie.Need-read-row-requires
+read-row-requires c κs = search needs
 
 same-length : tie.Need-same-length
 same-length c = search needs
@@ -48,7 +48,7 @@ read-row-spec =
     returns
     params-requires
     array-share-prefix-entries
-    slice-aggregate-read-places
-    read-places-requires
+    slice-aggregate-read-row
+    read-row-requires
     same-length
     returns-2)

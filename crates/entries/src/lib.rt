@@ -1,0 +1,58 @@
+// One entry of a row: its trit put into an image, or taken out of one. What lies past the end of a lent array is not stored.
+ghost use mathlib.Core.Path.{_≡_};
+ghost use lib.Dec.{eqb};
+ghost use lib.ListN.{getD, set};
+ghost use Rattle.rules.specs.Limits.{None, tritX};
+ghost use Rattle.rules.specs.Image.{put};
+
+fn index32(x: u32) -> usize
+    ensures { λ r. ⌜ r ≡ x ⌝ }
+{
+    x as usize
+}
+
+fn index64(x: u64) -> usize
+    ensures { λ r. ⌜ r ≡ x ⌝ }
+{
+    x as usize
+}
+
+// Element `i`, or `other` where there is none.
+fn trit_at(from: &[u8], i: usize, other: u8) -> u8
+    ensures { λ r. ⌜ r ≡ getD (now (from .entry)) i other ⌝ }
+{
+    if from.len() <= i {
+        return other;
+    }
+    from[i]
+}
+
+fn store(to: &mut [u8], at: usize, trit: u8)
+    ensures { λ _. ⌜ now (to .exit) ≡ set (now (to .entry)) at trit ⌝ }
+{
+    if at < to.len() {
+        to[at] = trit;
+    }
+}
+
+// The trit of the entry's bit goes to index `at` of the image. An entry of None writes nothing.
+pub fn put_trit(image: &mut [u8], at: u64, trits: &[u8], entry: u32)
+    ensures { λ _. ⌜ now (image .exit) ≡ put (eqb entry None) at (getD (now (trits .entry)) entry 0) (now (image .entry)) ⌝ }
+{
+    let trit = trit_at(trits, index32(entry), 0);
+    if entry == rules::NO_BIT {
+        return;
+    }
+    store(image, index64(at), trit);
+}
+
+// The trit at index `at` of the image goes to the entry's bit.
+pub fn take_trit(room: &mut [u8], entry: u32, image: &[u8], at: u64)
+    ensures { λ _. ⌜ now (room .exit) ≡ put (eqb entry None) entry (getD (now (image .entry)) at tritX) (now (room .entry)) ⌝ }
+{
+    let trit = trit_at(image, index64(at), rules::TRIT_X);
+    if entry == rules::NO_BIT {
+        return;
+    }
+    store(room, index32(entry), trit);
+}
