@@ -10,3 +10,4 @@ pub mod Concat
 pub mod Distinct
 pub mod Pairs
 pub mod Same
+pub mod UpFrom
