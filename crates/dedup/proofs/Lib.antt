@@ -1,0 +1,6 @@
+-- Laws of merges.
+pub mod Spread
+pub mod Found
+pub mod Mux
+pub mod RunLaws
+pub mod Bitwise
