@@ -19,3 +19,4 @@ pub mod Bits
 pub mod Records
 pub mod Written
 pub mod ReadBack
+pub mod Exact
