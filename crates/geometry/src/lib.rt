@@ -127,10 +127,10 @@ pub fn chunk_mux_bits(p: Params) -> u32
     ensures { λ r. ⌜ ((es : List ℕ) → r ≡ chunkMuxBits (layoutBy p es)) ⌝ }
 {
     let soft = soft_bits(p.soft_mask);
-    if 32 < p.hard {
+    if rules::ADDR_BITS < p.hard {
         return 0;
     }
-    if 32 < soft + p.hard {
+    if rules::ADDR_BITS < soft + p.hard {
         return 0;
     }
     if p.depth == 0 {

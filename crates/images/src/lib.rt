@@ -7,7 +7,7 @@ ghost use Rattle.rules.specs.Shape.{handedOn};
 ghost use Rattle.rules.specs.Layouts.{fillCall, readRowCall};
 ghost use Rattle.rules.specs.Answers.{patchCall};
 ghost use Rattle.geometry.specs.View.{layoutBy, filledWith};
-ghost use Rattle.images.specs.View.{paramsOf, laidOf};
+ghost use Rattle.images.specs.View.{paramsOf, laidOf, unsetLaid, laidBy};
 
 // What a swizzle hands on for patches: the layout's numbers, and the entries of a row, of which the first `len` are in use. The unit is 0 where
 // no swizzle was accepted yet.
@@ -18,7 +18,7 @@ pub struct Laid {
     pub hard: u32,
     pub unit: u32,
     pub len: u32,
-    pub entries: [u32; 256],
+    pub entries: [u32; rules::MAX_ROW],
 }
 
 fn index32(x: u32) -> usize
@@ -29,6 +29,7 @@ fn index32(x: u32) -> usize
 
 // The state before any swizzle is accepted.
 pub fn unset() -> Laid
+    ensures { λ r. ⌜ r ≡ unsetLaid ⌝ }
     ensures { λ r. ⌜ laidOf r ≡ none ⌝ }
 {
     Laid {
@@ -38,18 +39,19 @@ pub fn unset() -> Laid
         hard: 0,
         unit: 0,
         len: 0,
-        entries: [0u32; 256],
+        entries: [0u32; rules::MAX_ROW],
     }
 }
 
 // The state of a layout: unset where no accepted swizzle has it.
 pub fn laid_out(p: geometry::Params, entries: &[u32]) -> Laid
+    ensures { λ r. ⌜ r ≡ laidBy p (now (entries .entry)) ⌝ }
     ensures { λ r. ⌜ laidOf r ≡ handedOn (layoutBy p (now (entries .entry))) ⌝ }
 {
     if rules::MAX_ROW < entries.len() {
         return unset();
     }
-    let mut kept = [0u32; 256];
+    let mut kept = [0u32; rules::MAX_ROW];
     lists::copy_u32(&mut kept, 0, entries);
     Laid {
         depth: p.depth,

@@ -21,7 +21,8 @@ use Rattle.rules.specs.Layouts.{fillRefusalOf, fillRefusal, filledBy, fillCall,
 use Rattle.rules.specs.Answers.{Filled}
 use Rattle.rules.proofs.Demand.{demand-3}
 use Rattle.rules.proofs.GoodLayouts.{good-accepted, handed-none, handed-some}
-use Rattle.rules.proofs.Accepts.{layout-good, swizzle-then-patches}
+use Rattle.rules.proofs.Accepts.{swizzle-then-patches}
+use Rattle.images.proofs.Laying.{handed-on}
 use Rattle.images.specs.declared.Laid as images
 use Rattle.images.specs.View.{laidOf}
 use Rattle.rows.proofs.Filling.{fills}
@@ -87,15 +88,11 @@ unfolding patched
 patched-some q cs b = refl
 
 module _ (room words : ℕ) (s : LogState) (m : Mem) (output : Value) (p : Plan) (e : swizzleRefusal room words s m output p ≡ 0) where
-  -- `laid_out` of the swizzle's own layout
-  pub handed-on : (l : images.Laid) → laidOf l ≡ handedOn (layoutOf m p) → laidOf l ≡ some (layoutOf m p)
-  handed-on l h = h ∙ handed-some (layoutOf m p) (layout-good room words s m output p e)
-
   -- every list of calls by that state, from the swizzle's own buffer on
   pub swizzled : p .softMask < 2 ^ 32 → (l : images.Laid) → laidOf l ≡ handedOn (layoutOf m p) → (buffer : List ℕ) → length buffer ≡ room → (cs : List Patch)
       → Demand (layoutOf m p) (m .init) buffer cs (patched (laidOf l) cs (laidOut (layoutOf m p) (m .init) buffer))
   swizzled mask l h buffer b cs =
-      subst (λ (x : List ℕ). Demand (layoutOf m p) (m .init) buffer cs x) (sym (by-state (handed-on l h)))
+      subst (λ (x : List ℕ). Demand (layoutOf m p) (m .init) buffer cs x) (sym (by-state (handed-on room words s m output p e l h)))
       (swizzle-then-patches room words s m output p e mask buffer b cs)
     where
       by-state : laidOf l ≡ some (layoutOf m p) → patched (laidOf l) cs (laidOut (layoutOf m p) (m .init) buffer) ≡ calledAll (layoutOf m p) cs (laidOut (layoutOf m p) (m .init) buffer)

@@ -18,33 +18,34 @@ use Rattle.lists.proofs.UpFrom.{any-same, any-up}
 use Rattle.rules.specs.Conditions.{times}
 use Rattle.rules.proofs.Named.{times-hit, times-miss, times-none}
 use Rattle.plan.specs.Marks.{more, bumped, notOnce, Marked}
+use Rattle.rules.specs.Limits.{maxWidth}
 
 module _ (base e : ℕ) (marks : List ℕ) where
-  kept : (ltb e base || leb 128 (e - base)) ≡ true → marks ≡ bumped base e marks
+  kept : (ltb e base || leb maxWidth (e - base)) ≡ true → marks ≡ bumped base e marks
   unfolding bumped
   kept h = sym (ap (λ (t : Bool). if t then marks else set marks (e - base) (more (getD marks (e - base) 0))) h)
 
-  marked : (ltb e base || leb 128 (e - base)) ≡ false → set marks (e - base) (more (getD marks (e - base) 0)) ≡ bumped base e marks
+  marked : (ltb e base || leb maxWidth (e - base)) ≡ false → set marks (e - base) (more (getD marks (e - base) 0)) ≡ bumped base e marks
   unfolding bumped
   marked h = sym (ap (λ (t : Bool). if t then marks else set marks (e - base) (more (getD marks (e - base) 0))) h)
 
   pub bump-low : e < base → marks ≡ bumped base e marks
   bump-low l = kept (or-left _ (lt-ltb e base l))
 
-  pub bump-far : base ≤ e → 128 ≤ e - base → marks ≡ bumped base e marks
-  bump-far l h = kept (or-right (le-ltb e base l) (le-leb 128 (e - base) h))
+  pub bump-far : base ≤ e → maxWidth ≤ e - base → marks ≡ bumped base e marks
+  bump-far l h = kept (or-right (le-ltb e base l) (le-leb maxWidth (e - base) h))
 
-  pub bump-in : base ≤ e → e - base < 128 → set marks (e - base) (more (getD marks (e - base) 0)) ≡ bumped base e marks
-  bump-in l h = marked (or-both (le-ltb e base l) (lt-leb 128 (e - base) h))
+  pub bump-in : base ≤ e → e - base < maxWidth → set marks (e - base) (more (getD marks (e - base) 0)) ≡ bumped base e marks
+  bump-in l h = marked (or-both (le-ltb e base l) (lt-leb maxWidth (e - base) h))
 
-  pub bump-first : base ≤ e → e - base < 128 → getD marks (e - base) 0 ≡ 0 → set marks (e - base) 1 ≡ bumped base e marks
+  pub bump-first : base ≤ e → e - base < maxWidth → getD marks (e - base) 0 ≡ 0 → set marks (e - base) 1 ≡ bumped base e marks
   bump-first l h z = ap (λ (t : Bool). set marks (e - base) (if t then 1 else 2)) (sym (eq-eqb _ 0 z)) ∙ bump-in l h
 
-  pub bump-again : base ≤ e → e - base < 128 → getD marks (e - base) 0 ≢ 0 → set marks (e - base) 2 ≡ bumped base e marks
+  pub bump-again : base ≤ e → e - base < maxWidth → getD marks (e - base) 0 ≢ 0 → set marks (e - base) 2 ≡ bumped base e marks
   bump-again l h z = ap (λ (t : Bool). set marks (e - base) (if t then 1 else 2)) (sym (ne-eqb _ 0 z)) ∙ bump-in l h
 
   -- ---- the mark of bit base + j
-  pub hit : (j : ℕ) → j < 128 → length marks ≡ 128 → e ≡ base + j → getD (bumped base e marks) j 0 ≡ more (getD marks j 0)
+  pub hit : (j : ℕ) → j < maxWidth → length marks ≡ maxWidth → e ≡ base + j → getD (bumped base e marks) j 0 ≡ more (getD marks j 0)
   hit j l n q =
       let s : e - base ≡ j = omega arith in
       ap (λ (m : List ℕ). getD m j 0) (sym (bump-in (omega arith) (omega arith)) ∙ ap (λ (k : ℕ). set marks k (more (getD marks k 0))) s)
@@ -53,7 +54,7 @@ module _ (base e : ℕ) (marks : List ℕ) where
   pub miss : (j : ℕ) → (e ≡ base + j → ⊥) → getD (bumped base e marks) j 0 ≡ getD marks j 0
   miss j q =
       cases-le base e
-      (λ l. cases-le 128 (e - base)
+      (λ l. cases-le maxWidth (e - base)
       (λ h. ap (λ (m : List ℕ). getD m j 0) (sym (bump-far l h)))
       (λ h. ap (λ (m : List ℕ). getD m j 0) (sym (bump-in l h)) ∙ getD-set-other marks (e - base) j _ 0 (λ s. q (omega arith))))
       (λ l. ap (λ (m : List ℕ). getD m j 0) (sym (bump-low l)))
@@ -61,7 +62,7 @@ module _ (base e : ℕ) (marks : List ℕ) where
 pub length-bumped : (base e : ℕ) (marks : List ℕ) → length (bumped base e marks) ≡ length marks
 length-bumped base e marks =
     cases-le base e
-    (λ l. cases-le 128 (e - base)
+    (λ l. cases-le maxWidth (e - base)
     (λ h. ap length (sym (bump-far base e marks l h)))
     (λ h. ap length (sym (bump-in base e marks l h)) ∙ length-set marks (e - base) _))
     (λ l. ap length (sym (bump-low base e marks l)))
@@ -70,18 +71,18 @@ length-bumped base e marks =
 -- what is marked and what the entries from i on still name
 pub record Marking (base : ℕ) (es marks : List ℕ) (i : ℕ) : Type 0 where
   pub within : i ≤ length es
-  pub long : length marks ≡ 128
-  pub each : (j : ℕ) → j < 128 → min 2 (getD marks j 0 + times (base + j) (drop i es)) ≡ min 2 (times (base + j) es)
+  pub long : length marks ≡ maxWidth
+  pub each : (j : ℕ) → j < maxWidth → min 2 (getD marks j 0 + times (base + j) (drop i es)) ≡ min 2 (times (base + j) es)
 
 more-is : (m t : ℕ) → min 2 (more m + t) ≡ min 2 (m + suc t)
 more-is zero t = omega arith
 more-is (suc m) t = rw (ne-eqb (suc m) 0 (λ z. omega arith)) (omega arith)
 
-pub marking-starts : (base : ℕ) (es marks : List ℕ) → marks ≡ replicate 128 0 → Marking base es marks 0
+pub marking-starts : (base : ℕ) (es marks : List ℕ) → marks ≡ replicate maxWidth 0 → Marking base es marks 0
 marking-starts base es marks e = record {
   within = omega arith;
   long = ap length e;
-  each = λ j l. ap (λ (m : ℕ). min 2 (m + times (base + j) es)) (ap (λ (x : List ℕ). getD x j 0) e ∙ getD-replicate 128 j 0 0 l) ∙ ap (min 2) (omega arith);
+  each = λ j l. ap (λ (m : ℕ). min 2 (m + times (base + j) es)) (ap (λ (x : List ℕ). getD x j 0) e ∙ getD-replicate maxWidth j 0 0 l) ∙ ap (min 2) (omega arith);
 }
 
 module _ (base : ℕ) (es marks : List ℕ) (i : ℕ) (h : Marking base es marks i) where
@@ -95,7 +96,7 @@ module _ (base : ℕ) (es marks : List ℕ) (i : ℕ) (h : Marking base es marks
       rest : drop i es ≡ getD es i 0 ∷ drop (i + 1) es
       rest = drop-cons es i 0 l ∙ ap (λ (n : ℕ). getD es i 0 ∷ drop n es) (sym (add-one i))
 
-      on : (j : ℕ) → j < 128 → Dec (getD es i 0 ≡ base + j) → min 2 (getD marks′ j 0 + times (base + j) (drop (i + 1) es)) ≡ min 2 (times (base + j) es)
+      on : (j : ℕ) → j < maxWidth → Dec (getD es i 0 ≡ base + j) → min 2 (getD marks′ j 0 + times (base + j) (drop (i + 1) es)) ≡ min 2 (times (base + j) es)
       on j k (yes q) =
           ap (λ (m : ℕ). min 2 (m + times (base + j) (drop (i + 1) es))) (ap (λ (x : List ℕ). getD x j 0) e ∙ hit base (getD es i 0) marks j k (h .long) q)
           ∙ more-is (getD marks j 0) (times (base + j) (drop (i + 1) es))
@@ -106,7 +107,7 @@ module _ (base : ℕ) (es marks : List ℕ) (i : ℕ) (h : Marking base es marks
           ∙ ap (λ (m : ℕ). min 2 (getD marks j 0 + m)) (sym (ap (times (base + j)) rest ∙ times-miss (base + j) (getD es i 0) (drop (i + 1) es) q))
           ∙ h .each j k
 
-      next : (j : ℕ) → j < 128 → min 2 (getD marks′ j 0 + times (base + j) (drop (i + 1) es)) ≡ min 2 (times (base + j) es)
+      next : (j : ℕ) → j < maxWidth → min 2 (getD marks′ j 0 + times (base + j) (drop (i + 1) es)) ≡ min 2 (times (base + j) es)
       next j k = on j k (ℕ-discrete (getD es i 0) (base + j))
 
   pub marking-ends : length es ≤ i → Marked base es marks
@@ -126,7 +127,7 @@ once-same a b e = on (ℕ-discrete a 1)
     on (yes q) = eq-eqb a 1 q ∙ sym (eq-eqb b 1 (omega arith))
     on (no q) = ne-eqb a 1 q ∙ sym (ne-eqb b 1 (λ r. q (omega arith)))
 
-pub block-is : (base : ℕ) (es marks : List ℕ) (count : ℕ) → Marked base es marks → count ≤ 128
+pub block-is : (base : ℕ) (es marks : List ℕ) (count : ℕ) → Marked base es marks → count ≤ maxWidth
     → any (λ j. not (eqb (getD marks j 0) 1)) (upFrom 0 count) ≡ any (notOnce es) (upFrom base count)
 block-is base es marks count h l =
     any-same _ _ 0 base count

@@ -7,6 +7,7 @@ use lib.Dec.{eqb, ltb, leb}
 use lib.ListN.{getD, set}
 use Rattle.lists.specs.Choice.{if_then_else_}
 use Rattle.rules.specs.Conditions.{times}
+use Rattle.rules.specs.Limits.{maxWidth}
 
 -- one more, up to 2
 abbrev pub more : ℕ → ℕ
@@ -14,11 +15,11 @@ more n = if eqb n 0 then 1 else 2
 
 -- an entry's bit marked, if it is one of the 128 from base on
 unfoldable pub bumped : ℕ → ℕ → List ℕ → List ℕ
-bumped base e marks = if ltb e base || leb 128 (e - base) then marks else set marks (e - base) (more (getD marks (e - base) 0))
+bumped base e marks = if ltb e base || leb maxWidth (e - base) then marks else set marks (e - base) (more (getD marks (e - base) 0))
 
 -- bit b is not named exactly once
 abbrev pub notOnce : List ℕ → ℕ → Bool
 notOnce es b = not (eqb (times b es) 1)
 
 pub record Marked (base : ℕ) (es marks : List ℕ) : Type 0 where
-  pub each : (j : ℕ) → j < 128 → min 2 (getD marks j 0) ≡ min 2 (times (base + j) es)
+  pub each : (j : ℕ) → j < maxWidth → min 2 (getD marks j 0) ≡ min 2 (times (base + j) es)

@@ -5,14 +5,15 @@ ghost use Prim.Native.Nat.{_+_, _-_, _≤_, _<_};
 ghost use lib.Dec.{eqb};
 ghost use lib.ListN.{getD, replicate};
 ghost use Rattle.lists.specs.Lists.{any, upFrom};
+ghost use Rattle.rules.specs.Limits.{maxWidth};
 ghost use Rattle.rules.specs.Conditions.{badEntry, badNames, badEntries};
 ghost use Rattle.rules.specs.Shape.{entriesNumber, laidShape};
 ghost use Rattle.geometry.specs.View.{layoutBy};
 ghost use Rattle.plan.specs.Marks.{bumped, Marked, notOnce};
 ghost use Rattle.plan.specs.View.{checkedOf};
 
-// Marks are made for so many bits at a time: those of every width within the limits.
-const BLOCK: usize = 128;
+// Marks are made for so many bits at a time, which is every bit of a width within the limits.
+const BLOCK: usize = rules::MAX_WIDTH as usize;
 
 // The sizes of a layout that an accepted swizzle can have handed on.
 pub enum Checked {
@@ -45,7 +46,7 @@ fn names_bad(width: u32, entries: &[u32]) -> bool
 }
 
 // Marks one entry's bit, if it is among those from `base` on: 0 becomes 1, and 1 becomes 2, which stands for more.
-fn mark(marks: &mut [u8; 128], base: u32, entry: u32)
+fn mark(marks: &mut [u8; BLOCK], base: u32, entry: u32)
     ensures { λ _. ⌜ now (marks .exit) ≡ bumped base entry (now (marks .entry)) ⌝ }
 {
     if entry < base {
@@ -62,8 +63,8 @@ fn mark(marks: &mut [u8; 128], base: u32, entry: u32)
 }
 
 // Marks the bits from `base` on by every entry.
-fn mark_all(marks: &mut [u8; 128], base: u32, entries: &[u32])
-    requires { ⌜ now marks ≡ replicate 128 0 ⌝ }
+fn mark_all(marks: &mut [u8; BLOCK], base: u32, entries: &[u32])
+    requires { ⌜ now marks ≡ replicate maxWidth 0 ⌝ }
     ensures { λ _. ⌜ Marked base (now (entries .entry)) (now (marks .exit)) ⌝ }
 {
     let mut i: usize = 0;
@@ -74,8 +75,8 @@ fn mark_all(marks: &mut [u8; 128], base: u32, entries: &[u32])
 }
 
 // Some of the first `count` bits is not marked once.
-fn unmarked(marks: &[u8; 128], count: usize) -> bool
-    requires { ⌜ count ≤ 128 ⌝ }
+fn unmarked(marks: &[u8; BLOCK], count: usize) -> bool
+    requires { ⌜ count ≤ maxWidth ⌝ }
     ensures { λ r. ⌜ r ≡ any (λ j. not (eqb (getD (now (marks .entry)) j 0) 1)) (upFrom 0 count) ⌝ }
 {
     let mut i: usize = 0;
@@ -90,10 +91,10 @@ fn unmarked(marks: &[u8; 128], count: usize) -> bool
 
 // Some of `count` bits from `base` on is not named exactly once.
 fn block_bad(base: u32, count: usize, entries: &[u32]) -> bool
-    requires { ⌜ count ≤ 128 ⌝ }
+    requires { ⌜ count ≤ maxWidth ⌝ }
     ensures { λ r. ⌜ r ≡ any (notOnce (now (entries .entry))) (upFrom base count) ⌝ }
 {
-    let mut marks = [0u8; 128];
+    let mut marks = [0u8; BLOCK];
     mark_all(&mut marks, base, entries);
     unmarked(&marks, count)
 }
@@ -103,11 +104,11 @@ fn bits_bad(width: u32, entries: &[u32]) -> bool
     ensures { λ r. ⌜ r ≡ any (notOnce (now (entries .entry))) (upFrom 0 width) ⌝ }
 {
     let mut base: u32 = 0;
-    while 128 < width - base {
+    while rules::MAX_WIDTH < width - base {
         if block_bad(base, BLOCK, entries) {
             return true;
         }
-        base += 128;
+        base += rules::MAX_WIDTH;
     }
     block_bad(base, (width - base) as usize, entries)
 }

@@ -218,9 +218,9 @@ pub fn patch_row(
     let plan::Checked::Good(s) = plan::check_layout(p, entries) else {
         return 23;
     };
-    let n = patch_number(p, s.image_size, row, trits, image.len());
-    if n != 0 {
-        return n;
+    let refused = patch_number(p, s.image_size, row, trits, image.len());
+    if refused != 0 {
+        return refused;
     }
     write_row(image, p, steps_of(s, p.unit), entries, row, trits);
     0

@@ -28,3 +28,4 @@ pub mod Headers
 pub mod Memories
 pub mod ReadBack
 pub mod SwizzleSizes
+pub mod Exact

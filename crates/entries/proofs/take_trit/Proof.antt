@@ -1,28 +1,19 @@
 -- `entries::take_trit` meets its contract.
-use mathlib.Core.Path.{sym, ap, _∙_}
-use mathlib.Core.Bool.{Bool}
+use mathlib.Core.Path.{ap, _∙_}
 use Prim.Native.Nat.{ℕ}
-use lib.ListN.{getD, set}
-use borrow.Author.Tests.{eq-eqb, ne-eqb}
-use Rattle.rules.specs.Limits.{tritX}
+use lib.Dec.{eqb}
+use lib.ListN.{getD}
+use Rattle.rules.specs.Limits.{None, tritX}
 use Rattle.rules.specs.Image.{put}
 use borrow.Author.Needs.{needs}
 use Rattle.entries.proofs.take_trit.Statement.{statement}
 use Rattle.entries.proofs.take_trit.Tie as tie
 
 returns : tie.Need-returns
-unfolding put
 returns c =
-    let a = c .before .before .before .before .before .args in
-    sym (ap (λ (t : Bool). put t (a .entry) (getD (a .image .now) (a .at) tritX) (a .room .now)) (eq-eqb _ _ (c .if1 .taken)))
-
-returns-2 : tie.Need-returns-2
-unfolding put
-returns-2 c =
-    let a = c .before .before .before .before .before .before .before .before .before .before .args in
-    let e = c .before .before .before .before .before .before .trit-at .ensures ∙ ap (λ (i : ℕ). getD (a .image .now) i tritX) (c .before .before .before .before .before .before .before .index64 .ensures) in
-    c .before .before .store .ensures ∙ (λ k. set (a .room .now) (c .before .before .before .index32 .ensures k) (e k))
-    ∙ sym (ap (λ (t : Bool). put t (a .entry) (getD (a .image .now) (a .at) tritX) (a .room .now)) (ne-eqb _ _ (c .before .before .before .before .before .if1 .left)))
+    let a = c .before .before .before .before .before .before .before .before .before .args in
+    let e = c .before .before .before .before .before .trit-at .ensures ∙ ap (λ (i : ℕ). getD (a .image .now) i tritX) (c .before .before .before .before .before .before .index64 .ensures) in
+    c .before .before .store .ensures ∙ (λ k. put (eqb (a .entry) None) (c .before .before .before .index32 .ensures k) (e k) (a .room .now))
 
 index64-requires : tie.Need-index64-requires
 index64-requires c κs = search needs
@@ -45,8 +36,7 @@ take-trit-spec =
     (tie.spec
     index64-requires
     trit-at-requires
-    returns
     index32-requires
     store-requires
     same-length
-    returns-2)
+    returns)

@@ -1,6 +1,7 @@
 -- `geometry::step` meets its contract.
 use mathlib.Core.Path.{sym, ap, _∙_}
 use mathlib.Core.Bool.{Bool}
+use Prim.Native.Nat.{_*_, _≤_}
 use Rattle.rules.proofs.Walks.{soft-chunk, full-chunk, hard-row}
 use Rattle.geometry.specs.Steps.{stepped}
 use Rattle.geometry.proofs.Walking.{bit-times, hard-none}
@@ -9,11 +10,18 @@ use native.Mathlib.Omega.{arith}
 use Rattle.geometry.proofs.step.Statement.{statement}
 use Rattle.geometry.proofs.step.Tie as tie
 
+-- a bit times either weight
+chunk-times : (c : tie.Start) → c .args .bit * c .args .w .cb ≤ 4294967296
+chunk-times c = bit-times (c .args .bit) (c .args .w .cb) (c .pre .bit-max) (c .pre .chunk-bit-max)
+
+row-times : (c : tie.Start) → c .args .bit * c .args .w .rb ≤ 4294967296
+row-times c = bit-times (c .args .bit) (c .args .w .rb) (c .pre .bit-max) (c .pre .row-bit-max)
+
 mul-walked : tie.Need-mul-walked
-mul-walked c = let s = c .before .before in omega (arith, bit-times (s .args .bit) (s .args .w .cb) (s .pre .bit-max) (s .pre .chunk-bit-max))
+mul-walked c = omega (arith, chunk-times (c .before .before), row-times (c .before .before))
 
 add-walked : tie.Need-add-walked
-add-walked c = let s = c .before .before .before in omega (arith, bit-times (s .args .bit) (s .args .w .cb) (s .pre .bit-max) (s .pre .chunk-bit-max), s .pre .chunk-max)
+add-walked c = omega (arith, chunk-times (c .before .before .before), row-times (c .before .before .before))
 
 returns : tie.Need-returns
 returns c =
@@ -21,10 +29,10 @@ returns c =
     c .walked .ensures ∙ ap (λ (t : Bool). stepped t (a .bit) (a .w)) (sym (soft-chunk (a .mask) (a .w .hard) (c .before .before .before .before .if1 .taken)))
 
 mul-walked-3 : tie.Need-mul-walked-3
-mul-walked-3 c = let s = c .before .before .before .before in omega (arith, bit-times (s .args .bit) (s .args .w .cb) (s .pre .bit-max) (s .pre .chunk-bit-max))
+mul-walked-3 c = omega (arith, chunk-times (c .before .before .before .before), row-times (c .before .before .before .before))
 
 add-walked-2 : tie.Need-add-walked-2
-add-walked-2 c = let s = c .before .before .before .before .before in omega (arith, bit-times (s .args .bit) (s .args .w .cb) (s .pre .bit-max) (s .pre .chunk-bit-max), s .pre .chunk-max)
+add-walked-2 c = omega (arith, chunk-times (c .before .before .before .before .before), row-times (c .before .before .before .before .before))
 
 returns-2 : tie.Need-returns-2
 returns-2 c =
@@ -33,10 +41,10 @@ returns-2 c =
     ∙ ap (λ (t : Bool). stepped t (a .bit) (a .w)) (sym (full-chunk (a .mask) (a .w .hard) (omega (arith, c .before .before .before .before .before .before .if1 .left)) (c .before .before .before .before .if2 .taken)))
 
 mul-walked-5 : tie.Need-mul-walked-5
-mul-walked-5 c = let s = c .before .before .before .before in omega (arith, bit-times (s .args .bit) (s .args .w .rb) (s .pre .bit-max) (s .pre .row-bit-max))
+mul-walked-5 c = omega (arith, chunk-times (c .before .before .before .before), row-times (c .before .before .before .before))
 
 add-walked-3 : tie.Need-add-walked-3
-add-walked-3 c = let s = c .before .before .before .before .before in omega (arith, bit-times (s .args .bit) (s .args .w .rb) (s .pre .bit-max) (s .pre .row-bit-max), s .pre .row-max)
+add-walked-3 c = omega (arith, chunk-times (c .before .before .before .before .before), row-times (c .before .before .before .before .before))
 
 returns-3 : tie.Need-returns-3
 returns-3 c =

@@ -1,15 +1,19 @@
 -- `images::laid_out` meets its contract.
 use mathlib.Core.Path.{sym, _∙_}
-use Rattle.images.proofs.Laying.{long-none, laid-made}
+use Rattle.images.proofs.Laying.{long-none, laid-made, made-long, made-short}
 use borrow.Author.Needs.{needs}
 use Rattle.images.proofs.laid_out.Statement.{statement}
 use Rattle.images.proofs.laid_out.Tie as tie
 
 returns : tie.Need-returns
-returns c = c .unset .ensures ∙ sym (long-none (c .before .before .before .args .p) (c .before .before .before .args .entries .now) (c .before .if1 .taken))
+returns c =
+    let a = c .before .before .before .args in
+    (c .unset .ensures .0 ∙ made-long (a .p) (a .entries .now) (c .before .if1 .taken), c .unset .ensures .1 ∙ sym (long-none (a .p) (a .entries .now) (c .before .if1 .taken)))
 
 returns-2 : tie.Need-returns-2
-returns-2 c = laid-made (c .before .before .before .before .before .args .p) (c .before .before .before .before .before .args .entries .now) _ (c .before .before .before .if1 .left) (c .before .copy-u32 .ensures)
+returns-2 c =
+    let a = c .before .before .before .before .before .args in
+    (made-short (a .p) (a .entries .now) _ (c .before .before .before .if1 .left) (c .before .copy-u32 .ensures), laid-made (a .p) (a .entries .now) _ (c .before .before .before .if1 .left) (c .before .copy-u32 .ensures))
 
 unset-requires : tie.Need-unset-requires
 unset-requires c κs = search needs

@@ -5,7 +5,7 @@ use lib.ListN.{length-take}
 use Rattle.rules.specs.Limits.{maxRow}
 use Rattle.rules.specs.Image as rules
 use Rattle.rules.specs.Layouts.{readRowCall}
-use Rattle.images.proofs.Fields.{entries-256}
+use Rattle.images.proofs.Fields.{entries-long}
 use Rattle.images.proofs.Laying.{laid-long, laid-lent}
 use Rattle.rows.proofs.Reading.{read-unset}
 use borrow.Author.Needs.{needs}
@@ -17,7 +17,7 @@ returns : tie.Need-returns
 returns c = read-unset _ _ _ _ (laid-long (c .before .before .before .before .args .laid) (subst (λ (n : ℕ). maxRow < n) (c .before .index32 .ensures) (c .if1 .taken)))
 
 array-share-prefix-entries : tie.Need-array-share-prefix-entries
-array-share-prefix-entries c = omega (arith, c .before .before .before .if1 .left, entries-256 (c .before .before .before .before .before .before .before .args .laid) _ (c .before .before .before .before .before .before .before .good .1 .0))
+array-share-prefix-entries c = omega (arith, c .before .before .before .if1 .left, entries-long (c .before .before .before .before .before .before .before .args .laid) _ (c .before .before .before .before .before .before .before .good .1 .0))
 
 slice-aggregate-read-row : tie.Need-slice-aggregate-read-row
 slice-aggregate-read-row c = omega (arith, length-take (c .before .before .before .before .before .index32 .result) (c .before .before .before .before .before .before .before .before .args .laid .entries), array-share-prefix-entries (c .before))

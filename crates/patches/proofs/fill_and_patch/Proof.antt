@@ -5,7 +5,7 @@ use lib.ListN.{length-take}
 use Rattle.rules.specs.Limits.{maxRow}
 use Rattle.rules.specs.Image as rules
 use Rattle.rules.specs.Layouts.{fillAndPatchCall}
-use Rattle.images.proofs.Fields.{entries-256}
+use Rattle.images.proofs.Fields.{entries-long}
 use Rattle.images.proofs.Laying.{laid-long, laid-lent}
 use Rattle.patches.specs.Calls.{callsOf, Demanded}
 use Rattle.patches.proofs.Demanding.{both-unset}
@@ -18,7 +18,7 @@ returns : tie.Need-returns
 returns c = (both-unset _ _ _ _ (laid-long (c .before .before .before .before .before .before .args .laid) (subst (λ (n : ℕ). maxRow < n) (c .before .index32 .ensures) (c .if1 .taken))), λ z. absurd (omega arith))
 
 array-share-prefix-entries : tie.Need-array-share-prefix-entries
-array-share-prefix-entries c = omega (arith, c .before .before .before .if1 .left, entries-256 (c .before .before .before .before .before .before .before .before .before .args .laid) _ (c .before .before .before .before .before .before .before .before .before .good .1 .0))
+array-share-prefix-entries c = omega (arith, c .before .before .before .if1 .left, entries-long (c .before .before .before .before .before .before .before .before .before .args .laid) _ (c .before .before .before .before .before .before .before .before .before .good .1 .0))
 
 slice-aggregate-fill-then-patch : tie.Need-slice-aggregate-fill-then-patch
 slice-aggregate-fill-then-patch c = omega (arith, length-take (c .before .before .before .before .before .index32 .result) (c .before .before .before .before .before .before .before .before .before .before .args .laid .entries), array-share-prefix-entries (c .before))

@@ -8,6 +8,7 @@ use Rattle.plan.proofs.Marking.{block-found, block-pass}
 use native.Mathlib.Omega.{arith}
 use Rattle.plan.proofs.bits_bad.Statement.{statement}
 use Rattle.plan.proofs.bits_bad.Tie as tie
+use Rattle.rules.specs.Limits.{maxWidth}
 
 abbrev Inv-loop : tie.InvT-loop
 Inv-loop width entries base₀ base = (base ≤ width) × (any (notOnce entries) (upFrom base (width - base)) ≡ any (notOnce entries) (upFrom 0 width))
@@ -27,7 +28,7 @@ block-bad-requires c κs = omega arith
 returns : tie.Need-returns Inv-loop μ-loop
 returns c =
     let l = c .before .before .before .loop in
-    block-found _ _ _ (l .inv .0) (l .inv .1) 128 (omega (arith, c .before .before .loop-test .taken)) (sym (c .before .block-bad .ensures) ∙ c .if1 .taken)
+    block-found _ _ _ (l .inv .0) (l .inv .1) maxWidth (omega (arith, c .before .before .loop-test .taken)) (sym (c .before .block-bad .ensures) ∙ c .if1 .taken)
 
 add-base : tie.Need-add-base Inv-loop μ-loop
 add-base c = omega (arith, c .before .before .loop-test .taken, c .before .before .before .before .before .fits .width)
@@ -38,7 +39,7 @@ loop-less c = omega (arith, c .before .before .loop-test .taken)
 loop-again : tie.Need-loop-again Inv-loop μ-loop
 loop-again c =
     let l = c .before .before .before .loop in
-    (omega (arith, c .before .before .loop-test .taken), block-pass _ _ _ (l .inv .0) (l .inv .1) 128 (omega (arith, c .before .before .loop-test .taken)) (sym (c .before .block-bad .ensures) ∙ c .if1 .left))
+    (omega (arith, c .before .before .loop-test .taken), block-pass _ _ _ (l .inv .0) (l .inv .1) maxWidth (omega (arith, c .before .before .loop-test .taken)) (sym (c .before .block-bad .ensures) ∙ c .if1 .left))
 
 sub-block-bad : tie.Need-sub-block-bad Inv-loop μ-loop
 sub-block-bad c = c .before .loop .inv .0
