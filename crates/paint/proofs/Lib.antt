@@ -1,0 +1,2 @@
+-- Laws of the pattern.
+pub mod Turns

@@ -1,0 +1,2 @@
+-- A pattern in a lent array.
+pub mod Paint
