@@ -104,21 +104,6 @@ fn put_trits(m: Memory, trits: &[u8], list: &[u32], room: &mut [u8]) -> usize
     put_values(m, trits, list, room, front.len())
 }
 
-// A listed port is not there.
-fn port_missing(m: Memory, list: &[u32]) -> bool
-    ensures { λ r. ⌜ ((nets trits : List ℕ) → r ≡ any (badPort (memoryOf m nets trits)) (now (list .entry))) ⌝ }
-{
-    let count = cell::ports_used(m.read_count);
-    let mut i = 0;
-    while i < list.len() {
-        if count <= wide(list[i]) {
-            return true;
-        }
-        i += 1;
-    }
-    false
-}
-
 // The struct with the listed ports.
 fn pick_ports(m: Memory, list: &[u32]) -> Memory
     requires { ⌜ Listed m (now list) ⌝ }
@@ -179,7 +164,7 @@ fn extract_refusal(
     if n != 0 {
         return n;
     }
-    if port_missing(m, list) {
+    if inspect::port_missing(m, list) {
         return 15;
     }
     if rooms_bad(m, nets, trits, list, output, a, b, c) {

@@ -27,7 +27,7 @@ shared-slice-read-if1 : tie.Need-shared-slice-read-if1 Inv-loop μ-loop
 shared-slice-read-if1 c = omega arith
 
 returns : tie.Need-returns Inv-loop μ-loop
-returns c = 
+returns c =
     let h = c .before .before .before in
     let v = h .before .args in
     any-found (ltb maxWide) (v .logs .now) (h .loop .i) 0 (omega arith) (lt-ltb _ _ (c .if1 .taken)) (h .loop .inv .1)
@@ -39,13 +39,13 @@ loop-less : tie.Need-loop-less Inv-loop μ-loop
 loop-less c = omega arith
 
 loop-again : tie.Need-loop-again Inv-loop μ-loop
-loop-again c = 
+loop-again c =
     let h = c .before .before .before in
     let v = h .before .args in
     (omega arith, any-pass (ltb maxWide) (v .logs .now) (h .loop .i) 0 (omega arith) (le-ltb _ _ (c .if1 .left)) (h .loop .inv .1))
 
 returns-2 : tie.Need-returns-2 Inv-loop μ-loop
-returns-2 c = 
+returns-2 c =
     let h = c .before in
     let v = h .before .args in
     any-end (ltb maxWide) (v .logs .now) (h .loop .i) (omega arith) (h .loop .inv .1)

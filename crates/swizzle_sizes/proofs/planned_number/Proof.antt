@@ -19,7 +19,7 @@ memory-number-requires : tie.Need-memory-number-requires
 memory-number-requires c κs = search needs
 
 returns : tie.Need-returns
-returns c = 
+returns c =
     let v = c .before .before .before .before .before .before .before .before .before .args in
     by-memory (v .m) (v .nets .now) (v .trits .now) (v .s) (v .entries .now) (v .writes .now) (v .reads .now) (v .long) _ (c .before .memory-number .ensures ∙ ap (λ (t : Bool). memoryNumber t false false maxNets (v .m) (v .nets .now) (v .trits .now)) (c .before .before .either .ensures ∙ ap (λ (t : Bool). t || v .long) (c .before .before .before .plan-too-large .ensures))) (c .if1 .taken)
 
@@ -27,7 +27,7 @@ entries-refusal-requires : tie.Need-entries-refusal-requires
 entries-refusal-requires c κs = search needs
 
 returns-2 : tie.Need-returns-2
-returns-2 c = 
+returns-2 c =
     let v = c .before .before .before .before .before .before .before .before .before .before .before .args in
     by-seven (v .m) (v .nets .now) (v .trits .now) (v .s) (v .entries .now) (v .writes .now) (v .reads .now) (v .long) (sym (c .before .before .before .memory-number .ensures ∙ ap (λ (t : Bool). memoryNumber t false false maxNets (v .m) (v .nets .now) (v .trits .now)) (c .before .before .before .before .either .ensures ∙ ap (λ (t : Bool). t || v .long) (c .before .before .before .before .before .plan-too-large .ensures))) ∙ c .before .before .if1 .left) _ (c .before .entries-refusal .ensures) (c .if2 .taken)
 
@@ -35,7 +35,7 @@ soft-mask-refusal-requires : tie.Need-soft-mask-refusal-requires
 soft-mask-refusal-requires c κs = search needs
 
 returns-3 : tie.Need-returns-3
-returns-3 c = 
+returns-3 c =
     let v = c .before .before .before .before .before .before .before .before .before .before .before .before .args in
     by-eight (v .m) (v .nets .now) (v .trits .now) (v .s) (v .entries .now) (v .writes .now) (v .reads .now) (v .long) (sym (c .before .before .before .before .memory-number .ensures ∙ ap (λ (t : Bool). memoryNumber t false false maxNets (v .m) (v .nets .now) (v .trits .now)) (c .before .before .before .before .before .either .ensures ∙ ap (λ (t : Bool). t || v .long) (c .before .before .before .before .before .before .plan-too-large .ensures))) ∙ c .before .before .before .if1 .left) _ (c .before .before .entries-refusal .ensures) (c .before .if2 .left) _ (c .soft-mask-refusal .ensures)
 

@@ -20,7 +20,7 @@ planned-number-requires c κs = search needs
 
 returns : tie.Need-returns
 unfolding swizzleDepthsCall
-returns c = 
+returns c =
     let v = c .before .before .before .before .before .before .before .before .args in
     let e = depths-first (v .m) (v .nets .now) (v .trits .now) (v .s) (v .entries .now) (v .writes .now) (v .reads .now) (length (v .out .now)) _ (c .before .planned-number .ensures) (c .if1 .taken) in
     filled-refused (swizzleDepthsRefusal (length (v .out .now)) (v .m) (v .nets .now) (v .trits .now) (planOf (v .s) (v .entries .now) (v .writes .now) (v .reads .now))) _ (v .out .now) (v .out .now) (swizzleDepths (layoutOf (memoryOf (v .m) (v .nets .now) (v .trits .now)) (planOf (v .s) (v .entries .now) (v .writes .now) (v .reads .now)))) e (λ z. c .if1 .taken (e ∙ z)) refl
@@ -33,7 +33,7 @@ result-refusal-requires c κs = search needs
 
 returns-2 : tie.Need-returns-2
 unfolding swizzleDepthsCall
-returns-2 c = 
+returns-2 c =
     let v = c .before .before .before .before .before .before .before .before .before .before .before .args in
     let e = depths-ten (v .m) (v .nets .now) (v .trits .now) (v .s) (v .entries .now) (v .writes .now) (v .reads .now) (length (v .out .now)) (sym (c .before .before .before .before .planned-number .ensures) ∙ c .before .before .before .if1 .left) _ (c .before .result-refusal .ensures ∙ ap (λ (x : Params). resultNumber (layoutBy x (v .entries .now))) (c .before .before .params-of .ensures)) (c .if2 .taken) in
     filled-refused (swizzleDepthsRefusal (length (v .out .now)) (v .m) (v .nets .now) (v .trits .now) (planOf (v .s) (v .entries .now) (v .writes .now) (v .reads .now))) _ (v .out .now) (v .out .now) (swizzleDepths (layoutOf (memoryOf (v .m) (v .nets .now) (v .trits .now)) (planOf (v .s) (v .entries .now) (v .writes .now) (v .reads .now)))) e (λ z. c .if2 .taken (e ∙ z)) refl
@@ -47,7 +47,7 @@ same-length c = ap (λ (f : Filled). length (f .out)) (c .before .before .depths
 
 returns-3 : tie.Need-returns-3
 unfolding swizzleDepthsCall depthsCall
-returns-3 c = 
+returns-3 c =
     let v = c .before .before .before .before .before .before .before .before .before .before .before .before .before .before .before .args in
     let k = c .before .before .before .before .before .before .params-of .ensures in
     let e = depths-rest (v .m) (v .nets .now) (v .trits .now) (v .s) (v .entries .now) (v .writes .now) (v .reads .now) (length (v .out .now)) (sym (c .before .before .before .before .before .before .before .before .planned-number .ensures) ∙ c .before .before .before .before .before .before .before .if1 .left) _ (c .before .before .before .before .before .result-refusal .ensures ∙ ap (λ (x : Params). resultNumber (layoutBy x (v .entries .now))) (c .before .before .before .before .before .before .params-of .ensures)) (c .before .before .before .before .if2 .left) in
