@@ -74,7 +74,8 @@ fn put_outputs(m: Memory, output: &[u32], list: &[u32], room: &mut [u32]) -> usi
     let mut at: usize = 0;
     let mut j = 0;
     while j < list.len() {
-        let bits = output_part(m, output, wide(list[j]));
+        let k = wide(list[j]);
+        let bits = output_part(m, output, k);
         lists::copy_u32(room, at, bits);
         at += bits.len();
         j += 1;

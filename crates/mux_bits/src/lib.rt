@@ -1,5 +1,6 @@
 // memory/src/lib.rs, swizzle_mux_bits: the address bits of each port that a swizzle would decode with muxes.
 ghost use mathlib.Core.Path.{_≡_};
+ghost use mathlib.Core.Bool.{_||_};
 ghost use mathlib.Core.List.{List, map};
 ghost use Prim.Native.Nat.{ℕ, _+_, _-_, _≤_, min};
 ghost use lib.ListN.{length};
@@ -144,6 +145,24 @@ fn reads_bad(m: Memory, ports: &[u32], s: MemorySwizzle, news: &[u32]) -> bool
     wides_bad(s, cell::net_part(&logs, 0, ports.len()), news)
 }
 
+// Number 9.
+fn logs_bad(
+    m: Memory,
+    nets: &[u32],
+    ports: &[u32],
+    s: MemorySwizzle,
+    writes: &[u32],
+    reads: &[u32],
+) -> bool
+    requires { ⌜ length (now ports) ≤ 8 ⌝ }
+    ensures { λ r. ⌜ ((trits es : List ℕ) → r ≡ (badWrites (memoryOf m (now (nets .entry)) trits) (planOf s es (now (writes .entry)) (now (reads .entry))) || badReads (memoryOf m (now (nets .entry)) trits) (now (ports .entry)) (planOf s es (now (writes .entry)) (now (reads .entry))))) ⌝ }
+{
+    if writes_bad(m, nets, s, writes) {
+        return true;
+    }
+    reads_bad(m, ports, s, reads)
+}
+
 // The number that refuses `swizzle_mux_bits`, or 0.
 fn mux_refusal(
     m: Memory,
@@ -162,10 +181,7 @@ fn mux_refusal(
     if n != 0 {
         return n;
     }
-    if writes_bad(m, nets, s, writes) {
-        return 9;
-    }
-    if reads_bad(m, ports, s, reads) {
+    if logs_bad(m, nets, ports, s, writes, reads) {
         return 9;
     }
     if inspect::port_missing(m, ports) {
