@@ -7,7 +7,7 @@ use mathlib.Core.Bool.{true, false, _||_}
 use mathlib.Core.List.{List, _++_}
 use lib.ListN.{length, getD, length-append}
 use lib.Seq.{sets}
-use lib.Dec.{ltb, leb}
+use lib.Dec.{ltb}
 use borrow.Author.Tests.{ltb-false, leb-false, lt-ltb, le-ltb}
 use Rattle.lists.specs.Lists.{any}
 use Rattle.lists.proofs.All.{any-at}
@@ -20,11 +20,6 @@ use Rattle.cell.specs.View.{readsOf, memoryOf}
 use Rattle.validate.proofs.Accept.{Valid, valid, Exact, exact}
 use Rattle.inspect.specs.Calls.{drivingNumber}
 use Rattle.extract.specs.Extract.{newNets, newTrits, newOutput, badRooms, extractRefusal, Listed}
-
--- a port is missing where it is not below the number of ports
-pub missing-by : (m : Memory) (nets trits list : List ℕ) (n : ℕ) → n ≡ length (readsOf m nets trits) → any (λ (k : ℕ). leb n k) list ≡ any (badPort (memoryOf m nets trits)) list
-unfolding badPort notBelow memoryOf
-missing-by m nets trits list n e = ap (λ (i : ℕ). any (λ (k : ℕ). leb i k) list) e
 
 pub few : (list : List ℕ) → longList list ≡ false → length list ≤ 8
 unfolding longList

@@ -74,7 +74,8 @@ fn put_outputs(m: Memory, output: &[u32], list: &[u32], room: &mut [u32]) -> usi
     let mut at: usize = 0;
     let mut j = 0;
     while j < list.len() {
-        let bits = output_part(m, output, wide(list[j]));
+        let k = wide(list[j]);
+        let bits = output_part(m, output, k);
         lists::copy_u32(room, at, bits);
         at += bits.len();
         j += 1;
@@ -102,21 +103,6 @@ fn put_trits(m: Memory, trits: &[u8], list: &[u32], room: &mut [u8]) -> usize
     let front = cell::trit_part(trits, 0, cell::init_size(m));
     lists::copy_u8(room, 0, front);
     put_values(m, trits, list, room, front.len())
-}
-
-// A listed port is not there.
-fn port_missing(m: Memory, list: &[u32]) -> bool
-    ensures { λ r. ⌜ ((nets trits : List ℕ) → r ≡ any (badPort (memoryOf m nets trits)) (now (list .entry))) ⌝ }
-{
-    let count = cell::ports_used(m.read_count);
-    let mut i = 0;
-    while i < list.len() {
-        if count <= wide(list[i]) {
-            return true;
-        }
-        i += 1;
-    }
-    false
 }
 
 // The struct with the listed ports.
@@ -179,7 +165,7 @@ fn extract_refusal(
     if n != 0 {
         return n;
     }
-    if port_missing(m, list) {
+    if inspect::port_missing(m, list) {
         return 15;
     }
     if rooms_bad(m, nets, trits, list, output, a, b, c) {

@@ -9,7 +9,7 @@ use lib.Seq.{take-all}
 use lib.Dec.{leb}
 use borrow.Author.Tests.{le-leb, lt-leb}
 use Rattle.lists.specs.Choice.{if_then_else_}
-use Rattle.lists.specs.Lists.{all, sumBy}
+use Rattle.lists.specs.Lists.{all, any, sumBy}
 use Rattle.lists.proofs.Choice.{else-rest}
 use Rattle.rules.specs.Limits.{maxPorts}
 use Rattle.rules.specs.Value.{sameControl}
@@ -58,3 +58,8 @@ module _ (m : Memory) (nets trits : List ℕ) where
       let a = writes-at m nets i h in
       let b = write-of-view m nets trits 0 ∙ writes-at m nets 0 (omega arith) in
       λ k. sameControl (sym a k .clock) (sym b k .clock)
+
+-- a port is missing where it is not below the number of ports
+pub missing-by : (m : Memory) (nets trits list : List ℕ) (n : ℕ) → n ≡ length (readsOf m nets trits) → any (λ (k : ℕ). leb n k) list ≡ any (badPort (memoryOf m nets trits)) list
+unfolding badPort notBelow memoryOf
+missing-by m nets trits list n e = ap (λ (i : ℕ). any (λ (k : ℕ). leb i k) list) e

@@ -3,9 +3,10 @@ ghost use mathlib.Core.Path.{_≡_};
 ghost use mathlib.Core.List.{List};
 ghost use Prim.Native.Nat.{ℕ};
 ghost use lib.ListN.{length};
+ghost use Rattle.lists.specs.Lists.{any};
 ghost use Rattle.rules.specs.Value.{sameControl};
 ghost use Rattle.rules.specs.Cell.{outputLen};
-ghost use Rattle.rules.specs.Conditions.{badOutputLen};
+ghost use Rattle.rules.specs.Conditions.{badOutputLen, badPort};
 ghost use Rattle.rules.specs.Fallback.{canLowerFallback};
 ghost use Rattle.value.specs.View.{controlOf};
 ghost use Rattle.cell.specs.View.{memoryOf};
@@ -29,6 +30,12 @@ pub enum OutputSlice {
 pub enum CanLower {
     Refused(u32),
     Answer(bool),
+}
+
+fn wide(x: u32) -> usize
+    ensures { λ r. ⌜ r ≡ x ⌝ }
+{
+    x as usize
 }
 
 // The read ports' data bits in all.
@@ -144,4 +151,19 @@ pub fn can_lower_fallback(m: Memory, nets: &[u32], trits: &[u8]) -> CanLower
         return CanLower::Refused(n);
     }
     CanLower::Answer(clocks_same(m))
+}
+
+// A listed port is not there.
+pub fn port_missing(m: Memory, list: &[u32]) -> bool
+    ensures { λ r. ⌜ ((nets trits : List ℕ) → r ≡ any (badPort (memoryOf m nets trits)) (now (list .entry))) ⌝ }
+{
+    let count = cell::ports_used(m.read_count);
+    let mut i = 0;
+    while i < list.len() {
+        if count <= wide(list[i]) {
+            return true;
+        }
+        i += 1;
+    }
+    false
 }

@@ -1,16 +1,13 @@
--- The whole answers of `swizzle_depths` and `swizzle_mux_bits` on a machine's memory and plan.
-use mathlib.Core.Path.{_≡_}
+-- The plan that a struct and its lent arrays hold, its numbers, and the whole answer of `swizzle_depths`.
 use Prim.Native.Nat.{ℕ}
 use mathlib.Core.Bool.{Bool, false, _||_}
 use mathlib.Core.List.{List}
-use lib.ListN.{length, replicate}
-use lib.Seq.{sets}
-use Rattle.lists.specs.Choice.{if_then_else_, _orElse_, leaves}
-use Rattle.lists.specs.Lists.{any}
-use Rattle.rules.specs.Limits.{maxNets, maxPorts}
+use lib.ListN.{length}
+use Rattle.lists.specs.Choice.{if_then_else_, _orElse_}
+use Rattle.rules.specs.Limits.{maxNets}
 use Rattle.rules.specs.Cell.{Plan}
-use Rattle.rules.specs.Geometry.{layoutOf, allMems, swizzleDepths, writeMuxBits, readMuxBits}
-use Rattle.rules.specs.Conditions.{planTooLarge, longList, resultTooLarge, noRoom, badWrites, badReads, badPort}
+use Rattle.rules.specs.Geometry.{layoutOf, allMems, swizzleDepths}
+use Rattle.rules.specs.Conditions.{planTooLarge, resultTooLarge, noRoom}
 use Rattle.rules.specs.Refusals.{planNumber}
 use Rattle.rules.specs.Answers.{Filled, filled}
 use Rattle.cell.specs.declared.Memory.{Memory}
@@ -18,7 +15,6 @@ use Rattle.cell.specs.View.{memoryOf}
 use Rattle.validate.specs.Number.{memoryNumber}
 use Rattle.geometry.specs.declared.Params.{Params}
 use Rattle.swizzle_sizes.specs.declared.MemorySwizzle.{MemorySwizzle}
-use Rattle.swizzle_sizes.specs.declared.MuxBits.{MuxBits}
 
 -- the plan that a struct and its lent arrays hold
 abbrev pub planOf : MemorySwizzle → List ℕ → List ℕ → List ℕ → Plan
@@ -50,20 +46,3 @@ swizzleDepthsRefusal room m nets trits p =
 unfoldable pub swizzleDepthsCall : List ℕ → Memory → List ℕ → List ℕ → Plan → Filled
 swizzleDepthsCall out m nets trits p =
     filled (swizzleDepthsRefusal (length out) m nets trits p) out (swizzleDepths (layoutOf (memoryOf m nets trits) p))
-
-unfoldable pub swizzleMuxBitsRefusal : Memory → List ℕ → List ℕ → List ℕ → Plan → ℕ
-swizzleMuxBitsRefusal m nets trits ports p =
-    plannedNumber (longList ports) m nets trits p
-    orElse (if badWrites (memoryOf m nets trits) p || badReads (memoryOf m nets trits) ports p then 9
-    else if any (badPort (memoryOf m nets trits)) ports then 15
-    else 0)
-
--- a list of at most eight numbers in an array of eight
-abbrev pub inEight : List ℕ → List ℕ
-inEight l = sets (replicate maxPorts 0) 0 l
-
--- the whole answer: nothing but zeros where it is refused
-pub record MuxBitsCall (m : Memory) (nets trits ports : List ℕ) (p : Plan) (r : MuxBits) : Type 0 where
-  pub refused : r .refusal ≡ swizzleMuxBitsRefusal m nets trits ports p
-  pub writes-are : r .writes ≡ leaves (r .refusal) (replicate maxPorts 0) (inEight (writeMuxBits (memoryOf m nets trits) p))
-  pub reads-are : r .reads ≡ leaves (r .refusal) (replicate maxPorts 0) (inEight (readMuxBits (memoryOf m nets trits) ports p))

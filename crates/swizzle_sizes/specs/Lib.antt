@@ -1,2 +1,2 @@
--- `swizzle_depths` and `swizzle_mux_bits` on a machine's memory and plan.
+-- Plans, and `swizzle_depths` on a machine's memory.
 pub mod Calls

@@ -1,15 +1,12 @@
-// memory/src/lib.rs, swizzle_depths and swizzle_mux_bits: what a swizzle would give, without making it.
+// memory/src/lib.rs, MemorySwizzle and swizzle_depths: a plan, its numbers, and the depths of the memories that it gives.
 ghost use mathlib.Core.Path.{_≡_};
 ghost use mathlib.Core.Bool.{_||_};
-ghost use mathlib.Core.List.{List, map};
-ghost use Prim.Native.Nat.{ℕ, _-_, _≤_, _<_};
-ghost use lib.ListN.{length};
 ghost use lib.Dec.{ltb};
-ghost use Rattle.lists.specs.Lists.{any, pairs};
+ghost use Rattle.lists.specs.Lists.{any};
 ghost use Rattle.rules.specs.Limits.{maxWide};
 ghost use Rattle.rules.specs.Conditions.{planTooLarge};
 ghost use Rattle.geometry.specs.View.{filledWith};
-ghost use Rattle.swizzle_sizes.specs.Calls.{planOf, paramsBy, plannedNumber, swizzleDepthsCall, MuxBitsCall};
+ghost use Rattle.swizzle_sizes.specs.Calls.{planOf, paramsBy, plannedNumber, swizzleDepthsCall};
 use cell::Memory;
 
 // A plan without its lists: the entries of a row and the new wide logs stand in lent arrays.
@@ -19,14 +16,8 @@ pub struct MemorySwizzle {
     pub data_width_unit: u32,
 }
 
-// The number that refuses `swizzle_mux_bits`, or 0, and the mux bits of the write ports and of the listed read ports.
-pub struct MuxBits {
-    pub refusal: u32,
-    pub writes: [u32; 8],
-    pub reads: [u32; 8],
-}
-
-fn params_of(m: Memory, s: MemorySwizzle) -> geometry::Params
+// The sizes of a memory and a plan.
+pub fn params_of(m: Memory, s: MemorySwizzle) -> geometry::Params
     ensures { λ r. ⌜ r ≡ paramsBy m s ⌝ }
 {
     geometry::Params {
@@ -99,7 +90,7 @@ pub fn planned_number(
     geometry::soft_mask_refusal(m.depth, s.soft_addr_bits_mask)
 }
 
-fn either(a: bool, b: bool) -> bool
+pub fn either(a: bool, b: bool) -> bool
     ensures { λ r. ⌜ r ≡ (a || b) ⌝ }
 {
     if a {

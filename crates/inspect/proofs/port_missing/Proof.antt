@@ -1,4 +1,4 @@
--- `extract::port_missing` meets its contract.
+-- `inspect::port_missing` meets its contract.
 use mathlib.Core.Path.{_≡_, refl, sym, _∙_}
 use Prim.Native.Nat.{ℕ, _-_, _≤_}
 use native.Mathlib.Omega.{arith}
@@ -9,9 +9,9 @@ use borrow.Author.Tests.{le-leb, lt-leb}
 use Rattle.lists.specs.Lists.{any}
 use Rattle.cell.proofs.Sized.{reads-length}
 use Rattle.lists.proofs.All.{any-pass, any-found, any-end}
-use Rattle.extract.proofs.Refused.{missing-by}
-use Rattle.extract.proofs.port_missing.Statement.{statement}
-use Rattle.extract.proofs.port_missing.Tie as tie
+use Rattle.inspect.proofs.Outputs.{missing-by}
+use Rattle.inspect.proofs.port_missing.Statement.{statement}
+use Rattle.inspect.proofs.port_missing.Tie as tie
 
 abbrev Inv-loop : tie.InvT-loop
 Inv-loop list count i₀ i = (i ≤ length list) × (any (λ (k : ℕ). leb count k) (drop i list) ≡ any (λ (k : ℕ). leb count k) list)

@@ -1,0 +1,51 @@
+-- The whole answer of `swizzle_mux_bits` on a machine's memory and plan.
+use mathlib.Core.Path.{_≡_}
+use Prim.Native.Nat.{ℕ, _≤_, _<_}
+use mathlib.Core.Bool.{_||_}
+use mathlib.Core.List.{List, map}
+use lib.ListN.{length, getD, replicate}
+use lib.Seq.{sets}
+use Rattle.lists.specs.Choice.{if_then_else_, _orElse_, leaves}
+use Rattle.lists.specs.Lists.{any}
+use Rattle.rules.specs.Limits.{maxPorts}
+use Rattle.rules.specs.Cell.{Plan, Mem, writeWideLog2, readWideLog2, readAt}
+use Rattle.rules.specs.Geometry.{writeMuxBits, readMuxBits}
+use Rattle.rules.specs.Conditions.{longList, badWrites, badReads, badPort}
+use Rattle.cell.specs.declared.Memory.{Memory}
+use Rattle.cell.specs.View.{memoryOf}
+use Rattle.swizzle_sizes.specs.Calls.{plannedNumber}
+use Rattle.mux_bits.specs.declared.MuxBits.{MuxBits}
+
+unfoldable pub swizzleMuxBitsRefusal : Memory → List ℕ → List ℕ → List ℕ → Plan → ℕ
+swizzleMuxBitsRefusal m nets trits ports p =
+    plannedNumber (longList ports) m nets trits p
+    orElse (if badWrites (memoryOf m nets trits) p || badReads (memoryOf m nets trits) ports p then 9
+    else if any (badPort (memoryOf m nets trits)) ports then 15
+    else 0)
+
+-- a list of at most eight numbers in an array of eight
+abbrev pub inEight : List ℕ → List ℕ
+inEight l = sets (replicate maxPorts 0) 0 l
+
+-- the whole answer: nothing but zeros where it is refused
+pub record MuxBitsCall (m : Memory) (nets trits ports : List ℕ) (p : Plan) (r : MuxBits) : Type 0 where
+  pub refused : r .refusal ≡ swizzleMuxBitsRefusal m nets trits ports p
+  pub writes-are : r .writes ≡ leaves (r .refusal) (replicate maxPorts 0) (inEight (writeMuxBits (memoryOf m nets trits) p))
+  pub reads-are : r .reads ≡ leaves (r .refusal) (replicate maxPorts 0) (inEight (readMuxBits (memoryOf m nets trits) ports p))
+
+-- the old wide logs of the write ports, and of the listed read ports
+abbrev pub writeLogs : Mem → List ℕ
+writeLogs m = map (writeWideLog2 m) (m .writes)
+
+abbrev pub readLogs : Mem → List ℕ → List ℕ
+readLogs m ports = map (λ (i : ℕ). readWideLog2 m (readAt m i)) ports
+
+-- what the mux bits can be counted from: the bits that all ports have, and the new wide logs
+pub record Small (base : ℕ) (news : List ℕ) : Type 0 where
+  pub base-small : base ≤ 1000
+  pub news-small : (j : ℕ) → j < length news → getD news j 0 ≤ 4
+
+-- and few old wide logs
+pub record Countable (base : ℕ) (olds news : List ℕ) : Type 0 where
+  pub small : Small base news
+  pub olds-few : length olds ≤ 8
