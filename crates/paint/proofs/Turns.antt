@@ -11,7 +11,7 @@ use lib.ListN.{length, take, drop, getD, set, length-map, drop-of-length-le}
 use lib.Seq.{sets, sets-eq, drop-cons, take-all, length-take-le, getD-take}
 use borrow.Author.Tests.{eq-eqb, ne-eqb}
 use Rattle.lists.specs.Lists.{all, upFrom, sameList}
-use Rattle.lists.proofs.Ups.{up-step, up-end, length-up}
+use Rattle.lists.proofs.UpFrom.{count-step, count-end, length-up}
 use Rattle.paint.specs.Paint.{paintAt, paintOf, paintedFrom, startsWith}
 
 -- ---- painting
@@ -32,17 +32,17 @@ paint-all l =
 
 pub paint-turn : (l : List ℕ) (n i b : ℕ) → i < n → b ≡ paintAt i → sets (set l i b) (i + 1) (left n (i + 1)) ≡ sets l i (left n i)
 unfolding left
-paint-turn l n i b h e = rw (up-step i n h, e, add-one)
+paint-turn l n i b h e = rw (count-step i n h, e, add-one)
 
 pub paint-end : (l : List ℕ) (n i : ℕ) → n ≤ i → sets l i (left n i) ≡ l
 unfolding left
-paint-end l n i h = rw (up-end i n h)
+paint-end l n i h = rw (count-end i n h)
 
 -- ---- comparing with the paint
 module _ (room : List ℕ) (i : ℕ) where
   painted-step : i < length room → paintedFrom room i ≡ (eqb (getD room i 0) (paintAt i) && paintedFrom room (i + 1))
   unfolding paintedFrom
-  painted-step h = ap (all (λ k. eqb (getD room k 0) (paintAt k))) (up-step i (length room) h)
+  painted-step h = ap (all (λ k. eqb (getD room k 0) (paintAt k))) (count-step i (length room) h)
 
   pub painted-fail : (b : ℕ) → i < length room → b ≡ paintAt i → (getD room i 0 ≡ b → ⊥) → false ≡ paintedFrom room i
   painted-fail b h e n = sym (painted-step h ∙ ap (λ (t : Bool). t && paintedFrom room (i + 1)) (ne-eqb (getD room i 0) (paintAt i) (λ z. n (z ∙ sym e))))
@@ -52,7 +52,7 @@ module _ (room : List ℕ) (i : ℕ) where
 
   pub painted-end : length room ≤ i → true ≡ paintedFrom room i
   unfolding paintedFrom
-  painted-end h = sym (ap (all (λ k. eqb (getD room k 0) (paintAt k))) (up-end i (length room) h))
+  painted-end h = sym (ap (all (λ k. eqb (getD room k 0) (paintAt k))) (count-end i (length room) h))
 
 -- ---- comparing with a text
 unlike : (a b : List ℕ) → length a ≢ length b → sameList a b ≡ false
