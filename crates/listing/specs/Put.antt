@@ -12,3 +12,7 @@ pub record Put (before : List ℕ) (at : ℕ) (text after : List ℕ) (next : �
 -- no text is longer: the first line has up to 37 bytes, each of up to 32,768 others up to 50
 abbrev pub maxText : ℕ
 maxText = 1638437
+
+-- and no place is farther
+abbrev pub maxPlace : ℕ
+maxPlace = 4294967296

@@ -1,18 +1,18 @@
 // The lister's text for a record, as bytes in a lent array. What lies past the array's end is not stored; the length that is answered counts it.
 ghost use mathlib.Core.Path.{_≡_};
-ghost use mathlib.Core.List.{_++_, _∷_, []};
+ghost use mathlib.Core.List.{_∷_};
 ghost use Prim.Native.Nat.{_+_, _*_, _<_, _≤_};
 ghost use lib.ListN.{length, drop};
-ghost use Rattle.lists.specs.Lists.{sumBy, part, upFrom, concatMap};
+ghost use Rattle.lists.specs.Lists.{sumBy, part, concatMap};
 ghost use Rattle.lists.specs.Choice.{if_then_else_, _orElse_};
 ghost use Rattle.rules.specs.Record.{sizeMems, sizeTrits, bitsOf, headSizes, decodeImage};
 ghost use Rattle.rules.specs.Refusals.{recordRefusal};
-ghost use Rattle.rules.specs.Lister.{isBlank, decimal, space, newline, blankText, loadText, headLine, memoryLine, refusedLine, summaryOf, summaries, listed, lister};
+ghost use Rattle.rules.specs.Lister.{decimal, space, blankText, loadText, headLine, memoryLine, refusedLine, summaryOf, summaries, listed, lister};
 ghost use Rattle.rules.specs.Header.{headerRefusal};
 ghost use Rattle.rules.specs.Stored.{listerStored};
 ghost use Rattle.sizes.specs.View.{viewSizes};
 ghost use Rattle.summary.specs.View.{viewSummary};
-ghost use Rattle.listing.specs.Put.{maxText, Put};
+ghost use Rattle.listing.specs.Put.{maxText, maxPlace, Put};
 ghost use Rattle.listing.specs.Starts.{Accepted, Starts};
 use sizes::Sizes;
 use summary::Summary;
@@ -25,7 +25,7 @@ pub const MAX_TEXT: usize = 1638437;
 // ---- text
 
 fn put_text(out: &mut [u8], at: usize, text: &[u8]) -> usize
-    requires { ⌜ (at ≤ 4294967296) × (length (now text) ≤ 4294967296) ⌝ }
+    requires { ⌜ at + length (now text) ≤ maxPlace ⌝ }
     ensures { λ r. ⌜ Put (now (out .entry)) at (now (text .entry)) (now (out .exit)) r ⌝ }
 {
     lists::copy_u8(out, at, text);
@@ -51,7 +51,7 @@ fn digits_of(n: usize, digits: &mut [u8]) -> usize
 }
 
 fn put_number(out: &mut [u8], at: usize, n: usize) -> usize
-    requires { ⌜ at ≤ 4294967296 ⌝ }
+    requires { ⌜ at + 10 ≤ maxPlace ⌝ }
     ensures { λ r. ⌜ Put (now (out .entry)) at (decimal n) (now (out .exit)) r × (r ≤ at + 10) ⌝ }
 {
     let mut digits = [0u8; 10];
@@ -61,7 +61,7 @@ fn put_number(out: &mut [u8], at: usize, n: usize) -> usize
 
 // A space and a number.
 fn put_field(out: &mut [u8], at: usize, n: usize) -> usize
-    requires { ⌜ at ≤ 4294967280 ⌝ }
+    requires { ⌜ at + 11 ≤ maxPlace ⌝ }
     ensures { λ r. ⌜ Put (now (out .entry)) at (space ∷ decimal n) (now (out .exit)) r × (r ≤ at + 11) ⌝ }
 {
     let a = put_text(out, at, b" ");
@@ -70,7 +70,7 @@ fn put_field(out: &mut [u8], at: usize, n: usize) -> usize
 
 // A space, and blank or load.
 fn put_kind(out: &mut [u8], at: usize, blank: bool) -> usize
-    requires { ⌜ at ≤ 4294967280 ⌝ }
+    requires { ⌜ at + 6 ≤ maxPlace ⌝ }
     ensures { λ r. ⌜ Put (now (out .entry)) at (space ∷ (if blank then blankText else loadText)) (now (out .exit)) r × (r ≤ at + 6) ⌝ }
 {
     if blank {
@@ -93,7 +93,7 @@ fn put_head(out: &mut [u8], s: Sizes, memories: usize, trits: usize) -> usize
 }
 
 fn put_memory(out: &mut [u8], at: usize, y: Summary) -> usize
-    requires { ⌜ at ≤ 4294967200 ⌝ }
+    requires { ⌜ at + 50 ≤ maxPlace ⌝ }
     ensures { λ r. ⌜ Put (now (out .entry)) at (memoryLine (viewSummary y)) (now (out .exit)) r × (r ≤ at + 50) ⌝ }
 {
     let a = put_number(out, at, y.index);

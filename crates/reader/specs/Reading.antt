@@ -40,6 +40,10 @@ tritThere bytes at = if hasTrit bytes at then Code (rules.nextTrit (readerAt byt
 unfoldable pub placeAfterTrit : List ℕ → ℕ → ℕ
 placeAfterTrit bytes at = if hasTrit bytes at then rules.afterTrit (readerAt bytes at) .at else at
 
+-- above the trits of any five 16-bit sizes
+abbrev pub manyTrits : ℕ
+manyTrits = 1125899906842624
+
 -- ---- the sizes are 16-bit words
 pub record Words (s : Sizes) : Type 0 where
   pub unit-word : s .unit < 65536

@@ -4,7 +4,7 @@ ghost use Prim.Native.Nat.{_≤_};
 ghost use lib.ListN.{getD};
 ghost use Rattle.rules.specs.Record.{sizeTrits, wordAt, headSizes};
 ghost use Rattle.sizes.specs.View.{viewSizes};
-ghost use Rattle.reader.specs.Reading.{wordThere, placeAfterWord, tritThere, placeAfterTrit, Words};
+ghost use Rattle.reader.specs.Reading.{wordThere, placeAfterWord, tritThere, placeAfterTrit, manyTrits, Words};
 use sizes::Sizes;
 
 pub struct Reader<'a> {
@@ -134,7 +134,7 @@ const MANY: u64 = 1125899906842624;
 
 // The trits that those sizes give.
 pub fn head_trits(bytes: &[u8]) -> u64
-    ensures { λ r. ⌜ (r ≡ sizeTrits (headSizes (now (bytes .entry)))) × (r ≤ 1125899906842624) ⌝ }
+    ensures { λ r. ⌜ (r ≡ sizeTrits (headSizes (now (bytes .entry)))) × (r ≤ manyTrits) ⌝ }
 {
     sizes::trits_within(head_sizes(bytes), MANY)
 }

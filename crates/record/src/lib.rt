@@ -5,14 +5,15 @@ ghost use Prim.Native.Nat.{_+_, _-_, _*_, _<_, _≤_, min};
 ghost use lib.ListN.{length, drop};
 ghost use lib.Seq.{sets};
 ghost use Rattle.lists.specs.Lists.{part};
+ghost use Rattle.rules.specs.Limits.{headBytes};
 ghost use Rattle.rules.specs.Record.{sizeTrits, recordImage, word16, arrayBytes, recordHead, encodeRecord, headSizes, recordBytes, bitsOf, decodeImage};
-ghost use Rattle.rules.specs.Conditions.{badHead, badSizes, badBits};
+ghost use Rattle.rules.specs.Conditions.{badHead, badBits};
 ghost use Rattle.rules.specs.Refusals.{recordRefusal, readRecordRefusal, writeRecordRefusal};
 ghost use Rattle.rules.specs.Answers.{answerOf, writeRecordCall, readRecordCall};
 ghost use Rattle.rules.specs.Header.{badHeadOf, headerRefusal, headerCall};
 ghost use Rattle.sizes.specs.View.{viewSizes};
 ghost use Rattle.bits.specs.Groups.{tritsBy, badBy};
-ghost use Rattle.reader.specs.Reading.{Words};
+ghost use Rattle.reader.specs.Reading.{manyTrits, Words};
 ghost use Rattle.record.specs.View.{viewHead, viewWritten};
 use sizes::Sizes;
 
@@ -26,10 +27,10 @@ pub enum Head {
 
 // The bytes of a record of so many trits.
 fn bytes_for(trits: u64) -> u64
-    requires { ⌜ trits ≤ 1125899906842624 ⌝ }
-    ensures { λ r. ⌜ r ≡ 12 + 2 * arrayBytes trits ⌝ }
+    requires { ⌜ trits ≤ manyTrits ⌝ }
+    ensures { λ r. ⌜ r ≡ headBytes + 2 * arrayBytes trits ⌝ }
 {
-    12 + 2 * ((trits + 7) / 8)
+    (rules::HEAD_BYTES as u64) + 2 * ((trits + 7) / 8)
 }
 
 // Number 16, of a record of `total` bytes whose first are given.
@@ -108,7 +109,7 @@ fn put_word(out: &mut [u8], at: usize, w: u32)
 
 // Stores the six words.
 fn put_head(out: &mut [u8], s: Sizes)
-    requires { ⌜ Words s × (12 ≤ length (now out)) ⌝ }
+    requires { ⌜ Words s × (headBytes ≤ length (now out)) ⌝ }
     ensures { λ _. ⌜ now (out .exit) ≡ sets (now (out .entry)) 0 (recordHead (viewSizes s)) ⌝ }
 {
     put_word(out, 0, rules::RECORD_MARK as u32);
@@ -172,7 +173,7 @@ fn less_eight(left: usize) -> usize
 
 // Where the second array starts.
 fn middle_of(bytes: &[u8]) -> usize
-    ensures { λ r. ⌜ (r ≡ 12 + arrayBytes (sizeTrits (headSizes (now (bytes .entry))))) × (r < 1125899906842624) ⌝ }
+    ensures { λ r. ⌜ (r ≡ headBytes + arrayBytes (sizeTrits (headSizes (now (bytes .entry))))) × (r < manyTrits) ⌝ }
 {
     rules::HEAD_BYTES + (reader::head_trits(bytes) as usize + 7) / 8
 }
@@ -185,7 +186,7 @@ fn least(a: usize, b: usize) -> usize
 
 // The bytes of a record's known bits, and those of its value bits; of other bytes, what stands there.
 pub fn known_array(bytes: &[u8]) -> &[u8]
-    ensures { λ r. ⌜ (now r ≡ part 12 (arrayBytes (sizeTrits (headSizes (now (bytes .entry))))) (now (bytes .entry))) × (length (now r) < 1125899906842624) ⌝ }
+    ensures { λ r. ⌜ (now r ≡ part headBytes (arrayBytes (sizeTrits (headSizes (now (bytes .entry))))) (now (bytes .entry))) × (length (now r) < manyTrits) ⌝ }
 {
     let end = least(middle_of(bytes), bytes.len());
     let start = least(rules::HEAD_BYTES, end);
@@ -193,7 +194,7 @@ pub fn known_array(bytes: &[u8]) -> &[u8]
 }
 
 pub fn value_array(bytes: &[u8]) -> &[u8]
-    ensures { λ r. ⌜ now r ≡ drop (12 + arrayBytes (sizeTrits (headSizes (now (bytes .entry))))) (now (bytes .entry)) ⌝ }
+    ensures { λ r. ⌜ now r ≡ drop (headBytes + arrayBytes (sizeTrits (headSizes (now (bytes .entry))))) (now (bytes .entry)) ⌝ }
 {
     let start = least(middle_of(bytes), bytes.len());
     &bytes[start..]
@@ -238,7 +239,7 @@ fn read_refusal(bytes: &[u8], room: usize) -> u32
 
 // Stores the trits of two arrays.
 fn put_trits(image: &mut [u8], count: usize, ks: &[u8], vs: &[u8])
-    requires { ⌜ (length (now ks) ≡ length (now vs)) × (length (now ks) < 1125899906842624) ⌝ }
+    requires { ⌜ (length (now ks) ≡ length (now vs)) × (length (now ks) < manyTrits) ⌝ }
     ensures { λ _. ⌜ now (image .exit) ≡ sets (now (image .entry)) 0 (tritsBy count (bitsOf (now (ks .entry))) (bitsOf (now (vs .entry)))) ⌝ }
 {
     let mut left = count;

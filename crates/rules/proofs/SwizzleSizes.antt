@@ -19,7 +19,7 @@ use Rattle.rules.specs.Value.{Value}
 use Rattle.rules.specs.Cell.{Mem, Plan}
 use Rattle.rules.specs.Log.{LogState}
 use Rattle.rules.specs.Geometry.{Layout, layoutOf, soft, rowLen, fullDepth, partDepth, fullChunks, allChunks, fullMems, allMems, columns}
-use Rattle.rules.specs.Image.{rowsBefore, memStart, trits}
+use Rattle.rules.specs.Image.{rowsBefore, memStart, trits, imageSize}
 use Rattle.rules.specs.Record.{Sizes, depthIf, sizesOf, sizeMems, sizeTrits}
 use Rattle.rules.specs.Conditions.{tooLarge, planTooLarge, badOutputLen, badValue, badWrites, badReads, allReads, resultTooLarge, isPower, badUnit, unlike, badDepths, badSizes}
 use Rattle.rules.specs.Refusals.{memNumber, planNumber, swizzleNumber, swizzleRefusal}
@@ -155,6 +155,14 @@ module _ (q : Layout) (pos : 0 < q .unit) (small : q .unit ≤ 256) (hard : q .h
     unfolding sizesOf fullDepth sizes
     result-good = rw w (sizes-good (q .unit) (fullMems q) (allMems q - fullMems q) (q .hard) (partDepth q) pos small hard less some columns-within trits-within)
 
+  -- and their trits are those of the image
+  pub layout-trits : sizeTrits (sizesOf q) ≡ imageSize q
+  unfolding sizeTrits sizesOf imageSize trits memStart fullDepth
+  layout-trits =
+      zero-or (q .width)
+      (λ w. rw (w, zero-mul (depthIf 0 (2 ^ q .hard)), zero-mul (depthIf 0 (partDepth q)), mul-zero (q .unit)))
+      (λ w. rw (w, if-rows (fullMems q) (2 ^ q .hard), if-rows (allMems q - fullMems q) (partDepth q), before-high (fullMems q) (2 ^ q .hard) (partDepth q) (allMems q) full-all) (mul-comm (q .unit) _))
+
   pub layout-sizes : (not (eqb (q .width) 0) && resultTooLarge q) ≡ false → badSizes (sizesOf q) ≡ false
   layout-sizes r = zero-or (q .width) empty-good (λ w. result-good w (and-false (not (eqb (q .width) 0)) (resultTooLarge q) (not-is-true (eqb (q .width) 0) w) r))
 
@@ -196,6 +204,9 @@ module _ (room words : ℕ) (s : LogState) (m : Mem) (output : Value) (p : Plan)
   result : (not (eqb (layoutOf m p .width) 0) && resultTooLarge (layoutOf m p)) ≡ false
   unfolding layoutOf
   result = result-fits
+
+  pub swizzle-trits : sizeTrits (sizesOf (layoutOf m p)) ≡ imageSize (layoutOf m p)
+  swizzle-trits = layout-trits (layoutOf m p) unit-pos unit-max hard-max
 
   pub swizzle-sizes : badSizes (sizesOf (layoutOf m p)) ≡ false
   swizzle-sizes = layout-sizes (layoutOf m p) unit-pos unit-max hard-max result
