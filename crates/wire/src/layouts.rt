@@ -57,7 +57,7 @@ fn lay_out(given: &[u32], image: &mut [u8], rows: &[u8]) -> u32 {
     let at = read::after(given, 5);
     let p = params(given, read::word(given, 3), read::word(given, 4), at);
     let m = lent(read::word(given, 2), IMAGE);
-    images::fill_rows(
+    rows::fill_rows(
         read::part_u8_mut(image, 0, m),
         p,
         read::list(given, at),
@@ -138,7 +138,7 @@ fn patch_at(
     read::codes(trits, 0, list);
     let m = lent(read::word(given, at), IMAGE);
     let r = read::word(given, row);
-    images::patch_row(
+    rows::patch_row(
         read::part_u8_mut(image, 0, m),
         p,
         entries,
