@@ -1,0 +1,28 @@
+-- The trits of a flip-flop's bit in one word, and a flip-flop of data and such words.
+use Prim.Native.Nat.{ℕ, _+_, _*_, _/_, _%_, _<_}
+use mathlib.Core.List.{List, map}
+use lib.ListN.{getD}
+use Rattle.lists.specs.Lists.{pairs}
+use Rattle.rules.specs.Cell.{Controls, FlipFlop}
+use Rattle.flip_flop.specs.View.{flipFlop}
+
+-- reset, clear and init, a byte each
+abbrev pub packOf : ℕ → ℕ → ℕ → ℕ
+packOf r c i = r + (256 * c + 65536 * i)
+
+-- the byte of a word: 1, 256 or 65536 is its weight
+abbrev pub byteOf : ℕ → ℕ → ℕ
+byteOf by p = p / by % 256
+
+-- of each bit, as many as all three have
+unfoldable pub packs : List ℕ → List ℕ → List ℕ → List ℕ
+packs r c i = map (λ t. packOf (t .0) (t .1 .0) (t .1 .1)) (pairs r (pairs c i))
+
+unfoldable pub unpacked : Controls → List ℕ → List ℕ → FlipFlop
+unpacked c bits ps = flipFlop c bits (map (byteOf 256) ps) (map (byteOf 1) ps) (map (byteOf 65536) ps)
+
+-- the first n trits of each bit are bytes
+pub record Bytes (r c i : List ℕ) (n : ℕ) : Type 0 where
+  pub resets : (k : ℕ) → k < n → getD r k 0 < 256
+  pub clears : (k : ℕ) → k < n → getD c k 0 < 256
+  pub inits : (k : ℕ) → k < n → getD i k 0 < 256

@@ -1,0 +1,85 @@
+// memory/src/lib.rs, add_dedup_dff without its numbers: equal bits of a flip-flop are kept once. A bit's key is its data net and its three trits,
+// packed into one word, so that the merge of two columns serves.
+ghost use mathlib.Core.Path.{_≡_};
+ghost use mathlib.Core.List.{map};
+ghost use Prim.Native.Nat.{_+_, _-_, _<_, _≤_, min};
+ghost use lib.ListN.{length};
+ghost use lib.Seq.{sets};
+ghost use Rattle.rules.specs.Limits.{maxMerge};
+ghost use Rattle.rules.specs.Log.{addDff};
+ghost use Rattle.rules.specs.Merge.{spread, addDedupDff};
+ghost use Rattle.flip_flop.specs.View.{controlsOf, flipFlop};
+ghost use Rattle.log.specs.Emission.{isOver, run};
+ghost use Rattle.log.specs.View.{stateOf, lent};
+ghost use Rattle.dedup.specs.Results.{limited, results};
+ghost use Rattle.dedup_dff.specs.Packs.{packOf, byteOf, packs, unpacked, Bytes};
+use flip_flop::Controls;
+use log::LogState;
+
+// A bit's reset, clear and init trits in one word.
+fn pack(reset: u8, clear: u8, init: u8) -> u32
+    ensures { λ r. ⌜ r ≡ packOf reset clear init ⌝ }
+{
+    (reset as u32) + (256 * (clear as u32) + 65536 * (init as u32))
+}
+
+// Packs the trits of each bit into `to`, as far as it reaches, and returns how many.
+fn pack_trits(reset: &[u8], clear: &[u8], init: &[u8], to: &mut [u32]) -> usize
+    ensures { λ r. ⌜ r ≡ min (length (now (to .entry))) (length (packs (now (reset .entry)) (now (clear .entry)) (now (init .entry)))) ⌝ }
+    ensures { λ _. ⌜ now (to .exit) ≡ sets (now (to .entry)) 0 (packs (now (reset .entry)) (now (clear .entry)) (now (init .entry))) ⌝ }
+    ensures { λ r. ⌜ Bytes (now (reset .entry)) (now (clear .entry)) (now (init .entry)) r ⌝ }
+{
+    let n = lists::lower(to.len(), lists::lower(reset.len(), lists::lower(clear.len(), init.len())));
+    let mut i = 0;
+    while i < n {
+        to[i] = pack(reset[i], clear[i], init[i]);
+        i += 1;
+    }
+    n
+}
+
+// Stores the byte of weight `by` of each word in `to`, as far as it reaches.
+fn unpack_part(ps: &[u32], by: u32, to: &mut [u8])
+    requires { ⌜ 0 < by ⌝ }
+    ensures { λ _. ⌜ now (to .exit) ≡ sets (now (to .entry)) 0 (map (byteOf by) (now (ps .entry))) ⌝ }
+{
+    let n = lists::lower(ps.len(), to.len());
+    let mut i = 0;
+    while i < n {
+        to[i] = (ps[i] / by % 256) as u8;
+        i += 1;
+    }
+}
+
+// A flip-flop of kept bits, whose result nets go to each bit by its place, from `to` on.
+fn emit_kept_dff(log: &mut [u32], st: LogState, c: Controls, bits: &[u32], ps: &[u32], at: &[u32], out: &mut [u32], to: usize) -> LogState
+    requires { ⌜ length (now ps) ≤ maxMerge ⌝ }
+    ensures { λ r. ⌜ lent r (now (log .exit)) ≡ run (addDff (unpacked (controlsOf c) (now (bits .entry)) (now (ps .entry)))) (lent st (now (log .entry))) ⌝ }
+    ensures { λ r. ⌜ now (out .exit) ≡ results (isOver (stateOf r)) (now (out .entry)) to (spread (now (at .entry)) (addDff (unpacked (controlsOf c) (now (bits .entry)) (now (ps .entry))) (st .next) .value)) ⌝ }
+{
+    let mut clear = [0u8; rules::MAX_MERGE];
+    let mut reset = [0u8; rules::MAX_MERGE];
+    let mut init = [0u8; rules::MAX_MERGE];
+    unpack_part(ps, 256, &mut clear);
+    unpack_part(ps, 1, &mut reset);
+    unpack_part(ps, 65536, &mut init);
+    let n = ps.len();
+    let after = log::emit_dff(log, st, c, bits, &clear[..n], &reset[..n], &init[..n]);
+    dedup::spread_results(st, after, at, out, to);
+    after
+}
+
+// A flip-flop in which equal bits are kept once.
+pub fn emit_dedup_dff(log: &mut [u32], st: LogState, c: Controls, bits: &[u32], clear: &[u8], reset: &[u8], init: &[u8], out: &mut [u32]) -> LogState
+    ensures { λ r. ⌜ lent r (now (log .exit)) ≡ run (addDedupDff (flipFlop (controlsOf c) (limited (now (bits .entry))) (now (clear .entry)) (now (reset .entry)) (now (init .entry)))) (lent st (now (log .entry))) ⌝ }
+    ensures { λ r. ⌜ now (out .exit) ≡ results (isOver (stateOf r)) (now (out .entry)) 0 (addDedupDff (flipFlop (controlsOf c) (limited (now (bits .entry))) (now (clear .entry)) (now (reset .entry)) (now (init .entry))) (st .next) .value) ⌝ }
+{
+    let mut column = [0u32; rules::MAX_MERGE];
+    let mut kx = [0u32; rules::MAX_MERGE];
+    let mut ky = [0u32; rules::MAX_MERGE];
+    let mut at = [0u32; rules::MAX_MERGE];
+    let n = pack_trits(reset, clear, init, &mut column);
+    let m = lists::lower(rules::MAX_MERGE, lists::lower(bits.len(), n));
+    let k = distinct::merge(bits, &column[..n], &mut kx, &mut ky, &mut at);
+    emit_kept_dff(log, st, c, &kx[..k], &ky[..k], &at[..m], out, 0)
+}
