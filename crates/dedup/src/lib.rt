@@ -203,7 +203,10 @@ fn bits_of(s: &[u32], a: &[u32], b: &[u32]) -> usize
     ensures { λ r. ⌜ r ≡ bitsOf (now (s .entry)) (now (a .entry)) (now (b .entry)) ⌝ }
     ensures { λ r. ⌜ Within (now (s .entry)) (now (a .entry)) (now (b .entry)) r ⌝ }
 {
-    lists::lower(lists::lower(rules::MAX_MERGE, s.len()), lists::lower(a.len(), b.len()))
+    lists::lower(
+        lists::lower(rules::MAX_MERGE, s.len()),
+        lists::lower(a.len(), b.len()),
+    )
 }
 
 // add_bitwise_mux without its numbers: a merging mux for each run of equal neighbouring selects.

@@ -103,6 +103,9 @@ pub fn merge(x: &[u32], y: &[u32], kx: &mut [u32], ky: &mut [u32], at: &mut [u32
     ensures { λ _. ⌜ now (at .exit) ≡ sets (now (at .entry)) 0 (places same2 (merging (now (x .entry)) (now (y .entry)) (now (kx .entry)) (now (ky .entry)) (now (at .entry)))) ⌝ }
 {
     let lent = lists::lower(kx.len(), lists::lower(ky.len(), at.len()));
-    let n = lists::lower(lists::lower(rules::MAX_MERGE, lent), lists::lower(x.len(), y.len()));
+    let n = lists::lower(
+        lists::lower(rules::MAX_MERGE, lent),
+        lists::lower(x.len(), y.len()),
+    );
     merge_first(x, y, kx, ky, at, n)
 }
