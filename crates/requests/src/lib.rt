@@ -248,13 +248,13 @@ fn lens_bad(n: usize, clear: &[u8], reset: &[u8], init: &[u8]) -> bool
 fn trits_bad(clear: &[u8], reset: &[u8], init: &[u8]) -> bool
     ensures { λ r. ⌜ r ≡ (badTrits (now (clear .entry)) || (badTrits (now (reset .entry)) || badTrits (now (init .entry)))) ⌝ }
 {
-    if !flip_flop::trits_good(clear) {
+    if !logic::trits_good(clear) {
         return true;
     }
-    if !flip_flop::trits_good(reset) {
+    if !logic::trits_good(reset) {
         return true;
     }
-    !flip_flop::trits_good(init)
+    !logic::trits_good(init)
 }
 
 // 2 and 4 of a flip-flop.
