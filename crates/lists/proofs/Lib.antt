@@ -13,3 +13,4 @@ pub mod Maps
 pub mod Joined
 pub mod Same
 pub mod UpFrom
+pub mod DistinctMap

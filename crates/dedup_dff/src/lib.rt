@@ -1,7 +1,5 @@
-Missing: proofs of the functions below (crate dedup_dff, issue 4): the merge of a flip-flop's bits over packed keys, and the thin requests by &mut LogState.
-
-// memory/src/lib.rs, add_dedup_dff without its numbers: equal bits of a flip-flop are kept once. A bit's key is its data net and its three trits,
-// packed into one word, so that the merge of two columns serves.
+// memory/src/lib.rs, add_dedup_dff: equal bits of a flip-flop are kept once. A bit's key is its data net and its three trits, packed into one word, so
+// that the merge of two columns serves.
 ghost use mathlib.Core.Path.{_≡_};
 ghost use mathlib.Core.List.{map};
 ghost use Prim.Native.Nat.{_+_, _-_, _<_, _≤_, min};
@@ -13,8 +11,8 @@ ghost use Rattle.rules.specs.Merge.{spread, addDedupDff};
 ghost use Rattle.flip_flop.specs.View.{controlsOf, flipFlop};
 ghost use Rattle.log.specs.Emission.{isOver, run};
 ghost use Rattle.log.specs.View.{stateOf, lent};
-ghost use Rattle.dedup.specs.Results.{limited, results};
-ghost use Rattle.dedup_dff.specs.Packs.{packOf, byteOf, packs, unpacked};
+ghost use Rattle.dedup.specs.Results.{limited, results, Scratch};
+ghost use Rattle.dedup_dff.specs.Packs.{packOf, byteOf, packs, unpacked, mergePacked, Bytes};
 use flip_flop::Controls;
 use log::LogState;
 
@@ -29,8 +27,12 @@ fn pack(reset: u8, clear: u8, init: u8) -> u32
 fn pack_trits(reset: &[u8], clear: &[u8], init: &[u8], to: &mut [u32]) -> usize
     ensures { λ r. ⌜ r ≡ min (length (now (to .entry))) (length (packs (now (reset .entry)) (now (clear .entry)) (now (init .entry)))) ⌝ }
     ensures { λ _. ⌜ now (to .exit) ≡ sets (now (to .entry)) 0 (packs (now (reset .entry)) (now (clear .entry)) (now (init .entry))) ⌝ }
+    ensures { λ _. ⌜ Bytes (now (reset .entry)) (now (clear .entry)) (now (init .entry)) ⌝ }
 {
-    let n = lists::lower(to.len(), lists::lower(reset.len(), lists::lower(clear.len(), init.len())));
+    let n = lists::lower(
+        to.len(),
+        lists::lower(reset.len(), lists::lower(clear.len(), init.len())),
+    );
     let mut i = 0;
     while i < n {
         to[i] = pack(reset[i], clear[i], init[i]);
@@ -52,11 +54,19 @@ fn unpack_part(ps: &[u32], by: u32, to: &mut [u8])
     }
 }
 
-// A flip-flop of kept bits, whose result nets go to each bit by its place, from `to` on.
-fn emit_kept_dff(log: &mut [u32], st: LogState, c: Controls, bits: &[u32], ps: &[u32], at: &[u32], out: &mut [u32], to: usize) -> LogState
+// A flip-flop of kept bits, whose result nets go to each bit by its place.
+fn emit_kept_dff(
+    log: &mut [u32],
+    st: LogState,
+    c: Controls,
+    bits: &[u32],
+    ps: &[u32],
+    at: &[u32],
+    out: &mut [u32],
+) -> LogState
     requires { ⌜ length (now ps) ≤ maxMerge ⌝ }
     ensures { λ r. ⌜ lent r (now (log .exit)) ≡ run (addDff (unpacked (controlsOf c) (now (bits .entry)) (now (ps .entry)))) (lent st (now (log .entry))) ⌝ }
-    ensures { λ r. ⌜ now (out .exit) ≡ results (isOver (stateOf r)) (now (out .entry)) to (spread (now (at .entry)) (addDff (unpacked (controlsOf c) (now (bits .entry)) (now (ps .entry))) (st .next) .value)) ⌝ }
+    ensures { λ r. ⌜ now (out .exit) ≡ results (isOver (stateOf r)) (now (out .entry)) 0 (spread (now (at .entry)) (addDff (unpacked (controlsOf c) (now (bits .entry)) (now (ps .entry))) (st .next) .value)) ⌝ }
 {
     let mut clear = [0u8; rules::MAX_MERGE];
     let mut reset = [0u8; rules::MAX_MERGE];
@@ -66,12 +76,42 @@ fn emit_kept_dff(log: &mut [u32], st: LogState, c: Controls, bits: &[u32], ps: &
     unpack_part(ps, 65536, &mut init);
     let n = ps.len();
     let after = log::emit_dff(log, st, c, bits, &clear[..n], &reset[..n], &init[..n]);
-    dedup::spread_results(st, after, at, out, to);
+    dedup::spread_results(st, after, at, out, 0);
     after
 }
 
-// A flip-flop in which equal bits are kept once.
-pub fn emit_dedup_dff(log: &mut [u32], st: LogState, c: Controls, bits: &[u32], clear: &[u8], reset: &[u8], init: &[u8], out: &mut [u32]) -> LogState
+// A flip-flop of the distinct bits, found in lent scratch: a bit's key is its data net and its packed trits.
+fn merge_packed(
+    log: &mut [u32],
+    st: LogState,
+    c: Controls,
+    bits: &[u32],
+    ps: &[u32],
+    out: &mut [u32],
+    kx: &mut [u32],
+    ky: &mut [u32],
+    at: &mut [u32],
+) -> LogState
+    requires { ⌜ Scratch (now kx) (now ky) (now at) ⌝ }
+    ensures { λ r. ⌜ lent r (now (log .exit)) ≡ run (mergePacked (controlsOf c) (limited (now (bits .entry))) (limited (now (ps .entry)))) (lent st (now (log .entry))) ⌝ }
+    ensures { λ r. ⌜ now (out .exit) ≡ results (isOver (stateOf r)) (now (out .entry)) 0 (mergePacked (controlsOf c) (limited (now (bits .entry))) (limited (now (ps .entry))) (st .next) .value) ⌝ }
+{
+    let n = lists::lower(rules::MAX_MERGE, lists::lower(bits.len(), ps.len()));
+    let k = distinct::merge(bits, ps, kx, ky, at);
+    emit_kept_dff(log, st, c, &kx[..k], &ky[..k], &at[..n], out)
+}
+
+// add_dedup_dff without its numbers: a flip-flop in which equal bits are kept once.
+pub fn emit_dedup_dff(
+    log: &mut [u32],
+    st: LogState,
+    c: Controls,
+    bits: &[u32],
+    clear: &[u8],
+    reset: &[u8],
+    init: &[u8],
+    out: &mut [u32],
+) -> LogState
     ensures { λ r. ⌜ lent r (now (log .exit)) ≡ run (addDedupDff (flipFlop (controlsOf c) (limited (now (bits .entry))) (now (clear .entry)) (now (reset .entry)) (now (init .entry)))) (lent st (now (log .entry))) ⌝ }
     ensures { λ r. ⌜ now (out .exit) ≡ results (isOver (stateOf r)) (now (out .entry)) 0 (addDedupDff (flipFlop (controlsOf c) (limited (now (bits .entry))) (now (clear .entry)) (now (reset .entry)) (now (init .entry))) (st .next) .value) ⌝ }
 {
@@ -80,36 +120,15 @@ pub fn emit_dedup_dff(log: &mut [u32], st: LogState, c: Controls, bits: &[u32], 
     let mut ky = [0u32; rules::MAX_MERGE];
     let mut at = [0u32; rules::MAX_MERGE];
     let n = pack_trits(reset, clear, init, &mut column);
-    let m = lists::lower(rules::MAX_MERGE, lists::lower(bits.len(), n));
-    let k = distinct::merge(bits, &column[..n], &mut kx, &mut ky, &mut at);
-    emit_kept_dff(log, st, c, &kx[..k], &ky[..k], &at[..m], out, 0)
+    merge_packed(
+        log,
+        st,
+        c,
+        bits,
+        &column[..n],
+        out,
+        &mut kx,
+        &mut ky,
+        &mut at,
+    )
 }
-
--- crates/dedup_dff/specs/Lib.antt
--- The definitions that the contracts of dedup_dff cite.
-pub mod Packs
-
--- crates/dedup_dff/specs/Packs.antt
--- The trits of a flip-flop's bit in one word, and a flip-flop of data and such words.
-use Prim.Native.Nat.{ℕ, _+_, _*_, _/_, _%_, _≤_}
-use mathlib.Core.List.{List, map}
-use lib.ListN.{length}
-use Rattle.lists.specs.Lists.{pairs}
-use Rattle.rules.specs.Limits.{maxMerge}
-use Rattle.rules.specs.Cell.{Controls, FlipFlop}
-use Rattle.flip_flop.specs.View.{flipFlop}
-
--- reset, clear and init, a byte each
-abbrev pub packOf : ℕ → ℕ → ℕ → ℕ
-packOf r c i = r + (256 * c + 65536 * i)
-
--- the byte of a word: 1, 256 or 65536 is its weight
-abbrev pub byteOf : ℕ → ℕ → ℕ
-byteOf by p = p / by % 256
-
--- of each bit, as many as all three have
-unfoldable pub packs : List ℕ → List ℕ → List ℕ → List ℕ
-packs r c i = map (λ t. packOf (t .0) (t .1 .0) (t .1 .1)) (pairs r (pairs c i))
-
-unfoldable pub unpacked : Controls → List ℕ → List ℕ → FlipFlop
-unpacked c bits ps = flipFlop c bits (map (byteOf 256) ps) (map (byteOf 1) ps) (map (byteOf 65536) ps)
