@@ -477,7 +477,8 @@ pub fn remap_reset_over_enable(log: &mut [u32], st: LogState, c: Controls) -> Co
         return ControlsAnswer::Refused(number);
     }
     let start = log::dry_start(st);
-    let dry = emit_remap(&mut log[..0], start, c);
+    let none = 0;
+    let dry = emit_remap(&mut log[..none], start, c);
     let after = dry.state;
     let n = log::dry_refusal(log.len(), st, after);
     if n != 0 {
