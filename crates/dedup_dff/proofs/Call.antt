@@ -1,11 +1,10 @@
 -- The numbers of a merging flip-flop, and the nets that it takes.
-use mathlib.Core.Path.{_≡_, refl, sym, ap, _∙_}
-use mathlib.Core.Logic.{_≢_}
+use mathlib.Core.Path.{_≡_, ap}
 use Prim.Native.Nat.{ℕ, _+_, _<_, _≤_}
 use native.Mathlib.Omega.{arith}
 use mathlib.Core.List.{List, []}
 use lib.Dec.{ltb}
-use lib.ListN.{length, take, length-map, length-take}
+use lib.ListN.{length, length-map, length-take}
 use borrow.Author.Tests.{lt-ltb, le-ltb, ltb-false}
 use Rattle.lists.specs.Choice.{_orElse_}
 use Rattle.lists.specs.Lists.{pairs}
