@@ -13,11 +13,10 @@ use Rattle.lists.proofs.Choice.{else-zero, refused-not}
 use Rattle.lists.proofs.Distinct.{length-kept}
 use Rattle.lists.proofs.Pairs.{pairs-size}
 use Rattle.rules.specs.Limits.{maxMerge, maxNets, X}
-use Rattle.rules.specs.Value.{Value}
 use Rattle.rules.specs.Cell.{Controls, FlipFlop}
 use Rattle.rules.specs.Log.{_>>=_, done, request, addDff, LogState, startNet}
 use Rattle.rules.specs.Merge.{same4, dffKeys, dffOf, addDedupDff}
-use Rattle.rules.specs.Conditions.{longValue, noRoom}
+use Rattle.rules.specs.Conditions.{longValue}
 use Rattle.rules.specs.Refusals.{dffNumber, mergeDffNumber, resultRefusal}
 use Rattle.rules.proofs.Counted.{start-le}
 use Rattle.flip_flop.specs.View.{flipFlop}
@@ -38,14 +37,6 @@ module _ (next : ℕ) (f : FlipFlop) where
   pub number-few : mergeDffNumber next f ≡ 0 → length (f .bits) ≤ maxMerge
   unfolding mergeDffNumber longValue
   number-few e = ltb-false maxMerge (length (f .bits)) (refused-not (ltb maxMerge (length (f .bits))) 1 (dffNumber next f) (omega arith) e .0)
-
-pub result-20 : (room : ℕ) (a : Value) → room < length a → 20 ≡ resultRefusal room a
-unfolding resultRefusal noRoom
-result-20 room a h = rw (lt-ltb room (length a) h)
-
-pub result-0 : (room : ℕ) (a : Value) → length a ≤ room → 0 ≡ resultRefusal room a
-unfolding resultRefusal noRoom
-result-0 room a h = rw (le-ltb room (length a) h)
 
 -- ---- the nets
 few-keys : (f : FlipFlop) → length (kept same4 (dffKeys f)) ≤ length (f .bits)

@@ -171,10 +171,7 @@ fn input_number(
     if n != 0 {
         return n;
     }
-    if room < bits.len() {
-        return 20;
-    }
-    0
+    requests::result_number(room, bits)
 }
 
 // 20 and 21 of the log, by a dry run.

@@ -13,22 +13,13 @@ use Rattle.lists.proofs.Choice.{else-zero, else-first, else-rest, refused-not, 
 use Rattle.rules.specs.Limits.{maxMerge}
 use Rattle.rules.specs.Value.{Value, Control, goodValue}
 use Rattle.rules.specs.Merge.{addDedupMux, addBitwiseMux}
-use Rattle.rules.specs.Conditions.{unequal, badValue, longValue, noRoom}
+use Rattle.rules.specs.Conditions.{unequal, badValue, longValue}
 use Rattle.rules.specs.Refusals.{muxNumber, bitwiseNumber, resultRefusal}
 use Rattle.requests.proofs.Numbers.{mux-lens}
 use Rattle.dedup.specs.Results.{limited}
 use Rattle.dedup.specs.Runs.{bitsOf, bitwiseOf}
 use Rattle.dedup.proofs.Found.{limited-all}
 use Rattle.merges.specs.Lens.{bitwiseLens}
-
-module _ (room : ℕ) (a : Value) where
-  pub result-20 : room < length a → 20 ≡ resultRefusal room a
-  unfolding resultRefusal noRoom
-  result-20 h = rw (lt-ltb room (length a) h)
-
-  pub result-0 : length a ≤ room → 0 ≡ resultRefusal room a
-  unfolding resultRefusal noRoom
-  result-0 h = rw (le-ltb room (length a) h)
 
 -- ---- the bits of a call without a number
 module _ (next room : ℕ) (c : Control) (a b : Value) (e : (muxNumber next c a b orElse resultRefusal room a) ≡ 0) where

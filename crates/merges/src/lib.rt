@@ -23,16 +23,7 @@ fn mux_input_number(room: usize, next: u32, select: ControlNet, a: &[u32], b: &[
     if n != 0 {
         return n;
     }
-    result_number(room, a)
-}
-
-fn result_number(room: usize, a: &[u32]) -> u32
-    ensures { λ r. ⌜ r ≡ resultRefusal room (now (a .entry)) ⌝ }
-{
-    if room < a.len() {
-        return 20;
-    }
-    0
+    requests::result_number(room, a)
 }
 
 // 20 and 21 of a merging mux, by a run without a log.
@@ -119,7 +110,7 @@ fn bitwise_input_number(room: usize, next: u32, s: &[u32], a: &[u32], b: &[u32])
     if n != 0 {
         return n;
     }
-    result_number(room, a)
+    requests::result_number(room, a)
 }
 
 // 20 and 21 of a bitwise mux, by a run without a log.
