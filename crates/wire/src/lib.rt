@@ -18,6 +18,9 @@ fn answer_whole(given: &[u32], answer: &mut [u32], words: &mut [u32], trits: &mu
     if op <= 12 {
         return answer_merges::answer(given, answer, words, trits);
     }
+    if op <= 30 {
+        return answer_memories::answer(given, answer, words, trits);
+    }
     if op == 40 {
         return answer_layouts::answer(given, answer, words, trits);
     }
