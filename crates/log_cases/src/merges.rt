@@ -1,0 +1,401 @@
+// The merging muxes without their numbers: four lengths, three rooms, four next free nets, and both kinds of select. What lies past the room is not
+// stored. The distinct pairs are found here by a plain search.
+use crate::tally;
+use crate::tally::Tally;
+use crate::words::fill;
+use crate::words::minus;
+use crate::words::net_above;
+use crate::words::net_at;
+use crate::words::paint;
+use crate::words::paint_from;
+use crate::words::plus;
+use crate::words::put;
+use crate::words::put_all;
+use crate::words::same;
+use crate::words::word;
+use log::LogState;
+use value::ControlNet;
+use value::Net;
+
+fn word_at(s: &[u32], i: usize) -> u32 {
+    if i < s.len() {
+        return s[i];
+    }
+    0
+}
+
+// The place of a pair among the kept ones, or their number.
+fn place_of(kx: &[u32], ky: &[u32], kept: usize, x: u32, y: u32) -> usize {
+    let mut j: usize = 0;
+    while j < kept {
+        if word_at(kx, j) == x {
+            if word_at(ky, j) == y {
+                return j;
+            }
+        }
+        j += 1;
+    }
+    kept
+}
+
+// A pair more, where its place is past the kept ones.
+fn keep_pair(kx: &mut [u32], ky: &mut [u32], place: usize, kept: usize, x: u32, y: u32) -> usize {
+    if place < kept {
+        return kept;
+    }
+    put(kx, kept, x);
+    put(ky, kept, y);
+    plus(kept, 1)
+}
+
+// The distinct pairs and each bit's place among them; how many there are.
+fn keep(a: &[u32], b: &[u32], kx: &mut [u32], ky: &mut [u32], at: &mut [u32]) -> usize {
+    let mut kept: usize = 0;
+    let mut i: usize = 0;
+    while i < a.len() {
+        let x = word_at(a, i);
+        let y = word_at(b, i);
+        let place = place_of(kx, ky, kept, x, y);
+        put(at, i, word(place));
+        kept = keep_pair(kx, ky, place, kept, x, y);
+        i += 1;
+    }
+    kept
+}
+
+// The entry of a mux of the kept pairs.
+fn put_mux(
+    want: &mut [u32],
+    used: usize,
+    next: u32,
+    neg: bool,
+    net: u32,
+    kept: usize,
+    kx: &[u32],
+    ky: &[u32],
+) {
+    let head = [5u32, word(kept), next, word(plus(1, plus(kept, kept))), net];
+    let x = value::value_slice(kx, 0, kept);
+    let y = value::value_slice(ky, 0, kept);
+    let first = plus(used, 5);
+    let second = plus(first, kept);
+    put_all(want, used, &head);
+    if neg {
+        put_all(want, second, x);
+        put_all(want, first, y);
+    } else {
+        put_all(want, first, x);
+        put_all(want, second, y);
+    }
+}
+
+// The net of each bit, from a place on.
+fn put_nets(out: &mut [u32], to: usize, next: u32, at: &[u32], n: usize) {
+    let mut i: usize = 0;
+    while i < n {
+        put(out, plus(to, i), net_above(next, word_at(at, i) as usize));
+        i += 1;
+    }
+}
+
+// What a mux of the bits from i to e leaves: its entry, the nets of these bits, and the state.
+fn expect_run(
+    want: &mut [u32],
+    st: LogState,
+    neg: bool,
+    net: u32,
+    a: &[u32],
+    b: &[u32],
+    i: usize,
+    e: usize,
+    nets: &mut [u32],
+    kx: &mut [u32],
+    ky: &mut [u32],
+    at: &mut [u32],
+) -> LogState {
+    let x = value::value_slice(a, i, e);
+    let y = value::value_slice(b, i, e);
+    let kept = keep(x, y, kx, ky, at);
+    put_mux(want, st.used, st.next, neg, net, kept, kx, ky);
+    put_nets(nets, i, st.next, at, x.len());
+    LogState {
+        used: plus(st.used, plus(5, plus(kept, kept))),
+        next: net_above(st.next, kept),
+    }
+}
+
+// Whether a run of equal neighbours starts at i.
+fn starts_run(s: &[u32], i: usize) -> bool {
+    if i == 0 {
+        return true;
+    }
+    word_at(s, i) != word_at(s, minus(i, 1))
+}
+
+// The end of the run of equal neighbours that starts at i.
+fn run_end(s: &[u32], i: usize) -> usize {
+    let mut e = plus(i, 1);
+    while e < s.len() {
+        if word_at(s, e) != word_at(s, i) {
+            return e;
+        }
+        e += 1;
+    }
+    s.len()
+}
+
+// What a bitwise mux leaves.
+fn expect_runs(
+    want: &mut [u32],
+    st: LogState,
+    s: &[u32],
+    a: &[u32],
+    b: &[u32],
+    nets: &mut [u32],
+    kx: &mut [u32],
+    ky: &mut [u32],
+    at: &mut [u32],
+) -> LogState {
+    let mut state = st;
+    let mut i: usize = 0;
+    while i < s.len() {
+        if starts_run(s, i) {
+            let e = run_end(s, i);
+            state = expect_run(
+                want,
+                state,
+                false,
+                word_at(s, i),
+                a,
+                b,
+                i,
+                e,
+                nets,
+                kx,
+                ky,
+                at,
+            );
+        }
+        i += 1;
+    }
+    state
+}
+
+// A merge: whether it is the bitwise one, whether its select is Neg, and the next free net.
+struct Case {
+    bitwise: bool,
+    neg: bool,
+    next: u32,
+}
+
+fn length_at(k: u32) -> usize {
+    match k {
+        0 => 0,
+        1 => 1,
+        2 => 4095,
+        _ => 4096,
+    }
+}
+
+fn next_at(k: u32) -> u32 {
+    match k {
+        0 => 2,
+        1 => 100,
+        2 => 5000,
+        _ => 16777216,
+    }
+}
+
+fn case_at(bitwise: bool, k: u32) -> Case {
+    Case {
+        bitwise,
+        neg: k / 4 % 2 == 1,
+        next: next_at(k / 8 % 4),
+    }
+}
+
+// The room: all words, one word short, and seven more.
+fn room_at(k: u32, words: usize) -> usize {
+    match k {
+        0 => words,
+        1 => minus(words, 1),
+        _ => plus(words, 7),
+    }
+}
+
+fn expect(
+    c: Case,
+    want: &mut [u32],
+    s: &[u32],
+    a: &[u32],
+    b: &[u32],
+    nets: &mut [u32],
+    kx: &mut [u32],
+    ky: &mut [u32],
+    at: &mut [u32],
+) -> LogState {
+    let st = LogState {
+        used: 3,
+        next: c.next,
+    };
+    if c.bitwise {
+        return expect_runs(want, st, s, a, b, nets, kx, ky, at);
+    }
+    let net = if c.neg { 2 } else { 1 };
+    expect_run(want, st, c.neg, net, a, b, 0, a.len(), nets, kx, ky, at)
+}
+
+fn select_of(neg: bool) -> ControlNet {
+    if neg {
+        return ControlNet::Neg(Net(2));
+    }
+    ControlNet::Pos(Net(1))
+}
+
+// The call, in the room lent.
+fn call(
+    c: Case,
+    room: usize,
+    log: &mut [u32],
+    s: &[u32],
+    a: &[u32],
+    b: &[u32],
+    out: &mut [u32],
+) -> LogState {
+    let st = LogState {
+        used: 3,
+        next: c.next,
+    };
+    if log.len() < room {
+        return st;
+    }
+    if c.bitwise {
+        return dedup::emit_bitwise_mux(&mut log[..room], st, s, a, b, out);
+    }
+    dedup::emit_dedup_mux(&mut log[..room], st, select_of(c.neg), a, b, out)
+}
+
+fn same_state(a: LogState, b: LogState) -> bool {
+    if a.used != b.used {
+        return false;
+    }
+    a.next == b.next
+}
+
+// The call and its comparison: every word of the log and of the result nets.
+fn compare(
+    c: Case,
+    wanted: LogState,
+    room: usize,
+    s: &[u32],
+    a: &[u32],
+    b: &[u32],
+    log: &mut [u32],
+    out: &mut [u32],
+    want: &[u32],
+    nets: &[u32],
+) -> bool {
+    paint(log);
+    paint(out);
+    let after = call(c, room, log, s, a, b, out);
+    if !same_state(after, wanted) {
+        return false;
+    }
+    if !same(log, want) {
+        return false;
+    }
+    same(out, nets)
+}
+
+fn try_case(
+    t: Tally,
+    c: Case,
+    mode: u32,
+    s: &[u32],
+    a: &[u32],
+    b: &[u32],
+    log: &mut [u32],
+    want: &mut [u32],
+    out: &mut [u32],
+    nets: &mut [u32],
+    kx: &mut [u32],
+    ky: &mut [u32],
+    at: &mut [u32],
+) -> Tally {
+    paint(want);
+    paint(nets);
+    let wanted = expect(c, want, s, a, b, nets, kx, ky, at);
+    let room = room_at(mode, wanted.used);
+    paint_from(want, room);
+    let ok = compare(c, wanted, room, s, a, b, log, out, want, nets);
+    tally::add(t, 0, ok)
+}
+
+// Selects in runs of nine.
+fn fill_selects(s: &mut [u32], next: u32) {
+    let mut i: usize = 0;
+    while i < s.len() {
+        s[i] = net_at(next, i / 9, 1);
+        i += 1;
+    }
+}
+
+fn set_and_try(
+    t: Tally,
+    bitwise: bool,
+    k: u32,
+    log: &mut [u32],
+    want: &mut [u32],
+    s: &mut [u32],
+    a: &mut [u32],
+    b: &mut [u32],
+    out: &mut [u32],
+    nets: &mut [u32],
+    kx: &mut [u32],
+    ky: &mut [u32],
+    at: &mut [u32],
+) -> Tally {
+    let c = case_at(bitwise, k);
+    let n = length_at(k % 4);
+    fill(a, c.next, 0);
+    fill(b, c.next, 2);
+    fill_selects(s, c.next);
+    try_case(
+        t,
+        c,
+        k / 32 % 3,
+        value::value_slice(s, 0, n),
+        value::value_slice(a, 0, n),
+        value::value_slice(b, 0, n),
+        log,
+        want,
+        out,
+        nets,
+        kx,
+        ky,
+        at,
+    )
+}
+
+// All the cases of one of the two merges.
+pub(crate) fn cases(
+    bitwise: bool,
+    log: &mut [u32],
+    want: &mut [u32],
+    s: &mut [u32],
+    a: &mut [u32],
+    b: &mut [u32],
+    out: &mut [u32],
+    nets: &mut [u32],
+    kx: &mut [u32],
+    ky: &mut [u32],
+    at: &mut [u32],
+) -> Tally {
+    let mut t = tally::start();
+    let mut k: u32 = 0;
+    while k < 96 {
+        t = set_and_try(t, bitwise, k, log, want, s, a, b, out, nets, kx, ky, at);
+        k += 1;
+    }
+    t
+}
