@@ -370,6 +370,14 @@ fn set_nets(c: Case, a: &mut [u32], b: &mut [u32]) {
     }
 }
 
+// The log expected.
+fn want_entry(want: &mut [u32], n: u32, c: Case, a: &[u32], b: &[u32], trits: &[u8]) {
+    paint(want);
+    if n == 0 {
+        put_entry(want, c, a, b, trits);
+    }
+}
+
 // A case: every word of the log is compared.
 fn try_case(
     t: Tally,
@@ -381,11 +389,8 @@ fn try_case(
     trits: &[u8],
 ) -> Tally {
     let n = number(c);
+    want_entry(want, n, c, a, b, trits);
     paint(log);
-    paint(want);
-    if n == 0 {
-        put_entry(want, c, a, b, trits);
-    }
     let r = call_in(log, c, a, b, trits);
     let ok = answered(c, n, r);
     let kept = same(log, want);

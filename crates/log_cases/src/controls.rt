@@ -164,13 +164,18 @@ fn call_pos(log: &mut [u32], room: usize, next: u32, w: Wire) -> NetAnswer {
     requests::into_pos(&mut log[..room], st, control(w))
 }
 
-fn try_pos(t: Tally, log: &mut [u32], want: &mut [u32], w: Wire, room: usize, next: u32) -> Tally {
-    let n = pos_number(w, room, next);
-    paint(log);
+// The log expected.
+fn want_pos(want: &mut [u32], n: u32, w: Wire, next: u32) {
     paint(want);
     if n == 0 {
         put_not(want, 3, w, next);
     }
+}
+
+fn try_pos(t: Tally, log: &mut [u32], want: &mut [u32], w: Wire, room: usize, next: u32) -> Tally {
+    let n = pos_number(w, room, next);
+    want_pos(want, n, w, next);
+    paint(log);
     let r = call_pos(log, room, next, w);
     let ok = net_answered(n, w, next, r);
     let kept = same(log, want);
@@ -384,13 +389,18 @@ fn put_remap(want: &mut [u32], c: Remap) {
     }
 }
 
-fn try_remap(t: Tally, log: &mut [u32], want: &mut [u32], c: Remap) -> Tally {
-    let n = remap_number(c);
-    paint(log);
+// The log expected.
+fn want_remap(want: &mut [u32], n: u32, c: Remap) {
     paint(want);
     if n == 0 {
         put_remap(want, c);
     }
+}
+
+fn try_remap(t: Tally, log: &mut [u32], want: &mut [u32], c: Remap) -> Tally {
+    let n = remap_number(c);
+    want_remap(want, n, c);
+    paint(log);
     let r = call_remap(log, c);
     let ok = remap_answered(n, c, r);
     let kept = same(log, want);

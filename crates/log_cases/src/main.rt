@@ -50,39 +50,11 @@ fn try_controls() {
     tally::report(u);
 }
 
-fn try_merge(
-    bitwise: bool,
-    log: &mut [u32],
-    want: &mut [u32],
-    a: &mut [u32],
-    b: &mut [u32],
-) -> tally::Tally {
-    let mut s = [0u32; NETS];
-    let mut out = [0u32; NETS];
-    let mut nets = [0u32; NETS];
-    let mut kx = [0u32; NETS];
-    let mut ky = [0u32; NETS];
-    let mut at = [0u32; NETS];
-    merges::cases(
-        bitwise,
-        log,
-        want,
-        &mut s,
-        a,
-        b,
-        &mut out,
-        &mut nets,
-        &mut kx,
-        &mut ky,
-        &mut at,
-    )
-}
-
-fn try_merges(log: &mut [u32], want: &mut [u32], a: &mut [u32], b: &mut [u32]) {
-    let t = try_merge(false, log, want, a, b);
+fn try_merges(log: &mut [u32], want: &mut [u32]) {
+    let t = merges::cases(false, log, want);
     say(b"emit_dedup_mux");
     tally::report(t);
-    let u = try_merge(true, log, want, a, b);
+    let u = merges::cases(true, log, want);
     say(b"emit_bitwise_mux");
     tally::report(u);
 }
@@ -96,5 +68,5 @@ fn main() {
     words::fill_trits(&mut trits);
     all_cells(&mut log, &mut want, &mut a, &mut b, &trits);
     try_controls();
-    try_merges(&mut log, &mut want, &mut a, &mut b);
+    try_merges(&mut log, &mut want);
 }

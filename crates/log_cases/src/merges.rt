@@ -17,6 +17,9 @@ use log::LogState;
 use value::ControlNet;
 use value::Net;
 
+// The nets that a buffer has room for.
+const NETS: usize = 4100;
+
 fn word_at(s: &[u32], i: usize) -> u32 {
     if i < s.len() {
         return s[i];
@@ -144,6 +147,26 @@ fn run_end(s: &[u32], i: usize) -> usize {
     s.len()
 }
 
+// What a bitwise mux leaves of the run that starts at i, if one does.
+fn expect_bit(
+    want: &mut [u32],
+    st: LogState,
+    s: &[u32],
+    a: &[u32],
+    b: &[u32],
+    i: usize,
+    nets: &mut [u32],
+    kx: &mut [u32],
+    ky: &mut [u32],
+    at: &mut [u32],
+) -> LogState {
+    if !starts_run(s, i) {
+        return st;
+    }
+    let e = run_end(s, i);
+    expect_run(want, st, false, word_at(s, i), a, b, i, e, nets, kx, ky, at)
+}
+
 // What a bitwise mux leaves.
 fn expect_runs(
     want: &mut [u32],
@@ -159,23 +182,7 @@ fn expect_runs(
     let mut state = st;
     let mut i: usize = 0;
     while i < s.len() {
-        if starts_run(s, i) {
-            let e = run_end(s, i);
-            state = expect_run(
-                want,
-                state,
-                false,
-                word_at(s, i),
-                a,
-                b,
-                i,
-                e,
-                nets,
-                kx,
-                ky,
-                at,
-            );
-        }
+        state = expect_bit(want, state, s, a, b, i, nets, kx, ky, at);
         i += 1;
     }
     state
@@ -243,6 +250,22 @@ fn expect(
     }
     let net = if c.neg { 2 } else { 1 };
     expect_run(want, st, c.neg, net, a, b, 0, a.len(), nets, kx, ky, at)
+}
+
+fn paint_and_expect(
+    c: Case,
+    want: &mut [u32],
+    s: &[u32],
+    a: &[u32],
+    b: &[u32],
+    nets: &mut [u32],
+    kx: &mut [u32],
+    ky: &mut [u32],
+    at: &mut [u32],
+) -> LogState {
+    paint(want);
+    paint(nets);
+    expect(c, want, s, a, b, nets, kx, ky, at)
 }
 
 fn select_of(neg: bool) -> ControlNet {
@@ -322,9 +345,7 @@ fn try_case(
     ky: &mut [u32],
     at: &mut [u32],
 ) -> Tally {
-    paint(want);
-    paint(nets);
-    let wanted = expect(c, want, s, a, b, nets, kx, ky, at);
+    let wanted = paint_and_expect(c, want, s, a, b, nets, kx, ky, at);
     let room = room_at(mode, wanted.used);
     paint_from(want, room);
     let ok = compare(c, wanted, room, s, a, b, log, out, want, nets);
@@ -340,61 +361,47 @@ fn fill_selects(s: &mut [u32], next: u32) {
     }
 }
 
-fn set_and_try(
-    t: Tally,
-    bitwise: bool,
-    k: u32,
-    log: &mut [u32],
-    want: &mut [u32],
-    s: &mut [u32],
-    a: &mut [u32],
-    b: &mut [u32],
-    out: &mut [u32],
-    nets: &mut [u32],
-    kx: &mut [u32],
-    ky: &mut [u32],
-    at: &mut [u32],
-) -> Tally {
+fn set_nets(next: u32, s: &mut [u32], a: &mut [u32], b: &mut [u32]) {
+    fill(a, next, 0);
+    fill(b, next, 2);
+    fill_selects(s, next);
+}
+
+fn set_and_try(t: Tally, bitwise: bool, k: u32, log: &mut [u32], want: &mut [u32]) -> Tally {
+    let mut s = [0u32; NETS];
+    let mut a = [0u32; NETS];
+    let mut b = [0u32; NETS];
+    let mut out = [0u32; NETS];
+    let mut nets = [0u32; NETS];
+    let mut kx = [0u32; NETS];
+    let mut ky = [0u32; NETS];
+    let mut at = [0u32; NETS];
     let c = case_at(bitwise, k);
     let n = length_at(k % 4);
-    fill(a, c.next, 0);
-    fill(b, c.next, 2);
-    fill_selects(s, c.next);
+    set_nets(c.next, &mut s, &mut a, &mut b);
     try_case(
         t,
         c,
         k / 32 % 3,
-        value::value_slice(s, 0, n),
-        value::value_slice(a, 0, n),
-        value::value_slice(b, 0, n),
+        value::value_slice(&s, 0, n),
+        value::value_slice(&a, 0, n),
+        value::value_slice(&b, 0, n),
         log,
         want,
-        out,
-        nets,
-        kx,
-        ky,
-        at,
+        &mut out,
+        &mut nets,
+        &mut kx,
+        &mut ky,
+        &mut at,
     )
 }
 
 // All the cases of one of the two merges.
-pub(crate) fn cases(
-    bitwise: bool,
-    log: &mut [u32],
-    want: &mut [u32],
-    s: &mut [u32],
-    a: &mut [u32],
-    b: &mut [u32],
-    out: &mut [u32],
-    nets: &mut [u32],
-    kx: &mut [u32],
-    ky: &mut [u32],
-    at: &mut [u32],
-) -> Tally {
+pub(crate) fn cases(bitwise: bool, log: &mut [u32], want: &mut [u32]) -> Tally {
     let mut t = tally::start();
     let mut k: u32 = 0;
     while k < 96 {
-        t = set_and_try(t, bitwise, k, log, want, s, a, b, out, nets, kx, ky, at);
+        t = set_and_try(t, bitwise, k, log, want);
         k += 1;
     }
     t

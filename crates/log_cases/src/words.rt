@@ -92,8 +92,11 @@ fn cell_net(next: u32, i: usize) -> u32 {
         return 1;
     }
     let top = top_of(next);
+    let k = (i % 8192) as u32;
     if i % 2 == 0 {
-        return 2 + (i % 8192) as u32 % (top - 2);
+        if k < top - 2 {
+            return 2 + k;
+        }
     }
     top - 1
 }
@@ -144,10 +147,14 @@ pub(crate) fn put_all(s: &mut [u32], at: usize, nets: &[u32]) {
     }
 }
 
+fn wide(trit: u8) -> u32 {
+    trit as u32
+}
+
 pub(crate) fn put_trits(s: &mut [u32], at: usize, trits: &[u8]) {
     let mut i = 0;
     while i < trits.len() {
-        put(s, plus(at, i), trits[i] as u32);
+        put(s, plus(at, i), wide(trits[i]));
         i += 1;
     }
 }

@@ -1,52 +1,40 @@
+-- `log_cases::cells::call_in` is safe and ends.
+use native.Mathlib.Omega.{arith}
+use lib.ListN.{length, length-take}
 use borrow.Author.Needs.{needs}
 use Rattle.log_cases.proofs.cells.call_in.Statement.{statement}
 use Rattle.log_cases.proofs.cells.call_in.Tie as tie
-use Rattle.log_cases.proofs.cells.call_in.Reads as reads
-use Rattle.log_cases.proofs.cells.call_in.Lts as lts
-use Rattle.log_cases.proofs.cells.call.Reads as call-reads
-use Rattle.log_cases.proofs.cells.call_dff.Reads as call-dff-reads
 
--- src/cells.rt:320:9
 returns : tie.Need-returns
 returns c = search needs
 
--- src/cells.rt:327:25
 slice-relend-prefix-call-dff : tie.Need-slice-relend-prefix-call-dff
 slice-relend-prefix-call-dff c = search needs
 
--- src/cells.rt:327:25
 slice-aggregate-call-dff : tie.Need-slice-aggregate-call-dff
-slice-aggregate-call-dff c = ?
+slice-aggregate-call-dff c = simp length-take (omega arith)
 
--- src/cells.rt:327:9
 call-dff-requires : tie.Need-call-dff-requires
 call-dff-requires c κs = search needs
 
--- src/cells.rt:327:9
 same-length : tie.Need-same-length
 same-length c = search needs
 
--- src/cells.rt:327:9
 returns-2 : tie.Need-returns-2
 returns-2 c = search needs
 
--- src/cells.rt:329:10
 slice-relend-prefix-call : tie.Need-slice-relend-prefix-call
 slice-relend-prefix-call c = search needs
 
--- src/cells.rt:329:10
 slice-aggregate-call : tie.Need-slice-aggregate-call
-slice-aggregate-call c = ?
+slice-aggregate-call c = simp length-take (omega arith)
 
--- src/cells.rt:329:5
 call-requires : tie.Need-call-requires
 call-requires c κs = search needs
 
--- src/cells.rt:317:1
 same-length-2 : tie.Need-same-length-2
 same-length-2 c = search needs
 
--- src/cells.rt:317:1
 returns-3 : tie.Need-returns-3
 returns-3 c = search needs
 

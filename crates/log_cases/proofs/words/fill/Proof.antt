@@ -1,50 +1,44 @@
+-- `log_cases::words::fill` is safe and ends.
+use mathlib.Core.Path.{_≡_, refl}
+use Prim.Native.Nat.{_-_}
+use native.Mathlib.Omega.{arith}
+use lib.ListN.{length, length-set}
+use borrow.Author.Needs.{needs}
 use Rattle.log_cases.proofs.words.fill.Statement.{statement}
 use Rattle.log_cases.proofs.words.fill.Tie as tie
-use Rattle.log_cases.proofs.words.fill.Reads as reads
-use Rattle.log_cases.proofs.words.fill.Lts as lts
-use Rattle.log_cases.proofs.words.net_at.Reads as net-at-reads
 
 abbrev Inv-loop : tie.InvT-loop
-Inv-loop s₀ next turn i₀ s i = ?
+Inv-loop s₀ next turn i₀ s i = length s ≡ length s₀
 
 abbrev μ-loop : tie.MeasureT-loop
-μ-loop s₀ next turn i₀ s i = ?
+μ-loop s₀ next turn i₀ s i = length s₀ - i
 
--- src/words.rt:98:5
 loop-holds : tie.Need-loop-holds Inv-loop μ-loop
-loop-holds c = ?
+loop-holds c = refl
 
--- src/words.rt:99:16
 net-at-requires : tie.Need-net-at-requires Inv-loop μ-loop
-net-at-requires c κs = ?
+net-at-requires c κs = search needs
 
--- src/words.rt:99:9
 mul-s : tie.Need-mul-s Inv-loop μ-loop
-mul-s c = ?
+mul-s c = omega arith
 
--- src/words.rt:99:9
 slice-write-s : tie.Need-slice-write-s Inv-loop μ-loop
-slice-write-s c = ?
+slice-write-s c = omega arith
 
--- src/words.rt:100:9
 add-i : tie.Need-add-i Inv-loop μ-loop
-add-i c = ?
+add-i c = omega arith
 
--- src/words.rt:98:5
 loop-less : tie.Need-loop-less Inv-loop μ-loop
-loop-less c = ?
+loop-less c = omega arith
 
--- src/words.rt:98:5
 loop-again : tie.Need-loop-again Inv-loop μ-loop
-loop-again c = ?
+loop-again c = simp length-set (omega arith)
 
--- src/words.rt:96:1
 same-length : tie.Need-same-length Inv-loop μ-loop
-same-length c = ?
+same-length c = c .before .loop .inv
 
--- src/words.rt:96:1
 returns : tie.Need-returns Inv-loop μ-loop
-returns c = ?
+returns c = tt
 
 pub fill-spec : {M : Type 1} → statement M
 fill-spec =

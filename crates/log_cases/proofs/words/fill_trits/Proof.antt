@@ -1,45 +1,40 @@
+-- `log_cases::words::fill_trits` is safe and ends.
+use mathlib.Core.Path.{_≡_, refl}
+use Prim.Native.Nat.{_-_}
+use native.Mathlib.Omega.{arith}
+use lib.ListN.{length, length-set}
 use Rattle.log_cases.proofs.words.fill_trits.Statement.{statement}
 use Rattle.log_cases.proofs.words.fill_trits.Tie as tie
-use Rattle.log_cases.proofs.words.fill_trits.Reads as reads
-use Rattle.log_cases.proofs.words.fill_trits.Lts as lts
 
 abbrev Inv-loop : tie.InvT-loop
-Inv-loop s₀ i₀ s i = ?
+Inv-loop s₀ i₀ s i = length s ≡ length s₀
 
 abbrev μ-loop : tie.MeasureT-loop
-μ-loop s₀ i₀ s i = ?
+μ-loop s₀ i₀ s i = length s₀ - i
 
--- src/words.rt:106:5
 loop-holds : tie.Need-loop-holds Inv-loop μ-loop
-loop-holds c = ?
+loop-holds c = refl
 
--- src/words.rt:107:16
 cast-s : tie.Need-cast-s Inv-loop μ-loop
-cast-s c = ?
+cast-s c = omega arith
 
--- src/words.rt:107:9
 slice-write-s : tie.Need-slice-write-s Inv-loop μ-loop
-slice-write-s c = ?
+slice-write-s c = omega arith
 
--- src/words.rt:108:9
 add-i : tie.Need-add-i Inv-loop μ-loop
-add-i c = ?
+add-i c = omega arith
 
--- src/words.rt:106:5
 loop-less : tie.Need-loop-less Inv-loop μ-loop
-loop-less c = ?
+loop-less c = omega arith
 
--- src/words.rt:106:5
 loop-again : tie.Need-loop-again Inv-loop μ-loop
-loop-again c = ?
+loop-again c = simp length-set (omega arith)
 
--- src/words.rt:104:1
 same-length : tie.Need-same-length Inv-loop μ-loop
-same-length c = ?
+same-length c = c .before .loop .inv
 
--- src/words.rt:104:1
 returns : tie.Need-returns Inv-loop μ-loop
-returns c = ?
+returns c = tt
 
 pub fill-trits-spec : {M : Type 1} → statement M
 fill-trits-spec =

@@ -1,55 +1,47 @@
+-- `log_cases::words::put_trits` is safe and ends.
+use mathlib.Core.Path.{_≡_, refl}
+use Prim.Native.Nat.{_-_}
+use native.Mathlib.Omega.{arith}
+use lib.ListN.{length}
+use borrow.Author.Needs.{needs}
 use Rattle.log_cases.proofs.words.put_trits.Statement.{statement}
 use Rattle.log_cases.proofs.words.put_trits.Tie as tie
-use Rattle.log_cases.proofs.words.put_trits.Reads as reads
-use Rattle.log_cases.proofs.words.put_trits.Lts as lts
-use Rattle.log_cases.proofs.words.plus.Reads as plus-reads
-use Rattle.log_cases.proofs.words.put.Reads as put-reads
 
 abbrev Inv-loop : tie.InvT-loop
-Inv-loop s₀ at trits i₀ s i = ?
+Inv-loop s₀ at trits i₀ s i = length s ≡ length s₀
 
 abbrev μ-loop : tie.MeasureT-loop
-μ-loop s₀ at trits i₀ s i = ?
+μ-loop s₀ at trits i₀ s i = length trits - i
 
--- src/words.rt:128:5
 loop-holds : tie.Need-loop-holds Inv-loop μ-loop
-loop-holds c = ?
+loop-holds c = refl
 
--- src/words.rt:129:16
 plus-requires : tie.Need-plus-requires Inv-loop μ-loop
-plus-requires c κs = ?
+plus-requires c κs = search needs
 
--- src/words.rt:129:29
-shared-slice-read-put : tie.Need-shared-slice-read-put Inv-loop μ-loop
-shared-slice-read-put c = ?
+shared-slice-read-wide : tie.Need-shared-slice-read-wide Inv-loop μ-loop
+shared-slice-read-wide c = omega arith
 
--- src/words.rt:129:29
-cast-put : tie.Need-cast-put Inv-loop μ-loop
-cast-put c = ?
+wide-requires : tie.Need-wide-requires Inv-loop μ-loop
+wide-requires c κs = search needs
 
--- src/words.rt:129:9
 put-requires : tie.Need-put-requires Inv-loop μ-loop
-put-requires c κs = ?
+put-requires c κs = search needs
 
--- src/words.rt:130:9
 add-i : tie.Need-add-i Inv-loop μ-loop
-add-i c = ?
+add-i c = omega arith
 
--- src/words.rt:128:5
 loop-less : tie.Need-loop-less Inv-loop μ-loop
-loop-less c = ?
+loop-less c = omega arith
 
--- src/words.rt:128:5
 loop-again : tie.Need-loop-again Inv-loop μ-loop
-loop-again c = ?
+loop-again c = omega arith
 
--- src/words.rt:126:1
 same-length : tie.Need-same-length Inv-loop μ-loop
-same-length c = ?
+same-length c = c .before .loop .inv
 
--- src/words.rt:126:1
 returns : tie.Need-returns Inv-loop μ-loop
-returns c = ?
+returns c = tt
 
 pub put-trits-spec : {M : Type 1} → statement M
 put-trits-spec =
@@ -59,8 +51,8 @@ put-trits-spec =
     μ-loop
     loop-holds
     plus-requires
-    shared-slice-read-put
-    cast-put
+    shared-slice-read-wide
+    wide-requires
     put-requires
     add-i
     loop-less
