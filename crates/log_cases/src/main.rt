@@ -2,7 +2,6 @@
 // state and result is compared after it with what a plain computation here expects, for accepted and for refused calls.
 mod cells;
 mod controls;
-mod merges;
 mod tally;
 mod words;
 
@@ -50,15 +49,6 @@ fn try_controls() {
     tally::report(u);
 }
 
-fn try_merges(log: &mut [u32], want: &mut [u32]) {
-    let t = merges::cases(false, log, want);
-    say(b"emit_dedup_mux");
-    tally::report(t);
-    let u = merges::cases(true, log, want);
-    say(b"emit_bitwise_mux");
-    tally::report(u);
-}
-
 fn main() {
     let mut log = [0u32; LOG_WORDS];
     let mut want = [0u32; LOG_WORDS];
@@ -68,5 +58,4 @@ fn main() {
     words::fill_trits(&mut trits);
     all_cells(&mut log, &mut want, &mut a, &mut b, &trits);
     try_controls();
-    try_merges(&mut log, &mut want);
 }

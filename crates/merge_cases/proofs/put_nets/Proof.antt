@@ -1,11 +1,11 @@
--- `log_cases::merges::put_nets` is safe and ends.
+-- `merge_cases::put_nets` is safe and ends.
 use mathlib.Core.Path.{_≡_, refl}
 use Prim.Native.Nat.{_-_}
 use native.Mathlib.Omega.{arith}
 use lib.ListN.{length}
 use borrow.Author.Needs.{needs}
-use Rattle.log_cases.proofs.merges.put_nets.Statement.{statement}
-use Rattle.log_cases.proofs.merges.put_nets.Tie as tie
+use Rattle.merge_cases.proofs.put_nets.Statement.{statement}
+use Rattle.merge_cases.proofs.put_nets.Tie as tie
 
 abbrev Inv-loop : tie.InvT-loop
 Inv-loop out₀ to next at n i₀ out i = length out ≡ length out₀

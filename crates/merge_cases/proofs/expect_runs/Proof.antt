@@ -1,20 +1,20 @@
--- `log_cases::merges::expect_runs` is safe and ends.
+-- `merge_cases::expect_runs` is safe and ends.
 use mathlib.Core.Path.{_≡_, refl}
 use Prim.Native.Nat.{_-_}
 use native.Mathlib.Omega.{arith}
 use lib.ListN.{length}
 use borrow.Author.Needs.{needs}
-use Rattle.log_cases.proofs.merges.expect_runs.Statement.{statement}
-use Rattle.log_cases.proofs.merges.expect_runs.Tie as tie
+use Rattle.merge_cases.proofs.expect_runs.Statement.{statement}
+use Rattle.merge_cases.proofs.expect_runs.Tie as tie
 
 abbrev Inv-loop : tie.InvT-loop
-Inv-loop want₀ s a b nets₀ kx₀ ky₀ at₀ state₀ i₀ want nets kx ky at state i = (length want ≡ length want₀) × (length nets ≡ length nets₀) × (length kx ≡ length kx₀) × (length ky ≡ length ky₀) × (length at ≡ length at₀)
+Inv-loop want₀ s a b nets₀ state₀ i₀ want nets state i = (length want ≡ length want₀) × (length nets ≡ length nets₀)
 
 abbrev μ-loop : tie.MeasureT-loop
-μ-loop want₀ s a b nets₀ kx₀ ky₀ at₀ state₀ i₀ want nets kx ky at state i = length s - i
+μ-loop want₀ s a b nets₀ state₀ i₀ want nets state i = length s - i
 
 loop-holds : tie.Need-loop-holds Inv-loop μ-loop
-loop-holds c = (refl, refl, refl, refl, refl)
+loop-holds c = (refl, refl)
 
 expect-bit-requires : tie.Need-expect-bit-requires Inv-loop μ-loop
 expect-bit-requires c κs = search needs
@@ -26,22 +26,13 @@ loop-less : tie.Need-loop-less Inv-loop μ-loop
 loop-less c = omega arith
 
 loop-again : tie.Need-loop-again Inv-loop μ-loop
-loop-again c = (omega arith, omega arith, omega arith, omega arith, omega arith)
+loop-again c = (omega arith, omega arith)
 
 same-length : tie.Need-same-length Inv-loop μ-loop
 same-length c = c .before .loop .inv .0
 
 same-length-2 : tie.Need-same-length-2 Inv-loop μ-loop
 same-length-2 c = c .before .loop .inv .1
-
-same-length-3 : tie.Need-same-length-3 Inv-loop μ-loop
-same-length-3 c = c .before .loop .inv .2
-
-same-length-4 : tie.Need-same-length-4 Inv-loop μ-loop
-same-length-4 c = c .before .loop .inv .3
-
-same-length-5 : tie.Need-same-length-5 Inv-loop μ-loop
-same-length-5 c = c .before .loop .inv .4
 
 returns : tie.Need-returns Inv-loop μ-loop
 returns c = tt
@@ -59,7 +50,4 @@ expect-runs-spec =
     loop-again
     same-length
     same-length-2
-    same-length-3
-    same-length-4
-    same-length-5
     returns)

@@ -1,17 +1,17 @@
--- `log_cases::merges::fill_selects` is safe and ends.
+-- `merge_cases::words::fill` is safe and ends.
 use mathlib.Core.Path.{_≡_, refl}
 use Prim.Native.Nat.{_-_}
 use native.Mathlib.Omega.{arith}
 use lib.ListN.{length, length-set}
 use borrow.Author.Needs.{needs}
-use Rattle.log_cases.proofs.merges.fill_selects.Statement.{statement}
-use Rattle.log_cases.proofs.merges.fill_selects.Tie as tie
+use Rattle.merge_cases.proofs.words.fill.Statement.{statement}
+use Rattle.merge_cases.proofs.words.fill.Tie as tie
 
 abbrev Inv-loop : tie.InvT-loop
-Inv-loop s₀ next i₀ s i = length s ≡ length s₀
+Inv-loop s₀ next turn i₀ s i = length s ≡ length s₀
 
 abbrev μ-loop : tie.MeasureT-loop
-μ-loop s₀ next i₀ s i = length s₀ - i
+μ-loop s₀ next turn i₀ s i = length s₀ - i
 
 loop-holds : tie.Need-loop-holds Inv-loop μ-loop
 loop-holds c = refl
@@ -40,8 +40,8 @@ same-length c = c .before .loop .inv
 returns : tie.Need-returns Inv-loop μ-loop
 returns c = tt
 
-pub fill-selects-spec : {M : Type 1} → statement M
-fill-selects-spec =
+pub fill-spec : {M : Type 1} → statement M
+fill-spec =
     tie.close
     (tie.spec
     Inv-loop

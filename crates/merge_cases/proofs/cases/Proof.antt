@@ -1,20 +1,17 @@
--- `log_cases::merges::cases` is safe and ends.
+-- `merge_cases::cases` is safe and ends.
 use mathlib.Core.Path.{_≡_, refl}
 use Prim.Native.Nat.{_-_}
 use native.Mathlib.Omega.{arith}
 use lib.ListN.{length}
 use borrow.Author.Needs.{needs}
-use Rattle.log_cases.proofs.merges.cases.Statement.{statement}
-use Rattle.log_cases.proofs.merges.cases.Tie as tie
+use Rattle.merge_cases.proofs.cases.Statement.{statement}
+use Rattle.merge_cases.proofs.cases.Tie as tie
 
 abbrev Inv-loop : tie.InvT-loop
 Inv-loop bitwise log₀ want₀ t₀ k₀ log want t k = (length log ≡ length log₀) × (length want ≡ length want₀)
 
 abbrev μ-loop : tie.MeasureT-loop
 μ-loop bitwise log₀ want₀ t₀ k₀ log want t k = 96 - k
-
-start-requires : tie.Need-start-requires Inv-loop μ-loop
-start-requires c κs = search needs
 
 loop-holds : tie.Need-loop-holds Inv-loop μ-loop
 loop-holds c = (refl, refl)
@@ -46,7 +43,6 @@ cases-spec =
     (tie.spec
     Inv-loop
     μ-loop
-    start-requires
     loop-holds
     set-and-try-requires
     add-k

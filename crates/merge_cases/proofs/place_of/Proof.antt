@@ -1,9 +1,9 @@
--- `log_cases::merges::place_of` is safe and ends.
+-- `merge_cases::place_of` is safe and ends.
 use Prim.Native.Nat.{_-_, _≤_}
 use native.Mathlib.Omega.{arith}
 use borrow.Author.Needs.{needs}
-use Rattle.log_cases.proofs.merges.place_of.Statement.{statement}
-use Rattle.log_cases.proofs.merges.place_of.Tie as tie
+use Rattle.merge_cases.proofs.place_of.Statement.{statement}
+use Rattle.merge_cases.proofs.place_of.Tie as tie
 
 abbrev Inv-loop : tie.InvT-loop
 Inv-loop kx ky kept x y j₀ j = j ≤ kept

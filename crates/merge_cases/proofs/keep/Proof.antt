@@ -1,11 +1,11 @@
--- `log_cases::merges::keep` is safe and ends.
+-- `merge_cases::keep` is safe and ends.
 use mathlib.Core.Path.{_≡_, refl}
 use Prim.Native.Nat.{_-_}
 use native.Mathlib.Omega.{arith}
 use lib.ListN.{length}
 use borrow.Author.Needs.{needs}
-use Rattle.log_cases.proofs.merges.keep.Statement.{statement}
-use Rattle.log_cases.proofs.merges.keep.Tie as tie
+use Rattle.merge_cases.proofs.keep.Statement.{statement}
+use Rattle.merge_cases.proofs.keep.Tie as tie
 
 abbrev Inv-loop : tie.InvT-loop
 Inv-loop a b kx₀ ky₀ at₀ kept₀ i₀ kx ky at kept i = (length kx ≡ length kx₀) × (length ky ≡ length ky₀) × (length at ≡ length at₀)

@@ -1,10 +1,10 @@
--- `log_cases::merges::run_end` is safe and ends.
+-- `merge_cases::run_end` is safe and ends.
 use Prim.Native.Nat.{_-_, _≤_}
 use native.Mathlib.Omega.{arith}
 use lib.ListN.{length}
 use borrow.Author.Needs.{needs}
-use Rattle.log_cases.proofs.merges.run_end.Statement.{statement}
-use Rattle.log_cases.proofs.merges.run_end.Tie as tie
+use Rattle.merge_cases.proofs.run_end.Statement.{statement}
+use Rattle.merge_cases.proofs.run_end.Tie as tie
 
 abbrev Inv-loop : tie.InvT-loop
 Inv-loop s i e₀ e = e₀ ≤ e

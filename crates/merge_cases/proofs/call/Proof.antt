@@ -1,9 +1,9 @@
--- `log_cases::merges::call` is safe and ends.
+-- `merge_cases::call` is safe and ends.
 use native.Mathlib.Omega.{arith}
 use lib.ListN.{length, length-take}
 use borrow.Author.Needs.{needs}
-use Rattle.log_cases.proofs.merges.call.Statement.{statement}
-use Rattle.log_cases.proofs.merges.call.Tie as tie
+use Rattle.merge_cases.proofs.call.Statement.{statement}
+use Rattle.merge_cases.proofs.call.Tie as tie
 
 returns : tie.Need-returns
 returns c = search needs
