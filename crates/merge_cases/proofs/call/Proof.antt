@@ -1,0 +1,67 @@
+-- `merge_cases::call` is safe and ends.
+use native.Mathlib.Omega.{arith}
+use lib.ListN.{length, length-take}
+use borrow.Author.Needs.{needs}
+use Rattle.merge_cases.proofs.call.Statement.{statement}
+use Rattle.merge_cases.proofs.call.Tie as tie
+
+returns : tie.Need-returns
+returns c = search needs
+
+slice-relend-prefix-emit-bitwise-mux : tie.Need-slice-relend-prefix-emit-bitwise-mux
+slice-relend-prefix-emit-bitwise-mux c = search needs
+
+slice-aggregate-emit-bitwise-mux : tie.Need-slice-aggregate-emit-bitwise-mux
+slice-aggregate-emit-bitwise-mux c = simp length-take (omega arith)
+
+emit-bitwise-mux-requires : tie.Need-emit-bitwise-mux-requires
+emit-bitwise-mux-requires c κs = search needs
+
+same-length : tie.Need-same-length
+same-length c = search needs
+
+same-length-2 : tie.Need-same-length-2
+same-length-2 c = search needs
+
+returns-2 : tie.Need-returns-2
+returns-2 c = search needs
+
+slice-relend-prefix-emit-dedup-mux : tie.Need-slice-relend-prefix-emit-dedup-mux
+slice-relend-prefix-emit-dedup-mux c = search needs
+
+slice-aggregate-emit-dedup-mux : tie.Need-slice-aggregate-emit-dedup-mux
+slice-aggregate-emit-dedup-mux c = simp length-take (omega arith)
+
+select-of-requires : tie.Need-select-of-requires
+select-of-requires c κs = search needs
+
+emit-dedup-mux-requires : tie.Need-emit-dedup-mux-requires
+emit-dedup-mux-requires c κs = search needs
+
+same-length-3 : tie.Need-same-length-3
+same-length-3 c = search needs
+
+same-length-4 : tie.Need-same-length-4
+same-length-4 c = search needs
+
+returns-3 : tie.Need-returns-3
+returns-3 c = search needs
+
+pub call-spec : {M : Type 1} → statement M
+call-spec =
+    tie.close
+    (tie.spec
+    returns
+    slice-relend-prefix-emit-bitwise-mux
+    slice-aggregate-emit-bitwise-mux
+    emit-bitwise-mux-requires
+    same-length
+    same-length-2
+    returns-2
+    slice-relend-prefix-emit-dedup-mux
+    slice-aggregate-emit-dedup-mux
+    select-of-requires
+    emit-dedup-mux-requires
+    same-length-3
+    same-length-4
+    returns-3)
