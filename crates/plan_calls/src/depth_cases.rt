@@ -252,7 +252,7 @@ pub(crate) fn trits(t: Tally) -> Tally {
     let t = long_row(t, 513, plan(0, 10, 256), 256, 2, refusal(10));
     let t = long_row(t, 512, plan(0, 10, 256), 256, 1, memories(0, 0, 1, 512));
     let t = long_row(t, 513, plan(0, 9, 256), 256, 2, refusal(10));
-    let t = long_row(t, 513, plan(0, 9, 256), 255, 2, memories(1, 512, 1, 1));
+    let t = long_row(t, 513, plan(0, 9, 255), 255, 2, memories(1, 512, 1, 1));
     let t = long_row(t, 32768, plan(0, 15, 4), 1, 1, memories(1, 32768, 0, 0));
     let t = long_row(t, 32768, plan(0, 15, 5), 1, 1, refusal(10));
     let t = long_row(t, 32767, plan(0, 15, 4), 1, 1, memories(0, 0, 1, 32767));

@@ -118,103 +118,83 @@ pub(crate) fn nothing(t: Tally) -> Tally {
     mux_refused(t, flat, &empty, plan(1, 0, 1), &empty, &empty, &empty, 8)
 }
 
+// 8 rows: so many times a listed port, a mask, the hard bits, one entry, so many write logs, of which the first is named, and so many read logs.
 fn no_bits(
     t: Tally,
-    list: &[u32],
-    s: MemorySwizzle,
-    entries: &[u32],
-    writes: &[u32],
-    reads: &[u32],
+    ports_count: usize,
+    port: u32,
+    mask: u32,
+    hard: u32,
+    entry: u32,
+    writes: usize,
+    first: u32,
+    other: u32,
+    reads: usize,
+    read: u32,
     number: u32,
 ) -> Tally {
-    mux_refused(t, ports(8), list, s, entries, writes, reads, number)
+    let list = [port; 9];
+    let logs = [first, other, 2];
+    let read_logs = [read; 9];
+    mux_refused(
+        t,
+        ports(8),
+        cell::net_part(&list, 0, ports_count),
+        plan(mask, hard, 1),
+        &[entry],
+        cell::net_part(&logs, 0, writes),
+        cell::net_part(&read_logs, 0, reads),
+        number,
+    )
 }
 
 // Number 9: one log to a write port and to a listed read port.
 pub(crate) fn log_counts(t: Tally) -> Tally {
-    let s = plan(0, 3, 1);
-    let one = [0u32];
-    let none: [u32; 0] = [];
-    let t = no_bits(t, &one, s, &one, &[0u32], &[1u32], 9);
-    let t = no_bits(t, &one, s, &one, &[0u32, 2, 2], &[1u32], 9);
-    let t = no_bits(t, &one, s, &one, &[0u32, 2], &none, 9);
-    let t = no_bits(t, &one, s, &one, &[0u32, 2], &[1u32, 1], 9);
-    let t = no_bits(t, &none, s, &one, &[0u32, 2], &[1u32, 0, 3], 9);
-    no_bits(
-        t,
-        &[1u32, 1, 1, 1, 1, 1, 1, 1],
-        s,
-        &one,
-        &[0u32, 2],
-        &[0u32; 9],
-        9,
-    )
+    let t = no_bits(t, 1, 0, 0, 3, 0, 1, 0, 2, 1, 1, 9);
+    let t = no_bits(t, 1, 0, 0, 3, 0, 3, 0, 2, 1, 1, 9);
+    let t = no_bits(t, 1, 0, 0, 3, 0, 2, 0, 2, 0, 1, 9);
+    let t = no_bits(t, 1, 0, 0, 3, 0, 2, 0, 2, 2, 1, 9);
+    let t = no_bits(t, 0, 0, 0, 3, 0, 2, 0, 2, 3, 1, 9);
+    no_bits(t, 8, 1, 0, 3, 0, 2, 0, 2, 9, 0, 9)
 }
 
 // Number 9: a log above the hard bits, or below the non-soft bits under the old one.
 pub(crate) fn log_sizes(t: Tally) -> Tally {
-    let one = [0u32];
-    let t = no_bits(t, &one, plan(0, 2, 1), &one, &[3u32, 2], &[1u32], 9);
-    let t = no_bits(t, &one, plan(0, 2, 1), &one, &[2u32, 2], &[3u32], 9);
-    let t = no_bits(t, &one, plan(0, 3, 1), &one, &[0u32, 1], &[1u32], 9);
-    let t = no_bits(t, &one, plan(0, 3, 1), &one, &[0u32, 2], &[0u32], 9);
-    let t = no_bits(t, &one, plan(1, 3, 1), &one, &[0u32, 0], &[0u32], 9);
-    let t = no_bits(t, &[2u32], plan(4, 3, 1), &one, &[0u32, 2], &[1u32], 9);
-    let t = no_bits(t, &one, plan(4, 3, 1), &one, &[0u32, 1], &[1u32], 9);
-    let w = [0u32, 1, 0, 0, 0, 0, 0, 0];
-    let r = [0u32; 8];
-    mux(
-        t,
-        ports(8),
-        &one,
-        plan(1, 3, 1),
-        &one,
-        &[0u32, 1],
-        &one,
-        0,
-        w,
-        r,
-    )
+    let t = no_bits(t, 1, 0, 0, 2, 0, 2, 3, 2, 1, 1, 9);
+    let t = no_bits(t, 1, 0, 0, 2, 0, 2, 2, 2, 1, 3, 9);
+    let t = no_bits(t, 1, 0, 0, 3, 0, 2, 0, 1, 1, 1, 9);
+    let t = no_bits(t, 1, 0, 0, 3, 0, 2, 0, 2, 1, 0, 9);
+    let t = no_bits(t, 1, 0, 1, 3, 0, 2, 0, 0, 1, 0, 9);
+    let t = no_bits(t, 1, 2, 4, 3, 0, 2, 0, 2, 1, 1, 9);
+    let t = no_bits(t, 1, 0, 4, 3, 0, 2, 0, 1, 1, 1, 9);
+    two_and_two(t, ports(8), [0, 0], plan(1, 3, 1), [0, 1], [0, 1], [1, 0, 0, 1])
 }
 
 // Number 15 after 9, for ports that are not there.
 pub(crate) fn missing(t: Tally) -> Tally {
-    let s = plan(0, 3, 1);
-    let one = [0u32];
-    let t = no_bits(t, &[3u32], s, &one, &[0u32, 2], &[0u32], 15);
-    let t = no_bits(t, &[0u32, 4294967295], s, &one, &[0u32, 2], &[1u32, 0], 15);
-    let t = no_bits(t, &[3u32], s, &one, &[0u32, 1], &[0u32], 9);
-    let t = no_bits(t, &[3u32], s, &one, &[0u32, 2], &[4u32], 9);
-    let t = no_bits(t, &[3u32, 0], s, &one, &[0u32, 2], &[0u32, 0], 9);
-    no_bits(t, &[3u32], s, &one, &[0u32, 2], &[0u32, 0], 9)
+    let t = no_bits(t, 1, 3, 0, 3, 0, 2, 0, 2, 1, 0, 15);
+    let t = no_bits(t, 1, 4294967295, 0, 3, 0, 2, 0, 2, 1, 3, 15);
+    let t = no_bits(t, 8, 3, 0, 3, 0, 2, 0, 2, 8, 0, 15);
+    let t = no_bits(t, 1, 3, 0, 3, 0, 2, 0, 1, 1, 0, 9);
+    let t = no_bits(t, 1, 3, 0, 3, 0, 2, 0, 2, 1, 4, 9);
+    no_bits(t, 1, 3, 0, 3, 0, 2, 0, 2, 2, 0, 9)
+}
+
+// Port 1 eight times, whose new wide log is 3.
+fn eight_times(t: Tally) -> Tally {
+    let w = [0u32; 8];
+    let r = [3u32; 8];
+    mux(t, ports(8), &[1u32; 8], plan(0, 3, 1), &[0u32], &[0u32, 2], &r, 0, w, r)
 }
 
 // Lists of eight and nine, and the plan's other numbers.
 pub(crate) fn others(t: Tally) -> Tally {
-    let s = plan(0, 3, 1);
-    let one = [0u32];
-    let w = [0u32; 8];
-    let r = [3u32, 3, 3, 3, 3, 3, 3, 3];
-    let t = mux(
-        t,
-        ports(8),
-        &[1u32; 8],
-        s,
-        &one,
-        &[0u32, 2],
-        &[3u32; 8],
-        0,
-        w,
-        r,
-    );
-    let t = no_bits(t, &[1u32; 9], s, &one, &[0u32, 2], &[3u32; 9], 1);
-    let t = no_bits(t, &[9u32; 9], s, &[1u32], &[0u32], &[5u32], 1);
-    let t = no_bits(t, &one, s, &one, &[5u32, 2], &[1u32], 1);
-    let t = no_bits(t, &one, s, &one, &[0u32, 2], &[5u32], 1);
-    let t = no_bits(t, &one, plan(0, 16, 1), &one, &[0u32, 2], &[1u32], 1);
-    let t = no_bits(t, &one, plan(0, 3, 257), &one, &[0u32, 2], &[1u32], 1);
-    let t = no_bits(t, &one, plan(16, 3, 1), &[1u32], &[0u32], &[1u32], 7);
-    let t = no_bits(t, &one, plan(16, 3, 1), &[0u32, 0], &[0u32], &[1u32], 7);
-    let t = no_bits(t, &one, plan(16, 3, 1), &one, &[0u32], &[1u32], 8);
-    mux_refused(t, ports(6), &one, s, &[1u32], &[0u32], &[1u32], 3)
+    let t = eight_times(t);
+    let t = no_bits(t, 9, 1, 0, 3, 0, 2, 0, 2, 9, 3, 1);
+    let t = no_bits(t, 9, 9, 0, 3, 1, 1, 0, 2, 1, 5, 1);
+    let t = no_bits(t, 1, 0, 0, 3, 0, 2, 5, 2, 1, 1, 1);
+    let t = no_bits(t, 1, 0, 0, 3, 0, 2, 0, 2, 1, 5, 1);
+    let t = no_bits(t, 1, 0, 0, 16, 0, 2, 0, 2, 1, 1, 1);
+    let t = no_bits(t, 1, 0, 16, 3, 1, 1, 0, 2, 1, 1, 7);
+    no_bits(t, 1, 0, 16, 3, 0, 1, 0, 2, 1, 1, 8)
 }
