@@ -8,6 +8,9 @@ use value::ControlNet;
 // The trits of a result that these calls have room for.
 const ROOM: usize = 131112;
 
+// The trits of a short one.
+const SHORT: usize = 1024;
+
 fn call(given: &[u32], words: &mut [u32], trits: &mut [u8]) -> Reply {
     let op = pieces::word(given, 0);
     if op == 1 {
@@ -35,18 +38,10 @@ fn constant(words: &mut [u32], number: u32, out: &[u8]) -> Reply {
 
 fn const_not(given: &[u32], words: &mut [u32], trits: &mut [u8]) -> Reply {
     let a = pieces::list(given, 3);
-    let n = a.len();
     if !pieces::codes(trits, 0, a) {
         return pieces::unknown();
     }
-    if ROOM < n {
-        return pieces::unknown();
-    }
-    let mut out = [0; 131112];
-    let m = pieces::lent(pieces::word(given, 2), n);
-    let room = pieces::part_u8_mut(&mut out, 0, m);
-    let number = logic::const_not(pieces::part_u8(trits, 0, n), room);
-    constant(words, number, pieces::part_u8(&out, 0, n))
+    gate(given, 1, words, trits, a.len(), 0)
 }
 
 // Both constants' codes, the second after the first; whether they fit.
@@ -67,21 +62,55 @@ fn const_pair(given: &[u32], op: u32, words: &mut [u32], trits: &mut [u8]) -> Re
     gate(given, op, words, trits, a.len(), b.len())
 }
 
-// The gate of two constants of these lengths.
+// The gate of constants of these lengths: short ones have a small array, which is cleared sooner.
 fn gate(given: &[u32], op: u32, words: &mut [u32], trits: &[u8], n: usize, k: usize) -> Reply {
-    if ROOM < n {
-        return pieces::unknown();
+    if n <= SHORT {
+        return short_gate(given, op, words, trits, n, k);
     }
-    let mut out = [0; 131112];
-    let m = pieces::lent(pieces::word(given, 2), n);
-    let room = pieces::part_u8_mut(&mut out, 0, m);
-    let x = pieces::part_u8(trits, 0, n);
-    let y = pieces::part_u8(trits, n, k);
-    let number = pair(op, x, y, room);
-    constant(words, number, pieces::part_u8(&out, 0, n))
+    if n <= ROOM {
+        return long_gate(given, op, words, trits, n, k);
+    }
+    pieces::unknown()
 }
 
-fn pair(op: u32, a: &[u8], b: &[u8], out: &mut [u8]) -> u32 {
+fn short_gate(
+    given: &[u32],
+    op: u32,
+    words: &mut [u32],
+    trits: &[u8],
+    n: usize,
+    k: usize,
+) -> Reply {
+    let mut out = [0; SHORT];
+    gate_into(given, op, words, trits, n, k, &mut out)
+}
+
+fn long_gate(given: &[u32], op: u32, words: &mut [u32], trits: &[u8], n: usize, k: usize) -> Reply {
+    let mut out = [0; ROOM];
+    gate_into(given, op, words, trits, n, k, &mut out)
+}
+
+fn gate_into(
+    given: &[u32],
+    op: u32,
+    words: &mut [u32],
+    trits: &[u8],
+    n: usize,
+    k: usize,
+    out: &mut [u8],
+) -> Reply {
+    let m = pieces::lent(pieces::word(given, 2), n);
+    let room = pieces::part_u8_mut(out, 0, m);
+    let x = pieces::part_u8(trits, 0, n);
+    let y = pieces::part_u8(trits, n, k);
+    let number = gate_of(op, x, y, room);
+    constant(words, number, pieces::part_u8(out, 0, n))
+}
+
+fn gate_of(op: u32, a: &[u8], b: &[u8], out: &mut [u8]) -> u32 {
+    if op == 1 {
+        return logic::const_not(a, out);
+    }
     if op == 2 {
         return logic::const_and(a, b, out);
     }

@@ -10,6 +10,9 @@ use value::Net;
 // Call 6, remap_reset_over_enable.
 fn remap(given: &[u32], words: &mut [u32]) -> Reply {
     let room = pieces::word(given, 2) as usize;
+    if words.len() < room {
+        return pieces::unknown();
+    }
     let st = pieces::state_at(given, 2);
     let c = Controls {
         clock: ControlNet::Pos(Net(0)),

@@ -1,7 +1,7 @@
-// memory/src/lib.rs, DesignExt: add_dedup_mux, add_dedup_dff and add_bitwise_mux. Equal bits are kept once, in order of first appearance.
+// memory/src/lib.rs, DesignExt: add_dedup_mux and add_bitwise_mux. Equal bits are kept once, in order of first appearance.
 ghost use mathlib.Core.Path.{_≡_};
 ghost use mathlib.Core.Bool.{false};
-ghost use Prim.Native.Nat.{_+_, _-_, _<_, _≤_, min};
+ghost use Prim.Native.Nat.{_+_, _-_, _<_, _≤_};
 ghost use lib.ListN.{length, drop, getD};
 ghost use lib.Seq.{sets};
 ghost use Rattle.lists.specs.Lists.{part, upFrom};
@@ -49,7 +49,7 @@ fn spread_nets(first: u32, width: u32, at: &[u32], out: &mut [u32], to: usize)
 }
 
 // The nets between two states, given to each bit by its place; nothing where the emission between them overflowed.
-fn spread_results(st: LogState, after: LogState, at: &[u32], out: &mut [u32], to: usize)
+pub fn spread_results(st: LogState, after: LogState, at: &[u32], out: &mut [u32], to: usize)
     ensures { λ _. ⌜ now (out .exit) ≡ results (isOver (stateOf after)) (now (out .entry)) to (spread (now (at .entry)) (upFrom (st .next) (after .next - st .next))) ⌝ }
 {
     if log::is_over(after) {
@@ -83,16 +83,6 @@ pub fn emit_kept_mux(
     after
 }
 
-// The lower of two numbers.
-fn lower(a: usize, b: usize) -> usize
-    ensures { λ r. ⌜ r ≡ min a b ⌝ }
-{
-    if a < b {
-        return a;
-    }
-    b
-}
-
 // A mux of the distinct pairs of bits, found in lent scratch.
 fn dedup_mux_in(
     log: &mut [u32],
@@ -110,7 +100,7 @@ fn dedup_mux_in(
     ensures { λ r. ⌜ lent r (now (log .exit)) ≡ run (addDedupMux (controlOf select) (limited (now (a .entry))) (limited (now (b .entry)))) (lent st (now (log .entry))) ⌝ }
     ensures { λ r. ⌜ now (out .exit) ≡ results (isOver (stateOf r)) (now (out .entry)) to (addDedupMux (controlOf select) (limited (now (a .entry))) (limited (now (b .entry))) (st .next) .value) ⌝ }
 {
-    let n = lower(rules::MAX_MERGE, lower(a.len(), b.len()));
+    let n = lists::lower(rules::MAX_MERGE, lists::lower(a.len(), b.len()));
     let k = distinct::merge(a, b, kx, ky, at);
     emit_kept_mux(log, st, select, &kx[..k], &ky[..k], &at[..n], out, to)
 }
@@ -213,7 +203,10 @@ fn bits_of(s: &[u32], a: &[u32], b: &[u32]) -> usize
     ensures { λ r. ⌜ r ≡ bitsOf (now (s .entry)) (now (a .entry)) (now (b .entry)) ⌝ }
     ensures { λ r. ⌜ Within (now (s .entry)) (now (a .entry)) (now (b .entry)) r ⌝ }
 {
-    lower(lower(rules::MAX_MERGE, s.len()), lower(a.len(), b.len()))
+    lists::lower(
+        lists::lower(rules::MAX_MERGE, s.len()),
+        lists::lower(a.len(), b.len()),
+    )
 }
 
 // add_bitwise_mux without its numbers: a merging mux for each run of equal neighbouring selects.

@@ -2,7 +2,7 @@
 // each its place among them.
 ghost use mathlib.Core.Path.{_≡_};
 ghost use mathlib.Core.List.{[], map};
-ghost use Prim.Native.Nat.{_+_, _-_, _<_, _≤_, min};
+ghost use Prim.Native.Nat.{_+_, _-_, _<_};
 ghost use lib.ListN.{length, take, getD, set};
 ghost use lib.Seq.{sets};
 ghost use lib.Dec.{eqb};
@@ -11,16 +11,6 @@ ghost use Rattle.lists.specs.Lists.{pairs};
 ghost use Rattle.lists.specs.Distinct.{placeIn, kept, places};
 ghost use Rattle.rules.specs.Merge.{Key2, same2};
 ghost use Rattle.distinct.specs.Keys.{merging, Columns, Ready, Roomy, firsts, seconds};
-
-// The lower of two numbers.
-fn lower(a: usize, b: usize) -> usize
-    ensures { λ r. ⌜ r ≡ min a b ⌝ }
-{
-    if a < b {
-        return a;
-    }
-    b
-}
 
 // The place of a key among the first count of two columns, or count where it is not among them.
 fn find(kx: &[u32], ky: &[u32], count: usize, x: u32, y: u32) -> usize
@@ -112,7 +102,10 @@ pub fn merge(x: &[u32], y: &[u32], kx: &mut [u32], ky: &mut [u32], at: &mut [u32
     ensures { λ _. ⌜ now (ky .exit) ≡ sets (now (ky .entry)) 0 (seconds (kept same2 (merging (now (x .entry)) (now (y .entry)) (now (kx .entry)) (now (ky .entry)) (now (at .entry))))) ⌝ }
     ensures { λ _. ⌜ now (at .exit) ≡ sets (now (at .entry)) 0 (places same2 (merging (now (x .entry)) (now (y .entry)) (now (kx .entry)) (now (ky .entry)) (now (at .entry)))) ⌝ }
 {
-    let lent = lower(kx.len(), lower(ky.len(), at.len()));
-    let n = lower(lower(rules::MAX_MERGE, lent), lower(x.len(), y.len()));
+    let lent = lists::lower(kx.len(), lists::lower(ky.len(), at.len()));
+    let n = lists::lower(
+        lists::lower(rules::MAX_MERGE, lent),
+        lists::lower(x.len(), y.len()),
+    );
     merge_first(x, y, kx, ky, at, n)
 }

@@ -13,3 +13,5 @@ pub mod Maps
 pub mod Joined
 pub mod Same
 pub mod UpFrom
+pub mod DistinctMap
+pub mod DistinctOrder

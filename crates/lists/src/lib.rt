@@ -74,3 +74,13 @@ pub fn copy_u8_to_u32(to: &mut [u32], at: usize, from: &[u8])
         i += 1;
     }
 }
+
+// The lower of two numbers.
+pub fn lower(a: usize, b: usize) -> usize
+    ensures { λ r. ⌜ r ≡ min a b ⌝ }
+{
+    if a < b {
+        return a;
+    }
+    b
+}

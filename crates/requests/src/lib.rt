@@ -248,13 +248,13 @@ fn lens_bad(n: usize, clear: &[u8], reset: &[u8], init: &[u8]) -> bool
 fn trits_bad(clear: &[u8], reset: &[u8], init: &[u8]) -> bool
     ensures { λ r. ⌜ r ≡ (badTrits (now (clear .entry)) || (badTrits (now (reset .entry)) || badTrits (now (init .entry)))) ⌝ }
 {
-    if !flip_flop::trits_good(clear) {
+    if !logic::trits_good(clear) {
         return true;
     }
-    if !flip_flop::trits_good(reset) {
+    if !logic::trits_good(reset) {
         return true;
     }
-    !flip_flop::trits_good(init)
+    !logic::trits_good(init)
 }
 
 // 2 and 4 of a flip-flop.
@@ -477,7 +477,8 @@ pub fn remap_reset_over_enable(log: &mut [u32], st: LogState, c: Controls) -> Co
         return ControlsAnswer::Refused(number);
     }
     let start = log::dry_start(st);
-    let dry = emit_remap(&mut log[..0], start, c);
+    let none = 0;
+    let dry = emit_remap(&mut log[..none], start, c);
     let after = dry.state;
     let n = log::dry_refusal(log.len(), st, after);
     if n != 0 {

@@ -12,8 +12,11 @@ fn answer_whole(given: &[u32], answer: &mut [u32], words: &mut [u32], trits: &mu
     if op <= 5 {
         return answer_leaves::answer(given, answer, words, trits);
     }
-    if op <= 12 {
+    if op == 6 {
         return answer_logs::answer(given, answer, words, trits);
+    }
+    if op <= 12 {
+        return answer_merges::answer(given, answer, words, trits);
     }
     if op <= 30 {
         return answer_memories::answer(given, answer, words, trits);

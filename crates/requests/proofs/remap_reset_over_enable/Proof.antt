@@ -3,6 +3,7 @@ use mathlib.Core.Path.{_≡_, sym, ap, _∙_}
 use Prim.Native.Nat.{ℕ, _+_}
 use mathlib.Core.List.{List, _++_}
 use lib.ListN.{length}
+use lib.Seq.{length-take-le}
 use Rattle.log.specs.View.{stateOf, lent}
 use Rattle.flip_flop.specs.View.{controlsOf}
 use Rattle.requests.proofs.Answers.{refused, dry-refused, dry-done}
@@ -37,7 +38,7 @@ slice-relend-prefix-emit-remap : tie.Need-slice-relend-prefix-emit-remap
 slice-relend-prefix-emit-remap c = search needs
 
 slice-aggregate-emit-remap : tie.Need-slice-aggregate-emit-remap
-slice-aggregate-emit-remap c = search needs
+slice-aggregate-emit-remap c = sym (length-take-le _ (c .before .before .before .before .before .args .log .now) (slice-relend-prefix-emit-remap (c .before)))
 
 emit-remap-requires : tie.Need-emit-remap-requires
 emit-remap-requires c κs = search needs

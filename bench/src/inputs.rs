@@ -1,0 +1,205 @@
+//! What is timed: typical inputs, inputs at the limits of document 01, and worst cases.
+
+use oracle::wire::*;
+
+pub struct Plain {
+    pub bytes: Vec<u8>,
+}
+
+pub struct Input {
+    pub op: u32,
+    pub what: &'static str,
+    pub case: Vec<u32>,
+    /// Where there is no Rust to compare with: the bytes of a plain copy.
+    pub plain: Option<Plain>,
+}
+
+const LOG: Log = Log { room: 200_000, used: 0, next: 1_000_000 };
+const AS_NEEDED: u32 = u32::MAX;
+const NONE: u32 = u32::MAX;
+
+pub fn log_of(call: &Call) -> Option<Log> {
+    Some(match call {
+        Call::RemapReset(c) => c.log,
+        Call::DedupMux(c) => c.log,
+        Call::DedupDff(c) => c.log,
+        Call::BitwiseMux(c) => c.log,
+        Call::TransparencyMux(c) => c.log,
+        Call::UnmapReadDff(c) => c.log,
+        Call::UnmapReadReset(c) => c.log,
+        Call::EmulateReadBeforeWrite(c) => c.log,
+        Call::Swizzle(c) => c.request.log,
+        Call::LowerFallback(c) => c.log,
+        _ => return None,
+    })
+}
+
+fn trits(n: usize) -> Trits {
+    (0..n).map(|i| (i * 7 % 3) as u32).collect()
+}
+
+fn nets(first: u32, n: usize) -> Value {
+    (0..n as u32).map(|i| first + i).collect()
+}
+
+/// So many nets of which only `kinds` are different, in mixed order.
+fn mixed(first: u32, n: usize, kinds: u32) -> Value {
+    (0..n as u32).map(|i| first + i * 7919 % kinds).collect()
+}
+
+fn controls() -> Controls {
+    Controls { clock: Control::pos(90_000), clear: Control::ZERO, reset: Control::neg(90_001), enable: Control::pos(90_002), reset_over_enable: true }
+}
+
+fn write_port(first: u32, addr: usize, data: usize) -> WritePort {
+    WritePort { addr: nets(first, addr), data: nets(first + 100, data), mask: nets(first + 5_000, data), clock: Control::pos(90_000) }
+}
+
+fn read_port(first: u32, addr: usize, data: usize, writes: usize) -> ReadPort {
+    let flip_flop = ReadFlipFlop {
+        controls: controls(),
+        clear_value: trits(data),
+        reset_value: trits(data),
+        init_value: trits(data),
+        relations: vec![TRANSPARENT; writes],
+    };
+    ReadPort { addr: nets(first, addr), data_len: data as u32, flip_flop: Some(flip_flop) }
+}
+
+fn memory(depth: u32, width: u32, addr: usize, writes: usize, reads: usize) -> Memory {
+    Memory {
+        depth,
+        width,
+        init: trits((depth * width) as usize),
+        write_ports: (0..writes).map(|i| write_port(1_000 + 10_000 * i as u32, addr, width as usize)).collect(),
+        read_ports: (0..reads).map(|i| read_port(700 + 10_000 * i as u32, addr, width as usize, writes)).collect(),
+    }
+}
+
+/// A table of 512 words of 32 bits, one write port and one read port.
+fn typical() -> Memory {
+    memory(512, 32, 9, 1, 1)
+}
+
+/// As wide as a memory may be, as many bits, and eight ports of each kind.
+fn limit() -> Memory {
+    memory(256, 128, 8, 8, 8)
+}
+
+/// As deep as a memory may be.
+fn deep() -> Memory {
+    memory(32_768, 1, 15, 1, 1)
+}
+
+fn outputs(memory: &Memory) -> Value {
+    nets(100_000, memory.read_ports.iter().map(|port| port.data_len as usize).sum())
+}
+
+fn plan(memory: &Memory, hard: u32, unit: u32) -> Plan {
+    Plan {
+        entries: (0..memory.width).collect(),
+        soft_mask: 0,
+        write_logs: vec![0; memory.write_ports.len()],
+        read_logs: vec![0; memory.read_ports.len()],
+        hard,
+        unit,
+    }
+}
+
+fn given(what: &'static str, call: Call) -> Input {
+    Input { op: call.op(), what, case: call.case(), plain: None }
+}
+
+fn constants(out: &mut Vec<Input>) {
+    for (what, n) in [("32 trits", 32), ("4,096 trits", 4_096), ("131,072 trits", 131_072)] {
+        let (a, b) = (trits(n), trits(n));
+        out.push(given(what, Call::ConstNot(ConstNot { room: AS_NEEDED, a: a.clone() })));
+        out.push(given(what, Call::ConstAnd(ConstPair { room: AS_NEEDED, a: a.clone(), b: b.clone() })));
+        out.push(given(what, Call::ConstOr(ConstPair { room: AS_NEEDED, a: a.clone(), b })));
+        out.push(given(what, Call::IsUndef(IsUndef { a: vec![2; n] })));
+    }
+    out.push(given("Neg of a net", Call::ControlInverse(ControlInverse { control: Control::neg(7) })));
+    let remap = RemapReset { log: LOG, reset: Control::pos(5), enable: Control::neg(6), reset_over_enable: true };
+    out.push(given("two cells logged", Call::RemapReset(remap)));
+}
+
+fn merges(out: &mut Vec<Input>) {
+    let kinds: [(&'static str, usize, u32); 4] =
+        [("32 bits, different", 32, 32), ("4,096 equal bits", 4_096, 1), ("4,096 different bits", 4_096, 4_096), ("2,048 mixed bits, 512 kept", 2_048, 512)];
+    for (what, n, kept) in kinds {
+        let (then, other) = (mixed(10, n, kept), mixed(10_000, n, kept));
+        let select = Control::neg(5);
+        out.push(given(what, Call::DedupMux(DedupMux { log: LOG, select, then: then.clone(), other: other.clone() })));
+        let codes = vec![1; n];
+        let flip_flop = FlipFlop { data: then.clone(), controls: controls(), clear_value: codes.clone(), reset_value: codes.clone(), init_value: codes };
+        out.push(given(what, Call::DedupDff(DedupDff { log: LOG, flip_flop })));
+        let one = vec![5; n];
+        out.push(given(what, Call::BitwiseMux(BitwiseMux { log: LOG, select: one, then, other })));
+    }
+    let select = (0..4_096).map(|i| 5 + i % 2).collect();
+    let call = BitwiseMux { log: LOG, select, then: nets(10, 4_096), other: nets(10_000, 4_096) };
+    out.push(given("4,096 runs of one bit", Call::BitwiseMux(call)));
+}
+
+fn over_memory(out: &mut Vec<Input>, what: &'static str, memory: Memory) {
+    let ports: Vec<u32> = (0..memory.read_ports.len() as u32).rev().collect();
+    let output = outputs(&memory);
+    let plan = plan(&memory, 8, 16);
+    let granularities = vec![8.min(memory.width); memory.write_ports.len()];
+    out.push(given(what, Call::ExtractReadPorts(ExtractReadPorts { memory: memory.clone(), ports: ports.clone(), output })));
+    out.push(given(what, Call::MakeDataSwizzle(MakeDataSwizzle { room: AS_NEEDED, memory: memory.clone(), granularities })));
+    out.push(given(what, Call::SwizzleDepths(SwizzleDepths { room: AS_NEEDED, memory: memory.clone(), plan: plan.clone() })));
+    out.push(given(what, Call::SwizzleMuxBits(SwizzleMuxBits { memory: memory.clone(), ports, plan })));
+    out.push(given(what, Call::CanLowerFallback(CanLowerFallback { memory })));
+}
+
+fn sizes(n: usize) -> Sizes {
+    Sizes { unit: 16, full: 1, full_depth: n as u32 / 16, partial: 0, partial_depth: 0 }
+}
+
+fn records(out: &mut Vec<Input>) {
+    for (what, n) in [("16,384 trits", 16_384), ("131,072 trits", 131_072)] {
+        let image = trits(n);
+        let bytes = oracle::record::write(&sizes(n), &image);
+        let write = Call::WriteRecord(WriteRecord { room: bytes.len() as u32, sizes: sizes(n), image: image.clone() });
+        let read = Call::ReadRecord(ReadRecord { room: n as u32, bytes: bytes.clone() });
+        let list = Call::Lister(Lister { bytes: bytes.clone() });
+        for call in [write, read] {
+            out.push(given(what, call.clone()));
+            let plain = Plain { bytes: vec![1; n] };
+            out.push(Input { what: if n < 20_000 { "16,384 trits, beside a copy" } else { "131,072 trits, beside a copy" }, plain: Some(plain), ..given(what, call) });
+        }
+        out.push(given(what, list));
+    }
+}
+
+/// Call 40 of a memory, with no patch; the copy is of its trits.
+fn layout(what: &'static str, memory: &Memory, plan: &Plan) -> Input {
+    let mut case = vec![40, 0, 131_112, memory.depth, memory.width];
+    memory.init.write(&mut case);
+    plan.write(&mut case);
+    case.push(0);
+    case[1] = case.len() as u32 - 2;
+    Input { op: 40, what, case, plain: Some(Plain { bytes: vec![1; memory.init.len()] }) }
+}
+
+fn layouts(out: &mut Vec<Input>) {
+    let (typical, limit, deep) = (typical(), limit(), deep());
+    out.push(layout("32 × 512, beside a copy", &typical, &plan(&typical, 9, 16)));
+    out.push(layout("128 × 256, beside a copy", &limit, &plan(&limit, 8, 16)));
+    out.push(layout("1 × 32,768, beside a copy", &deep, &plan(&deep, 10, 1)));
+    let wide = Plan { entries: vec![NONE, NONE, NONE, 0], ..plan(&deep, 15, 4) };
+    out.push(layout("1 × 32,768 in rows of 4 trits, beside a copy", &deep, &wide));
+}
+
+pub fn all() -> Vec<Input> {
+    let mut out = vec![];
+    constants(&mut out);
+    merges(&mut out);
+    over_memory(&mut out, "32 × 512, 2 ports", typical());
+    over_memory(&mut out, "128 × 256, 16 ports", limit());
+    over_memory(&mut out, "1 × 32,768, 2 ports", deep());
+    records(&mut out);
+    layouts(&mut out);
+    out
+}

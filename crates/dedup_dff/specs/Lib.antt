@@ -1,0 +1,2 @@
+-- The definitions that the contracts of dedup_dff cite.
+pub mod Packs

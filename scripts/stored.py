@@ -1,0 +1,91 @@
+#!/usr/bin/env python3
+"""Makes the stored list of calls: crates/replay/stdin has the cases, crates/replay/stdout the oracle's answers.
+
+    oracle/build && python3 scripts/stored.py target/oracle/build/release/oracle
+
+`rt ci` runs the program `replay` on the cases and compares every byte of its output with the answers. The cases are those of `oracle gen-small`,
+and random ones from a fixed seed for what these lack; of each call and refusal number only so many are kept, evenly spread. Calls that the port
+does not answer yet are left out: oracle/OPS is the list to extend.
+"""
+import array
+import subprocess
+import sys
+
+OPS = [int(op) for op in open("oracle/OPS").read().split(",")]
+# the calls whose payload starts with a log's room
+LOGS = [6, 10, 11, 12, 13, 21, 22, 23, 29]
+MAX_LOG_ROOM = 200000
+SEED = 7
+RANDOM = 60000
+# of each call and number: from the systematic list, from the random ones, and the most words of a random case
+KEEP_SMALL = 160
+KEEP_RANDOM = 60
+MAX_RANDOM = 160
+
+
+def words_of(data):
+    words = array.array('I')
+    words.frombytes(data)
+    if sys.byteorder == 'big':
+        words.byteswap()
+    return words
+
+
+def split(data):
+    """The parts `x, n, n words` of a stream."""
+    words = words_of(data)
+    at = 0
+    parts = []
+    while at < len(words):
+        end = at + 2 + words[at + 1]
+        parts.append(words[at:end])
+        at = end
+    return parts
+
+
+def run(program, arguments, given=b''):
+    return subprocess.run([program, *arguments], input=given, stdout=subprocess.PIPE, check=True).stdout
+
+
+def answered(program, cases):
+    answers = split(run(program, ['answer'], cases))
+    return list(zip(split(cases), answers, strict=True))
+
+
+def spread(items, most):
+    """At most so many of the items, evenly spread."""
+    if len(items) <= most:
+        return items
+    return [items[i * len(items) // most] for i in range(most)]
+
+
+def fits(case):
+    return case[0] not in LOGS or case[2] <= MAX_LOG_ROOM
+
+
+def kept(pairs, most):
+    groups = {}
+    for case, answer in pairs:
+        groups.setdefault((case[0], answer[0]), []).append((case, answer))
+    return [pair for key in sorted(groups) for pair in spread(groups[key], most)]
+
+
+def main():
+    if len(sys.argv) != 2:
+        sys.exit('usage: stored.py ORACLE')
+    program = sys.argv[1]
+    ops = [str(op) for op in OPS]
+    systematic = [p for p in answered(program, run(program, ['gen-small'])) if p[0][0] in OPS and fits(p[0])]
+    random = [p for p in answered(program, run(program, ['gen', str(SEED), str(RANDOM), *ops])) if len(p[0]) <= MAX_RANDOM and fits(p[0])]
+    chosen = kept(systematic, KEEP_SMALL) + kept(random, KEEP_RANDOM)
+    for name, part in (('stdin', 0), ('stdout', 1)):
+        with open(f'crates/replay/{name}', 'wb') as out:
+            for pair in chosen:
+                words = pair[part][:]
+                if sys.byteorder == 'big':
+                    words.byteswap()
+                out.write(words.tobytes())
+    print(len(chosen), 'calls')
+
+
+main()
