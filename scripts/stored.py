@@ -21,6 +21,9 @@ RANDOM = 60000
 KEEP_SMALL = 160
 KEEP_RANDOM = 60
 MAX_RANDOM = 160
+# the calls over a memory, whose cases are longer: of these a quarter; and the most words of a case that the program `replay` takes
+MEMORIES = range(20, 31)
+MAX_CASE = 20480
 
 
 def words_of(data):
@@ -60,14 +63,14 @@ def spread(items, most):
 
 
 def fits(case):
-    return case[0] not in LOGS or case[2] <= MAX_LOG_ROOM
+    return len(case) <= MAX_CASE and (case[0] not in LOGS or case[2] <= MAX_LOG_ROOM)
 
 
 def kept(pairs, most):
     groups = {}
     for case, answer in pairs:
         groups.setdefault((case[0], answer[0]), []).append((case, answer))
-    return [pair for key in sorted(groups) for pair in spread(groups[key], most)]
+    return [pair for key in sorted(groups) for pair in spread(groups[key], most // 4 if key[0] in MEMORIES else most)]
 
 
 def main():

@@ -16,10 +16,17 @@ const ROOM_TRITS: usize = 229376;
 
 const ROOM_OUTPUT: usize = 32768;
 
-// The entries of a row, and the depths of memories, that these calls have room for.
+// A case of at most so many words, and the nets, trits and output nets that an extraction from it stores: each port may be named eight times.
+const SMALL_CASE: usize = 512;
+
+const SMALL_ROOM: usize = 4096;
+
+// The entries of a row, and the depths of memories, that these calls have room for: a memory has a column at least.
 const ROOM_ROW: usize = 256;
 
-const ROOM_DEPTHS: usize = 131072;
+const ROOM_DEPTHS: usize = 32768;
+
+const FEW_DEPTHS: usize = 256;
 
 // Where a memory's nets and trits end; not done where they do not fit.
 struct Loaded {
@@ -106,18 +113,32 @@ fn swizzle_depths(given: &[u32], words: &mut [u32], trits: &mut [u8]) -> Reply {
     if !s.done {
         return pieces::unknown();
     }
-    let mut out = [0u32; ROOM_DEPTHS];
-    let n = depths(
-        given,
-        pieces::part(words, 0, s.nets),
-        pieces::part_u8(trits, 0, s.trits),
-        &mut out,
-    );
-    if n != 0 {
-        return pieces::refused(n);
-    }
     let count = depth_count(given);
-    put_words(words, pieces::part(&out, 0, count))
+    let codes = pieces::part_u8(trits, 0, s.trits);
+    if count <= FEW_DEPTHS {
+        return few_depths(given, words, s.nets, codes, count);
+    }
+    many_depths(given, words, s.nets, codes, count)
+}
+
+// So many depths, where the first n words are the memory's nets.
+fn few_depths(given: &[u32], words: &mut [u32], n: usize, trits: &[u8], count: usize) -> Reply {
+    let mut out = [0u32; FEW_DEPTHS];
+    let number = depths(given, pieces::part(words, 0, n), trits, &mut out);
+    put_depths(words, number, pieces::part(&out, 0, count))
+}
+
+fn many_depths(given: &[u32], words: &mut [u32], n: usize, trits: &[u8], count: usize) -> Reply {
+    let mut out = [0u32; ROOM_DEPTHS];
+    let number = depths(given, pieces::part(words, 0, n), trits, &mut out);
+    put_depths(words, number, pieces::part(&out, 0, count))
+}
+
+fn put_depths(words: &mut [u32], number: u32, list: &[u32]) -> Reply {
+    if number != 0 {
+        return pieces::refused(number);
+    }
+    put_words(words, list)
 }
 
 fn depths(given: &[u32], nets: &[u32], trits: &[u8], out: &mut [u32]) -> u32 {
@@ -136,7 +157,7 @@ fn depths(given: &[u32], nets: &[u32], trits: &[u8], out: &mut [u32]) -> u32 {
     )
 }
 
-// How many memories the plan of an accepted call 25 gives.
+// How many memories the plan of an accepted call 25 gives; what it says of another call plays no part.
 fn depth_count(given: &[u32]) -> usize {
     let m = memory_pieces::memory_at(given, 3);
     let at = memory_pieces::after_memory(given, 3);
@@ -149,7 +170,10 @@ fn depth_count(given: &[u32]) -> usize {
 }
 
 fn size(n: u64) -> usize {
-    if n < 131072 { n as usize } else { 131072 }
+    if n < 32768 {
+        return n as usize;
+    }
+    ROOM_DEPTHS
 }
 
 // Call 26.
@@ -206,11 +230,30 @@ fn extract_read_ports(given: &[u32], words: &mut [u32], trits: &mut [u8]) -> Rep
     if !s.done {
         return pieces::unknown();
     }
-    extract_loaded(given, words, s.nets, pieces::part_u8(trits, 0, s.trits))
+    let codes = pieces::part_u8(trits, 0, s.trits);
+    if given.len() <= SMALL_CASE {
+        return extract_small(given, words, s.nets, codes);
+    }
+    extract_large(given, words, s.nets, codes)
 }
 
 // The same, where so many words are the memory's nets.
-fn extract_loaded(given: &[u32], words: &mut [u32], n: usize, trits: &[u8]) -> Reply {
+fn extract_small(given: &[u32], words: &mut [u32], n: usize, trits: &[u8]) -> Reply {
+    let mut nets = [0u32; SMALL_ROOM];
+    let mut codes = [0u8; SMALL_ROOM];
+    let mut output = [0u32; SMALL_ROOM];
+    let e = extracted(
+        given,
+        pieces::part(words, 0, n),
+        trits,
+        &mut nets,
+        &mut codes,
+        &mut output,
+    );
+    put_extracted(words, e, &nets, &codes, &output)
+}
+
+fn extract_large(given: &[u32], words: &mut [u32], n: usize, trits: &[u8]) -> Reply {
     let mut nets = [0u32; ROOM_NETS];
     let mut codes = [0u8; ROOM_TRITS];
     let mut output = [0u32; ROOM_OUTPUT];
