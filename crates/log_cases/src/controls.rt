@@ -3,6 +3,7 @@ use crate::cells::next_at;
 use crate::cells::room_at;
 use crate::tally;
 use crate::tally::Tally;
+use crate::words::both;
 use crate::words::net_above;
 use crate::words::paint;
 use crate::words::plus;
@@ -179,7 +180,7 @@ fn try_pos(t: Tally, log: &mut [u32], want: &mut [u32], w: Wire, room: usize, ne
     let r = call_pos(log, room, next, w);
     let ok = net_answered(n, w, next, r);
     let kept = same(log, want);
-    tally::add(t, n, ok && kept)
+    tally::add(t, n, both(ok, kept))
 }
 
 fn pos_case(t: Tally, log: &mut [u32], want: &mut [u32], k: u32) -> Tally {
@@ -264,27 +265,25 @@ fn remap_number(c: Remap) -> u32 {
     state_number(c.room, 3, z.words, c.next, z.nets)
 }
 
+// Where the entry after a control's not stands.
+fn after_not(at: usize, w: Wire) -> usize {
+    if w.neg {
+        return plus(at, 5);
+    }
+    at
+}
+
 // The nots of reset and enable, and their and.
 fn put_gated(want: &mut [u32], reset: Wire, enable: Wire, next: u32) {
-    put_not(want, 3, reset, next);
-    let after_reset = if reset.neg { 8 } else { 3 };
+    let at = after_not(3, reset);
     let second = net_above(next, nots(reset));
-    put_not(want, after_reset, enable, second);
-    let after_enable = if enable.neg {
-        plus(after_reset, 5)
-    } else {
-        after_reset
-    };
     let third = net_above(second, nots(enable));
-    let entry = [
-        3u32,
-        1,
-        third,
-        2,
-        pos_net(reset, next),
-        pos_net(enable, second),
-    ];
-    put_all(want, after_enable, &entry);
+    let x = pos_net(reset, next);
+    let y = pos_net(enable, second);
+    let entry = [3u32, 1, third, 2, x, y];
+    put_not(want, 3, reset, next);
+    put_not(want, at, enable, second);
+    put_all(want, after_not(at, enable), &entry);
 }
 
 // The reset that the call gives.
@@ -404,7 +403,7 @@ fn try_remap(t: Tally, log: &mut [u32], want: &mut [u32], c: Remap) -> Tally {
     let r = call_remap(log, c);
     let ok = remap_answered(n, c, r);
     let kept = same(log, want);
-    tally::add(t, n, ok && kept)
+    tally::add(t, n, both(ok, kept))
 }
 
 pub(crate) fn remap_cases(log: &mut [u32], want: &mut [u32]) -> Tally {

@@ -14,20 +14,12 @@ fn say(s: &[u8]) {
 }
 
 fn name_of(kind: u32) {
-    match kind {
-        1 => say(b"add_void"),
-        2 => say(b"add_not"),
-        3 => say(b"add_and"),
-        4 => say(b"add_or"),
-        5 => say(b"add_mux"),
-        6 => say(b"add_eq"),
-        7 => say(b"add_shl"),
-        8 => say(b"add_ushr"),
-        9 => say(b"add_dff"),
-        _ => say(b"replace_value"),
-    }
+    say(b"kind ");
+    io::print_decimal(libc::STDOUT_FILENO, kind as u64);
+    say(b":");
 }
 
+// The kinds of entries: void, not, and, or, mux, eq, shl, ushr, flip-flop and replace.
 fn all_cells(log: &mut [u32], want: &mut [u32], a: &mut [u32], b: &mut [u32], trits: &[u8]) {
     let mut kind: u32 = 1;
     while kind < 11 {

@@ -23,6 +23,10 @@ pub(crate) fn minus(a: usize, b: usize) -> usize {
     a - b
 }
 
+pub(crate) fn both(a: bool, b: bool) -> bool {
+    a && b
+}
+
 // A length as a word.
 pub(crate) fn word(n: usize) -> u32
     ensures { λ r. ⌜ r ≤ 1000000 ⌝ }
