@@ -68,7 +68,7 @@ fn results(kind: u32, n: usize) -> usize {
     }
 }
 
-pub(crate) fn room_at(k: u32, used: usize, words: usize) -> usize {
+fn room_at(k: u32, used: usize, words: usize) -> usize {
     match k {
         0 => plus(used, words),
         1 => minus(plus(used, words), 1),
@@ -87,7 +87,7 @@ fn last_next(nets: usize) -> u32 {
 }
 
 // The third ends at the limit, and the fourth is one net short of it.
-pub(crate) fn next_at(k: u32, nets: usize) -> u32 {
+fn next_at(k: u32, nets: usize) -> u32 {
     let most = if word(nets) < MAX_NETS {
         MAX_NETS - word(nets)
     } else {

@@ -1,14 +1,8 @@
-// into_pos and remap_reset_over_enable, over controls that are constants, cells, inverses and bad ones, four rooms and six next free nets.
-use crate::cells::next_at;
-use crate::cells::room_at;
-use crate::tally;
-use crate::tally::Tally;
-use crate::words::both;
-use crate::words::net_above;
-use crate::words::paint;
-use crate::words::plus;
-use crate::words::put_all;
-use crate::words::same;
+// Tries into_pos and remap_reset_over_enable, over controls that are constants, cells, inverses and bad ones, four rooms and six next free nets.
+// Every lent word holds a pattern before a call, and every word of log, state and result is compared after it with what a plain computation expects.
+mod tally;
+mod words;
+
 use flip_flop::Controls;
 use log::LogState;
 use requests::ControlsAnswer;
@@ -16,8 +10,52 @@ use requests::NetAnswer;
 use rules::FIRST_CELL;
 use rules::MAX_NETS;
 use rules::NET_X;
+use tally::Tally;
 use value::ControlNet;
 use value::Net;
+use words::both;
+use words::minus;
+use words::net_above;
+use words::paint;
+use words::plus;
+use words::put_all;
+use words::same;
+use words::word;
+
+fn room_at(k: u32, used: usize, words: usize) -> usize {
+    match k {
+        0 => plus(used, words),
+        1 => minus(plus(used, words), 1),
+        2 => plus(plus(used, words), 7),
+        _ => minus(used, 1),
+    }
+}
+
+// The next free net from which so many nets end at the limit.
+fn last_next(nets: usize) -> u32 {
+    let n = word(nets);
+    if MAX_NETS < n {
+        return 2;
+    }
+    MAX_NETS - n
+}
+
+// The third ends at the limit, and the fourth is one net short of it.
+fn next_at(k: u32, nets: usize) -> u32 {
+    let most = if word(nets) < MAX_NETS {
+        MAX_NETS - word(nets)
+    } else {
+        2
+    };
+    match k {
+        0 => 2,
+        1 => 100,
+        2 => most,
+        3 => net_above(most, 1),
+        4 => 1,
+        _ => MAX_NETS,
+    }
+}
 
 // A control in plain numbers.
 struct Wire {
@@ -191,7 +229,7 @@ fn pos_case(t: Tally, log: &mut [u32], want: &mut [u32], k: u32) -> Tally {
     try_pos(t, log, want, w, room, next)
 }
 
-pub(crate) fn pos_cases(log: &mut [u32], want: &mut [u32]) -> Tally {
+fn pos_cases(log: &mut [u32], want: &mut [u32]) -> Tally {
     let mut t = tally::start();
     let mut k: u32 = 0;
     while k < 144 {
@@ -296,15 +334,8 @@ fn new_reset(c: Remap) -> Wire {
     let z = remap_size(reset, enable, c.over);
     Wire {
         neg: false,
-        net: net_above(c.next, minus_one(z.nets)),
+        net: net_above(c.next, minus(z.nets, 1)),
     }
-}
-
-fn minus_one(n: usize) -> usize {
-    if n == 0 {
-        return 0;
-    }
-    n - 1
 }
 
 fn controls_of(reset: Wire, enable: Wire, over: bool) -> Controls {
@@ -406,7 +437,7 @@ fn try_remap(t: Tally, log: &mut [u32], want: &mut [u32], c: Remap) -> Tally {
     tally::add(t, n, both(ok, kept))
 }
 
-pub(crate) fn remap_cases(log: &mut [u32], want: &mut [u32]) -> Tally {
+fn remap_cases(log: &mut [u32], want: &mut [u32]) -> Tally {
     let mut t = tally::start();
     let mut k: u32 = 0;
     while k < 1728 {
@@ -414,4 +445,15 @@ pub(crate) fn remap_cases(log: &mut [u32], want: &mut [u32]) -> Tally {
         k += 1;
     }
     t
+}
+
+fn main() {
+    let mut log = [0u32; 48];
+    let mut want = [0u32; 48];
+    let t = pos_cases(&mut log, &mut want);
+    io::write_all(libc::STDOUT_FILENO, b"into_pos:");
+    tally::report(t);
+    let u = remap_cases(&mut log, &mut want);
+    io::write_all(libc::STDOUT_FILENO, b"remap_reset_over_enable:");
+    tally::report(u);
 }
