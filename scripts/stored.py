@@ -5,13 +5,13 @@
 
 `rt ci` runs the program `replay` on the cases and compares every byte of its output with the answers. The cases are those of `oracle gen-small`,
 and random ones from a fixed seed for what these lack; of each call and refusal number only so many are kept, evenly spread. Calls that the port
-does not answer yet are left out: OPS is the list to extend.
+does not answer yet are left out: oracle/OPS is the list to extend.
 """
 import array
 import subprocess
 import sys
 
-OPS = [1, 2, 3, 4, 5, 6, 31, 32, 33]
+OPS = [int(op) for op in open("oracle/OPS").read().split(",")]
 # the calls whose payload starts with a log's room
 LOGS = [6, 10, 11, 12, 13, 21, 22, 23, 29]
 MAX_LOG_ROOM = 200000

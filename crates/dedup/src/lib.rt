@@ -1,7 +1,7 @@
-// memory/src/lib.rs, DesignExt: add_dedup_mux, add_dedup_dff and add_bitwise_mux. Equal bits are kept once, in order of first appearance.
+// memory/src/lib.rs, DesignExt: add_dedup_mux and add_bitwise_mux. Equal bits are kept once, in order of first appearance.
 ghost use mathlib.Core.Path.{_≡_};
 ghost use mathlib.Core.Bool.{false};
-ghost use Prim.Native.Nat.{_+_, _-_, _<_, _≤_, min};
+ghost use Prim.Native.Nat.{_+_, _-_, _<_, _≤_};
 ghost use lib.ListN.{length, drop, getD};
 ghost use lib.Seq.{sets};
 ghost use Rattle.lists.specs.Lists.{part, upFrom};

@@ -13,7 +13,7 @@ use Rattle.lists.proofs.Stores.{take-stored}
 use Rattle.rules.specs.Limits.{maxMerge}
 use Rattle.rules.specs.Cell.{Controls, FlipFlop}
 use Rattle.rules.specs.Log.{Dff, _>>=_, done, addDff}
-use Rattle.rules.specs.Merge.{Key2, same2, same4, dffKeys, dffOf, spread, addDedupDff}
+use Rattle.rules.specs.Merge.{Key2, same2, spread, addDedupDff}
 use Rattle.rules.proofs.Chain.{chains-dff}
 use Rattle.log.specs.Emission.{Lent, isOver, run}
 use Rattle.log.proofs.Emission.{run-same}
@@ -21,7 +21,7 @@ use Rattle.distinct.specs.Keys.{firsts, seconds}
 use Rattle.flip_flop.specs.View.{flipFlop}
 use Rattle.dedup.specs.Results.{limited, results}
 use Rattle.dedup.proofs.Nets.{request-nets, trace-results}
-use Rattle.dedup.proofs.Found.{Found, keysOf}
+use Rattle.dedup.proofs.Found.{Found}
 use Rattle.dedup_dff.specs.Packs.{byteOf, packs, unpacked, mergePacked, Bytes}
 use Rattle.dedup_dff.proofs.Keys.{merged-keys, merged-places}
 

@@ -1,6 +1,6 @@
 -- A flip-flop's keys with the trits packed: they are kept as the keys are, at the same places, and their bytes are the trits.
-use mathlib.Core.Path.{_≡_, refl, sym, ap, _∙_}
-use Prim.Native.Nat.{ℕ, _+_, _*_, _/_, _%_, _<_}
+use mathlib.Core.Path.{_≡_, refl, ap, _∙_}
+use Prim.Native.Nat.{ℕ, _<_}
 use native.Mathlib.Omega.{arith}
 use mathlib.Core.Bool.{Bool, true, false, _&&_}
 use mathlib.Core.List.{List, [], _∷_, map}
@@ -11,7 +11,7 @@ use Rattle.lists.specs.Lists.{pairs}
 use Rattle.lists.specs.Distinct.{kept, places}
 use Rattle.lists.proofs.Pairs.{pairs-size, pairs-at}
 use Rattle.lists.proofs.DistinctMap.{Each, each-of, each-kept, kept-map, places-map}
-use Rattle.rules.specs.Cell.{Controls, FlipFlop}
+use Rattle.rules.specs.Cell.{Controls}
 use Rattle.rules.specs.Merge.{Key2, same2, Key4, same4, dffKeys, dffOf}
 use Rattle.distinct.specs.Keys.{firsts, seconds}
 use Rattle.flip_flop.specs.View.{flipFlop}

@@ -2,3 +2,4 @@
 pub mod Packing
 pub mod Keys
 pub mod Dff
+pub mod Call

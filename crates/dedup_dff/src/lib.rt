@@ -2,12 +2,16 @@
 // that the merge of two columns serves.
 ghost use mathlib.Core.Path.{_≡_};
 ghost use mathlib.Core.List.{map};
-ghost use Prim.Native.Nat.{_+_, _-_, _<_, _≤_, min};
+ghost use Prim.Native.Nat.{_<_, _≤_, min};
 ghost use lib.ListN.{length};
 ghost use lib.Seq.{sets};
+ghost use Rattle.lists.specs.Choice.{_orElse_};
 ghost use Rattle.rules.specs.Limits.{maxMerge};
 ghost use Rattle.rules.specs.Log.{addDff};
 ghost use Rattle.rules.specs.Merge.{spread, addDedupDff};
+ghost use Rattle.rules.specs.Refusals.{logRefusal, resultRefusal, mergeDffNumber};
+ghost use Rattle.rules.specs.Answers.{addDedupDffCall};
+ghost use Rattle.requests.specs.Merged.{mergedOf};
 ghost use Rattle.flip_flop.specs.View.{controlsOf, flipFlop};
 ghost use Rattle.log.specs.Emission.{isOver, run};
 ghost use Rattle.log.specs.View.{stateOf, lent};
@@ -15,6 +19,7 @@ ghost use Rattle.dedup.specs.Results.{limited, results, Scratch};
 ghost use Rattle.dedup_dff.specs.Packs.{packOf, byteOf, packs, unpacked, mergePacked, Bytes};
 use flip_flop::Controls;
 use log::LogState;
+use requests::Answer;
 
 // A bit's reset, clear and init trits in one word.
 fn pack(reset: u8, clear: u8, init: u8) -> u32
@@ -131,4 +136,84 @@ pub fn emit_dedup_dff(
         &mut ky,
         &mut at,
     )
+}
+
+// 1, 2 and 4 of a merging flip-flop.
+fn merge_number(
+    next: u32,
+    c: Controls,
+    bits: &[u32],
+    clear: &[u8],
+    reset: &[u8],
+    init: &[u8],
+) -> u32
+    ensures { λ r. ⌜ r ≡ mergeDffNumber next (flipFlop (controlsOf c) (now (bits .entry)) (now (clear .entry)) (now (reset .entry)) (now (init .entry))) ⌝ }
+{
+    if rules::MAX_MERGE < bits.len() {
+        return 1;
+    }
+    requests::dff_number(next, c, bits, clear, reset, init)
+}
+
+// The same, and 20 where the result nets do not fit the room for them.
+fn input_number(
+    room: usize,
+    next: u32,
+    c: Controls,
+    bits: &[u32],
+    clear: &[u8],
+    reset: &[u8],
+    init: &[u8],
+) -> u32
+    ensures { λ r. ⌜ r ≡ (mergeDffNumber next (flipFlop (controlsOf c) (now (bits .entry)) (now (clear .entry)) (now (reset .entry)) (now (init .entry))) orElse resultRefusal room (now (bits .entry))) ⌝ }
+{
+    let n = merge_number(next, c, bits, clear, reset, init);
+    if n != 0 {
+        return n;
+    }
+    requests::result_number(room, bits)
+}
+
+// 20 and 21 of the log, by a dry run.
+fn dry_number(
+    room: usize,
+    st: LogState,
+    c: Controls,
+    bits: &[u32],
+    clear: &[u8],
+    reset: &[u8],
+    init: &[u8],
+) -> u32
+    ensures { λ r. ⌜ r ≡ logRefusal room (stateOf st) (addDedupDff (flipFlop (controlsOf c) (limited (now (bits .entry))) (now (clear .entry)) (now (reset .entry)) (now (init .entry)))) ⌝ }
+{
+    let mut no_log = [0u32; 0];
+    let mut no_out = [0u32; 0];
+    let start = log::dry_start(st);
+    let dry = emit_dedup_dff(&mut no_log, start, c, bits, clear, reset, init, &mut no_out);
+    log::dry_refusal(room, st, dry)
+}
+
+// add_dedup_dff: a flip-flop in which equal bits are kept once; the result net of each bit goes to `out`. A refused call changes nothing.
+pub fn add_dedup_dff(
+    log: &mut [u32],
+    st: LogState,
+    c: Controls,
+    bits: &[u32],
+    clear: &[u8],
+    reset: &[u8],
+    init: &[u8],
+    out: &mut [u32],
+) -> Answer
+    ensures { λ r. ⌜ mergedOf (addDedupDff (flipFlop (controlsOf c) (now (bits .entry)) (now (clear .entry)) (now (reset .entry)) (now (init .entry))) (st .next) .value) r (now (log .exit)) (now (out .exit)) ≡ addDedupDffCall (now (out .entry)) (now (log .entry)) (stateOf st) (flipFlop (controlsOf c) (now (bits .entry)) (now (clear .entry)) (now (reset .entry)) (now (init .entry))) ⌝ }
+{
+    let n = input_number(out.len(), st.next, c, bits, clear, reset, init);
+    if n != 0 {
+        return Answer::Refused(n);
+    }
+    let k = dry_number(log.len(), st, c, bits, clear, reset, init);
+    if k != 0 {
+        return Answer::Refused(k);
+    }
+    let after = emit_dedup_dff(log, st, c, bits, clear, reset, init, out);
+    Answer::Done(after)
 }

@@ -2,7 +2,7 @@
 // each its place among them.
 ghost use mathlib.Core.Path.{_≡_};
 ghost use mathlib.Core.List.{[], map};
-ghost use Prim.Native.Nat.{_+_, _-_, _<_, _≤_, min};
+ghost use Prim.Native.Nat.{_+_, _-_, _<_};
 ghost use lib.ListN.{length, take, getD, set};
 ghost use lib.Seq.{sets};
 ghost use lib.Dec.{eqb};

@@ -1,6 +1,5 @@
 // cell/flip_flop.rs: the controls that a flip-flop and a clocked read port share, and the tests and words of a flip-flop's parts.
 ghost use mathlib.Core.Path.{_≡_};
-ghost use Rattle.rules.specs.Logic.{areTrits};
 ghost use Rattle.rules.specs.Value.{isAlways, controlWords};
 ghost use Rattle.rules.specs.Log.{flag};
 ghost use Rattle.rules.specs.Conditions.{badControls};
@@ -46,20 +45,6 @@ pub fn controls_bad(next: u32, c: Controls) -> bool
         return true;
     }
     !value::control_good(next, enable)
-}
-
-// Every one is a trit's code.
-pub fn trits_good(t: &[u8]) -> bool
-    ensures { λ r. ⌜ r ≡ areTrits (now (t .entry)) ⌝ }
-{
-    let mut i = 0;
-    while i < t.len() {
-        if rules::TRIT_X < t[i] {
-            return false;
-        }
-        i += 1;
-    }
-    true
 }
 
 // A control's two words: 0 Pos or 1 Neg, and the net.

@@ -14,3 +14,4 @@ pub mod Joined
 pub mod Same
 pub mod UpFrom
 pub mod DistinctMap
+pub mod DistinctOrder

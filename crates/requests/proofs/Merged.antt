@@ -2,17 +2,19 @@
 use mathlib.Core.Path.{_≡_, refl, sym, ap, _∙_}
 use mathlib.Core.Logic.{_≢_}
 use mathlib.Core.Bool.{false}
-use Prim.Native.Nat.{ℕ, zero, suc}
+use Prim.Native.Nat.{ℕ, zero, suc, _<_, _≤_}
 use native.Mathlib.Omega.{arith}
 use mathlib.Core.List.{List}
 use lib.ListN.{length}
 use lib.Seq.{sets}
+use borrow.Author.Tests.{lt-ltb, le-ltb}
 use Rattle.lists.specs.Choice.{_orElse_, leaves}
 use Rattle.lists.proofs.Choice.{else-first, else-rest, leaves-refused, leaves-accepted}
 use Rattle.rules.specs.Value.{Value}
 use Rattle.rules.specs.Log.{Trace, LogState}
 use Rattle.rules.specs.Chain.{Chains}
-use Rattle.rules.specs.Refusals.{logRefusal}
+use Rattle.rules.specs.Conditions.{noRoom}
+use Rattle.rules.specs.Refusals.{logRefusal, resultRefusal}
 use Rattle.rules.specs.Answers as rules
 use Rattle.log.specs.Emission.{Lent, isOver, run}
 use Rattle.log.specs.View.{stateOf, lent}
@@ -64,3 +66,13 @@ module _ (v : Value) (log out : List ℕ) (s : LogState) (t : Trace Value) where
           let w : out′ ≡ leaves (input orElse result orElse logRefusal (length log) s t) out (sets out 0 (t (s .next) .value)) =
           g o ∙ ap (sets out 0) q ∙ sym (leaves-accepted (input orElse result orElse logRefusal (length log) s t) out (sets out 0 (t (s .next) .value)) (sym whole ∙ y)) in
           λ i. record { logged = b i; out = w i }
+
+-- ---- the room for the result nets
+module _ (room : ℕ) (a : Value) where
+  pub result-20 : room < length a → 20 ≡ resultRefusal room a
+  unfolding resultRefusal noRoom
+  result-20 h = rw (lt-ltb room (length a) h)
+
+  pub result-0 : length a ≤ room → 0 ≡ resultRefusal room a
+  unfolding resultRefusal noRoom
+  result-0 h = rw (le-ltb room (length a) h)

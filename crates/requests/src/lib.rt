@@ -8,7 +8,7 @@ ghost use Rattle.lists.specs.Lists.{upFrom};
 ghost use mathlib.Core.Bool.{false, _||_};
 ghost use Rattle.rules.specs.Log.{addAnd, addOr, addEq, addShl, addUshr, replaceValue, intoPos, withReset, remapResetOverEnable};
 ghost use Rattle.rules.specs.Conditions.{badTritLens, badTrits};
-ghost use Rattle.rules.specs.Refusals.{roomRefusal, valueNumber, pairNumber, shiftNumber, muxNumber, dffNumber, controlNumber, remapNumber};
+ghost use Rattle.rules.specs.Refusals.{roomRefusal, valueNumber, pairNumber, shiftNumber, muxNumber, dffNumber, controlNumber, remapNumber, resultRefusal};
 ghost use Rattle.rules.specs.Answers.{addVoidCall, addNotCall, addPairCall, addShiftCall, addMuxCall, addDffCall, intoPosCall, remapCall};
 ghost use Rattle.value.specs.View.{controlOf};
 ghost use Rattle.flip_flop.specs.View.{controlsOf, flipFlop};
@@ -248,13 +248,13 @@ fn lens_bad(n: usize, clear: &[u8], reset: &[u8], init: &[u8]) -> bool
 fn trits_bad(clear: &[u8], reset: &[u8], init: &[u8]) -> bool
     ensures { λ r. ⌜ r ≡ (badTrits (now (clear .entry)) || (badTrits (now (reset .entry)) || badTrits (now (init .entry)))) ⌝ }
 {
-    if !flip_flop::trits_good(clear) {
+    if !logic::trits_good(clear) {
         return true;
     }
-    if !flip_flop::trits_good(reset) {
+    if !logic::trits_good(reset) {
         return true;
     }
-    !flip_flop::trits_good(init)
+    !logic::trits_good(init)
 }
 
 // 2 and 4 of a flip-flop.
@@ -488,4 +488,14 @@ pub fn remap_reset_over_enable(log: &mut [u32], st: LogState, c: Controls) -> Co
     let controls = done.controls;
     let state = done.state;
     ControlsAnswer::Done(controls, state)
+}
+
+// 20 where the result nets of a merge, one per bit, do not fit the room for them.
+pub fn result_number(room: usize, bits: &[u32]) -> u32
+    ensures { λ r. ⌜ r ≡ resultRefusal room (now (bits .entry)) ⌝ }
+{
+    if room < bits.len() {
+        return 20;
+    }
+    0
 }

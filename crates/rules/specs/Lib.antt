@@ -25,3 +25,4 @@ pub mod Shape
 pub mod Layouts
 pub mod Stored
 pub mod Examples
+pub mod WholePlan

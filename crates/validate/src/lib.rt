@@ -139,7 +139,7 @@ fn relations_bad(p: MemoryReadPort) -> bool
 {
     let relations = p.relations;
     let named = cell::trit_part(&relations, 0, wide(p.relations_len));
-    !flip_flop::trits_good(named)
+    !logic::trits_good(named)
 }
 
 // A length of a clocked port's flip-flop is bad.
@@ -166,13 +166,13 @@ fn flip_flop_nets_bad(next: u32, f: Controls, p: MemoryReadPort, trits: &[u8]) -
     if flip_flop::controls_bad(next, f) {
         return true;
     }
-    if !flip_flop::trits_good(cell::clear_of(p, trits)) {
+    if !logic::trits_good(cell::clear_of(p, trits)) {
         return true;
     }
-    if !flip_flop::trits_good(cell::reset_of(p, trits)) {
+    if !logic::trits_good(cell::reset_of(p, trits)) {
         return true;
     }
-    if !flip_flop::trits_good(cell::init_of(p, trits)) {
+    if !logic::trits_good(cell::init_of(p, trits)) {
         return true;
     }
     relations_bad(p)
@@ -275,7 +275,7 @@ fn init_number(m: Memory, trits: &[u8]) -> u32
 {
     let init = cell::trit_part(trits, 0, wide(m.init_len));
     let rows = init.len() as u64 != product(m.depth, m.width);
-    number_by(rows, false, !flip_flop::trits_good(init))
+    number_by(rows, false, !logic::trits_good(init))
 }
 
 // A size is too large, or there are too many ports.

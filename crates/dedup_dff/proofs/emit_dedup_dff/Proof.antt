@@ -1,5 +1,5 @@
 -- `dedup_dff::emit_dedup_dff` meets its contract.
-use mathlib.Core.Path.{_≡_, refl, sym, ap, _∙_}
+use mathlib.Core.Path.{refl, sym, ap, _∙_}
 use native.Mathlib.Omega.{arith}
 use lib.Seq.{length-take-le}
 use Rattle.rules.specs.Value.{Value}

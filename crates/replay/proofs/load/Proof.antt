@@ -1,15 +1,11 @@
 -- `replay::load` meets its contract.
-use mathlib.Core.Path.{_≡_, refl}
-use Prim.Native.Nat.{_-_, _≤_, _*_}
+use mathlib.Core.Path.{_≡_}
+use Prim.Native.Nat.{_-_, _≤_}
 use native.Mathlib.Omega.{arith}
 use lib.ListN.{length}
 use borrow.Author.Needs.{needs}
 use Rattle.replay.proofs.load.Statement.{statement}
 use Rattle.replay.proofs.load.Tie as tie
-use Rattle.replay.proofs.load.Reads as reads
-use Rattle.replay.proofs.load.Lts as lts
-use Rattle.replay.proofs.put.Reads as put-reads
-use Rattle.replay.proofs.word_at.Reads as word-at-reads
 
 abbrev Inv-loop : tie.InvT-loop
 Inv-loop to₀ bytes n i₀ to i = (i ≤ n) × (length to ≡ length to₀)

@@ -1,14 +1,11 @@
 -- `replay::run` meets its contract.
-use mathlib.Core.Path.{_≡_, refl}
-use Prim.Native.Nat.{_-_, _≤_, _*_}
+use mathlib.Core.Path.{_≡_}
+use Prim.Native.Nat.{_-_, _≤_}
 use native.Mathlib.Omega.{arith}
 use lib.ListN.{length}
 use borrow.Author.Needs.{needs}
 use Rattle.replay.proofs.run.Statement.{statement}
 use Rattle.replay.proofs.run.Tie as tie
-use Rattle.replay.proofs.run.Reads as reads
-use Rattle.replay.proofs.run.Lts as lts
-use Rattle.replay.proofs.answer_next.Reads as answer-next-reads
 
 abbrev Inv-loop : tie.InvT-loop
 Inv-loop given₀ answer₀ words₀ trits₀ turns₀ given answer words trits turns = (turns ≤ 1099511627776) × (length given ≡ length given₀) × (length answer ≡ length answer₀) × (length words ≡ length words₀) × (length trits ≡ length trits₀)

@@ -1,18 +1,11 @@
 -- `replay::write_words` meets its contract.
-use mathlib.Core.Path.{_≡_, refl}
-use Prim.Native.Nat.{_-_, _≤_, _*_}
+use mathlib.Core.Path.{_≡_}
+use Prim.Native.Nat.{_-_, _≤_}
 use native.Mathlib.Omega.{arith}
 use lib.ListN.{length}
 use borrow.Author.Needs.{needs}
 use Rattle.replay.proofs.write_words.Statement.{statement}
 use Rattle.replay.proofs.write_words.Tie as tie
-use Rattle.replay.proofs.write_words.Reads as reads
-use Rattle.replay.proofs.write_words.Lts as lts
-use Rattle.io.proofs.write_all.Reads as write-all-reads
-use Rattle.replay.proofs.front.Reads as front-reads
-use Rattle.replay.proofs.least.Reads as least-reads
-use Rattle.replay.proofs.put_word.Reads as put-word-reads
-use Rattle.replay.proofs.word.Reads as word-reads
 
 abbrev Inv-loop : tie.InvT-loop
 Inv-loop answer n bytes₀ size i₀ bytes i = (i ≤ size) × (length bytes ≡ 262144)

@@ -1,9 +1,9 @@
 -- `wire::tablegoose_answer` meets its contract.
-use mathlib.Core.Path.{_≡_, sym, _∙_}
-use mathlib.Core.Bool.{true, false}
-use Prim.Native.Nat.{ℕ}
-use native.Mathlib.Omega.{arith}
 use borrow.Author.Tests.{not-false}
+use native.Mathlib.Omega.{arith}
+use Prim.Native.Nat.{ℕ}
+use mathlib.Core.Bool.{true, false}
+use mathlib.Core.Path.{_≡_, sym, _∙_}
 use borrow.Author.Needs.{needs}
 use Rattle.wire.proofs.tablegoose_answer.Statement.{statement}
 use Rattle.wire.proofs.tablegoose_answer.Tie as tie
@@ -17,11 +17,8 @@ is-whole-requires c κs = search needs
 returns : tie.Need-returns
 returns c = search needs
 
-call-requires : tie.Need-call-requires
-call-requires c κs = search needs
-
-reply-requires : tie.Need-reply-requires
-reply-requires c κs = search needs
+answer-whole-requires : tie.Need-answer-whole-requires
+answer-whole-requires c κs = search needs
 
 same-length : tie.Need-same-length
 same-length c = search needs
@@ -33,7 +30,7 @@ same-length-3 : tie.Need-same-length-3
 same-length-3 c = search needs
 
 returns-2 : tie.Need-returns-2
-returns-2 c = (c .before .before .reply .ensures, λ e. absurd (never (sym (c .before .before .before .before .before .before .before .before .before .before .before .before .before .is-whole .ensures ∙ e) ∙ not-false _ (c .before .before .before .before .before .before .before .before .before .before .before .before .if1 .left))))
+returns-2 c = (c .before .before .before .before .before .before .answer-whole .ensures, λ e. absurd (never (sym (c .before .before .before .before .before .before .before .before .before .before .before .is-whole .ensures ∙ e) ∙ not-false _ (c .before .before .before .before .before .before .before .before .before .before .if1 .left))))
 
 pub tablegoose-answer-spec : {M : Type 1} → statement M
 tablegoose-answer-spec =
@@ -41,8 +38,7 @@ tablegoose-answer-spec =
     (tie.spec
     is-whole-requires
     returns
-    call-requires
-    reply-requires
+    answer-whole-requires
     same-length
     same-length-2
     same-length-3

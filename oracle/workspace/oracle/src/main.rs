@@ -165,6 +165,7 @@ fn run_all(run: &Run) -> io::Result<u8> {
         Source::File(file) => Box::new(blocks(file)?),
     };
     let cases = cases
+        .filter(|case| run.ops.is_empty() || run.ops.contains(&case[0]))
         .filter(|case| case.len() <= run.max_case)
         .filter(|case| run.max_answer == usize::MAX || answer(case).len() <= run.max_answer);
     let program = Program(&run.program);

@@ -117,7 +117,7 @@ pub struct Control {
 
 impl Wire for Control {
     fn read(words: &mut Words) -> Option<Self> {
-        Some(Control { polarity: words.word()?, net: words.word()? })
+        Some(Control { polarity: bool::read(words)? as u32, net: words.word()? })
     }
 
     fn write(&self, out: &mut Vec<u32>) {

@@ -1,0 +1,158 @@
+// Calls 1 to 5: constants and controls.
+ghost use Rattle.pieces.specs.Answered.{Answered};
+use logic::BoolAnswer;
+use pieces::Reply;
+use value::ControlAnswer;
+use value::ControlNet;
+
+// The trits of a result that these calls have room for.
+const ROOM: usize = 131112;
+
+// The trits of a short one.
+const SHORT: usize = 1024;
+
+fn call(given: &[u32], words: &mut [u32], trits: &mut [u8]) -> Reply {
+    let op = pieces::word(given, 0);
+    if op == 1 {
+        return const_not(given, words, trits);
+    }
+    if op <= 3 {
+        return const_pair(given, op, words, trits);
+    }
+    if op == 4 {
+        return is_undef(given, words, trits);
+    }
+    if op == 5 {
+        return inverse(given, words);
+    }
+    pieces::unknown()
+}
+
+fn constant(words: &mut [u32], number: u32, out: &[u8]) -> Reply {
+    if number != 0 {
+        return pieces::refused(number);
+    }
+    let end = pieces::put_list_u8(words, 0, out);
+    pieces::given_to(0, end)
+}
+
+fn const_not(given: &[u32], words: &mut [u32], trits: &mut [u8]) -> Reply {
+    let a = pieces::list(given, 3);
+    if !pieces::codes(trits, 0, a) {
+        return pieces::unknown();
+    }
+    gate(given, 1, words, trits, a.len(), 0)
+}
+
+// Both constants' codes, the second after the first; whether they fit.
+fn load_pair(trits: &mut [u8], a: &[u32], b: &[u32]) -> bool {
+    if !pieces::codes(trits, 0, a) {
+        return false;
+    }
+    pieces::codes(trits, a.len(), b)
+}
+
+fn const_pair(given: &[u32], op: u32, words: &mut [u32], trits: &mut [u8]) -> Reply {
+    let at = pieces::after(given, 3);
+    let a = pieces::list(given, 3);
+    let b = pieces::list(given, at);
+    if !load_pair(trits, a, b) {
+        return pieces::unknown();
+    }
+    gate(given, op, words, trits, a.len(), b.len())
+}
+
+// The gate of constants of these lengths: short ones have a small array, which is cleared sooner.
+fn gate(given: &[u32], op: u32, words: &mut [u32], trits: &[u8], n: usize, k: usize) -> Reply {
+    if n <= SHORT {
+        return short_gate(given, op, words, trits, n, k);
+    }
+    if n <= ROOM {
+        return long_gate(given, op, words, trits, n, k);
+    }
+    pieces::unknown()
+}
+
+fn short_gate(
+    given: &[u32],
+    op: u32,
+    words: &mut [u32],
+    trits: &[u8],
+    n: usize,
+    k: usize,
+) -> Reply {
+    let mut out = [0; SHORT];
+    gate_into(given, op, words, trits, n, k, &mut out)
+}
+
+fn long_gate(given: &[u32], op: u32, words: &mut [u32], trits: &[u8], n: usize, k: usize) -> Reply {
+    let mut out = [0; ROOM];
+    gate_into(given, op, words, trits, n, k, &mut out)
+}
+
+fn gate_into(
+    given: &[u32],
+    op: u32,
+    words: &mut [u32],
+    trits: &[u8],
+    n: usize,
+    k: usize,
+    out: &mut [u8],
+) -> Reply {
+    let m = pieces::lent(pieces::word(given, 2), n);
+    let room = pieces::part_u8_mut(out, 0, m);
+    let x = pieces::part_u8(trits, 0, n);
+    let y = pieces::part_u8(trits, n, k);
+    let number = gate_of(op, x, y, room);
+    constant(words, number, pieces::part_u8(out, 0, n))
+}
+
+fn gate_of(op: u32, a: &[u8], b: &[u8], out: &mut [u8]) -> u32 {
+    if op == 1 {
+        return logic::const_not(a, out);
+    }
+    if op == 2 {
+        return logic::const_and(a, b, out);
+    }
+    logic::const_or(a, b, out)
+}
+
+fn is_undef(given: &[u32], words: &mut [u32], trits: &mut [u8]) -> Reply {
+    let a = pieces::list(given, 2);
+    if !pieces::codes(trits, 0, a) {
+        return pieces::unknown();
+    }
+    let r = logic::const_is_undef(pieces::part_u8(trits, 0, a.len()));
+    match r {
+        BoolAnswer::Refused(n) => pieces::refused(n),
+        BoolAnswer::Accepted(b) => flag(words, b),
+    }
+}
+
+fn flag(words: &mut [u32], b: bool) -> Reply {
+    let w = if b { 1 } else { 0 };
+    pieces::put(words, 0, w);
+    pieces::given(0, 1)
+}
+
+fn inverse(given: &[u32], words: &mut [u32]) -> Reply {
+    let c = pieces::control(given, 2);
+    let r = value::control_not(c);
+    match r {
+        ControlAnswer::Refused(n) => pieces::refused(n),
+        ControlAnswer::Accepted(d) => control(words, d),
+    }
+}
+
+fn control(words: &mut [u32], c: ControlNet) -> Reply {
+    let end = pieces::put_control(words, 0, c);
+    pieces::given_to(0, end)
+}
+
+// Answers one of these calls. What it leaves in `words` and `trits` is open.
+pub fn answer(given: &[u32], answer: &mut [u32], words: &mut [u32], trits: &mut [u8]) -> usize
+    ensures { λ r. ⌜ Answered (now (answer .entry)) (now (answer .exit)) r ⌝ }
+{
+    let r = call(given, words, trits);
+    pieces::write_reply(answer, words, r)
+}

@@ -1,0 +1,115 @@
+// Calls 31 to 33: image records written, read and listed.
+ghost use Rattle.pieces.specs.Answered.{Answered};
+use pieces::Reply;
+use record::Head;
+use record::Written;
+use sizes::Sizes;
+
+// The bytes of a record, and the trits of an image, that these calls have room for.
+const RECORD: usize = 40040;
+
+const IMAGE: usize = 131112;
+
+fn sizes_at(given: &[u32], at: usize) -> Sizes {
+    let a = pieces::next(given, at);
+    let b = pieces::next(given, a);
+    let c = pieces::next(given, b);
+    let d = pieces::next(given, c);
+    Sizes {
+        unit: pieces::word(given, at),
+        full: pieces::word(given, a),
+        full_depth: pieces::word(given, b),
+        partial: pieces::word(given, c),
+        partial_depth: pieces::word(given, d),
+    }
+}
+
+fn write(given: &[u32], words: &mut [u32], trits: &mut [u8]) -> Reply {
+    let image = pieces::list(given, 8);
+    if !pieces::codes(trits, 0, image) {
+        return pieces::unknown();
+    }
+    written(given, words, pieces::part_u8(trits, 0, image.len()))
+}
+
+fn written(given: &[u32], words: &mut [u32], image: &[u8]) -> Reply {
+    let mut out = [0; 40040];
+    let m = pieces::lent(pieces::word(given, 2), RECORD);
+    let room = pieces::part_u8_mut(&mut out, 0, m);
+    let r = record::write_record(sizes_at(given, 3), image, room);
+    match r {
+        Written::Refused(n) => pieces::refused(n),
+        Written::Bytes(n) => bytes(words, pieces::part_u8(&out, 0, n)),
+    }
+}
+
+fn bytes(words: &mut [u32], out: &[u8]) -> Reply {
+    let end = pieces::put_list_u8(words, 0, out);
+    pieces::given_to(0, end)
+}
+
+fn read(given: &[u32], words: &mut [u32], trits: &mut [u8]) -> Reply {
+    let list = pieces::list(given, 3);
+    if !pieces::codes(trits, 0, list) {
+        return pieces::unknown();
+    }
+    let mut image = [0; 131112];
+    let m = pieces::lent(pieces::word(given, 2), IMAGE);
+    let room = pieces::part_u8_mut(&mut image, 0, m);
+    let r = record::read_record(pieces::part_u8(trits, 0, list.len()), room);
+    match r {
+        Head::Refused(n) => pieces::refused(n),
+        Head::Accepted(s) => decoded(words, s, &image),
+    }
+}
+
+// The sizes, and as many trits of the image as they say.
+fn decoded(words: &mut [u32], s: Sizes, image: &[u8]) -> Reply {
+    let a = pieces::put_next(words, 0, s.unit);
+    let b = pieces::put_next(words, a, s.full);
+    let c = pieces::put_next(words, b, s.full_depth);
+    let d = pieces::put_next(words, c, s.partial);
+    let e = pieces::put_next(words, d, s.partial_depth);
+    let end = pieces::put_list_u8(words, e, sizes::image_of(s, image));
+    pieces::given_to(0, end)
+}
+
+// The lister's text for its standard input, of which no more is kept than a record may have.
+fn list(given: &[u32], words: &mut [u32], trits: &mut [u8]) -> Reply {
+    let input = pieces::list(given, 2);
+    let total = input.len();
+    let mut first = [0; 32780];
+    let k = if total < listing::MAX_RECORD {
+        total
+    } else {
+        listing::MAX_RECORD
+    };
+    pieces::codes(&mut first, 0, pieces::part(input, 0, k));
+    let n = listing::list_input(pieces::part_u8(&first, 0, k), total, trits);
+    if trits.len() < n {
+        return pieces::unknown();
+    }
+    bytes(words, pieces::part_u8(trits, 0, n))
+}
+
+fn call(given: &[u32], words: &mut [u32], trits: &mut [u8]) -> Reply {
+    let op = pieces::word(given, 0);
+    if op == 31 {
+        return write(given, words, trits);
+    }
+    if op == 32 {
+        return read(given, words, trits);
+    }
+    if op == 33 {
+        return list(given, words, trits);
+    }
+    pieces::unknown()
+}
+
+// Answers one of these calls. What it leaves in `words` and `trits` is open.
+pub fn answer(given: &[u32], answer: &mut [u32], words: &mut [u32], trits: &mut [u8]) -> usize
+    ensures { λ r. ⌜ Answered (now (answer .entry)) (now (answer .exit)) r ⌝ }
+{
+    let r = call(given, words, trits);
+    pieces::write_reply(answer, words, r)
+}

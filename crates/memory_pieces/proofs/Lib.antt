@@ -1,0 +1,2 @@
+-- How far a piece of an answer may be written.
+pub mod Laws

@@ -1,0 +1,3 @@
+-- The laws behind the merges' numbers.
+pub mod Numbers
+pub mod Most

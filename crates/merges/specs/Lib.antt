@@ -1,0 +1,2 @@
+-- The definitions that the contracts of merges cite.
+pub mod Lens

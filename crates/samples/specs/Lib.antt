@@ -1,0 +1,2 @@
+-- Memories for the programs that try the calls.
+pub mod Build

@@ -1,0 +1,172 @@
+#!/usr/bin/env python3
+"""Writes cases at the borders of document 01's limits to a file, in the format of docs/CALLING.md.
+
+    python3 scripts/borders.py target/borders
+
+Of each border the last size that is taken and the first that is not, for the calls over a memory that change nothing: extract_read_ports (20),
+make_data_swizzle (24), swizzle_depths (25), swizzle_mux_bits (26), can_lower_fallback (28). `oracle/compare` runs them.
+"""
+import array
+import sys
+
+NONE = 0xFFFFFFFF
+X = 0xFFFFFFFF
+
+
+def listed(words):
+    return [len(words), *words]
+
+
+def nets(first, count):
+    return listed([first + i for i in range(count)])
+
+
+def write_port(first, addr, data, clock=(0, 7)):
+    return nets(first, addr) + nets(first + 40, data) + nets(first + 5000, data) + list(clock)
+
+
+def read_port(first, addr, data, relations=None, clock=(0, 7)):
+    """Clocked where relations are given."""
+    port = nets(first, addr) + [data]
+    if relations is None:
+        return port + [0]
+    trits = listed([i % 3 for i in range(data)])
+    return port + [1, *clock, 0, 0, 1, 9, 0, 11, 1] + 3 * trits + listed(relations)
+
+
+class Memory:
+    def __init__(self, depth, width, writes=(), reads=()):
+        """A write port is (addr, k), a read port (addr, k) or (addr, k, relations)."""
+        self.depth, self.width, self.writes, self.reads = depth, width, list(writes), list(reads)
+
+    def outputs(self):
+        return sum(self.width << r[1] for r in self.reads)
+
+    def words(self):
+        init = listed([(5 * i) % 3 for i in range(self.depth * self.width)])
+        out = [self.depth, self.width, *init, len(self.writes), len(self.reads)]
+        for i, (addr, k) in enumerate(self.writes):
+            out += write_port(100 + 20000 * i, addr, self.width << k)
+        for i, read in enumerate(self.reads):
+            out += read_port(60 + 20000 * i, read[0], self.width << read[1], read[2] if len(read) > 2 else None)
+        return out
+
+
+def plan(memory, entries=None, mask=0, hard=0, unit=1, writes=None, reads=None):
+    entries = list(range(memory.width)) if entries is None else entries
+    writes = [k for _, k in memory.writes] if writes is None else writes
+    reads = [r[1] for r in memory.reads] if reads is None else reads
+    return listed(entries) + [mask] + listed(writes) + listed(reads) + [hard, unit]
+
+
+def case(op, payload):
+    return [op, len(payload), *payload]
+
+
+def over(memory, ports=None, granularities=None, **fields):
+    """The five calls on one memory."""
+    ports = list(range(min(len(memory.reads), 8))) if ports is None else ports
+    granularities = [1] * len(memory.writes) if granularities is None else granularities
+    m, p = memory.words(), plan(memory, **fields)
+    output = nets(300000, memory.outputs())
+    yield case(20, m + listed(ports) + output)
+    yield case(24, [NONE] + m + listed(granularities))
+    yield case(25, [NONE] + m + p)
+    yield case(26, m + listed(ports) + p)
+    yield case(28, m)
+
+
+def memories():
+    both = dict(writes=[(3, 0)], reads=[(3, 0, [2])])
+    for depth, width in [(5, 0), (0, 3), (0, 0), (1, 1), (32768, 1), (32769, 1), (256, 128), (257, 128), (1, 128), (1, 129), (0, 128), (0, 129), (16384, 2), (16385, 2)]:
+        yield Memory(depth, width, **both)
+        yield Memory(depth, width)
+    for count in (7, 8, 9):
+        yield Memory(4, 2, writes=[(2, 0)] * count)
+        yield Memory(4, 2, reads=[(2, 0, [])] * count)
+        yield Memory(4, 2, writes=[(2, 0)] * count, reads=[(2, 0, [1] * count), (2, 0)])
+    for k in (3, 4, 5):
+        for width in (1, 3, 128):
+            yield Memory(64, width, writes=[(2, k)], reads=[(2, k, [0])])
+            yield Memory(64, width, reads=[(2, k)])
+    for addr, k in [(31, 0), (32, 0), (33, 0), (31, 1), (32, 1), (28, 4), (29, 4), (0, 4)]:
+        yield Memory(64, 2, writes=[(addr, k)])
+        yield Memory(64, 2, reads=[(addr, k, [])])
+    yield Memory(9, 2, writes=[(2, 0), (2, 1)], reads=[(2, 0, [1, 2]), (2, 1, [0]), (1, 0)])
+    yield Memory(9, 2, writes=[(2, 0)], reads=[(2, 0, [3])])
+
+
+def plans():
+    small = Memory(6, 2, writes=[(3, 0), (2, 1)], reads=[(3, 0, [1, 2]), (3, 0)])
+    for length in (2, 255, 256, 257):
+        yield small, dict(entries=[0, 1] + [NONE] * (length - 2))
+    for entries in ([0, 0], [0], [1, 0], [0, 2], [NONE, 0, NONE, 1], []):
+        yield small, dict(entries=entries)
+    for unit in (0, 1, 255, 256, 257):
+        yield small, dict(unit=unit)
+    for hard in (0, 1, 2, 3, 14, 15, 16):
+        for mask in (0, 1, 2, 4, 7, 8, 0x4000, 0x80000000):
+            yield small, dict(hard=hard, mask=mask)
+    for writes, reads in [([0, 1], [0, 0]), ([4, 4], [4, 4]), ([5, 1], [0, 0]), ([0, 1], [0]), ([0], [0, 0]), ([0, 0], [0, 0]), ([0] * 9, [0, 0])]:
+        for hard in (1, 4):
+            yield small, dict(writes=writes, reads=reads, hard=hard)
+    for depth in (127, 128, 129):
+        for unit in (1, 255, 256):
+            yield Memory(depth, 1), dict(entries=[0] + [NONE] * 255, unit=unit)
+    for depth, hard in [(511, 9), (512, 9), (513, 9), (1024, 9), (1024, 10), (128, 7), (640, 7)]:
+        for unit in (255, 256):
+            yield Memory(depth, 1), dict(hard=hard, unit=unit)
+    for depth in (16384, 32768):
+        for hard in (13, 14, 15):
+            yield Memory(depth, 1), dict(hard=hard, unit=4)
+            yield Memory(depth, 1), dict(hard=hard, unit=8)
+    for mask in (0, 1, 0x7FFFFFFF, 0xFFFFFFFF):
+        for hard in (0, 15, 16):
+            yield Memory(0, 3, writes=[(3, 0)], reads=[(2, 0)]), dict(mask=mask, hard=hard)
+
+
+def lists():
+    small = Memory(6, 4, writes=[(3, 0)], reads=[(3, 0, [1]), (3, 0), (2, 1)])
+    for ports in ([], [0], [2, 2], [1, 0, 2], [3], [0] * 8, [0] * 9, [2, 5], [NONE]):
+        yield small, dict(ports=ports)
+    for granularities in ([0], [1], [2], [3], [4], [63], [64], [65], [], [1, 1]):
+        yield small, dict(granularities=granularities)
+        yield Memory(3, 128, writes=[(2, 0)]), dict(granularities=granularities)
+    for width in (100, 127, 128):
+        yield Memory(3, width, writes=[(2, 0)] * 8), dict(granularities=[64] * 8)
+        yield Memory(3, width, writes=[(2, 0)] * 8), dict(granularities=[1, 2, 4, 8, 16, 32, 64, 3])
+
+
+def rooms():
+    """Result rooms that are exact, and one short."""
+    small = Memory(6, 2, writes=[(3, 0)], reads=[(3, 0)])
+    for room in range(5):
+        yield case(24, [room] + small.words() + listed([1]))
+        yield case(25, [room] + small.words() + plan(small, hard=1))
+
+
+def all_cases():
+    for memory in memories():
+        yield from over(memory, hard=4)
+    for memory, fields in plans():
+        yield from over(memory, **fields)
+    for memory, fields in lists():
+        yield from over(memory, hard=4, **fields)
+    yield from rooms()
+
+
+def main():
+    if len(sys.argv) != 2:
+        sys.exit('usage: borders.py FILE')
+    count = 0
+    with open(sys.argv[1], 'wb') as out:
+        for words in all_cases():
+            data = array.array('I', words)
+            if sys.byteorder == 'big':
+                data.byteswap()
+            out.write(data.tobytes())
+            count += 1
+    print(count, 'cases')
+
+
+main()
