@@ -2,6 +2,7 @@
 // with one value a bit longer than the other.
 use crate::tally;
 use crate::tally::Tally;
+use crate::words::both;
 use crate::words::fill;
 use crate::words::minus;
 use crate::words::net_above;
@@ -67,7 +68,7 @@ fn results(kind: u32, n: usize) -> usize {
     }
 }
 
-pub(crate) fn room_at(k: u32, used: usize, words: usize) -> usize {
+fn room_at(k: u32, used: usize, words: usize) -> usize {
     match k {
         0 => plus(used, words),
         1 => minus(plus(used, words), 1),
@@ -86,7 +87,7 @@ fn last_next(nets: usize) -> u32 {
 }
 
 // The third ends at the limit, and the fourth is one net short of it.
-pub(crate) fn next_at(k: u32, nets: usize) -> u32 {
+fn next_at(k: u32, nets: usize) -> u32 {
     let most = if word(nets) < MAX_NETS {
         MAX_NETS - word(nets)
     } else {
@@ -227,11 +228,15 @@ fn controls(over: bool) -> Controls {
 }
 
 fn put_controls(want: &mut [u32], at: usize, over: bool) {
-    let nine = [0u32, 2, 0, 0, 1, 2, 0, 1, 0];
+    let nine = [0u32, 2, 0, 0, 1, 2, 0, 1, flag(over)];
     put_all(want, at, &nine);
-    if over {
-        put(want, plus(at, 8), 1);
+}
+
+fn flag(test: bool) -> u32 {
+    if test {
+        return 1;
     }
+    0
 }
 
 fn put_dff(want: &mut [u32], c: Case, a: &[u32], trits: &[u8]) {
@@ -354,19 +359,27 @@ fn answered(c: Case, n: u32, r: Answer) -> bool {
     }
 }
 
-// Nets for a case; where it is bad, the last net of a is the next free one.
+// The lowest net that is not good.
+fn bad_net(next: u32) -> u32 {
+    if next < FIRST_CELL {
+        return FIRST_CELL;
+    }
+    next
+}
+
+// The last of n nets is bad.
+fn spoil(a: &mut [u32], n: usize, next: u32) {
+    if 0 < n {
+        put(a, minus(n, 1), bad_net(next));
+    }
+}
+
+// Nets for a case.
 fn set_nets(c: Case, a: &mut [u32], b: &mut [u32]) {
-    fill(a, c.next, 0);
     fill(b, c.next, 2);
+    fill(a, c.next, 0);
     if c.bad {
-        if 0 < c.n {
-            let bad = if c.next < FIRST_CELL {
-                FIRST_CELL
-            } else {
-                c.next
-            };
-            put(a, minus(c.n, 1), bad);
-        }
+        spoil(a, c.n, c.next);
     }
 }
 
@@ -394,7 +407,7 @@ fn try_case(
     let r = call_in(log, c, a, b, trits);
     let ok = answered(c, n, r);
     let kept = same(log, want);
-    tally::add(t, n, ok && kept)
+    tally::add(t, n, both(ok, kept))
 }
 
 fn set_and_try(

@@ -1,7 +1,6 @@
-// Tries every request of a log at border lengths, rooms and next free nets. Every lent word holds a pattern before a call, and every word of log,
+// Tries every request of one entry at border lengths, rooms and next free nets. Every lent word holds a pattern before a call, and every word of log,
 // state and result is compared after it with what a plain computation here expects, for accepted and for refused calls.
 mod cells;
-mod controls;
 mod tally;
 mod words;
 
@@ -14,20 +13,12 @@ fn say(s: &[u8]) {
 }
 
 fn name_of(kind: u32) {
-    match kind {
-        1 => say(b"add_void"),
-        2 => say(b"add_not"),
-        3 => say(b"add_and"),
-        4 => say(b"add_or"),
-        5 => say(b"add_mux"),
-        6 => say(b"add_eq"),
-        7 => say(b"add_shl"),
-        8 => say(b"add_ushr"),
-        9 => say(b"add_dff"),
-        _ => say(b"replace_value"),
-    }
+    say(b"kind ");
+    io::print_decimal(libc::STDOUT_FILENO, kind as u64);
+    say(b":");
 }
 
+// The kinds of entries: void, not, and, or, mux, eq, shl, ushr, flip-flop and replace.
 fn all_cells(log: &mut [u32], want: &mut [u32], a: &mut [u32], b: &mut [u32], trits: &[u8]) {
     let mut kind: u32 = 1;
     while kind < 11 {
@@ -38,17 +29,6 @@ fn all_cells(log: &mut [u32], want: &mut [u32], a: &mut [u32], b: &mut [u32], tr
     }
 }
 
-fn try_controls() {
-    let mut log = [0u32; 48];
-    let mut want = [0u32; 48];
-    let t = controls::pos_cases(&mut log, &mut want);
-    say(b"into_pos");
-    tally::report(t);
-    let u = controls::remap_cases(&mut log, &mut want);
-    say(b"remap_reset_over_enable");
-    tally::report(u);
-}
-
 fn main() {
     let mut log = [0u32; LOG_WORDS];
     let mut want = [0u32; LOG_WORDS];
@@ -57,5 +37,4 @@ fn main() {
     let mut trits = [0u8; NETS];
     words::fill_trits(&mut trits);
     all_cells(&mut log, &mut want, &mut a, &mut b, &trits);
-    try_controls();
 }

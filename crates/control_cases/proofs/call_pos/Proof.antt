@@ -1,9 +1,9 @@
--- `log_cases::controls::call_pos` is safe and ends.
+-- `control_cases::call_pos` is safe and ends.
 use native.Mathlib.Omega.{arith}
 use lib.ListN.{length, length-take}
 use borrow.Author.Needs.{needs}
-use Rattle.log_cases.proofs.controls.call_pos.Statement.{statement}
-use Rattle.log_cases.proofs.controls.call_pos.Tie as tie
+use Rattle.control_cases.proofs.call_pos.Statement.{statement}
+use Rattle.control_cases.proofs.call_pos.Tie as tie
 
 returns : tie.Need-returns
 returns c = search needs

@@ -1,9 +1,9 @@
--- `log_cases::controls::call_remap` is safe and ends.
+-- `control_cases::call_remap` is safe and ends.
 use native.Mathlib.Omega.{arith}
 use lib.ListN.{length, length-take}
 use borrow.Author.Needs.{needs}
-use Rattle.log_cases.proofs.controls.call_remap.Statement.{statement}
-use Rattle.log_cases.proofs.controls.call_remap.Tie as tie
+use Rattle.control_cases.proofs.call_remap.Statement.{statement}
+use Rattle.control_cases.proofs.call_remap.Tie as tie
 
 returns : tie.Need-returns
 returns c = search needs

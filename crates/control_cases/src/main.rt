@@ -1,13 +1,8 @@
-// into_pos and remap_reset_over_enable, over controls that are constants, cells, inverses and bad ones, four rooms and six next free nets.
-use crate::cells::next_at;
-use crate::cells::room_at;
-use crate::tally;
-use crate::tally::Tally;
-use crate::words::net_above;
-use crate::words::paint;
-use crate::words::plus;
-use crate::words::put_all;
-use crate::words::same;
+// Tries into_pos and remap_reset_over_enable, over controls that are constants, cells, inverses and bad ones, four rooms and six next free nets.
+// Every lent word holds a pattern before a call, and every word of log, state and result is compared after it with what a plain computation expects.
+mod tally;
+mod words;
+
 use flip_flop::Controls;
 use log::LogState;
 use requests::ControlsAnswer;
@@ -15,8 +10,52 @@ use requests::NetAnswer;
 use rules::FIRST_CELL;
 use rules::MAX_NETS;
 use rules::NET_X;
+use tally::Tally;
 use value::ControlNet;
 use value::Net;
+use words::both;
+use words::minus;
+use words::net_above;
+use words::paint;
+use words::plus;
+use words::put_all;
+use words::same;
+use words::word;
+
+fn room_at(k: u32, used: usize, words: usize) -> usize {
+    match k {
+        0 => plus(used, words),
+        1 => minus(plus(used, words), 1),
+        2 => plus(plus(used, words), 7),
+        _ => minus(used, 1),
+    }
+}
+
+// The next free net from which so many nets end at the limit.
+fn last_next(nets: usize) -> u32 {
+    let n = word(nets);
+    if MAX_NETS < n {
+        return 2;
+    }
+    MAX_NETS - n
+}
+
+// The third ends at the limit, and the fourth is one net short of it.
+fn next_at(k: u32, nets: usize) -> u32 {
+    let most = if word(nets) < MAX_NETS {
+        MAX_NETS - word(nets)
+    } else {
+        2
+    };
+    match k {
+        0 => 2,
+        1 => 100,
+        2 => most,
+        3 => net_above(most, 1),
+        4 => 1,
+        _ => MAX_NETS,
+    }
+}
 
 // A control in plain numbers.
 struct Wire {
@@ -179,7 +218,7 @@ fn try_pos(t: Tally, log: &mut [u32], want: &mut [u32], w: Wire, room: usize, ne
     let r = call_pos(log, room, next, w);
     let ok = net_answered(n, w, next, r);
     let kept = same(log, want);
-    tally::add(t, n, ok && kept)
+    tally::add(t, n, both(ok, kept))
 }
 
 fn pos_case(t: Tally, log: &mut [u32], want: &mut [u32], k: u32) -> Tally {
@@ -190,7 +229,7 @@ fn pos_case(t: Tally, log: &mut [u32], want: &mut [u32], k: u32) -> Tally {
     try_pos(t, log, want, w, room, next)
 }
 
-pub(crate) fn pos_cases(log: &mut [u32], want: &mut [u32]) -> Tally {
+fn pos_cases(log: &mut [u32], want: &mut [u32]) -> Tally {
     let mut t = tally::start();
     let mut k: u32 = 0;
     while k < 144 {
@@ -264,27 +303,25 @@ fn remap_number(c: Remap) -> u32 {
     state_number(c.room, 3, z.words, c.next, z.nets)
 }
 
+// Where the entry after a control's not stands.
+fn after_not(at: usize, w: Wire) -> usize {
+    if w.neg {
+        return plus(at, 5);
+    }
+    at
+}
+
 // The nots of reset and enable, and their and.
 fn put_gated(want: &mut [u32], reset: Wire, enable: Wire, next: u32) {
-    put_not(want, 3, reset, next);
-    let after_reset = if reset.neg { 8 } else { 3 };
+    let at = after_not(3, reset);
     let second = net_above(next, nots(reset));
-    put_not(want, after_reset, enable, second);
-    let after_enable = if enable.neg {
-        plus(after_reset, 5)
-    } else {
-        after_reset
-    };
     let third = net_above(second, nots(enable));
-    let entry = [
-        3u32,
-        1,
-        third,
-        2,
-        pos_net(reset, next),
-        pos_net(enable, second),
-    ];
-    put_all(want, after_enable, &entry);
+    let x = pos_net(reset, next);
+    let y = pos_net(enable, second);
+    let entry = [3u32, 1, third, 2, x, y];
+    put_not(want, 3, reset, next);
+    put_not(want, at, enable, second);
+    put_all(want, after_not(at, enable), &entry);
 }
 
 // The reset that the call gives.
@@ -297,15 +334,8 @@ fn new_reset(c: Remap) -> Wire {
     let z = remap_size(reset, enable, c.over);
     Wire {
         neg: false,
-        net: net_above(c.next, minus_one(z.nets)),
+        net: net_above(c.next, minus(z.nets, 1)),
     }
-}
-
-fn minus_one(n: usize) -> usize {
-    if n == 0 {
-        return 0;
-    }
-    n - 1
 }
 
 fn controls_of(reset: Wire, enable: Wire, over: bool) -> Controls {
@@ -404,10 +434,10 @@ fn try_remap(t: Tally, log: &mut [u32], want: &mut [u32], c: Remap) -> Tally {
     let r = call_remap(log, c);
     let ok = remap_answered(n, c, r);
     let kept = same(log, want);
-    tally::add(t, n, ok && kept)
+    tally::add(t, n, both(ok, kept))
 }
 
-pub(crate) fn remap_cases(log: &mut [u32], want: &mut [u32]) -> Tally {
+fn remap_cases(log: &mut [u32], want: &mut [u32]) -> Tally {
     let mut t = tally::start();
     let mut k: u32 = 0;
     while k < 1728 {
@@ -415,4 +445,15 @@ pub(crate) fn remap_cases(log: &mut [u32], want: &mut [u32]) -> Tally {
         k += 1;
     }
     t
+}
+
+fn main() {
+    let mut log = [0u32; 48];
+    let mut want = [0u32; 48];
+    let t = pos_cases(&mut log, &mut want);
+    io::write_all(libc::STDOUT_FILENO, b"into_pos:");
+    tally::report(t);
+    let u = remap_cases(&mut log, &mut want);
+    io::write_all(libc::STDOUT_FILENO, b"remap_reset_over_enable:");
+    tally::report(u);
 }

@@ -1,11 +1,11 @@
--- `log_cases::controls::pos_cases` is safe and ends.
+-- `control_cases::pos_cases` is safe and ends.
 use mathlib.Core.Path.{_≡_, refl}
 use Prim.Native.Nat.{_-_}
 use native.Mathlib.Omega.{arith}
 use lib.ListN.{length}
 use borrow.Author.Needs.{needs}
-use Rattle.log_cases.proofs.controls.pos_cases.Statement.{statement}
-use Rattle.log_cases.proofs.controls.pos_cases.Tie as tie
+use Rattle.control_cases.proofs.pos_cases.Statement.{statement}
+use Rattle.control_cases.proofs.pos_cases.Tie as tie
 
 abbrev Inv-loop : tie.InvT-loop
 Inv-loop log₀ want₀ t₀ k₀ log want t k = (length log ≡ length log₀) × (length want ≡ length want₀)
