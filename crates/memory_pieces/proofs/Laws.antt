@@ -14,6 +14,8 @@ use Rattle.value.specs.declared.ControlNet.the-variants.{Pos, Neg}
 use Rattle.pieces.specs.Pieces.{endOf, listWords, controlWords, codeOf, afterList, afterWord}
 use Rattle.memory_pieces.specs.Kept.{Kept}
 use Rattle.memory_pieces.specs.Plans.{writeLogsAt, hardAt, swizzleAt}
+use Rattle.memory_pieces.specs.Memories.{startAt, afterMemory}
+use Rattle.whole.specs.Whole.{Cursor, skipMemory}
 
 pub kept-here : (l : List ℕ) (i : ℕ) → i ≤ length l + 1 → Kept l l i i
 kept-here l i h = record { same-size = refl; in-order = omega arith; in-room = h; below = refl; beyond = refl }
@@ -108,3 +110,11 @@ module _ (s : List ℕ) (at : ℕ) where
         «hard_addr_bits» = (h ∙ ap (λ (n : ℕ). getD s n 0) q) i;
         «data_width_unit» = (k ∙ ap (λ (n : ℕ). getD s n 0) (f ∙ ap (afterWord s) q)) i;
       }
+
+-- ---- the index after a memory: at most the end
+module _ (s : List ℕ) (at n : ℕ) (d : Cursor) (e : d ≡ skipMemory s (startAt at)) (q : n ≡ d .at) where
+  pub after-cut : length s < n → length s ≡ afterMemory s at
+  after-cut h = let g : n ≡ skipMemory s (startAt at) .at = q ∙ ap (λ (k : Cursor). k .at) e in omega (arith, h, g)
+
+  pub after-whole : n ≤ length s → n ≡ afterMemory s at
+  after-whole h = let g : n ≡ skipMemory s (startAt at) .at = q ∙ ap (λ (k : Cursor). k .at) e in omega (arith, h, g)

@@ -1,9 +1,10 @@
 // A MEMORY and a PLAN of a case, and a MEMORY of an answer. Ports and relations past the eighth are not kept: their number alone has them refused.
 ghost use mathlib.Core.Path.{_≡_};
-ghost use Prim.Native.Nat.{_≤_};
-ghost use lib.ListN.{length, getD};
+ghost use lib.ListN.{getD};
 ghost use Rattle.pieces.specs.Pieces.{listAt, afterWord};
 ghost use Rattle.memory_pieces.specs.Kept.{Kept};
+ghost use Rattle.whole.specs.View.{cursorOf};
+ghost use Rattle.memory_pieces.specs.Memories.{initAt, countsAt, initLenAt, writeCountAt, readCountAt, afterMemory};
 ghost use Rattle.memory_pieces.specs.Plans.{writeLogsAt, readLogsAt, swizzleAt};
 use cell::Memory;
 use swizzle_sizes::MemorySwizzle;
@@ -14,7 +15,9 @@ mod nets;
 mod ports;
 
 // Where the memory's init trits, and the numbers of its ports, stand.
-fn init_at(given: &[u32], at: usize) -> Cursor {
+fn init_at(given: &[u32], at: usize) -> Cursor
+    ensures { λ r. ⌜ cursorOf r ≡ initAt (now (given .entry)) at ⌝ }
+{
     let c = Cursor {
         at: at,
         whole: true,
@@ -22,7 +25,9 @@ fn init_at(given: &[u32], at: usize) -> Cursor {
     whole::skip_words(given, 2, c)
 }
 
-fn counts_at(given: &[u32], at: usize) -> Cursor {
+fn counts_at(given: &[u32], at: usize) -> Cursor
+    ensures { λ r. ⌜ cursorOf r ≡ countsAt (now (given .entry)) at ⌝ }
+{
     whole::skip_list(given, init_at(given, at))
 }
 
@@ -31,11 +36,15 @@ fn writes_at(given: &[u32], at: usize) -> Cursor {
     whole::skip_words(given, 2, counts_at(given, at))
 }
 
-fn write_count(given: &[u32], at: usize) -> u32 {
+fn write_count(given: &[u32], at: usize) -> u32
+    ensures { λ r. ⌜ r ≡ writeCountAt (now (given .entry)) at ⌝ }
+{
     whole::here(given, counts_at(given, at))
 }
 
-fn read_count(given: &[u32], at: usize) -> u32 {
+fn read_count(given: &[u32], at: usize) -> u32
+    ensures { λ r. ⌜ r ≡ readCountAt (now (given .entry)) at ⌝ }
+{
     whole::here(given, whole::skip_words(given, 1, counts_at(given, at)))
 }
 
@@ -52,7 +61,8 @@ fn reads_at(given: &[u32], at: usize) -> Cursor {
 
 // The memory at an index, without its nets and trits.
 pub fn memory_at(given: &[u32], at: usize) -> Memory
-    ensures { λ r. ⌜ (r .depth ≡ getD (now (given .entry)) at 0) × (r .width ≡ getD (now (given .entry)) (afterWord (now (given .entry)) at) 0) ⌝ }
+    ensures sizes { λ r. ⌜ (r .depth ≡ getD (now (given .entry)) at 0) × (r .width ≡ getD (now (given .entry)) (afterWord (now (given .entry)) at) 0) × (r .«init_len» ≡ initLenAt (now (given .entry)) at) ⌝ }
+    ensures counts { λ r. ⌜ (r .«write_count» ≡ writeCountAt (now (given .entry)) at) × (r .«read_count» ≡ readCountAt (now (given .entry)) at) ⌝ }
 {
     let writes = write_count(given, at);
     let reads = read_count(given, at);
@@ -69,7 +79,7 @@ pub fn memory_at(given: &[u32], at: usize) -> Memory
 
 // The index after it.
 pub fn after_memory(given: &[u32], at: usize) -> usize
-    ensures { λ r. ⌜ r ≤ length (now (given .entry)) ⌝ }
+    ensures { λ r. ⌜ r ≡ afterMemory (now (given .entry)) at ⌝ }
 {
     let c = Cursor {
         at: at,

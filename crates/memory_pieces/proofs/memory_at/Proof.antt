@@ -1,4 +1,5 @@
 -- `memory_pieces::memory_at` meets its contract.
+use Rattle.whole.specs.Whole.{here}
 use lib.ListN.{getD}
 use Prim.Native.Nat.{ℕ}
 use mathlib.Core.Path.{ap, _∙_}
@@ -46,7 +47,7 @@ read-ports-requires : tie.Need-read-ports-requires
 read-ports-requires c κs = search needs
 
 returns : tie.Need-returns
-returns c = (c .before .before .before .before .before .before .before .before .before .before .word .ensures, c .before .before .before .before .before .before .before .before .word2 .ensures ∙ ap (λ (n : ℕ). getD (c .before .before .before .before .before .before .before .before .before .before .before .before .before .before .args .given .now) n 0) (c .before .before .before .before .before .before .before .before .before .next .ensures))
+returns c = ((c .before .before .before .before .before .before .before .before .before .before .word .ensures, c .before .before .before .before .before .before .before .before .word2 .ensures ∙ ap (λ (n : ℕ). getD (c .before .before .before .before .before .before .before .before .before .before .before .before .before .before .args .given .now) n 0) (c .before .before .before .before .before .before .before .before .before .next .ensures), c .before .before .before .before .before .before .here .ensures ∙ ap (here (c .before .before .before .before .before .before .before .before .before .before .before .before .before .before .args .given .now)) (c .before .before .before .before .before .before .before .init-at .ensures)), (c .before .before .before .before .before .before .before .before .before .before .before .before .write-count .ensures, c .before .before .before .before .before .before .before .before .before .before .before .read-count .ensures))
 
 pub memory-at-spec : {M : Type 1} → statement M
 memory-at-spec =
