@@ -1,4 +1,4 @@
--- The old wide logs by the structs, and the numbers of the call.
+-- The numbers of the call.
 use mathlib.Core.Path.{_≡_, refl, sym, ap, _∙_}
 use mathlib.Core.Logic.{_≢_}
 use Prim.Native.Nat.{ℕ, _+_, _-_, _<_, _≤_, min}
@@ -19,58 +19,15 @@ use Rattle.geometry.specs.View.{layoutBy}
 use Rattle.swizzle_sizes.specs.declared.MemorySwizzle.{MemorySwizzle}
 use Rattle.swizzle_sizes.specs.Calls.{planOf, paramsBy, plannedNumber}
 use Rattle.swizzle_sizes.proofs.Planned.{same-layout, planned-valid}
-use Rattle.mux_bits.proofs.Wides.{any-first, map-first}
-use Rattle.mux_bits.specs.Calls.{swizzleMuxBitsRefusal, inEight, writeLogs, readLogs}
+use Rattle.plan_check.proofs.Wides.{map-first}
+use Rattle.plan_check.specs.Calls.{writeLogs, readLogs}
+use Rattle.mux_bits.specs.Calls.{swizzleMuxBitsRefusal}
 use mathlib.Core.List.{List, [], map}
 use lib.ListN.{length, getD, length-map, replicate}
 use lib.Seq.{sets}
 use Rattle.cell.specs.declared.Memory.{Memory}
 use Rattle.cell.specs.View.{memoryOf, writesOf, writeBy, writePort, writeStart, writeSize}
 use Rattle.cell.proofs.Ports.{noWrite, writes-at}
-
--- the wide log of write port i, by its struct and its nets
-pub log-is : (m : Memory) (nets trits : List ℕ) (i : ℕ) → i < min 8 (m .«write_count») → (x : List ℕ) (n : ℕ)
-    → x ≡ part (writeStart m i) (writeSize (writePort m i)) nets → n ≡ length (writeBy (writePort m i) x [] .bits)
-    → wideLog2 (m .width) n ≡ writeWideLog2 (memoryOf m nets trits) (getD (writesOf m nets) i noWrite)
-unfolding writeWideLog2 memoryOf
-log-is m nets trits i h x n e q =
-    ap (wideLog2 (m .width)) (q ∙ ap (λ (w : WritePort). length (w .bits)) (ap (λ (l : List ℕ). writeBy (writePort m i) l []) e ∙ sym (writes-at m nets i h)))
-
-pub logs-are : (m : Memory) (nets trits : List ℕ) → sets (replicate 8 0) 0 (map (writeWideLog2 (memoryOf m nets trits)) (writesOf m nets)) ≡ inEight (writeLogs (memoryOf m nets trits))
-unfolding memoryOf
-logs-are m nets trits = refl
-
-pub read-log-is : (m : Memory) (nets trits : List ℕ) (k j n : ℕ) → n ≡ readAt (memoryOf m nets trits) k .dataLen → k ≡ j
-    → wideLog2 (m .width) n ≡ readWideLog2 (memoryOf m nets trits) (readAt (memoryOf m nets trits) j)
-unfolding readWideLog2 memoryOf
-read-log-is m nets trits k j n e q = ap (wideLog2 (m .width)) (e ∙ ap (λ (i : ℕ). readAt (memoryOf m nets trits) i .dataLen) q)
-
--- ---- number 9, by the old and the new wide logs
-module _ (s : MemorySwizzle) where
-  abbrev bad : List ℕ → List ℕ → List ℕ → ℕ × ℕ → Bool
-  bad es ws rs x = badWide (planOf s es ws rs) (x .0) (x .1)
-
-  module _ (m : Memory) (nets trits es ws rs : List ℕ) (n : ℕ) (e : length (writesOf m nets) ≡ n) where
-    writes-form : not (eqb (length ws) n) || any (bad es ws rs) (pairs (writeLogs (memoryOf m nets trits)) ws) ≡ badWrites (memoryOf m nets trits) (planOf s es ws rs)
-    unfolding badWrites memoryOf
-    writes-form = λ i. not (eqb (length ws) (sym e i)) || any-first (writeWideLog2 (memoryOf m nets trits)) (badWide (planOf s es ws rs)) (writesOf m nets) ws i
-
-    pub writes-len : length ws ≢ n → true ≡ badWrites (memoryOf m nets trits) (planOf s es ws rs)
-    writes-len h = sym (or-left _ (ap not (ne-eqb (length ws) n h))) ∙ writes-form
-
-    pub writes-by : length ws ≡ n → (r : Bool) → r ≡ any (bad es ws rs) (pairs (writeLogs (memoryOf m nets trits)) ws) → r ≡ badWrites (memoryOf m nets trits) (planOf s es ws rs)
-    writes-by h r q = q ∙ sym (ap (λ (t : Bool). not t || any (bad es ws rs) (pairs (writeLogs (memoryOf m nets trits)) ws)) (eq-eqb (length ws) n h)) ∙ writes-form
-
-  module _ (m : Memory) (nets trits ports es ws rs : List ℕ) where
-    reads-form : not (eqb (length rs) (length ports)) || any (bad es ws rs) (pairs (readLogs (memoryOf m nets trits) ports) rs) ≡ badReads (memoryOf m nets trits) ports (planOf s es ws rs)
-    unfolding badReads
-    reads-form = ap (λ (t : Bool). not (eqb (length rs) (length ports)) || t) (any-first (λ (i : ℕ). readWideLog2 (memoryOf m nets trits) (readAt (memoryOf m nets trits) i)) (badWide (planOf s es ws rs)) ports rs)
-
-    pub reads-len : length rs ≢ length ports → true ≡ badReads (memoryOf m nets trits) ports (planOf s es ws rs)
-    reads-len h = sym (or-left _ (ap not (ne-eqb (length rs) (length ports) h))) ∙ reads-form
-
-    pub reads-by : length rs ≡ length ports → (r : Bool) → r ≡ any (bad es ws rs) (pairs (readLogs (memoryOf m nets trits) ports) rs) → r ≡ badReads (memoryOf m nets trits) ports (planOf s es ws rs)
-    reads-by h r q = q ∙ sym (ap (λ (t : Bool). not t || any (bad es ws rs) (pairs (readLogs (memoryOf m nets trits) ports) rs)) (eq-eqb (length rs) (length ports) h)) ∙ reads-form
 
 -- ---- the number of the call
 module _ (m : Memory) (nets trits ports : List ℕ) (p : Plan) where
@@ -162,7 +119,3 @@ module _ (m : Memory) (nets trits : List ℕ) (s : MemorySwizzle) (es ws rs : Li
   read-bits ports =
       same-bits (pairs (readLogs (memoryOf m nets trits) ports) rs)
       ∙ map-first (λ (i : ℕ). readWideLog2 (memoryOf m nets trits) (readAt (memoryOf m nets trits) i)) (muxBits (layoutOf (memoryOf m nets trits) (planOf s es ws rs))) ports rs
-
-pub logs-length : (m : Memory) (nets trits : List ℕ) → length (writeLogs (memoryOf m nets trits)) ≡ length (writesOf m nets)
-unfolding memoryOf
-logs-length m nets trits = length-map (writesOf m nets) (writeWideLog2 (memoryOf m nets trits))

@@ -2,18 +2,18 @@
 use mathlib.Core.Path.{_≡_}
 use Prim.Native.Nat.{ℕ, _≤_, _<_}
 use mathlib.Core.Bool.{_||_}
-use mathlib.Core.List.{List, map}
+use mathlib.Core.List.{List}
 use lib.ListN.{length, getD, replicate}
-use lib.Seq.{sets}
 use Rattle.lists.specs.Choice.{if_then_else_, _orElse_, leaves}
 use Rattle.lists.specs.Lists.{any}
 use Rattle.rules.specs.Limits.{maxPorts}
-use Rattle.rules.specs.Cell.{Plan, Mem, writeWideLog2, readWideLog2, readAt}
+use Rattle.rules.specs.Cell.{Plan}
 use Rattle.rules.specs.Geometry.{writeMuxBits, readMuxBits}
 use Rattle.rules.specs.Conditions.{longList, badWrites, badReads, badPort}
 use Rattle.cell.specs.declared.Memory.{Memory}
 use Rattle.cell.specs.View.{memoryOf}
 use Rattle.swizzle_sizes.specs.Calls.{plannedNumber}
+use Rattle.plan_check.specs.Calls.{inEight}
 use Rattle.mux_bits.specs.declared.MuxBits.{MuxBits}
 
 unfoldable pub swizzleMuxBitsRefusal : Memory → List ℕ → List ℕ → List ℕ → Plan → ℕ
@@ -23,22 +23,11 @@ swizzleMuxBitsRefusal m nets trits ports p =
     else if any (badPort (memoryOf m nets trits)) ports then 15
     else 0)
 
--- a list of at most eight numbers in an array of eight
-abbrev pub inEight : List ℕ → List ℕ
-inEight l = sets (replicate maxPorts 0) 0 l
-
 -- the whole answer: nothing but zeros where it is refused
 pub record MuxBitsCall (m : Memory) (nets trits ports : List ℕ) (p : Plan) (r : MuxBits) : Type 0 where
   pub refused : r .refusal ≡ swizzleMuxBitsRefusal m nets trits ports p
   pub writes-are : r .writes ≡ leaves (r .refusal) (replicate maxPorts 0) (inEight (writeMuxBits (memoryOf m nets trits) p))
   pub reads-are : r .reads ≡ leaves (r .refusal) (replicate maxPorts 0) (inEight (readMuxBits (memoryOf m nets trits) ports p))
-
--- the old wide logs of the write ports, and of the listed read ports
-abbrev pub writeLogs : Mem → List ℕ
-writeLogs m = map (writeWideLog2 m) (m .writes)
-
-abbrev pub readLogs : Mem → List ℕ → List ℕ
-readLogs m ports = map (λ (i : ℕ). readWideLog2 m (readAt m i)) ports
 
 -- what the mux bits can be counted from: the bits that all ports have, and the new wide logs
 pub record Small (base : ℕ) (news : List ℕ) : Type 0 where

@@ -1,18 +1,15 @@
 // memory/src/lib.rs, swizzle_mux_bits: the address bits of each port that a swizzle would decode with muxes.
 ghost use mathlib.Core.Path.{_≡_};
-ghost use mathlib.Core.Bool.{_||_};
 ghost use mathlib.Core.List.{List, map};
 ghost use Prim.Native.Nat.{ℕ, _+_, _-_, _≤_, min};
 ghost use lib.ListN.{length};
-ghost use Rattle.lists.specs.Lists.{any, pairs};
-ghost use Rattle.rules.specs.Numbers.{softs};
+ghost use Rattle.lists.specs.Lists.{pairs};
 ghost use Rattle.rules.specs.Geometry.{chunkMuxBits, softBits};
 ghost use Rattle.geometry.specs.View.{layoutBy};
-ghost use Rattle.rules.specs.Cell.{Plan};
-ghost use Rattle.rules.specs.Conditions.{badWide, badWrites, badReads};
 ghost use Rattle.cell.specs.View.{memoryOf};
 ghost use Rattle.swizzle_sizes.specs.Calls.{planOf, paramsBy};
-ghost use Rattle.mux_bits.specs.Calls.{swizzleMuxBitsRefusal, inEight, MuxBitsCall, writeLogs, readLogs, Countable, Small};
+ghost use Rattle.plan_check.specs.Calls.{inEight, writeLogs, readLogs};
+ghost use Rattle.mux_bits.specs.Calls.{swizzleMuxBitsRefusal, MuxBitsCall, Countable, Small};
 use cell::Memory;
 use swizzle_sizes::MemorySwizzle;
 
@@ -48,65 +45,6 @@ fn minus(a: u32, b: u32) -> u32
     a - b
 }
 
-// How many of the lowest k bits of a mask are set.
-fn low_softs(k: u32, mask: u32) -> u32
-    ensures { λ r. ⌜ (r ≡ softs k mask) × (r ≤ k) ⌝ }
-{
-    let mut rest = mask;
-    let mut count: u32 = 0;
-    let mut i: u32 = 0;
-    while i < k {
-        count += rest % 2;
-        rest /= 2;
-        i += 1;
-    }
-    count
-}
-
-// A new wide log is above the hard bits, or below the non-soft bits under the old one.
-fn wide_bad(s: MemorySwizzle, old: u32, new: u32) -> bool
-    ensures { λ r. ⌜ ((es ws rs : List ℕ) → r ≡ badWide (planOf s es ws rs) old new) ⌝ }
-{
-    if s.hard_addr_bits < new {
-        return true;
-    }
-    new < minus(old, low_softs(old, s.soft_addr_bits_mask))
-}
-
-// One of these is.
-fn wides_bad(s: MemorySwizzle, olds: &[u32], news: &[u32]) -> bool
-    ensures { λ r. ⌜ ((es ws rs : List ℕ) → r ≡ any (λ x. badWide (planOf s es ws rs) (x .0) (x .1)) (pairs (now (olds .entry)) (now (news .entry)))) ⌝ }
-{
-    let end = smaller(olds.len(), news.len());
-    let mut i = 0;
-    while i < end {
-        if wide_bad(s, olds[i], news[i]) {
-            return true;
-        }
-        i += 1;
-    }
-    false
-}
-
-// The old wide logs of the write ports.
-fn write_logs(m: Memory, nets: &[u32]) -> [u32; 8]
-    ensures { λ r. ⌜ ((trits : List ℕ) → r ≡ inEight (writeLogs (memoryOf m (now (nets .entry)) trits))) ⌝ }
-{
-    let mut logs = [0u32; 8];
-    let count = cell::ports_used(m.write_count);
-    let mut at: usize = 0;
-    let mut i = 0;
-    while i < count {
-        let p = m.write_ports[i];
-        let size = cell::write_size(p);
-        let part = cell::net_part(nets, at, size);
-        logs[i] = wide::wide_log(m.width, cell::data_count(p, part));
-        at += size;
-        i += 1;
-    }
-    logs
-}
-
 // The old wide logs of the listed read ports.
 fn read_logs(m: Memory, ports: &[u32]) -> [u32; 8]
     requires { ⌜ length (now ports) ≤ 8 ⌝ }
@@ -119,48 +57,6 @@ fn read_logs(m: Memory, ports: &[u32]) -> [u32; 8]
         j += 1;
     }
     logs
-}
-
-// Number 9 of the write ports.
-fn writes_bad(m: Memory, nets: &[u32], s: MemorySwizzle, news: &[u32]) -> bool
-    ensures { λ r. ⌜ ((trits es rs : List ℕ) → r ≡ badWrites (memoryOf m (now (nets .entry)) trits) (planOf s es (now (news .entry)) rs)) ⌝ }
-{
-    let count = cell::ports_used(m.write_count);
-    if news.len() != count {
-        return true;
-    }
-    let logs = write_logs(m, nets);
-    wides_bad(s, cell::net_part(&logs, 0, count), news)
-}
-
-// Number 9 of the listed read ports.
-fn reads_bad(m: Memory, ports: &[u32], s: MemorySwizzle, news: &[u32]) -> bool
-    requires { ⌜ length (now ports) ≤ 8 ⌝ }
-    ensures { λ r. ⌜ ((nets trits es ws : List ℕ) → r ≡ badReads (memoryOf m nets trits) (now (ports .entry)) (planOf s es ws (now (news .entry)))) ⌝ }
-{
-    if news.len() != ports.len() {
-        return true;
-    }
-    let logs = read_logs(m, ports);
-    wides_bad(s, cell::net_part(&logs, 0, ports.len()), news)
-}
-
-// Number 9.
-fn logs_bad(
-    m: Memory,
-    nets: &[u32],
-    ports: &[u32],
-    s: MemorySwizzle,
-    writes: &[u32],
-    reads: &[u32],
-) -> bool
-    requires { ⌜ length (now ports) ≤ 8 ⌝ }
-    ensures { λ r. ⌜ ((trits es : List ℕ) → r ≡ (badWrites (memoryOf m (now (nets .entry)) trits) (planOf s es (now (writes .entry)) (now (reads .entry))) || badReads (memoryOf m (now (nets .entry)) trits) (now (ports .entry)) (planOf s es (now (writes .entry)) (now (reads .entry))))) ⌝ }
-{
-    if writes_bad(m, nets, s, writes) {
-        return true;
-    }
-    reads_bad(m, ports, s, reads)
 }
 
 // The number that refuses `swizzle_mux_bits`, or 0.
@@ -181,7 +77,7 @@ fn mux_refusal(
     if n != 0 {
         return n;
     }
-    if logs_bad(m, nets, ports, s, writes, reads) {
+    if plan_check::logs_bad(m, nets, ports, s, writes, reads) {
         return 9;
     }
     if inspect::port_missing(m, ports) {
@@ -210,7 +106,7 @@ fn write_bits(m: Memory, nets: &[u32], base: u32, news: &[u32]) -> [u32; 8]
     requires { ⌜ Small base (now news) ⌝ }
     ensures { λ r. ⌜ ((trits : List ℕ) → r ≡ inEight (map (λ x. base + x .1 - x .0) (pairs (writeLogs (memoryOf m (now (nets .entry)) trits)) (now (news .entry))))) ⌝ }
 {
-    let logs = write_logs(m, nets);
+    let logs = plan_check::write_logs(m, nets);
     let olds = cell::net_part(&logs, 0, cell::ports_used(m.write_count));
     bits_of(base, olds, news)
 }

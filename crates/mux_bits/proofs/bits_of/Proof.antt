@@ -6,8 +6,8 @@ use mathlib.Core.List.{map}
 use lib.Seq.{sets}
 use borrow.Author.Needs.{needs}
 use Rattle.lists.specs.Lists.{pairs}
-use Rattle.mux_bits.proofs.Wides.{left, pair-store, pair-stored}
-use Rattle.mux_bits.specs.Calls.{inEight}
+use Rattle.plan_check.proofs.Wides.{left, pair-store, pair-stored}
+use Rattle.plan_check.specs.Calls.{inEight}
 use Rattle.mux_bits.proofs.bits_of.Statement.{statement}
 use Rattle.mux_bits.proofs.bits_of.Tie as tie
 

@@ -2,7 +2,7 @@
 use mathlib.Core.Path.{sym, ap, _∙_}
 use Prim.Native.Nat.{_-_}
 use mathlib.Core.Bool.{Bool}
-use Rattle.mux_bits.proofs.Wides.{left}
+use Rattle.plan_check.proofs.Wides.{left}
 use Rattle.swizzle_sizes.specs.Calls.{planOf, plannedNumber}
 use Rattle.mux_bits.proofs.Refused.{by-planned, by-nine, by-port, by-none, long-by, ports-few}
 use borrow.Author.Needs.{needs}
@@ -18,9 +18,7 @@ returns c =
     by-planned (v .m) (v .nets .now) (v .trits .now) (v .ports .now) (planOf (v .s) (v .entries .now) (v .writes .now) (v .reads .now)) _ (c .before .planned-number .ensures ∙ ap (λ (t : Bool). plannedNumber t (v .m) (v .nets .now) (v .trits .now) (planOf (v .s) (v .entries .now) (v .writes .now) (v .reads .now))) (long-by (v .ports .now))) (c .if1 .taken)
 
 logs-bad-requires : tie.Need-logs-bad-requires
-logs-bad-requires c κs =
-    let v = c .before .before .before .before .before .before .before .before .args in
-    ports-few (v .m) (v .nets .now) (v .trits .now) (v .ports .now) (v .s) (v .entries .now) (v .writes .now) (v .reads .now) (sym (c .before .planned-number .ensures ∙ ap (λ (t : Bool). plannedNumber t (v .m) (v .nets .now) (v .trits .now) (planOf (v .s) (v .entries .now) (v .writes .now) (v .reads .now))) (long-by (v .ports .now))) ∙ c .if1 .left)
+logs-bad-requires c κs = search needs
 
 returns-2 : tie.Need-returns-2
 returns-2 c =

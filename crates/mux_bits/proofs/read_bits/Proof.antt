@@ -6,9 +6,9 @@ use mathlib.Core.List.{List, map}
 use lib.ListN.{length, replicate, length-map}
 use Rattle.lists.specs.Lists.{pairs}
 use Rattle.rules.specs.Cell.{readWideLog2, readAt}
-use Rattle.mux_bits.proofs.Wides.{first-part}
+use Rattle.plan_check.proofs.Wides.{first-part}
 use Rattle.cell.specs.View.{memoryOf}
-use Rattle.mux_bits.specs.Calls.{inEight, readLogs}
+use Rattle.plan_check.specs.Calls.{inEight, readLogs}
 use borrow.Author.Needs.{needs}
 use Rattle.mux_bits.proofs.read_bits.Statement.{statement}
 use Rattle.mux_bits.proofs.read_bits.Tie as tie

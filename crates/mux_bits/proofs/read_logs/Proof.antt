@@ -7,10 +7,10 @@ use lib.ListN.{length, take, replicate, length-map, List·getD-map}
 use lib.Seq.{sets}
 use borrow.Author.Needs.{needs}
 use Rattle.rules.specs.Cell.{readWideLog2, readAt}
-use Rattle.mux_bits.proofs.Wides.{log-turn, log-end}
+use Rattle.plan_check.proofs.Wides.{log-turn, log-end}
 use Rattle.cell.specs.View.{memoryOf}
-use Rattle.mux_bits.specs.Calls.{readLogs}
-use Rattle.mux_bits.proofs.Refused.{read-log-is}
+use Rattle.plan_check.specs.Calls.{readLogs}
+use Rattle.plan_check.proofs.Logs.{read-log-is}
 use Rattle.mux_bits.proofs.read_logs.Statement.{statement}
 use Rattle.mux_bits.proofs.read_logs.Tie as tie
 

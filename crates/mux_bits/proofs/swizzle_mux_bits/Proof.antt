@@ -2,9 +2,9 @@
 use mathlib.Core.Path.{refl, sym, ap, _∙_}
 use Prim.Native.Nat.{_-_}
 use native.Mathlib.Omega.{arith}
-use Rattle.mux_bits.proofs.Wides.{left}
+use Rattle.plan_check.proofs.Wides.{left}
 use Rattle.swizzle_sizes.specs.Calls.{planOf}
-use Rattle.mux_bits.specs.Calls.{inEight}
+use Rattle.plan_check.specs.Calls.{inEight}
 use Rattle.mux_bits.proofs.Refused.{mux-planned, ports-few, writes-small, reads-small, write-bits, read-bits}
 use Rattle.lists.proofs.Choice.{leaves-refused, leaves-accepted}
 use borrow.Author.Needs.{needs}

@@ -5,11 +5,11 @@ use native.Mathlib.Omega.{arith}
 use mathlib.Core.List.{List, map}
 use lib.ListN.{replicate}
 use Rattle.lists.specs.Lists.{pairs}
-use Rattle.mux_bits.proofs.Wides.{first-part}
+use Rattle.plan_check.proofs.Wides.{first-part}
 use Rattle.cell.specs.View.{memoryOf}
 use Rattle.cell.proofs.Sized.{writes-length}
-use Rattle.mux_bits.specs.Calls.{inEight, writeLogs}
-use Rattle.mux_bits.proofs.Refused.{logs-length}
+use Rattle.plan_check.specs.Calls.{inEight, writeLogs}
+use Rattle.plan_check.proofs.Logs.{logs-length}
 use borrow.Author.Needs.{needs}
 use Rattle.mux_bits.proofs.write_bits.Statement.{statement}
 use Rattle.mux_bits.proofs.write_bits.Tie as tie

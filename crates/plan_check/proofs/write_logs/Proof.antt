@@ -1,4 +1,4 @@
--- `mux_bits::write_logs` meets its contract.
+-- `plan_check::write_logs` meets its contract.
 use mathlib.Core.Path.{_≡_, refl, sym, _∙_}
 use Prim.Native.Nat.{ℕ, _-_, _*_, _<_, _≤_, min}
 use native.Mathlib.Omega.{arith}
@@ -8,14 +8,14 @@ use lib.Seq.{sets}
 use borrow.Author.Needs.{needs}
 use Rattle.lists.specs.Lists.{sumBy, part}
 use Rattle.rules.specs.Cell.{writeWideLog2}
-use Rattle.mux_bits.proofs.Wides.{log-turn, log-end}
+use Rattle.plan_check.proofs.Wides.{log-turn, log-end}
 use Rattle.cell.specs.View.{memoryOf, writesOf, writeSize, noWritePort}
 use Rattle.cell.proofs.Ports.{noWrite}
 use Rattle.cell.proofs.Sized.{writes-length}
 use Rattle.lists.proofs.Sum.{sum-take-more}
-use Rattle.mux_bits.proofs.Refused.{log-is, logs-are}
-use Rattle.mux_bits.proofs.write_logs.Statement.{statement}
-use Rattle.mux_bits.proofs.write_logs.Tie as tie
+use Rattle.plan_check.proofs.Logs.{log-is, logs-are}
+use Rattle.plan_check.proofs.write_logs.Statement.{statement}
+use Rattle.plan_check.proofs.write_logs.Tie as tie
 
 abbrev Inv-loop : tie.InvT-loop
 Inv-loop nets m logs₀ count at₀ i₀ logs at i = (i ≤ count) × (at ≡ sumBy writeSize (take i (m .«write_ports»))) × (at ≤ i * 0x300000000) × ((t : List ℕ) → logs ≡ sets (replicate 8 0) 0 (take i (map (writeWideLog2 (memoryOf m nets t)) (writesOf m nets))))

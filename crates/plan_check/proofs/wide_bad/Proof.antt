@@ -1,4 +1,4 @@
--- `mux_bits::wide_bad` meets its contract.
+-- `plan_check::wide_bad` meets its contract.
 use mathlib.Core.Path.{sym, ap, _∙_}
 use Prim.Native.Nat.{ℕ, _-_}
 use mathlib.Core.Bool.{Bool, _||_}
@@ -6,10 +6,10 @@ use lib.Dec.{ltb}
 use borrow.Author.Tests.{lt-ltb, le-ltb}
 use Rattle.rules.specs.Numbers.{softs}
 use Rattle.rules.specs.Conditions.{badWide}
-use Rattle.mux_bits.proofs.Wides.{left}
+use Rattle.plan_check.proofs.Wides.{left}
 use borrow.Author.Needs.{needs}
-use Rattle.mux_bits.proofs.wide_bad.Statement.{statement}
-use Rattle.mux_bits.proofs.wide_bad.Tie as tie
+use Rattle.plan_check.proofs.wide_bad.Statement.{statement}
+use Rattle.plan_check.proofs.wide_bad.Tie as tie
 
 returns : tie.Need-returns
 unfolding badWide

@@ -1,4 +1,4 @@
--- `mux_bits::writes_bad` meets its contract.
+-- `plan_check::writes_bad` meets its contract.
 use mathlib.Core.Path.{sym, ap, _∙_}
 use Prim.Native.Nat.{ℕ, _-_}
 use native.Mathlib.Omega.{arith}
@@ -6,15 +6,15 @@ use mathlib.Core.List.{List}
 use lib.ListN.{replicate}
 use Rattle.lists.specs.Lists.{any, pairs}
 use Rattle.rules.specs.Conditions.{badWide}
-use Rattle.mux_bits.proofs.Wides.{left, first-part}
+use Rattle.plan_check.proofs.Wides.{left, first-part}
 use Rattle.swizzle_sizes.specs.Calls.{planOf}
 use Rattle.cell.specs.View.{memoryOf}
 use Rattle.cell.proofs.Sized.{writes-length}
-use Rattle.mux_bits.specs.Calls.{writeLogs}
-use Rattle.mux_bits.proofs.Refused.{writes-len, writes-by, logs-length}
+use Rattle.plan_check.specs.Calls.{writeLogs}
+use Rattle.plan_check.proofs.Logs.{writes-len, writes-by, logs-length}
 use borrow.Author.Needs.{needs}
-use Rattle.mux_bits.proofs.writes_bad.Statement.{statement}
-use Rattle.mux_bits.proofs.writes_bad.Tie as tie
+use Rattle.plan_check.proofs.writes_bad.Statement.{statement}
+use Rattle.plan_check.proofs.writes_bad.Tie as tie
 
 ports-used-requires : tie.Need-ports-used-requires
 ports-used-requires c κs = search needs

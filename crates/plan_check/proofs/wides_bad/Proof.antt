@@ -1,4 +1,4 @@
--- `mux_bits::wides_bad` meets its contract.
+-- `plan_check::wides_bad` meets its contract.
 use mathlib.Core.Path.{_≡_, refl, sym, _∙_}
 use Prim.Native.Nat.{ℕ, _-_, _≤_}
 use native.Mathlib.Omega.{arith}
@@ -6,10 +6,10 @@ use mathlib.Core.List.{List}
 use borrow.Author.Needs.{needs}
 use Rattle.lists.specs.Lists.{any, pairs}
 use Rattle.rules.specs.Conditions.{badWide}
-use Rattle.mux_bits.proofs.Wides.{left, pair-found, pair-pass, pair-end}
+use Rattle.plan_check.proofs.Wides.{left, pair-found, pair-pass, pair-end}
 use Rattle.swizzle_sizes.specs.Calls.{planOf}
-use Rattle.mux_bits.proofs.wides_bad.Statement.{statement}
-use Rattle.mux_bits.proofs.wides_bad.Tie as tie
+use Rattle.plan_check.proofs.wides_bad.Statement.{statement}
+use Rattle.plan_check.proofs.wides_bad.Tie as tie
 
 abbrev Inv-loop : tie.InvT-loop
 Inv-loop s olds news end i₀ i = (i ≤ end) × ((es ws rs : List ℕ) → any (λ (x : ℕ × ℕ). badWide (planOf s es ws rs) (x .0) (x .1)) (left olds news i) ≡ any (λ (x : ℕ × ℕ). badWide (planOf s es ws rs) (x .0) (x .1)) (pairs olds news))

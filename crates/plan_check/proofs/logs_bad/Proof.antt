@@ -1,15 +1,15 @@
--- `mux_bits::logs_bad` meets its contract.
+-- `plan_check::logs_bad` meets its contract.
 use mathlib.Core.Path.{sym, ap, _∙_}
 use Prim.Native.Nat.{_-_}
 use mathlib.Core.Bool.{Bool, _||_}
 use Rattle.rules.specs.Conditions.{badReads}
-use Rattle.mux_bits.proofs.Wides.{left}
+use Rattle.plan_check.proofs.Wides.{left}
 use Rattle.swizzle_sizes.specs.Calls.{planOf}
 use Rattle.cell.specs.View.{memoryOf}
 use Rattle.lists.proofs.Choice.{or-left}
 use borrow.Author.Needs.{needs}
-use Rattle.mux_bits.proofs.logs_bad.Statement.{statement}
-use Rattle.mux_bits.proofs.logs_bad.Tie as tie
+use Rattle.plan_check.proofs.logs_bad.Statement.{statement}
+use Rattle.plan_check.proofs.logs_bad.Tie as tie
 
 writes-bad-requires : tie.Need-writes-bad-requires
 writes-bad-requires c κs = search needs
@@ -20,7 +20,7 @@ returns c =
     λ t es. sym (or-left _ (sym (c .before .writes-bad .ensures t es (v .reads .now)) ∙ c .if1 .taken))
 
 reads-bad-requires : tie.Need-reads-bad-requires
-reads-bad-requires c κs = c .before .before .before .before .before .before .pre
+reads-bad-requires c κs = search needs
 
 returns-2 : tie.Need-returns-2
 returns-2 c =

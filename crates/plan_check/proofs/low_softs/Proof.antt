@@ -1,11 +1,11 @@
--- `mux_bits::low_softs` meets its contract.
+-- `plan_check::low_softs` meets its contract.
 use mathlib.Core.Path.{_≡_}
 use Prim.Native.Nat.{_+_, _-_, _≤_}
 use native.Mathlib.Omega.{arith}
 use Rattle.rules.specs.Numbers.{softs}
-use Rattle.mux_bits.proofs.Wides.{soft-turn, soft-end, soft-start}
-use Rattle.mux_bits.proofs.low_softs.Statement.{statement}
-use Rattle.mux_bits.proofs.low_softs.Tie as tie
+use Rattle.plan_check.proofs.Wides.{soft-turn, soft-end, soft-start}
+use Rattle.plan_check.proofs.low_softs.Statement.{statement}
+use Rattle.plan_check.proofs.low_softs.Tie as tie
 
 abbrev Inv-loop : tie.InvT-loop
 Inv-loop k mask rest₀ count₀ i₀ rest count i = (i ≤ k) × (count + softs (k - i) rest ≡ softs k mask) × (count ≤ i)

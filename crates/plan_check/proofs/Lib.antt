@@ -1,0 +1,4 @@
+-- Laws that belong to no one function.
+pub mod Wides
+pub mod Logs
+pub mod Whole

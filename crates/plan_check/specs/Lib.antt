@@ -1,0 +1,2 @@
+-- The numbers of a whole plan.
+pub mod Calls
