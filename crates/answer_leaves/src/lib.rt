@@ -62,15 +62,16 @@ fn const_pair(given: &[u32], op: u32, words: &mut [u32], trits: &mut [u8]) -> Re
     gate(given, op, words, trits, a.len(), b.len())
 }
 
-// The gate of constants of these lengths: short ones have a small array, which is cleared sooner.
+// The gate of constants of these lengths: short ones have a small array, which is cleared sooner. The long one is called at two places, so that
+// the compiler keeps its large array out of this function's frame.
 fn gate(given: &[u32], op: u32, words: &mut [u32], trits: &[u8], n: usize, k: usize) -> Reply {
     if n <= SHORT {
         return short_gate(given, op, words, trits, n, k);
     }
-    if n <= ROOM {
+    if op == 1 {
         return long_gate(given, op, words, trits, n, k);
     }
-    pieces::unknown()
+    long_gate(given, op, words, trits, n, k)
 }
 
 fn short_gate(
@@ -86,6 +87,9 @@ fn short_gate(
 }
 
 fn long_gate(given: &[u32], op: u32, words: &mut [u32], trits: &[u8], n: usize, k: usize) -> Reply {
+    if ROOM < n {
+        return pieces::unknown();
+    }
     let mut out = [0; ROOM];
     gate_into(given, op, words, trits, n, k, &mut out)
 }

@@ -234,6 +234,10 @@ fn extract_read_ports(given: &[u32], words: &mut [u32], trits: &mut [u8]) -> Rep
     if given.len() <= SMALL_CASE {
         return extract_small(given, words, s.nets, codes);
     }
+    // Called at two places, so that the compiler keeps its large arrays out of the frame of the other calls.
+    if s.nets <= SMALL_ROOM {
+        return extract_large(given, words, s.nets, codes);
+    }
     extract_large(given, words, s.nets, codes)
 }
 
