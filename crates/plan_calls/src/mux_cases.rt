@@ -167,7 +167,15 @@ pub(crate) fn log_sizes(t: Tally) -> Tally {
     let t = no_bits(t, 1, 0, 1, 3, 0, 2, 0, 0, 1, 0, 9);
     let t = no_bits(t, 1, 2, 4, 3, 0, 2, 0, 2, 1, 1, 9);
     let t = no_bits(t, 1, 0, 4, 3, 0, 2, 0, 1, 1, 1, 9);
-    two_and_two(t, ports(8), [0, 0], plan(1, 3, 1), [0, 1], [0, 1], [1, 0, 0, 1])
+    two_and_two(
+        t,
+        ports(8),
+        [0, 0],
+        plan(1, 3, 1),
+        [0, 1],
+        [0, 1],
+        [1, 0, 0, 1],
+    )
 }
 
 // Number 15 after 9, for ports that are not there.
@@ -184,7 +192,18 @@ pub(crate) fn missing(t: Tally) -> Tally {
 fn eight_times(t: Tally) -> Tally {
     let w = [0u32; 8];
     let r = [3u32; 8];
-    mux(t, ports(8), &[1u32; 8], plan(0, 3, 1), &[0u32], &[0u32, 2], &r, 0, w, r)
+    mux(
+        t,
+        ports(8),
+        &[1u32; 8],
+        plan(0, 3, 1),
+        &[0u32],
+        &[0u32, 2],
+        &r,
+        0,
+        w,
+        r,
+    )
 }
 
 // Lists of eight and nine, and the plan's other numbers.
