@@ -1,9 +1,15 @@
-// Tries the merging muxes without their numbers: four lengths, three rooms, four next free nets, and both kinds of select. Every lent word holds a
-// pattern before a call, and every word of log, state and result is compared after it. What lies past the room is not stored. The distinct pairs are
-// found here by a plain search.
+// Tries the merging muxes: five lengths, three rooms and five next free nets, with good values, with a bad net, and with one value a bit longer than
+// the other. Every lent word holds a pattern before a call, and every word of log, state and result is compared after it with what a plain computation
+// expects, which finds the distinct pairs by a plain search.
+mod tally;
 mod words;
 
 use log::LogState;
+use requests::Answer;
+use rules::FIRST_CELL;
+use rules::MAX_MERGE;
+use rules::MAX_NETS;
+use tally::Tally;
 use value::ControlNet;
 use value::Net;
 use words::fill;
@@ -11,7 +17,6 @@ use words::minus;
 use words::net_above;
 use words::net_at;
 use words::paint;
-use words::paint_from;
 use words::plus;
 use words::put;
 use words::put_all;
@@ -187,10 +192,13 @@ fn expect_runs(
     state
 }
 
-// A merge: whether it is the bitwise one, whether its select is Neg, and the next free net.
+// A merge: whether it is the bitwise one, its values' lengths, whether its select is Neg, whether a net is bad, and the next free net.
 struct Case {
     bitwise: bool,
+    n: usize,
+    m: usize,
     neg: bool,
+    bad: bool,
     next: u32,
 }
 
@@ -199,25 +207,39 @@ fn length_at(k: u32) -> usize {
         0 => 0,
         1 => 1,
         2 => 4095,
-        _ => 4096,
+        3 => 4096,
+        _ => 4097,
     }
 }
 
 fn next_at(k: u32) -> u32 {
     match k {
-        0 => 2,
-        1 => 100,
-        2 => 5000,
+        0 => 1,
+        1 => 2,
+        2 => 100,
+        3 => 16777215,
         _ => 16777216,
     }
 }
 
 fn case_at(bitwise: bool, k: u32) -> Case {
+    let n = length_at(k % 5);
+    let variant = k / 75 % 3;
     Case {
         bitwise,
-        neg: k / 4 % 2 == 1,
-        next: next_at(k / 8 % 4),
+        n,
+        m: longer(n, variant == 2),
+        neg: k % 2 == 1,
+        bad: variant == 1,
+        next: next_at(k / 5 % 5),
     }
+}
+
+fn longer(n: usize, test: bool) -> usize {
+    if test {
+        return plus(n, 1);
+    }
+    n
 }
 
 // The room: all words, one word short, and seven more.
@@ -227,6 +249,47 @@ fn room_at(k: u32, words: usize) -> usize {
         1 => minus(words, 1),
         _ => plus(words, 7),
     }
+}
+
+// 1, 2 and 4 of a case.
+fn input_number(c: Case) -> u32 {
+    if MAX_MERGE < c.m {
+        return 1;
+    }
+    if c.n != c.m {
+        return 2;
+    }
+    if !c.bitwise {
+        if c.neg {
+            if c.next <= FIRST_CELL {
+                return 4;
+            }
+        }
+    }
+    if c.bad {
+        if 0 < c.n {
+            return 4;
+        }
+    }
+    0
+}
+
+// The number that a case expects, where an accepted call would end in the state given.
+fn number(c: Case, room: usize, wanted: LogState) -> u32 {
+    let first = input_number(c);
+    if first != 0 {
+        return first;
+    }
+    if room < wanted.used {
+        return 20;
+    }
+    if c.next < FIRST_CELL {
+        return 21;
+    }
+    if MAX_NETS < wanted.next {
+        return 21;
+    }
+    0
 }
 
 fn expect(
@@ -277,18 +340,36 @@ fn call(
     a: &[u32],
     b: &[u32],
     out: &mut [u32],
-) -> LogState {
+) -> Answer {
     let st = LogState {
         used: 3,
         next: c.next,
     };
     if log.len() < room {
-        return st;
+        return Answer::Refused(99);
     }
     if c.bitwise {
-        return dedup::emit_bitwise_mux(&mut log[..room], st, s, a, b, out);
+        return merges::add_bitwise_mux(&mut log[..room], st, s, a, b, out);
     }
-    dedup::emit_dedup_mux(&mut log[..room], st, select_of(c.neg), a, b, out)
+    merges::add_dedup_mux(&mut log[..room], st, select_of(c.neg), a, b, out)
+}
+
+// Whether an answer is the one expected.
+fn answered(n: u32, wanted: LogState, r: Answer) -> bool {
+    match r {
+        Answer::Refused(k) => {
+            if n == 0 {
+                return false;
+            }
+            k == n
+        }
+        Answer::Done(state) => {
+            if n != 0 {
+                return false;
+            }
+            same_state(state, wanted)
+        }
+    }
 }
 
 fn same_state(a: LogState, b: LogState) -> bool {
@@ -301,6 +382,7 @@ fn same_state(a: LogState, b: LogState) -> bool {
 // The call and its comparison: every word of the log and of the result nets.
 fn compare(
     c: Case,
+    n: u32,
     wanted: LogState,
     room: usize,
     s: &[u32],
@@ -313,8 +395,8 @@ fn compare(
 ) -> bool {
     paint(log);
     paint(out);
-    let after = call(c, room, log, s, a, b, out);
-    if !same_state(after, wanted) {
+    let r = call(c, room, log, s, a, b, out);
+    if !answered(n, wanted, r) {
         return false;
     }
     if !same(log, want) {
@@ -323,9 +405,18 @@ fn compare(
     same(out, nets)
 }
 
-// A case: the words and nets expected are set first, and what lies past the room is painted again.
+// A refused call leaves all as it was.
+fn unset(n: u32, want: &mut [u32], nets: &mut [u32]) {
+    if n == 0 {
+        return;
+    }
+    paint(want);
+    paint(nets);
+}
+
+// A case: the words and nets expected are set first.
 fn try_case(
-    t: u32,
+    t: Tally,
     c: Case,
     mode: u32,
     s: &[u32],
@@ -333,24 +424,15 @@ fn try_case(
     b: &[u32],
     log: &mut [u32],
     want: &mut [u32],
-) -> u32 {
+) -> Tally {
     let mut out = [0u32; NETS];
     let mut nets = [0u32; NETS];
     let wanted = paint_and_expect(c, want, s, a, b, &mut nets);
     let room = room_at(mode, wanted.used);
-    paint_from(want, room);
-    let ok = compare(c, wanted, room, s, a, b, log, &mut out, want, &nets);
-    count(t, ok)
-}
-
-// One more, where a case is right.
-fn count(t: u32, ok: bool) -> u32 {
-    if ok {
-        if t < 1000000 {
-            return t + 1;
-        }
-    }
-    t
+    let n = number(c, room, wanted);
+    unset(n, want, &mut nets);
+    let ok = compare(c, n, wanted, room, s, a, b, log, &mut out, want, &nets);
+    tally::add(t, n, ok)
 }
 
 // Selects in runs of nine.
@@ -368,47 +450,60 @@ fn set_nets(next: u32, s: &mut [u32], a: &mut [u32], b: &mut [u32]) {
     fill_selects(s, next);
 }
 
-fn set_and_try(t: u32, bitwise: bool, k: u32, log: &mut [u32], want: &mut [u32]) -> u32 {
+// The lowest net that is not good.
+fn bad_net(next: u32) -> u32 {
+    if next < FIRST_CELL {
+        return FIRST_CELL;
+    }
+    next
+}
+
+// Where a case is bad, the last net of a is.
+fn spoil(c: Case, a: &mut [u32]) {
+    if c.bad {
+        if 0 < c.n {
+            put(a, minus(c.n, 1), bad_net(c.next));
+        }
+    }
+}
+
+fn set_and_try(t: Tally, bitwise: bool, k: u32, log: &mut [u32], want: &mut [u32]) -> Tally {
     let mut s = [0u32; NETS];
     let mut a = [0u32; NETS];
     let mut b = [0u32; NETS];
     let c = case_at(bitwise, k);
-    let n = length_at(k % 4);
     set_nets(c.next, &mut s, &mut a, &mut b);
+    spoil(c, &mut a);
     try_case(
         t,
         c,
-        k / 32 % 3,
-        value::value_slice(&s, 0, n),
-        value::value_slice(&a, 0, n),
-        value::value_slice(&b, 0, n),
+        k / 25 % 3,
+        value::value_slice(&s, 0, c.n),
+        value::value_slice(&a, 0, c.n),
+        value::value_slice(&b, 0, c.m),
         log,
         want,
     )
 }
 
-// How many cases of one of the two merges are right.
-fn cases(bitwise: bool, log: &mut [u32], want: &mut [u32]) -> u32 {
-    let mut t: u32 = 0;
+// All the cases of one of the two merges.
+fn cases(bitwise: bool, log: &mut [u32], want: &mut [u32]) -> Tally {
+    let mut t = tally::start();
     let mut k: u32 = 0;
-    while k < CASES {
+    while k < 225 {
         t = set_and_try(t, bitwise, k, log, want);
         k += 1;
     }
     t
 }
 
-fn report(name: &[u8], right: u32) {
-    io::write_all(libc::STDOUT_FILENO, name);
-    io::print_decimal(libc::STDOUT_FILENO, right as u64);
-    io::write_all(libc::STDOUT_FILENO, b" of ");
-    io::print_decimal(libc::STDOUT_FILENO, CASES as u64);
-    io::write_all(libc::STDOUT_FILENO, b"\n");
-}
-
 fn main() {
     let mut log = [0u32; LOG_WORDS];
     let mut want = [0u32; LOG_WORDS];
-    report(b"emit_dedup_mux ", cases(false, &mut log, &mut want));
-    report(b"emit_bitwise_mux ", cases(true, &mut log, &mut want));
+    let t = cases(false, &mut log, &mut want);
+    io::write_all(libc::STDOUT_FILENO, b"add_dedup_mux:");
+    tally::report(t);
+    let u = cases(true, &mut log, &mut want);
+    io::write_all(libc::STDOUT_FILENO, b"add_bitwise_mux:");
+    tally::report(u);
 }

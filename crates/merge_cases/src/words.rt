@@ -46,17 +46,12 @@ fn paint_at(i: usize) -> u32 {
     3000000000 + (i % 1009) as u32
 }
 
-// Paints every word from a place on.
-pub(crate) fn paint_from(s: &mut [u32], from: usize) {
-    let mut i = from;
+pub(crate) fn paint(s: &mut [u32]) {
+    let mut i = 0;
     while i < s.len() {
         s[i] = paint_at(i);
         i += 1;
     }
-}
-
-pub(crate) fn paint(s: &mut [u32]) {
-    paint_from(s, 0);
 }
 
 pub(crate) fn same(a: &[u32], b: &[u32]) -> bool {

@@ -8,14 +8,14 @@ use Rattle.merge_cases.proofs.call.Tie as tie
 returns : tie.Need-returns
 returns c = search needs
 
-slice-relend-prefix-emit-bitwise-mux : tie.Need-slice-relend-prefix-emit-bitwise-mux
-slice-relend-prefix-emit-bitwise-mux c = search needs
+slice-relend-prefix-add-bitwise-mux : tie.Need-slice-relend-prefix-add-bitwise-mux
+slice-relend-prefix-add-bitwise-mux c = search needs
 
-slice-aggregate-emit-bitwise-mux : tie.Need-slice-aggregate-emit-bitwise-mux
-slice-aggregate-emit-bitwise-mux c = simp length-take (omega arith)
+slice-aggregate-add-bitwise-mux : tie.Need-slice-aggregate-add-bitwise-mux
+slice-aggregate-add-bitwise-mux c = simp length-take (omega arith)
 
-emit-bitwise-mux-requires : tie.Need-emit-bitwise-mux-requires
-emit-bitwise-mux-requires c κs = search needs
+add-bitwise-mux-requires : tie.Need-add-bitwise-mux-requires
+add-bitwise-mux-requires c κs = search needs
 
 same-length : tie.Need-same-length
 same-length c = search needs
@@ -26,17 +26,17 @@ same-length-2 c = search needs
 returns-2 : tie.Need-returns-2
 returns-2 c = search needs
 
-slice-relend-prefix-emit-dedup-mux : tie.Need-slice-relend-prefix-emit-dedup-mux
-slice-relend-prefix-emit-dedup-mux c = search needs
+slice-relend-prefix-add-dedup-mux : tie.Need-slice-relend-prefix-add-dedup-mux
+slice-relend-prefix-add-dedup-mux c = search needs
 
-slice-aggregate-emit-dedup-mux : tie.Need-slice-aggregate-emit-dedup-mux
-slice-aggregate-emit-dedup-mux c = simp length-take (omega arith)
+slice-aggregate-add-dedup-mux : tie.Need-slice-aggregate-add-dedup-mux
+slice-aggregate-add-dedup-mux c = simp length-take (omega arith)
 
 select-of-requires : tie.Need-select-of-requires
 select-of-requires c κs = search needs
 
-emit-dedup-mux-requires : tie.Need-emit-dedup-mux-requires
-emit-dedup-mux-requires c κs = search needs
+add-dedup-mux-requires : tie.Need-add-dedup-mux-requires
+add-dedup-mux-requires c κs = search needs
 
 same-length-3 : tie.Need-same-length-3
 same-length-3 c = search needs
@@ -52,16 +52,16 @@ call-spec =
     tie.close
     (tie.spec
     returns
-    slice-relend-prefix-emit-bitwise-mux
-    slice-aggregate-emit-bitwise-mux
-    emit-bitwise-mux-requires
+    slice-relend-prefix-add-bitwise-mux
+    slice-aggregate-add-bitwise-mux
+    add-bitwise-mux-requires
     same-length
     same-length-2
     returns-2
-    slice-relend-prefix-emit-dedup-mux
-    slice-aggregate-emit-dedup-mux
+    slice-relend-prefix-add-dedup-mux
+    slice-aggregate-add-dedup-mux
     select-of-requires
-    emit-dedup-mux-requires
+    add-dedup-mux-requires
     same-length-3
     same-length-4
     returns-3)

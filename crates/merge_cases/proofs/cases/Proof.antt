@@ -11,7 +11,10 @@ abbrev Inv-loop : tie.InvT-loop
 Inv-loop bitwise log₀ want₀ t₀ k₀ log want t k = (length log ≡ length log₀) × (length want ≡ length want₀)
 
 abbrev μ-loop : tie.MeasureT-loop
-μ-loop bitwise log₀ want₀ t₀ k₀ log want t k = 96 - k
+μ-loop bitwise log₀ want₀ t₀ k₀ log want t k = 225 - k
+
+start-requires : tie.Need-start-requires Inv-loop μ-loop
+start-requires c κs = search needs
 
 loop-holds : tie.Need-loop-holds Inv-loop μ-loop
 loop-holds c = (refl, refl)
@@ -43,6 +46,7 @@ cases-spec =
     (tie.spec
     Inv-loop
     μ-loop
+    start-requires
     loop-holds
     set-and-try-requires
     add-k

@@ -1,17 +1,17 @@
--- `merge_cases::words::paint_from` is safe and ends.
+-- `merge_cases::words::paint` is safe and ends.
 use mathlib.Core.Path.{_≡_, refl}
 use Prim.Native.Nat.{_-_}
 use native.Mathlib.Omega.{arith}
 use lib.ListN.{length, length-set}
 use borrow.Author.Needs.{needs}
-use Rattle.merge_cases.proofs.words.paint_from.Statement.{statement}
-use Rattle.merge_cases.proofs.words.paint_from.Tie as tie
+use Rattle.merge_cases.proofs.words.paint.Statement.{statement}
+use Rattle.merge_cases.proofs.words.paint.Tie as tie
 
 abbrev Inv-loop : tie.InvT-loop
-Inv-loop s₀ from i₀ s i = length s ≡ length s₀
+Inv-loop s₀ i₀ s i = length s ≡ length s₀
 
 abbrev μ-loop : tie.MeasureT-loop
-μ-loop s₀ from i₀ s i = length s₀ - i
+μ-loop s₀ i₀ s i = length s₀ - i
 
 loop-holds : tie.Need-loop-holds Inv-loop μ-loop
 loop-holds c = refl
@@ -40,8 +40,8 @@ same-length c = c .before .loop .inv
 returns : tie.Need-returns Inv-loop μ-loop
 returns c = tt
 
-pub paint-from-spec : {M : Type 1} → statement M
-paint-from-spec =
+pub paint-spec : {M : Type 1} → statement M
+paint-spec =
     tie.close
     (tie.spec
     Inv-loop
