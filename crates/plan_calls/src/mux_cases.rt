@@ -199,7 +199,7 @@ fn eight_times(t: Tally) -> Tally {
         plan(0, 3, 1),
         &[0u32],
         &[0u32, 2],
-        &r,
+        &[3u32; 8],
         0,
         w,
         r,
