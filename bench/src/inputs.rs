@@ -145,7 +145,8 @@ fn over_memory(out: &mut Vec<Input>, what: &'static str, memory: Memory) {
     let ports: Vec<u32> = (0..memory.read_ports.len() as u32).rev().collect();
     let output = outputs(&memory);
     let plan = plan(&memory, 8, 16);
-    let granularities = vec![8.min(memory.width); memory.write_ports.len()];
+    // As large as the longest row allows.
+    let granularities = vec![(256 / memory.width).min(8); memory.write_ports.len()];
     out.push(given(what, Call::ExtractReadPorts(ExtractReadPorts { memory: memory.clone(), ports: ports.clone(), output })));
     out.push(given(what, Call::MakeDataSwizzle(MakeDataSwizzle { room: AS_NEEDED, memory: memory.clone(), granularities })));
     out.push(given(what, Call::SwizzleDepths(SwizzleDepths { room: AS_NEEDED, memory: memory.clone(), plan: plan.clone() })));

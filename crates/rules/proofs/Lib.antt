@@ -30,3 +30,4 @@ pub mod ReadBack
 pub mod SwizzleSizes
 pub mod Exact
 pub mod WholePlans
+pub mod Columns
