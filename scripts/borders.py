@@ -85,7 +85,7 @@ def memories():
         yield Memory(4, 2, writes=[(2, 0)] * count)
         yield Memory(4, 2, reads=[(2, 0, [])] * count)
         yield Memory(4, 2, writes=[(2, 0)] * count, reads=[(2, 0, [1] * count), (2, 0)])
-    for k in (3, 4, 5):
+    for k in (2, 3, 4, 5):
         for width in (1, 3, 128):
             yield Memory(64, width, writes=[(2, k)], reads=[(2, k, [0])])
             yield Memory(64, width, reads=[(2, k)])

@@ -4,12 +4,13 @@
     oracle/build && python3 scripts/stored.py target/oracle/build/release/oracle
 
 `rt ci` runs the program `replay` on the cases and compares every byte of its output with the answers. The cases are those of `oracle gen-small`,
-and random ones from a fixed seed for what these lack; of each call and refusal number only so many are kept, evenly spread. Calls that the port
+short ones of `scripts/borders.py`, and random ones from a fixed seed; of each call and refusal number only so many are kept, evenly spread. Calls that the port
 does not answer yet are left out: oracle/OPS is the list to extend.
 """
 import array
 import subprocess
 import sys
+import tempfile
 
 OPS = [int(op) for op in open("oracle/OPS").read().split(",")]
 # the calls whose payload starts with a log's room
@@ -17,10 +18,13 @@ LOGS = [6, 10, 11, 12, 13, 21, 22, 23, 29]
 MAX_LOG_ROOM = 200000
 SEED = 7
 RANDOM = 60000
-# of each call and number: from the systematic list, from the random ones, and the most words of a random case
+# of each call and number: from the systematic list, from the random ones, from those at borders, and the most words of a random case
 KEEP_SMALL = 160
 KEEP_RANDOM = 60
+KEEP_BORDER = 240
 MAX_RANDOM = 160
+# the most words of a case at a border
+MAX_BORDER = 260
 # the calls over a memory, whose cases are longer: of these a quarter; and the most words of a case that the program `replay` takes
 MEMORIES = range(20, 31)
 MAX_CASE = 20480
@@ -73,6 +77,13 @@ def kept(pairs, most):
     return [pair for key in sorted(groups) for pair in spread(groups[key], most // 4 if key[0] in MEMORIES else most)]
 
 
+def borders():
+    """The cases at the borders of the limits."""
+    with tempfile.NamedTemporaryFile() as out:
+        subprocess.run([sys.executable, 'scripts/borders.py', out.name], stdout=subprocess.DEVNULL, check=True)
+        return out.read()
+
+
 def main():
     if len(sys.argv) != 2:
         sys.exit('usage: stored.py ORACLE')
@@ -80,7 +91,8 @@ def main():
     ops = [str(op) for op in OPS]
     systematic = [p for p in answered(program, run(program, ['gen-small'])) if p[0][0] in OPS and fits(p[0])]
     random = [p for p in answered(program, run(program, ['gen', str(SEED), str(RANDOM), *ops])) if len(p[0]) <= MAX_RANDOM and fits(p[0])]
-    chosen = kept(systematic, KEEP_SMALL) + kept(random, KEEP_RANDOM)
+    border = [p for p in answered(program, borders()) if p[0][0] in OPS and len(p[0]) <= MAX_BORDER]
+    chosen = kept(systematic, KEEP_SMALL) + kept(border, KEEP_BORDER) + kept(random, KEEP_RANDOM)
     for name, part in (('stdin', 0), ('stdout', 1)):
         with open(f'crates/replay/{name}', 'wb') as out:
             for pair in chosen:
