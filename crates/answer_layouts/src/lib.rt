@@ -1,8 +1,8 @@
 // Call 40: an image laid out by a plan, and row patches of it.
 ghost use Rattle.pieces.specs.Answered.{Answered};
-use geometry::Params;
+use image_check::Checked;
+use image_geometry::Params;
 use pieces::Reply;
-use plan::Checked;
 
 // The trits of an image that this call has room for.
 const IMAGE: usize = 131112;
@@ -52,7 +52,7 @@ fn lay_out(given: &[u32], image: &mut [u8], rows: &[u8]) -> u32 {
     let at = pieces::after(given, 5);
     let p = params(given, pieces::word(given, 3), pieces::word(given, 4), at);
     let m = pieces::lent(pieces::word(given, 2), IMAGE);
-    rows::fill_rows(
+    image_rows::fill_rows(
         pieces::part_u8_mut(image, 0, m),
         p,
         pieces::list(given, at),
@@ -74,7 +74,7 @@ fn patched(given: &[u32], image: &mut [u8], words: &mut [u32], trits: &mut [u8])
         words,
         trits,
     );
-    let c = plan::check_layout(p, entries);
+    let c = image_check::check_layout(p, entries);
     match c {
         Checked::Bad => pieces::unknown(),
         Checked::Good(s) => laid(words, end, pieces::part_u8(image, 0, size(s.image_size))),
@@ -133,7 +133,7 @@ fn patch_at(
     pieces::codes(trits, 0, list);
     let m = pieces::lent(pieces::word(given, at), IMAGE);
     let r = pieces::word(given, row);
-    rows::patch_row(
+    image_rows::patch_row(
         pieces::part_u8_mut(image, 0, m),
         p,
         entries,

@@ -1,9 +1,9 @@
 // Calls 1 to 5: constants and controls.
 ghost use Rattle.pieces.specs.Answered.{Answered};
-use logic::BoolAnswer;
+use net_logic::BoolAnswer;
+use net_value::ControlAnswer;
+use net_value::ControlNet;
 use pieces::Reply;
-use value::ControlAnswer;
-use value::ControlNet;
 
 // The trits of a result that these calls have room for.
 const ROOM: usize = 131112;
@@ -113,12 +113,12 @@ fn gate_into(
 
 fn gate_of(op: u32, a: &[u8], b: &[u8], out: &mut [u8]) -> u32 {
     if op == 1 {
-        return logic::const_not(a, out);
+        return net_logic::const_not(a, out);
     }
     if op == 2 {
-        return logic::const_and(a, b, out);
+        return net_logic::const_and(a, b, out);
     }
-    logic::const_or(a, b, out)
+    net_logic::const_or(a, b, out)
 }
 
 fn is_undef(given: &[u32], words: &mut [u32], trits: &mut [u8]) -> Reply {
@@ -126,7 +126,7 @@ fn is_undef(given: &[u32], words: &mut [u32], trits: &mut [u8]) -> Reply {
     if !pieces::codes(trits, 0, a) {
         return pieces::unknown();
     }
-    let r = logic::const_is_undef(pieces::part_u8(trits, 0, a.len()));
+    let r = net_logic::const_is_undef(pieces::part_u8(trits, 0, a.len()));
     match r {
         BoolAnswer::Refused(n) => pieces::refused(n),
         BoolAnswer::Accepted(b) => flag(words, b),
@@ -135,13 +135,13 @@ fn is_undef(given: &[u32], words: &mut [u32], trits: &mut [u8]) -> Reply {
 
 fn flag(words: &mut [u32], b: bool) -> Reply {
     let w = if b { 1 } else { 0 };
-    pieces::put(words, 0, w);
+    lists::put_u32(words, 0, w);
     pieces::given(0, 1)
 }
 
 fn inverse(given: &[u32], words: &mut [u32]) -> Reply {
     let c = pieces::control(given, 2);
-    let r = value::control_not(c);
+    let r = net_value::control_not(c);
     match r {
         ControlAnswer::Refused(n) => pieces::refused(n),
         ControlAnswer::Accepted(d) => control(words, d),

@@ -1,11 +1,11 @@
 // Calls with a log: its words stand at the start of `words`, and the answer after them.
 ghost use Rattle.pieces.specs.Answered.{Answered};
-use flip_flop::Controls;
-use log::LogState;
+use log_entries::LogState;
+use log_requests::ControlsAnswer;
+use net_flip_flop::Controls;
+use net_value::ControlNet;
+use net_value::Net;
 use pieces::Reply;
-use requests::ControlsAnswer;
-use value::ControlNet;
-use value::Net;
 
 // Call 6, remap_reset_over_enable.
 fn remap(given: &[u32], words: &mut [u32]) -> Reply {
@@ -21,7 +21,7 @@ fn remap(given: &[u32], words: &mut [u32]) -> Reply {
         enable: pieces::control(given, 7),
         reset_over_enable: pieces::word(given, 9) == 1,
     };
-    let r = requests::remap_reset_over_enable(pieces::part_mut(words, 0, room), st, c);
+    let r = log_requests::remap_reset_over_enable(pieces::part_mut(words, 0, room), st, c);
     match r {
         ControlsAnswer::Refused(n) => pieces::refused(n),
         ControlsAnswer::Done(d, after) => remapped(words, room, st.used, d, after),

@@ -1,13 +1,13 @@
 // Calls 20, 24, 25, 26 and 28: a memory of a case, and what follows from it. Its nets stand at the start of `words` and its trits at the start of `trits`
 // until the call is done; the answer is then kept at the start of `words`.
 ghost use Rattle.pieces.specs.Answered.{Answered};
-use cell::Memory;
-use data_swizzle::DataSwizzle;
-use extract::Extracted;
-use geometry::Measured;
-use inspect::CanLower;
-use mux_bits::MuxBits;
+use image_geometry::Measured;
+use net_memory::Memory;
 use pieces::Reply;
+use port_extract::Extracted;
+use port_outputs::CanLower;
+use swizzle_entries::DataSwizzle;
+use swizzle_sizes::MuxBits;
 
 // What the extraction of a memory within its limits may store: nets, trits and output nets.
 const ROOM_NETS: usize = 66048;
@@ -65,7 +65,7 @@ fn can_lower_fallback(given: &[u32], words: &mut [u32], trits: &mut [u8]) -> Rep
         return pieces::unknown();
     }
     let m = memory_pieces::memory_at(given, 2);
-    let r = inspect::can_lower_fallback(
+    let r = port_outputs::can_lower_fallback(
         m,
         pieces::part(words, 0, s.nets),
         pieces::part_u8(trits, 0, s.trits),
@@ -104,7 +104,7 @@ fn entries(given: &[u32], nets: &[u32], trits: &[u8], row: &mut [u32]) -> DataSw
     let m = memory_pieces::memory_at(given, 3);
     let list = pieces::list(given, memory_pieces::after_memory(given, 3));
     let n = pieces::lent(pieces::word(given, 2), ROOM_ROW);
-    data_swizzle::make_data_swizzle(m, nets, trits, list, pieces::part_mut(row, 0, n))
+    swizzle_entries::make_data_swizzle(m, nets, trits, list, pieces::part_mut(row, 0, n))
 }
 
 // Call 25.
@@ -161,8 +161,8 @@ fn depths(given: &[u32], nets: &[u32], trits: &[u8], out: &mut [u32]) -> u32 {
 fn depth_count(given: &[u32]) -> usize {
     let m = memory_pieces::memory_at(given, 3);
     let at = memory_pieces::after_memory(given, 3);
-    let p = swizzle_sizes::params_of(m, memory_pieces::plan_at(given, at));
-    let r = geometry::measure(p, pieces::list(given, at));
+    let p = swizzle_plan::params_of(m, memory_pieces::plan_at(given, at));
+    let r = image_geometry::measure(p, pieces::list(given, at));
     match r {
         Measured::Refused(_) => 0,
         Measured::Done(s) => size(s.all_mems),
@@ -194,7 +194,7 @@ fn bits(given: &[u32], nets: &[u32], trits: &[u8]) -> MuxBits {
     let m = memory_pieces::memory_at(given, 2);
     let list = memory_pieces::after_memory(given, 2);
     let at = pieces::after(given, list);
-    mux_bits::swizzle_mux_bits(
+    swizzle_sizes::swizzle_mux_bits(
         m,
         nets,
         trits,
@@ -213,7 +213,7 @@ fn put_bits(given: &[u32], words: &mut [u32], b: MuxBits) -> Reply {
     }
     let m = memory_pieces::memory_at(given, 2);
     let ports = pieces::list(given, memory_pieces::after_memory(given, 2));
-    put_pair(words, b, cell::ports_used(m.write_count), ports.len())
+    put_pair(words, b, net_memory::ports_used(m.write_count), ports.len())
 }
 
 fn put_pair(words: &mut [u32], b: MuxBits, writes: usize, reads: usize) -> Reply {
@@ -282,7 +282,7 @@ fn extracted(
 ) -> Extracted {
     let m = memory_pieces::memory_at(given, 2);
     let at = memory_pieces::after_memory(given, 2);
-    extract::extract_read_ports(
+    port_extract::extract_read_ports(
         m,
         nets,
         trits,
@@ -306,7 +306,7 @@ fn put_extracted(
         return pieces::refused(e.refusal);
     }
     let m = e.memory;
-    let n = cell::output_start(m, rules::MAX_PORTS);
+    let n = net_memory::output_start(m, rules::MAX_PORTS);
     let a = memory_pieces::put_memory(words, 0, m, nets, trits);
     let end = pieces::put_list(words, a, pieces::part(output, 0, n));
     pieces::given_to(0, end)

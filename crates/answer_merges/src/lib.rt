@@ -1,9 +1,9 @@
 // Calls 10 to 12, the merges: the log's words stand at the start of `words`, and the answer after them.
 ghost use Rattle.pieces.specs.Answered.{Answered};
-use flip_flop::Controls;
-use log::LogState;
+use log_entries::LogState;
+use log_requests::Answer;
+use net_flip_flop::Controls;
 use pieces::Reply;
-use requests::Answer;
 
 // A log's state and result nets as an answer.
 fn merged(words: &mut [u32], room: usize, used: usize, r: Answer, nets: &[u32]) -> Reply {
@@ -26,7 +26,7 @@ fn dedup_mux(given: &[u32], words: &mut [u32], room: usize) -> Reply {
     let b = pieces::list(given, pieces::after(given, 7));
     let n = a.len();
     let mut out = [0u32; rules::MAX_MERGE];
-    let r = merges::add_dedup_mux(
+    let r = merge_mux::add_dedup_mux(
         pieces::part_mut(words, 0, room),
         st,
         pieces::control(given, 5),
@@ -45,7 +45,7 @@ fn bitwise_mux(given: &[u32], words: &mut [u32], room: usize) -> Reply {
     let b = pieces::list(given, pieces::after(given, at));
     let n = a.len();
     let mut out = [0u32; rules::MAX_MERGE];
-    let r = merges::add_bitwise_mux(
+    let r = merge_mux::add_bitwise_mux(
         pieces::part_mut(words, 0, room),
         st,
         pieces::list(given, 5),
@@ -122,7 +122,7 @@ fn loaded_dff(
     let rest = pieces::part_u8(trits, clear, trits.len());
     let n = data.len();
     let mut out = [0u32; rules::MAX_MERGE];
-    let r = dedup_dff::add_dedup_dff(
+    let r = merge_dff::add_dedup_dff(
         pieces::part_mut(words, 0, room),
         st,
         controls(given, pieces::after(given, 5)),

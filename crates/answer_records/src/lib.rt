@@ -1,9 +1,9 @@
 // Calls 31 to 33: image records written, read and listed.
 ghost use Rattle.pieces.specs.Answered.{Answered};
 use pieces::Reply;
-use record::Head;
-use record::Written;
-use sizes::Sizes;
+use record_codec::Head;
+use record_codec::Written;
+use record_sizes::Sizes;
 
 // The bytes of a record, and the trits of an image, that these calls have room for.
 const RECORD: usize = 40040;
@@ -36,7 +36,7 @@ fn written(given: &[u32], words: &mut [u32], image: &[u8]) -> Reply {
     let mut out = [0; 40040];
     let m = pieces::lent(pieces::word(given, 2), RECORD);
     let room = pieces::part_u8_mut(&mut out, 0, m);
-    let r = record::write_record(sizes_at(given, 3), image, room);
+    let r = record_codec::write_record(sizes_at(given, 3), image, room);
     match r {
         Written::Refused(n) => pieces::refused(n),
         Written::Bytes(n) => bytes(words, pieces::part_u8(&out, 0, n)),
@@ -56,7 +56,7 @@ fn read(given: &[u32], words: &mut [u32], trits: &mut [u8]) -> Reply {
     let mut image = [0; 131112];
     let m = pieces::lent(pieces::word(given, 2), IMAGE);
     let room = pieces::part_u8_mut(&mut image, 0, m);
-    let r = record::read_record(pieces::part_u8(trits, 0, list.len()), room);
+    let r = record_codec::read_record(pieces::part_u8(trits, 0, list.len()), room);
     match r {
         Head::Refused(n) => pieces::refused(n),
         Head::Accepted(s) => decoded(words, s, &image),
@@ -70,7 +70,7 @@ fn decoded(words: &mut [u32], s: Sizes, image: &[u8]) -> Reply {
     let c = pieces::put_next(words, b, s.full_depth);
     let d = pieces::put_next(words, c, s.partial);
     let e = pieces::put_next(words, d, s.partial_depth);
-    let end = pieces::put_list_u8(words, e, sizes::image_of(s, image));
+    let end = pieces::put_list_u8(words, e, record_sizes::image_of(s, image));
     pieces::given_to(0, end)
 }
 
@@ -79,13 +79,13 @@ fn list(given: &[u32], words: &mut [u32], trits: &mut [u8]) -> Reply {
     let input = pieces::list(given, 2);
     let total = input.len();
     let mut first = [0; 32780];
-    let k = if total < listing::MAX_RECORD {
+    let k = if total < record_listing::MAX_RECORD {
         total
     } else {
-        listing::MAX_RECORD
+        record_listing::MAX_RECORD
     };
     pieces::codes(&mut first, 0, pieces::part(input, 0, k));
-    let n = listing::list_input(pieces::part_u8(&first, 0, k), total, trits);
+    let n = record_listing::list_input(pieces::part_u8(&first, 0, k), total, trits);
     if trits.len() < n {
         return pieces::unknown();
     }

@@ -36,18 +36,18 @@ fn rest() -> usize
 fn total_of(n: usize) -> usize
     requires { ⌜ n ≤ 32780 ⌝ }
 {
-    if n < listing::MAX_RECORD {
+    if n < record_listing::MAX_RECORD {
         return n;
     }
     n + rest()
 }
 
-fn record_room() -> [u8; listing::MAX_RECORD] {
-    [0u8; listing::MAX_RECORD]
+fn record_room() -> [u8; record_listing::MAX_RECORD] {
+    [0u8; record_listing::MAX_RECORD]
 }
 
-fn text_room() -> [u8; listing::MAX_TEXT] {
-    [0u8; listing::MAX_TEXT]
+fn text_room() -> [u8; record_listing::MAX_TEXT] {
+    [0u8; record_listing::MAX_TEXT]
 }
 
 // Writes the first bytes of a text.
@@ -62,6 +62,6 @@ fn main() {
     let mut out = text_room();
     let n = io::read_full(STDIN_FILENO, &mut bytes);
     let total = total_of(n);
-    let size = listing::list_input(&bytes[..n], total, &mut out);
+    let size = record_listing::list_input(&bytes[..n], total, &mut out);
     write_front(&out, size);
 }

@@ -15,3 +15,4 @@ pub mod Same
 pub mod UpFrom
 pub mod DistinctMap
 pub mod DistinctOrder
+pub mod Lent

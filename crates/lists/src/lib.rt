@@ -1,8 +1,9 @@
-// Copies and fills at the element widths in use. What lies past the end of the lent array is not stored.
+// Copies, fills, stores and parts at the element widths in use, and casts and sums that ask nothing. What lies past the end of a lent array is not stored.
 ghost use mathlib.Core.Path.{_≡_};
-ghost use Prim.Native.Nat.{_-_, min};
-ghost use lib.ListN.{replicate};
+ghost use Prim.Native.Nat.{_-_, _<_, _≤_, min};
+ghost use lib.ListN.{length, replicate, set};
 ghost use lib.Seq.{sets};
+ghost use Rattle.lists.specs.Lists.{part};
 
 // How many of `want` elements fit an array of length `room` from `at` on.
 fn fitting(room: usize, at: usize, want: usize) -> usize
@@ -75,8 +76,89 @@ pub fn copy_u8_to_u32(to: &mut [u32], at: usize, from: &[u8])
     }
 }
 
-// The lower of two numbers.
-pub fn lower(a: usize, b: usize) -> usize
+// Stores one element.
+pub fn put_u32(to: &mut [u32], at: usize, value: u32)
+    ensures { λ _. ⌜ now (to .exit) ≡ set (now (to .entry)) at value ⌝ }
+{
+    if at < to.len() {
+        to[at] = value;
+    }
+}
+
+pub fn put_u8(to: &mut [u8], at: usize, value: u8)
+    ensures { λ _. ⌜ now (to .exit) ≡ set (now (to .entry)) at value ⌝ }
+{
+    if at < to.len() {
+        to[at] = value;
+    }
+}
+
+// The part of `s` from `start` on, `count` elements or as many as there are.
+pub fn part_u32(s: &[u32], start: usize, count: usize) -> &[u32]
+    ensures { λ r. ⌜ (now r ≡ part start count (now (s .entry))) × (length (now r) ≤ count) ⌝ }
+{
+    let n = s.len();
+    if n <= start {
+        return &s[n..n];
+    }
+    if n - start <= count {
+        return &s[start..n];
+    }
+    let end = start + count;
+    &s[start..end]
+}
+
+pub fn part_u8(s: &[u8], start: usize, count: usize) -> &[u8]
+    ensures { λ r. ⌜ (now r ≡ part start count (now (s .entry))) × (length (now r) ≤ count) ⌝ }
+{
+    let n = s.len();
+    if n <= start {
+        return &s[n..n];
+    }
+    if n - start <= count {
+        return &s[start..n];
+    }
+    let end = start + count;
+    &s[start..end]
+}
+
+// The same number at another width.
+pub fn usize_of_u32(x: u32) -> usize
+    ensures { λ r. ⌜ (r ≡ x) × (r < 0x100000000) ⌝ }
+{
+    x as usize
+}
+
+pub fn u64_of_u32(x: u32) -> u64
+    ensures { λ r. ⌜ r ≡ x ⌝ }
+{
+    x as u64
+}
+
+pub fn usize_of_u64(x: u64) -> usize
+    ensures { λ r. ⌜ r ≡ x ⌝ }
+{
+    x as usize
+}
+
+pub fn u64_of_usize(x: usize) -> u64
+    ensures { λ r. ⌜ r ≡ x ⌝ }
+{
+    x as u64
+}
+
+// The difference, or 0.
+pub fn minus(a: u32, b: u32) -> u32
+    ensures { λ r. ⌜ r ≡ a - b ⌝ }
+{
+    if a < b {
+        return 0;
+    }
+    a - b
+}
+
+// The smaller of two numbers.
+pub fn smaller(a: usize, b: usize) -> usize
     ensures { λ r. ⌜ r ≡ min a b ⌝ }
 {
     if a < b {

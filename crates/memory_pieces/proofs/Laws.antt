@@ -9,8 +9,8 @@ use lib.Seq.{sets, length-sets, take-all, take-take, drop-drop}
 use Rattle.lists.specs.Choice.{if_then_else_}
 use Rattle.lists.proofs.Choice.{cases-le}
 use Rattle.lists.proofs.Store.{take-sets, drop-sets}
-use Rattle.value.specs.declared.ControlNet.{ControlNet}
-use Rattle.value.specs.declared.ControlNet.the-variants.{Pos, Neg}
+use Rattle.net_value.specs.declared.ControlNet.{ControlNet}
+use Rattle.net_value.specs.declared.ControlNet.the-variants.{Pos, Neg}
 use Rattle.pieces.specs.Pieces.{endOf, listWords, controlWords, codeOf, afterList, afterWord}
 use Rattle.memory_pieces.specs.Kept.{Kept}
 use Rattle.memory_pieces.specs.Plans.{writeLogsAt, hardAt, swizzleAt}

@@ -3,7 +3,7 @@ use Prim.Native.Nat.{ℕ, _+_}
 use mathlib.Core.List.{List}
 use lib.ListN.{getD}
 use Rattle.pieces.specs.Pieces.{listAt, afterList, afterWord}
-use Rattle.swizzle_sizes.specs.declared.MemorySwizzle.{MemorySwizzle}
+use Rattle.swizzle_plan.specs.declared.MemorySwizzle.{MemorySwizzle}
 
 abbrev pub writeLogsAt : List ℕ → ℕ → ℕ
 writeLogsAt s at = afterWord s (afterList s at)

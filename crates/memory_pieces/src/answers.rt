@@ -3,12 +3,12 @@ ghost use mathlib.Core.Path.{_≡_};
 ghost use Prim.Native.Nat.{_+_, _<_, _≤_, min};
 ghost use lib.ListN.{length};
 ghost use Rattle.memory_pieces.specs.Kept.{Kept};
-use cell::Memory;
-use cell::MemoryReadFlipFlop;
-use cell::MemoryReadPort;
-use cell::MemoryWritePort;
-use flip_flop::Controls;
-use value::ControlNet;
+use net_flip_flop::Controls;
+use net_memory::Memory;
+use net_memory::MemoryReadFlipFlop;
+use net_memory::MemoryReadPort;
+use net_memory::MemoryWritePort;
+use net_value::ControlNet;
 
 // The pieces of an answer, with how far each may be written.
 fn put_word(to: &mut [u32], at: usize, w: u32) -> usize
@@ -41,7 +41,7 @@ pub(crate) fn put_head(to: &mut [u32], at: usize, m: Memory, trits: &[u8]) -> us
 {
     let a = put_word(to, at, m.depth);
     let b = put_word(to, a, m.width);
-    let c = put_codes(to, b, cell::trit_part(trits, 0, cell::init_size(m)));
+    let c = put_codes(to, b, lists::part_u8(trits, 0, net_memory::init_size(m)));
     let d = put_word(to, c, m.write_count);
     put_word(to, d, m.read_count)
 }
@@ -50,9 +50,9 @@ fn put_write_port(to: &mut [u32], at: usize, p: MemoryWritePort, nets: &[u32]) -
     ensures { λ r. ⌜ Kept (now (to .entry)) (now (to .exit)) at r ⌝ }
 {
     let clock = p.clock;
-    let a = put_nets(to, at, cell::addr_of(p, nets));
-    let b = put_nets(to, a, cell::data_of(p, nets));
-    let c = put_nets(to, b, cell::mask_of(p, nets));
+    let a = put_nets(to, at, net_memory::addr_of(p, nets));
+    let b = put_nets(to, a, net_memory::data_of(p, nets));
+    let c = put_nets(to, b, net_memory::mask_of(p, nets));
     put_control(to, c, clock)
 }
 
@@ -60,12 +60,12 @@ pub(crate) fn put_writes(to: &mut [u32], start: usize, m: Memory, nets: &[u32]) 
     requires { ⌜ start ≤ length (now to) + 1 ⌝ }
     ensures { λ r. ⌜ Kept (now (to .entry)) (now (to .exit)) start r ⌝ }
 {
-    let n = cell::ports_used(m.write_count);
+    let n = net_memory::ports_used(m.write_count);
     let mut at = start;
     let mut i = 0;
     while i < n {
         let p = m.write_ports[i];
-        at = put_write_port(to, at, p, cell::write_nets(m, nets, i));
+        at = put_write_port(to, at, p, net_memory::write_nets(m, nets, i));
         i += 1;
     }
     at
@@ -108,9 +108,9 @@ fn put_relations(to: &mut [u32], at: usize, p: MemoryReadPort) -> usize
 fn put_values(to: &mut [u32], at: usize, p: MemoryReadPort, trits: &[u8]) -> usize
     ensures { λ r. ⌜ Kept (now (to .entry)) (now (to .exit)) at r ⌝ }
 {
-    let a = put_codes(to, at, cell::clear_of(p, trits));
-    let b = put_codes(to, a, cell::reset_of(p, trits));
-    let c = put_codes(to, b, cell::init_of(p, trits));
+    let a = put_codes(to, at, net_memory::clear_of(p, trits));
+    let b = put_codes(to, a, net_memory::reset_of(p, trits));
+    let c = put_codes(to, b, net_memory::init_of(p, trits));
     put_relations(to, c, p)
 }
 
@@ -135,7 +135,7 @@ fn put_flip_flop(to: &mut [u32], at: usize, p: MemoryReadPort, trits: &[u8]) -> 
 fn put_read_port(to: &mut [u32], at: usize, p: MemoryReadPort, nets: &[u32], trits: &[u8]) -> usize
     ensures { λ r. ⌜ Kept (now (to .entry)) (now (to .exit)) at r ⌝ }
 {
-    let a = put_nets(to, at, cell::read_addr_of(p, nets));
+    let a = put_nets(to, at, net_memory::read_addr_of(p, nets));
     let b = put_word(to, a, p.data_len);
     put_flip_flop(to, b, p, trits)
 }
@@ -150,13 +150,13 @@ pub(crate) fn put_reads(
     requires { ⌜ start ≤ length (now to) + 1 ⌝ }
     ensures { λ r. ⌜ Kept (now (to .entry)) (now (to .exit)) start r ⌝ }
 {
-    let n = cell::ports_used(m.read_count);
+    let n = net_memory::ports_used(m.read_count);
     let mut at = start;
     let mut i = 0;
     while i < n {
         let p = m.read_ports[i];
-        let addr = cell::read_nets(m, nets, i);
-        at = put_read_port(to, at, p, addr, cell::read_trits(m, trits, i));
+        let addr = net_memory::read_nets(m, nets, i);
+        at = put_read_port(to, at, p, addr, net_memory::read_trits(m, trits, i));
         i += 1;
     }
     at

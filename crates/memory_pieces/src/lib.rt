@@ -6,8 +6,8 @@ ghost use Rattle.memory_pieces.specs.Kept.{Kept};
 ghost use Rattle.whole.specs.View.{cursorOf};
 ghost use Rattle.memory_pieces.specs.Memories.{initAt, countsAt, initLenAt, writeCountAt, readCountAt, afterMemory};
 ghost use Rattle.memory_pieces.specs.Plans.{writeLogsAt, readLogsAt, swizzleAt};
-use cell::Memory;
-use swizzle_sizes::MemorySwizzle;
+use net_memory::Memory;
+use swizzle_plan::MemorySwizzle;
 use whole::Cursor;
 
 mod answers;
@@ -72,8 +72,12 @@ pub fn memory_at(given: &[u32], at: usize) -> Memory
         init_len: whole::here(given, init_at(given, at)),
         write_count: writes,
         read_count: reads,
-        write_ports: ports::write_ports(given, writes_at(given, at), cell::ports_used(writes)),
-        read_ports: ports::read_ports(given, reads_at(given, at), cell::ports_used(reads)),
+        write_ports: ports::write_ports(
+            given,
+            writes_at(given, at),
+            net_memory::ports_used(writes),
+        ),
+        read_ports: ports::read_ports(given, reads_at(given, at), net_memory::ports_used(reads)),
     }
 }
 
@@ -97,8 +101,8 @@ pub fn after_memory(given: &[u32], at: usize) -> usize
 pub fn load_nets(given: &[u32], at: usize, to: &mut [u32]) -> usize
     ensures { λ r. ⌜ Kept (now (to .entry)) (now (to .exit)) 0 r ⌝ }
 {
-    let a = cell::ports_used(write_count(given, at));
-    let b = cell::ports_used(read_count(given, at));
+    let a = net_memory::ports_used(write_count(given, at));
+    let b = net_memory::ports_used(read_count(given, at));
     let n = nets::write_nets(given, writes_at(given, at), a, to, 0);
     nets::read_nets(given, reads_at(given, at), b, to, n)
 }
@@ -107,7 +111,7 @@ pub fn load_nets(given: &[u32], at: usize, to: &mut [u32]) -> usize
 pub fn load_trits(given: &[u32], at: usize, to: &mut [u8]) -> usize
     ensures { λ r. ⌜ Kept (now (to .entry)) (now (to .exit)) 0 r ⌝ }
 {
-    let b = cell::ports_used(read_count(given, at));
+    let b = net_memory::ports_used(read_count(given, at));
     let n = nets::put_codes(to, 0, nets::list_at(given, init_at(given, at)));
     nets::read_trits(given, reads_at(given, at), b, to, n)
 }

@@ -1,11 +1,11 @@
 // The ports of a memory of a case, without their nets and trits.
 ghost use Prim.Native.Nat.{_≤_};
-use cell::MemoryReadFlipFlop;
-use cell::MemoryReadPort;
-use cell::MemoryWritePort;
-use flip_flop::Controls;
-use value::ControlNet;
-use value::Net;
+use net_flip_flop::Controls;
+use net_memory::MemoryReadFlipFlop;
+use net_memory::MemoryReadPort;
+use net_memory::MemoryWritePort;
+use net_value::ControlNet;
+use net_value::Net;
 use whole::Cursor;
 
 fn no_control() -> ControlNet {

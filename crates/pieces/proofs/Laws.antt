@@ -14,9 +14,9 @@ use Rattle.lists.specs.Choice.{if_then_else_}
 use Rattle.lists.proofs.Choice.{cases-le, if-true, if-false}
 use Rattle.lists.proofs.Store.{take-sets, drop-sets, sets-at, sets-out}
 use Rattle.lists.proofs.Maps.{map-turn, map-done}
-use Rattle.value.specs.declared.ControlNet.{ControlNet}
-use Rattle.value.specs.declared.ControlNet.the-variants.{Pos, Neg}
-use Rattle.log.specs.declared.LogState.{LogState}
+use Rattle.net_value.specs.declared.ControlNet.{ControlNet}
+use Rattle.net_value.specs.declared.ControlNet.the-variants.{Pos, Neg}
+use Rattle.log_entries.specs.declared.LogState.{LogState}
 use Rattle.pieces.specs.Answered.{Answered}
 use Rattle.pieces.specs.Pieces.{listAt, afterList, afterWord, controlAt, logAt, codeOf, wordOf, listWords, fitsAt, endOf}
 

@@ -6,9 +6,9 @@ use lib.ListN.{length, getD}
 use lib.Dec.{eqb, leb, ltb}
 use Rattle.lists.specs.Choice.{if_then_else_}
 use Rattle.lists.specs.Lists.{part}
-use Rattle.value.specs.declared.ControlNet.{ControlNet}
-use Rattle.value.specs.declared.ControlNet.the-variants.{Pos, Neg}
-use Rattle.log.specs.declared.LogState.{LogState}
+use Rattle.net_value.specs.declared.ControlNet.{ControlNet}
+use Rattle.net_value.specs.declared.ControlNet.the-variants.{Pos, Neg}
+use Rattle.log_entries.specs.declared.LogState.{LogState}
 use Rattle.pieces.specs.declared.Reply.{Reply}
 
 -- no such call, or no room

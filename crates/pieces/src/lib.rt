@@ -9,9 +9,9 @@ ghost use Rattle.lists.specs.Choice.{if_then_else_};
 ghost use Rattle.lists.specs.Lists.{part};
 ghost use Rattle.pieces.specs.Answered.{Answered};
 ghost use Rattle.pieces.specs.Pieces.{notDone, refusedBy, acceptedAt, listAt, afterList, afterWord, controlAt, controlWords, logAt, codeOf, wordOf, listWords, fitsAt, endOf};
-use log::LogState;
-use value::ControlNet;
-use value::Net;
+use log_entries::LogState;
+use net_value::ControlNet;
+use net_value::Net;
 
 // What a call gave: its number and, where that is 0, where its payload stands in `words`. Not done: no such call, or no room.
 pub struct Reply {
@@ -224,15 +224,6 @@ pub fn codes(to: &mut [u8], at: usize, from: &[u32]) -> bool
         i += 1;
     }
     true
-}
-
-// A word of an answer, where there is room.
-pub fn put(to: &mut [u32], at: usize, w: u32)
-    ensures { λ _. ⌜ now (to .exit) ≡ set (now (to .entry)) at w ⌝ }
-{
-    if at < to.len() {
-        to[at] = w;
-    }
 }
 
 // A word of an answer, and the index after it.

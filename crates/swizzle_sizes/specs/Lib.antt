@@ -1,2 +1,2 @@
--- Plans, and `swizzle_depths` on a machine's memory.
+-- `swizzle_mux_bits` on a machine's memory and plan.
 pub mod Calls

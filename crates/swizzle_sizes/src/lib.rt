@@ -1,102 +1,143 @@
-// memory/src/lib.rs, MemorySwizzle and swizzle_depths: a plan, its numbers, and the depths of the memories that it gives.
+// memory/src/lib.rs, swizzle_depths and swizzle_mux_bits: the depths of the memories that a swizzle would give, and the address bits of each port that
+// it would decode with muxes.
 ghost use mathlib.Core.Path.{_≡_};
-ghost use mathlib.Core.Bool.{_||_};
-ghost use lib.Dec.{ltb};
-ghost use Rattle.lists.specs.Lists.{any};
-ghost use Rattle.rules.specs.Limits.{maxWide};
-ghost use Rattle.rules.specs.Conditions.{planTooLarge};
-ghost use Rattle.geometry.specs.View.{filledWith};
-ghost use Rattle.swizzle_sizes.specs.Calls.{planOf, paramsBy, plannedNumber, swizzleDepthsCall};
-use cell::Memory;
+ghost use mathlib.Core.List.{List, map};
+ghost use Prim.Native.Nat.{ℕ, _+_, _-_, _≤_, min};
+ghost use lib.ListN.{length};
+ghost use Rattle.lists.specs.Lists.{pairs};
+ghost use Rattle.rules.specs.Geometry.{chunkMuxBits, softBits};
+ghost use Rattle.image_geometry.specs.View.{layoutBy, filledWith};
+ghost use Rattle.net_memory.specs.View.{memoryOf};
+ghost use Rattle.swizzle_plan.specs.Calls.{planOf, paramsBy, swizzleDepthsCall};
+ghost use Rattle.swizzle_plan.specs.Numbers.{inEight, writeLogs, readLogs};
+ghost use Rattle.swizzle_sizes.specs.Calls.{swizzleMuxBitsRefusal, MuxBitsCall, Countable, Small};
+use net_memory::Memory;
+use swizzle_plan::MemorySwizzle;
 
-// A plan without its lists: the entries of a row and the new wide logs stand in lent arrays.
-pub struct MemorySwizzle {
-    pub soft_addr_bits_mask: u32,
-    pub hard_addr_bits: u32,
-    pub data_width_unit: u32,
+// The number that refuses `swizzle_mux_bits`, or 0, and the mux bits of the write ports and of the listed read ports.
+pub struct MuxBits {
+    pub refusal: u32,
+    pub writes: [u32; 8],
+    pub reads: [u32; 8],
 }
 
-// The sizes of a memory and a plan.
-pub fn params_of(m: Memory, s: MemorySwizzle) -> geometry::Params
-    ensures { λ r. ⌜ r ≡ paramsBy m s ⌝ }
+// The old wide logs of the listed read ports.
+fn read_logs(m: Memory, ports: &[u32]) -> [u32; 8]
+    requires { ⌜ length (now ports) ≤ 8 ⌝ }
+    ensures { λ r. ⌜ ((nets trits : List ℕ) → r ≡ inEight (readLogs (memoryOf m nets trits) (now (ports .entry)))) ⌝ }
 {
-    geometry::Params {
-        depth: m.depth,
-        width: m.width,
-        soft_mask: s.soft_addr_bits_mask,
-        hard: s.hard_addr_bits,
-        unit: s.data_width_unit,
+    let mut logs = [0u32; 8];
+    let mut j = 0;
+    while j < ports.len() {
+        logs[j] = net_memory::wide::wide_log(
+            m.width,
+            net_memory::read_data_len(m, lists::usize_of_u32(ports[j])),
+        );
+        j += 1;
     }
+    logs
 }
 
-// A new wide log is too large.
-fn any_wide(logs: &[u32]) -> bool
-    ensures { λ r. ⌜ r ≡ any (ltb maxWide) (now (logs .entry)) ⌝ }
-{
-    let mut i = 0;
-    while i < logs.len() {
-        if rules::MAX_WIDE < logs[i] {
-            return true;
-        }
-        i += 1;
-    }
-    false
-}
-
-// Number 1 of a plan.
-pub fn plan_too_large(s: MemorySwizzle, entries: &[u32], writes: &[u32], reads: &[u32]) -> bool
-    ensures { λ r. ⌜ r ≡ planTooLarge (planOf s (now (entries .entry)) (now (writes .entry)) (now (reads .entry))) ⌝ }
-{
-    if rules::MAX_ROW < entries.len() {
-        return true;
-    }
-    if s.data_width_unit == 0 {
-        return true;
-    }
-    if rules::MAX_UNIT < s.data_width_unit {
-        return true;
-    }
-    if rules::MAX_HARD < s.hard_addr_bits {
-        return true;
-    }
-    if any_wide(writes) {
-        return true;
-    }
-    any_wide(reads)
-}
-
-// The numbers 1 to 4, 7 and 8 of a memory and a plan; `long` says what else of the call breaks 1.
-pub fn planned_number(
+// The number that refuses `swizzle_mux_bits`, or 0.
+fn mux_refusal(
     m: Memory,
     nets: &[u32],
     trits: &[u8],
+    ports: &[u32],
     s: MemorySwizzle,
     entries: &[u32],
     writes: &[u32],
     reads: &[u32],
-    long: bool,
 ) -> u32
-    ensures { λ r. ⌜ r ≡ plannedNumber long m (now (nets .entry)) (now (trits .entry)) (planOf s (now (entries .entry)) (now (writes .entry)) (now (reads .entry))) ⌝ }
+    ensures { λ r. ⌜ r ≡ swizzleMuxBitsRefusal m (now (nets .entry)) (now (trits .entry)) (now (ports .entry)) (planOf s (now (entries .entry)) (now (writes .entry)) (now (reads .entry))) ⌝ }
 {
-    let one = either(plan_too_large(s, entries, writes, reads), long);
-    let n = validate::memory_number(m, nets, trits, rules::MAX_NETS, one, false, false);
+    let long = rules::MAX_PORTS < ports.len();
+    let n = swizzle_plan::planned_number(m, nets, trits, s, entries, writes, reads, long);
     if n != 0 {
         return n;
     }
-    let k = plan::entries_refusal(m.width, entries);
-    if k != 0 {
-        return k;
+    if swizzle_plan::logs::logs_bad(m, nets, ports, s, writes, reads) {
+        return 9;
     }
-    geometry::soft_mask_refusal(m.depth, s.soft_addr_bits_mask)
+    if port_outputs::port_missing(m, ports) {
+        return 15;
+    }
+    0
 }
 
-pub fn either(a: bool, b: bool) -> bool
-    ensures { λ r. ⌜ r ≡ (a || b) ⌝ }
+// The mux bits of ports with these old and new wide logs, over the bits that all ports have.
+fn bits_of(base: u32, olds: &[u32], news: &[u32]) -> [u32; 8]
+    requires { ⌜ Countable base (now olds) (now news) ⌝ }
+    ensures { λ r. ⌜ r ≡ inEight (map (λ x. base + x .1 - x .0) (pairs (now (olds .entry)) (now (news .entry)))) ⌝ }
 {
-    if a {
-        return true;
+    let mut bits = [0u32; 8];
+    let end = lists::smaller(olds.len(), news.len());
+    let mut i = 0;
+    while i < end {
+        bits[i] = lists::minus(base + news[i], olds[i]);
+        i += 1;
     }
-    b
+    bits
+}
+
+// The mux bits of the write ports.
+fn write_bits(m: Memory, nets: &[u32], base: u32, news: &[u32]) -> [u32; 8]
+    requires { ⌜ Small base (now news) ⌝ }
+    ensures { λ r. ⌜ ((trits : List ℕ) → r ≡ inEight (map (λ x. base + x .1 - x .0) (pairs (writeLogs (memoryOf m (now (nets .entry)) trits)) (now (news .entry))))) ⌝ }
+{
+    let logs = swizzle_plan::logs::write_logs(m, nets);
+    let olds = lists::part_u32(&logs, 0, net_memory::ports_used(m.write_count));
+    bits_of(base, olds, news)
+}
+
+// The mux bits of the listed read ports.
+fn read_bits(m: Memory, ports: &[u32], base: u32, news: &[u32]) -> [u32; 8]
+    requires { ⌜ (length (now ports) ≤ 8) × Small base (now news) ⌝ }
+    ensures { λ r. ⌜ ((nets trits : List ℕ) → r ≡ inEight (map (λ x. base + x .1 - x .0) (pairs (readLogs (memoryOf m nets trits) (now (ports .entry))) (now (news .entry))))) ⌝ }
+{
+    let logs = read_logs(m, ports);
+    let olds = lists::part_u32(&logs, 0, ports.len());
+    bits_of(base, olds, news)
+}
+
+// The mux bits that every port has: those that select among chunks, and the soft bits.
+fn shared_bits(m: Memory, s: MemorySwizzle) -> u32
+    ensures { λ r. ⌜ ((es : List ℕ) → r ≡ chunkMuxBits (layoutBy (paramsBy m s) es) + softBits (s .«soft_addr_bits_mask»)) ⌝ }
+    ensures { λ r. ⌜ r ≤ 64 ⌝ }
+{
+    image_geometry::chunk_mux_bits(swizzle_plan::params_of(m, s))
+        + image_geometry::soft_bits(s.soft_addr_bits_mask)
+}
+
+// The mux bits of the write ports and of the listed read ports.
+pub fn swizzle_mux_bits(
+    m: Memory,
+    nets: &[u32],
+    trits: &[u8],
+    ports: &[u32],
+    s: MemorySwizzle,
+    entries: &[u32],
+    writes: &[u32],
+    reads: &[u32],
+) -> MuxBits
+    ensures { λ r. ⌜ MuxBitsCall m (now (nets .entry)) (now (trits .entry)) (now (ports .entry)) (planOf s (now (entries .entry)) (now (writes .entry)) (now (reads .entry))) r ⌝ }
+{
+    let n = mux_refusal(m, nets, trits, ports, s, entries, writes, reads);
+    if n != 0 {
+        return MuxBits {
+            refusal: n,
+            writes: [0u32; 8],
+            reads: [0u32; 8],
+        };
+    }
+    let base = shared_bits(m, s);
+    let written = write_bits(m, nets, base, writes);
+    let read = read_bits(m, ports, base, reads);
+    MuxBits {
+        refusal: 0,
+        writes: written,
+        reads: read,
+    }
 }
 
 // The depths of the memories that a swizzle would give, into lent room.
@@ -112,14 +153,14 @@ pub fn swizzle_depths(
 ) -> u32
     ensures { λ r. ⌜ filledWith r (now (out .exit)) ≡ swizzleDepthsCall (now (out .entry)) m (now (nets .entry)) (now (trits .entry)) (planOf s (now (entries .entry)) (now (writes .entry)) (now (reads .entry))) ⌝ }
 {
-    let n = planned_number(m, nets, trits, s, entries, writes, reads, false);
+    let n = swizzle_plan::planned_number(m, nets, trits, s, entries, writes, reads, false);
     if n != 0 {
         return n;
     }
-    let p = params_of(m, s);
-    let k = geometry::result_refusal(p, entries);
+    let p = swizzle_plan::params_of(m, s);
+    let k = image_geometry::result_refusal(p, entries);
     if k != 0 {
         return k;
     }
-    geometry::depths(p, entries, out)
+    image_geometry::depths(p, entries, out)
 }

@@ -1,5 +1,5 @@
 -- `pieces::put_control` meets its contract.
-use Rattle.value.specs.declared.ControlNet.{ControlNet}
+use Rattle.net_value.specs.declared.ControlNet.{ControlNet}
 use Rattle.pieces.specs.Pieces.{controlWords}
 use lib.Seq.{sets}
 use mathlib.Core.Path.{sym, ap, _∙_}

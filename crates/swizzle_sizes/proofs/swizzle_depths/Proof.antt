@@ -1,16 +1,16 @@
 -- `swizzle_sizes::swizzle_depths` meets its contract.
-use Rattle.swizzle_sizes.proofs.Planned.{same-layout, depths-first, depths-ten, depths-rest, filled-length}
+use Rattle.swizzle_plan.proofs.Planned.{same-layout, depths-first, depths-ten, depths-rest, filled-length}
 use mathlib.Core.Path.{refl, sym, ap, _∙_}
 use Prim.Native.Nat.{_-_}
 use lib.ListN.{length}
-use Rattle.swizzle_sizes.specs.Calls.{planOf, swizzleDepthsRefusal, swizzleDepthsCall}
+use Rattle.swizzle_plan.specs.Calls.{planOf, swizzleDepthsRefusal, swizzleDepthsCall}
 use Rattle.rules.specs.Answers.{Filled, filled}
 use Rattle.rules.specs.Geometry.{layoutOf, swizzleDepths}
 use Rattle.rules.specs.Shape.{depthsCall, resultNumber}
-use Rattle.geometry.specs.View.{layoutBy}
-use Rattle.cell.specs.View.{memoryOf}
+use Rattle.image_geometry.specs.View.{layoutBy}
+use Rattle.net_memory.specs.View.{memoryOf}
 use Rattle.rules.proofs.Answers.{filled-refused}
-use Rattle.geometry.specs.declared.Params.{Params}
+use Rattle.image_geometry.specs.declared.Params.{Params}
 use borrow.Author.Needs.{needs}
 use Rattle.swizzle_sizes.proofs.swizzle_depths.Statement.{statement}
 use Rattle.swizzle_sizes.proofs.swizzle_depths.Tie as tie

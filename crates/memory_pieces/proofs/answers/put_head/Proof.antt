@@ -13,8 +13,8 @@ put-word-requires-2 c κs = search needs
 init-size-requires : tie.Need-init-size-requires
 init-size-requires c κs = search needs
 
-trit-part-requires : tie.Need-trit-part-requires
-trit-part-requires c κs = search needs
+part-u8-requires : tie.Need-part-u8-requires
+part-u8-requires c κs = search needs
 
 put-codes-requires : tie.Need-put-codes-requires
 put-codes-requires c κs = search needs
@@ -38,7 +38,7 @@ put-head-spec =
     put-word-requires
     put-word-requires-2
     init-size-requires
-    trit-part-requires
+    part-u8-requires
     put-codes-requires
     put-word-requires-3
     put-word-requires-4

@@ -1,0 +1,18 @@
+-- What a struct by value tells of its fields.
+use Prim.Native.Nat.{_<_, _^_}
+use mathlib.Core.List.{List}
+use mir.Val.{Val}
+use denote.Laws.{Is}
+use denote.Struct.Declared as declared
+use Rattle.image_geometry.specs.declared.Params as spec
+use Rattle.image_geometry.proofs.Params
+
+module _ (p : spec.Params) (vs : List Val) (g : Is (declared.row Params.the-type) p vs) where
+  pub depth-word : p .depth < 4294967296
+  depth-word = g .1 .1 .0 .1
+
+  pub mask-word : p .«soft_mask» < 2 ^ 32
+  mask-word = g .1 .1 .1 .1 .0 .1
+
+  pub width-word : p .width < 4294967296
+  width-word = g .1 .1 .1 .0 .1

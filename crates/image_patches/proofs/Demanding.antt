@@ -1,0 +1,99 @@
+-- A layout and the calls after it: the whole answer, and demand 3. And that the state which an accepted swizzle hands on is laid out.
+use Prim.Native.Nat.{ℕ, _^_, _<_}
+use mathlib.Core.Path.{_≡_, refl, sym, ap, _∙_, subst}
+use mathlib.Core.Logic.{_≢_}
+use mathlib.Core.Bool.{Bool, true, false}
+use mathlib.Core.Option.{none, some}
+use mathlib.Core.List.{List}
+use lib.ListN.{length}
+use Rattle.lists.specs.Choice.{leaves}
+use Rattle.lists.proofs.Choice.{leaves-refused, leaves-accepted}
+use Rattle.rules.specs.Value.{Value}
+use Rattle.rules.specs.Cell.{Mem, Plan}
+use Rattle.rules.specs.Log.{LogState}
+use Rattle.rules.specs.Geometry.{Layout, layoutOf}
+use Rattle.rules.specs.Image.{Patch, Laid}
+use Rattle.rules.specs.Conditions.{badLayout}
+use Rattle.rules.specs.Refusals.{swizzleRefusal}
+use Rattle.rules.specs.Patch.{patched, calledAll, laidOut, Demand}
+use Rattle.rules.specs.Shape.{handedOn}
+use Rattle.rules.specs.Layouts.{fillRefusalOf, fillRefusal, filledBy, fillCall, fillAndPatchCall}
+use Rattle.rules.specs.Answers.{Filled}
+use Rattle.rules.proofs.Demand.{demand-3}
+use Rattle.rules.proofs.GoodLayouts.{good-accepted, handed-none, handed-some}
+use Rattle.rules.proofs.Accepts.{swizzle-then-patches}
+use Rattle.image_state.proofs.Laying.{handed-on}
+use Rattle.image_state.specs.declared.Laid as images
+use Rattle.image_state.specs.View.{laidOf}
+use Rattle.image_rows.proofs.Filling.{fills}
+use Rattle.image_patches.specs.Calls.{Demanded}
+
+-- ---- the whole answer
+module _ (l : Laid) (rows buffer : List ℕ) (cs : List Patch) where
+  number-of : (n : ℕ) (mid : List ℕ) → record { number = n; out = mid } ≡ fillCall l rows buffer → n ≡ fillRefusal l (length buffer) (length rows)
+  unfolding fillCall
+  number-of n mid e = ap (λ (f : Filled). f .number) e
+
+  left-of : (n : ℕ) (mid : List ℕ) → record { number = n; out = mid } ≡ fillCall l rows buffer → mid ≡ leaves (fillRefusal l (length buffer) (length rows)) buffer (filledBy l rows buffer)
+  unfolding fillCall
+  left-of n mid e = ap (λ (f : Filled). f .out) e
+
+  -- a layout that is refused
+  pub both-refused : (n : ℕ) (mid : List ℕ) → record { number = n; out = mid } ≡ fillCall l rows buffer → n ≢ 0
+      → _≡_ {A = Filled} (record { number = n; out = mid }) (fillAndPatchCall l rows cs buffer)
+  unfolding fillAndPatchCall
+  both-refused n mid e h =
+      let f = number-of n mid e in
+      let g : fillRefusal l (length buffer) (length rows) ≢ 0 = λ z. h (f ∙ z) in
+      λ i. record { number = f i; out = (left-of n mid e ∙ leaves-refused _ buffer (filledBy l rows buffer) g ∙ sym (leaves-refused _ buffer (patched l cs (filledBy l rows buffer)) g)) i }
+
+  -- one that is accepted, and the calls
+  pub both-done : (n : ℕ) (mid after : List ℕ) → record { number = n; out = mid } ≡ fillCall l rows buffer → n ≡ 0 → after ≡ patched l cs mid
+      → _≡_ {A = Filled} (record { number = 0; out = after }) (fillAndPatchCall l rows cs buffer)
+  unfolding fillAndPatchCall
+  both-done n mid after e h a =
+      let f : fillRefusal l (length buffer) (length rows) ≡ 0 = sym (number-of n mid e) ∙ h in
+      λ i. record {
+        number = sym f i;
+        out = (a ∙ ap (patched l cs) (left-of n mid e ∙ leaves-accepted _ buffer (filledBy l rows buffer) f) ∙ sym (leaves-accepted _ buffer (patched l cs (filledBy l rows buffer)) f)) i;
+      }
+
+  pub both-unset : l ≡ none → _≡_ {A = Filled} (record { number = 23; out = buffer }) (fillAndPatchCall l rows cs buffer)
+  unfolding fillAndPatchCall fillRefusal leaves
+  both-unset e = sym (ap (λ (x : Laid). fillAndPatchCall x rows cs buffer) e)
+
+-- ---- demand 3
+some-out : (q : Layout) (rows buffer after : List ℕ) (cs : List Patch) → _≡_ {A = Filled} (record { number = 0; out = after }) (fillAndPatchCall (some q) rows cs buffer)
+    → (fillRefusalOf q (length buffer) (length rows) ≡ 0) × (after ≡ calledAll q cs (laidOut q rows buffer))
+unfolding fillAndPatchCall fillRefusal filledBy patched
+some-out q rows buffer after cs e =
+    let f = sym (ap (λ (f : Filled). f .number) e) in
+    (f, ap (λ (f : Filled). f .out) e ∙ leaves-accepted _ buffer (calledAll q cs (laidOut q rows buffer)) f)
+
+pub demanded : (q : Layout) → q .softMask < 2 ^ 32 → (rows buffer after : List ℕ) (cs : List Patch)
+    → _≡_ {A = Filled} (record { number = 0; out = after }) (fillAndPatchCall (handedOn q) rows cs buffer) → Demanded (handedOn q) rows buffer cs after
+demanded q mask rows buffer after cs e = on (badLayout q) refl
+  where
+    on : (t : Bool) → badLayout q ≡ t → Demanded (handedOn q) rows buffer cs after
+    on true h = subst (λ (l : Laid). Demanded l rows buffer cs after) (sym (handed-none q h)) tt
+    on false h =
+        let s = some-out q rows buffer after cs (e ∙ ap (λ (l : Laid). fillAndPatchCall l rows cs buffer) (handed-some q h)) in
+        let f = fills q (length buffer) (length rows) (s .0) in
+        subst (λ (l : Laid). Demanded l rows buffer cs after) (sym (handed-some q h))
+        (subst (λ (x : List ℕ). Demand q rows buffer cs x) (sym (s .1)) (demand-3 q (good-accepted q h mask) rows buffer (f .0) (f .1) cs))
+
+-- ---- the state of an accepted swizzle
+patched-some : (q : Layout) (cs : List Patch) (b : List ℕ) → patched (some q) cs b ≡ calledAll q cs b
+unfolding patched
+patched-some q cs b = refl
+
+module _ (room words : ℕ) (s : LogState) (m : Mem) (output : Value) (p : Plan) (e : swizzleRefusal room words s m output p ≡ 0) where
+  -- every list of calls by that state, from the swizzle's own buffer on
+  pub swizzled : p .softMask < 2 ^ 32 → (l : images.Laid) → laidOf l ≡ handedOn (layoutOf m p) → (buffer : List ℕ) → length buffer ≡ room → (cs : List Patch)
+      → Demand (layoutOf m p) (m .init) buffer cs (patched (laidOf l) cs (laidOut (layoutOf m p) (m .init) buffer))
+  swizzled mask l h buffer b cs =
+      subst (λ (x : List ℕ). Demand (layoutOf m p) (m .init) buffer cs x) (sym (by-state (handed-on room words s m output p e l h)))
+      (swizzle-then-patches room words s m output p e mask buffer b cs)
+    where
+      by-state : laidOf l ≡ some (layoutOf m p) → patched (laidOf l) cs (laidOut (layoutOf m p) (m .init) buffer) ≡ calledAll (layoutOf m p) cs (laidOut (layoutOf m p) (m .init) buffer)
+      by-state x = ap (λ (l : Laid). patched l cs (laidOut (layoutOf m p) (m .init) buffer)) x ∙ patched-some (layoutOf m p) cs _

@@ -1,0 +1,137 @@
+// Lists of patch calls on one image buffer, refused ones among them, and demand 3 of a layout and the calls after it.
+ghost use mathlib.Core.Path.{_≡_};
+ghost use mathlib.Core.List.{[], _∷_};
+ghost use Prim.Native.Nat.{_+_, _*_, _<_};
+ghost use lib.ListN.{length, take, drop};
+ghost use Rattle.rules.specs.Shape.{handedOn};
+ghost use Rattle.rules.specs.Patch.{patched};
+ghost use Rattle.rules.specs.Layouts.{fillAndPatchCall};
+ghost use Rattle.image_geometry.specs.View.{layoutBy, filledWith};
+ghost use Rattle.image_state.specs.View.{laidOf};
+ghost use Rattle.image_patches.specs.Calls.{callOn, callAt, callsOf, Demanded};
+
+// A list of calls is four numbers for each: its row, where its trits start, how many they are, and how many trits of the buffer it is lent.
+const CALL: usize = 4;
+
+// One call, which is lent the first `room` trits of the buffer, or all; its number.
+pub fn call_one(
+    buffer: &mut [u8],
+    p: image_geometry::Params,
+    entries: &[u32],
+    row: u32,
+    trits: &[u8],
+    room: usize,
+) -> u32
+    ensures { λ r. ⌜ filledWith r (now (buffer .exit)) ≡ callOn (handedOn (layoutBy p (now (entries .entry)))) (record { row = row; trits = now (trits .entry); room = room }) (now (buffer .entry)) ⌝ }
+{
+    if buffer.len() <= room {
+        return image_rows::patch_row(buffer, p, entries, row, trits);
+    }
+    image_rows::patch_row(&mut buffer[..room], p, entries, row, trits)
+}
+
+// Call number `i` of a list.
+fn call_at(
+    buffer: &mut [u8],
+    p: image_geometry::Params,
+    entries: &[u32],
+    calls: &[u32],
+    trits: &[u8],
+    i: usize,
+)
+    requires { ⌜ 4 * i + 3 < length (now calls) ⌝ }
+    ensures { λ _. ⌜ now (buffer .exit) ≡ patched (handedOn (layoutBy p (now (entries .entry)))) (callAt (now (calls .entry)) (now (trits .entry)) i ∷ []) (now (buffer .entry)) ⌝ }
+{
+    let at = 4 * i;
+    let at1 = at + 1;
+    let at2 = at + 2;
+    let at3 = at + 3;
+    let row = calls[at];
+    let start = lists::usize_of_u32(calls[at1]);
+    let count = lists::usize_of_u32(calls[at2]);
+    let room = lists::usize_of_u32(calls[at3]);
+    let part = lists::part_u8(trits, start, count);
+    call_one(buffer, p, entries, row, part, room);
+}
+
+// The calls of a list, in order, on an image with this layout.
+pub fn patch_each(
+    buffer: &mut [u8],
+    p: image_geometry::Params,
+    entries: &[u32],
+    calls: &[u32],
+    trits: &[u8],
+)
+    ensures { λ _. ⌜ now (buffer .exit) ≡ patched (handedOn (layoutBy p (now (entries .entry)))) (callsOf (now (calls .entry)) (now (trits .entry))) (now (buffer .entry)) ⌝ }
+{
+    let n = calls.len() / CALL;
+    let mut i: usize = 0;
+    while i < n {
+        call_at(buffer, p, entries, calls, trits, i);
+        i += 1;
+    }
+}
+
+// The calls of a list, in order, on the image of the last accepted swizzle.
+pub fn patch_all(buffer: &mut [u8], laid: image_state::Laid, calls: &[u32], trits: &[u8])
+    ensures { λ _. ⌜ now (buffer .exit) ≡ patched (laidOf laid) (callsOf (now (calls .entry)) (now (trits .entry))) (now (buffer .entry)) ⌝ }
+{
+    let len = lists::usize_of_u32(laid.len);
+    if rules::MAX_ROW < len {
+        return;
+    }
+    let entries = laid.entries;
+    patch_each(
+        buffer,
+        image_state::params(laid),
+        &entries[..len],
+        calls,
+        trits,
+    );
+}
+
+// Lays the rows out in an image with this layout and makes the calls: demand 3.
+pub fn fill_then_patch(
+    buffer: &mut [u8],
+    p: image_geometry::Params,
+    entries: &[u32],
+    rows: &[u8],
+    calls: &[u32],
+    trits: &[u8],
+) -> u32
+    ensures { λ r. ⌜ filledWith r (now (buffer .exit)) ≡ fillAndPatchCall (handedOn (layoutBy p (now (entries .entry)))) (now (rows .entry)) (callsOf (now (calls .entry)) (now (trits .entry))) (now (buffer .entry)) ⌝ }
+    ensures { λ r. ⌜ (r ≡ 0 → Demanded (handedOn (layoutBy p (now (entries .entry)))) (now (rows .entry)) (now (buffer .entry)) (callsOf (now (calls .entry)) (now (trits .entry))) (now (buffer .exit))) ⌝ }
+{
+    let n = image_rows::fill_rows(buffer, p, entries, rows);
+    if n != 0 {
+        return n;
+    }
+    patch_each(buffer, p, entries, calls, trits);
+    0
+}
+
+// The same for the image of a swizzle.
+pub fn fill_and_patch(
+    buffer: &mut [u8],
+    laid: image_state::Laid,
+    rows: &[u8],
+    calls: &[u32],
+    trits: &[u8],
+) -> u32
+    ensures { λ r. ⌜ filledWith r (now (buffer .exit)) ≡ fillAndPatchCall (laidOf laid) (now (rows .entry)) (callsOf (now (calls .entry)) (now (trits .entry))) (now (buffer .entry)) ⌝ }
+    ensures { λ r. ⌜ (r ≡ 0 → Demanded (laidOf laid) (now (rows .entry)) (now (buffer .entry)) (callsOf (now (calls .entry)) (now (trits .entry))) (now (buffer .exit))) ⌝ }
+{
+    let len = lists::usize_of_u32(laid.len);
+    if rules::MAX_ROW < len {
+        return 23;
+    }
+    let entries = laid.entries;
+    fill_then_patch(
+        buffer,
+        image_state::params(laid),
+        &entries[..len],
+        rows,
+        calls,
+        trits,
+    )
+}

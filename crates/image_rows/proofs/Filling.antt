@@ -1,0 +1,127 @@
+-- Rows written at the front of a longer list, one after the other; and the whole answer of a layout.
+use Prim.Native.Nat.{ℕ, zero, suc, _+_, _-_, _*_, _≤_, _<_}
+use mathlib.Core.Path.{_≡_, refl, sym, ap, _∙_, subst}
+use mathlib.Core.Logic.{_≢_}
+use mathlib.Core.Bool.{not}
+use mathlib.Core.Option.{none, some}
+use mathlib.Core.List.{List, _++_}
+use native.Mathlib.Omega.{arith}
+use native.Mathlib.Numerals.{add-one}
+use native.Mathlib.Nat.{le-of-lt, le-refl, le-of-eq, add-sub-cancel-left, mul-le-mul, mul-le-mul-right, suc-mul, zero-add, add-mul, one-mul}
+use lib.Dec.{eqb, ltb}
+use lib.ListN.{length, take, drop, replicate, length-replicate, take-append-drop}
+use lib.Seq.{sets, sets-eq, take-at, drop-at}
+use borrow.Author.Tests.{eq-eqb, ne-eqb, lt-ltb, le-ltb, eqb-true, ltb-false, not-false}
+use Rattle.lists.specs.Choice.{if_then_else_, leaves}
+use Rattle.lists.proofs.Choice.{if-zero, leaves-refused, leaves-accepted}
+use Rattle.rules.specs.Limits.{tritX}
+use Rattle.rules.specs.Logic.{undef}
+use Rattle.rules.specs.Geometry.{Layout}
+use Rattle.rules.specs.Image.{imageSize, writeRow, rowOf, writeRows, layout, Laid}
+use Rattle.rules.specs.Conditions.{noRoom}
+use Rattle.rules.specs.Patch.{laidOut}
+use Rattle.rules.specs.Layouts.{fillRefusalOf, fillRefusal, filledBy, fillCall}
+use Rattle.rules.specs.Answers.{Filled}
+use Rattle.rules.proofs.Demand.{Accepted, places-below, write-take, write-drop, length-writeRows}
+use Rattle.image_rows.specs.Steps.{fillNumber}
+
+module _ (q : Layout) (z : Accepted q) where
+  write-append : (r : ℕ) (v p x : List ℕ) → r < q .depth → imageSize q ≤ length p → writeRow q r v (p ++ x) ≡ writeRow q r v p ++ x
+  write-append r v p x l h =
+      let b = places-below q z r (length p) l h in
+      sym (take-append-drop (length p) (writeRow q r v (p ++ x)))
+      ∙ ap (λ (t : List ℕ). t ++ drop (length p) (writeRow q r v (p ++ x))) (write-take q z r (length p) v (p ++ x) b ∙ ap (writeRow q r v) (take-at p x (length p) refl))
+      ∙ ap (λ (t : List ℕ). writeRow q r v p ++ t) (write-drop q z r (length p) v (p ++ x) b ∙ drop-at p x (length p) refl)
+
+  rows-append : (rows : List ℕ) (n : ℕ) (p x : List ℕ) → n ≤ q .depth → imageSize q ≤ length p → writeRows q rows n (p ++ x) ≡ writeRows q rows n p ++ x
+  unfolding writeRows
+  rows-append rows zero p x l h = refl
+  rows-append rows (suc n) p x l h =
+      ap (writeRow q n (rowOf (q .width) rows n)) (rows-append rows n p x (le-of-lt l) h)
+      ∙ write-append n (rowOf (q .width) rows n) (writeRows q rows n p) x l (subst (λ (m : ℕ). imageSize q ≤ m) (sym (length-writeRows q rows n p)) h)
+
+  rows-out : (rows buffer : List ℕ) → writeRows q rows (q .depth) (replicate (imageSize q) tritX ++ drop (imageSize q) buffer) ≡ laidOut q rows buffer
+  unfolding laidOut layout undef
+  rows-out rows buffer =
+      rows-append rows (q .depth) (replicate (imageSize q) tritX) (drop (imageSize q) buffer) (le-refl (q .depth)) (le-of-eq (sym (length-replicate (imageSize q) tritX)))
+
+  -- X over the image, and then the rows
+  pub fill-is : (rows buffer blank after : List ℕ) (size : ℕ) → size ≡ imageSize q → imageSize q ≤ length buffer
+      → blank ≡ sets buffer 0 (replicate size tritX) → after ≡ writeRows q rows (q .depth) blank → after ≡ laidOut q rows buffer
+  fill-is rows buffer blank after size s l b a =
+      a ∙ ap (writeRows q rows (q .depth)) (b ∙ ap (λ (n : ℕ). sets buffer 0 (replicate n tritX)) s ∙ front) ∙ rows-out rows buffer
+    where
+      long : 0 + length (replicate (imageSize q) tritX) ≡ imageSize q
+      long = zero-add _ ∙ length-replicate (imageSize q) tritX
+
+      front : sets buffer 0 (replicate (imageSize q) tritX) ≡ replicate (imageSize q) tritX ++ drop (imageSize q) buffer
+      front =
+          sets-eq (replicate (imageSize q) tritX) buffer 0 (subst (λ (n : ℕ). n ≤ length buffer) (sym long) l)
+          ∙ ap (λ (n : ℕ). replicate (imageSize q) tritX ++ drop n buffer) long
+
+-- ---- the loop over the rows
+pub rows-more : (q : Layout) (rows : List ℕ) (r : ℕ) (l l′ b : List ℕ) → l ≡ writeRows q rows r b → l′ ≡ writeRow q r (rowOf (q .width) rows r) l → l′ ≡ writeRows q rows (r + 1) b
+unfolding writeRows
+rows-more q rows r l l′ b e f = f ∙ ap (writeRow q r (rowOf (q .width) rows r)) e ∙ rw (add-one r)
+
+pub rows-none : (q : Layout) (rows b : List ℕ) → b ≡ writeRows q rows 0 b
+unfolding writeRows
+rows-none q rows b = refl
+
+-- row r of n rows of width w lies within them
+pub row-within : (r n w m from width : ℕ) → r < n → m ≡ n * w → from ≡ r * w → width ≡ w → from + width ≤ m
+row-within r n w m from width l e f g = omega (arith, mul-le-mul-right w l, suc-mul r w)
+
+-- the part of the rows that the code lends is row r
+pub row-lent : (r w from width : ℕ) (rows : List ℕ) → from ≡ r * w → width ≡ w → take (from + width - from) (drop from rows) ≡ rowOf w rows r
+unfolding rowOf
+row-lent r w from width rows e f = ap (λ (n : ℕ). take n (drop from rows)) (add-sub-cancel-left from width) ∙ (λ k. take (f k) (drop (e k) rows))
+
+pub next-from : (r w from width : ℕ) → from ≡ r * w → width ≡ w → from + width ≡ (r + 1) * w
+next-from r w from width e f = omega (arith, add-mul r 1 w, one-mul w)
+
+-- ---- numbers
+pub words-product : (a b d w : ℕ) → a ≡ d → b ≡ w → d < 4294967296 → w < 4294967296 → a * b ≤ 18446744065119617025
+words-product a b d w e f h k = mul-le-mul {n₂ = 4294967295} {m₂ = 4294967295} (omega arith) (omega arith)
+
+module _ (depth width size room len : ℕ) where
+  pub fill-2 : len ≢ depth * width → fillNumber depth width size room len ≡ 2
+  unfolding fillNumber
+  fill-2 n = rw (ne-eqb len (depth * width) n)
+
+  pub fill-20 : len ≡ depth * width → room < size → fillNumber depth width size room len ≡ 20
+  unfolding fillNumber noRoom
+  fill-20 e l = rw (eq-eqb len (depth * width) e, lt-ltb room size l)
+
+  pub fill-0 : len ≡ depth * width → size ≤ room → fillNumber depth width size room len ≡ 0
+  unfolding fillNumber noRoom
+  fill-0 e l = rw (eq-eqb len (depth * width) e, le-ltb room size l)
+
+pub fill-number-is : (q : Layout) (size room len : ℕ) → size ≡ imageSize q → fillNumber (q .depth) (q .width) size room len ≡ fillRefusalOf q room len
+unfolding fillNumber fillRefusalOf
+fill-number-is q size room len e = ap (λ (n : ℕ). if not (eqb len (q .depth * q .width)) then 2 else if noRoom room n then 20 else 0) e
+
+-- what is known where no number refuses
+pub fills : (q : Layout) (room len : ℕ) → fillRefusalOf q room len ≡ 0 → (len ≡ q .depth * q .width) × (imageSize q ≤ room)
+unfolding fillRefusalOf noRoom
+fills q room len e =
+    let a = if-zero (not (eqb len (q .depth * q .width))) 1 _ e in
+    let b = if-zero (ltb room (imageSize q)) 19 0 (a .1) in
+    (eqb-true len (q .depth * q .width) (not-false _ (a .0)), ltb-false room (imageSize q) (b .0))
+
+-- ---- the whole answer
+module _ (l : Laid) (rows image : List ℕ) where
+  pub fill-unset : l ≡ none → _≡_ {A = Filled} (record { number = 23; out = image }) (fillCall l rows image)
+  unfolding fillCall fillRefusal leaves
+  fill-unset e = sym (ap (λ (x : Laid). fillCall x rows image) e)
+
+  module _ (q : Layout) (e : l ≡ some q) where
+    call-is : fillCall l rows image ≡ record { number = fillRefusalOf q (length image) (length rows); out = leaves (fillRefusalOf q (length image) (length rows)) image (laidOut q rows image) }
+    unfolding fillCall fillRefusal filledBy
+    call-is = ap (λ (x : Laid). fillCall x rows image) e
+
+    pub fill-refused : (n : ℕ) → n ≡ fillRefusalOf q (length image) (length rows) → n ≢ 0 → _≡_ {A = Filled} (record { number = n; out = image }) (fillCall l rows image)
+    fill-refused n f h = (λ i. record { number = f i; out = sym (leaves-refused _ image (laidOut q rows image) (λ z. h (f ∙ z))) i }) ∙ sym call-is
+
+    pub fill-done : (after : List ℕ) → fillRefusalOf q (length image) (length rows) ≡ 0 → after ≡ laidOut q rows image → _≡_ {A = Filled} (record { number = 0; out = after }) (fillCall l rows image)
+    fill-done after f h = (λ i. record { number = sym f i; out = (h ∙ sym (leaves-accepted _ image (laidOut q rows image) f)) i }) ∙ sym call-is

@@ -1,0 +1,34 @@
+-- `image_rows::take_row` meets its contract.
+use Prim.Native.Nat.{ℕ}
+use mathlib.Core.Path.{ap, _∙_}
+use Rattle.rules.specs.Geometry.{rowLen}
+use Rattle.rules.proofs.Shaping.{shape-small}
+use Rattle.image_geometry.specs.View.{layoutBy}
+use Rattle.image_rows.specs.Steps.{takeRow}
+use Rattle.image_rows.proofs.Cursors.{lows, indexes}
+use borrow.Author.Needs.{needs}
+use Rattle.image_rows.proofs.take_row.Statement.{statement}
+use Rattle.image_rows.proofs.take_row.Tie as tie
+
+take-entries-requires : tie.Need-take-entries-requires
+unfolding rowLen
+take-entries-requires c κs =
+    let s = c .before .before .before .before .before in
+    let q = layoutBy (s .args .p) (s .args .entries .now) in
+    lows q (shape-small q (s .pre .0 .sizes)) (s .args .g) (s .pre .0 .steps) (s .args .row) _ (c .before .cursor-at .ensures) (s .pre .1)
+
+returns : tie.Need-returns
+returns c =
+    let s = c .before .before .before .before .before .before .before .before in
+    let q = layoutBy (s .args .p) (s .args .entries .now) in
+    c .before .before .take-entries .ensures
+    ∙ ap (λ (f : ℕ → ℕ). takeRow f (s .args .entries .now) 0 (s .args .image .now) (s .args .room .now)) (indexes q (shape-small q (s .pre .0 .sizes)) (s .args .g) (s .pre .0 .steps) (s .args .row) _ (c .before .before .before .before .cursor-at .ensures))
+
+cursor-at-requires : tie.Need-cursor-at-requires
+cursor-at-requires c κs = search needs
+
+same-length : tie.Need-same-length
+same-length c = search needs
+
+pub take-row-spec : {M : Type 1} → statement M
+take-row-spec = tie.close (tie.spec cursor-at-requires take-entries-requires same-length returns)

@@ -1,0 +1,315 @@
+// Rows of an image with a given layout: the place of an entry, the rows laid out, a row patched and a row read back.
+ghost use mathlib.Core.Path.{_≡_};
+ghost use Prim.Native.Nat.{_+_, _*_, _≤_, _<_};
+ghost use lib.ListN.{length};
+ghost use Rattle.rules.specs.Logic.{areTrits};
+ghost use Rattle.rules.specs.Image.{putRow, writeRow, writeRows, indexOf};
+ghost use Rattle.rules.specs.Shape.{handedOn, placeCall};
+ghost use Rattle.rules.specs.Layouts.{fillCall, readRowCall};
+ghost use Rattle.rules.specs.Answers.{patchCall};
+ghost use Rattle.image_geometry.specs.View.{layoutBy, filledWith};
+ghost use Rattle.image_rows.specs.View.{placedOf};
+ghost use Rattle.image_rows.specs.Steps.{stepsBy, Ready, Low, Lows, nextOf, At, indexFrom, takeRow, patchNumber, fillNumber, readNumber};
+
+pub mod entry;
+
+// The place of an entry: the memory, the row in it, the bit of that row, and the index in the flat image.
+pub struct Place {
+    pub memory: u64,
+    pub row: u64,
+    pub bit: u64,
+    pub index: u64,
+}
+
+pub enum Placed {
+    Refused(u32),
+    At(Place),
+}
+
+// The full memories, the trits of a full one and of another, and the trits of a row in each.
+struct Steps {
+    full: u64,
+    full_step: u64,
+    part_step: u64,
+    unit: u64,
+}
+
+// Where the next entry of a row goes: its memory, its bit there, and the index of the row's bit 0.
+struct Cursor {
+    memory: u64,
+    bit: u64,
+    start: u64,
+}
+
+fn steps_of(s: image_geometry::Shape, unit: u32) -> Steps
+    requires { ⌜ (s .«full_depth» ≤ 1048576) × (s .«part_depth» ≤ 1048576) ⌝ }
+    ensures { λ r. ⌜ r ≡ stepsBy s unit ⌝ }
+{
+    Steps {
+        full: s.full_mems,
+        full_step: s.full_depth * lists::u64_of_u32(unit),
+        part_step: s.part_depth * lists::u64_of_u32(unit),
+        unit: lists::u64_of_u32(unit),
+    }
+}
+
+// The cursor at entry number `entry` of a row: the one division of a row's places.
+fn cursor_at(p: image_geometry::Params, g: Steps, entries: &[u32], row: u32, entry: usize) -> Cursor
+    requires { ⌜ Ready p g (now entries) ⌝ }
+    requires { ⌜ (row < p .depth) × (entry ≤ length (now entries)) ⌝ }
+    ensures { λ r. ⌜ At (layoutBy p (now (entries .entry))) row entry r ⌝ }
+{
+    let spot = image_geometry::walk_row(p.soft_mask, p.hard, row);
+    let column = lists::u64_of_u32(spot.chunk) * lists::u64_of_usize(entries.len())
+        + lists::u64_of_usize(entry);
+    let memory = column / g.unit;
+    let bit = column % g.unit;
+    let above = lists::u64_of_u32(spot.row) * g.unit;
+    if memory < g.full {
+        return Cursor {
+            memory,
+            bit,
+            start: memory * g.full_step + above,
+        };
+    }
+    Cursor {
+        memory,
+        bit,
+        start: g.full * g.full_step + (memory - g.full) * g.part_step + above,
+    }
+}
+
+// The next bit of the memory, or bit 0 of the next memory.
+fn next_place(c: Cursor, g: Steps) -> Cursor
+    requires { ⌜ Low c g ⌝ }
+    ensures { λ r. ⌜ r ≡ nextOf g c ⌝ }
+{
+    let bit = c.bit + 1;
+    if bit < g.unit {
+        return Cursor {
+            memory: c.memory,
+            bit,
+            start: c.start,
+        };
+    }
+    if c.memory < g.full {
+        return Cursor {
+            memory: c.memory + 1,
+            bit: 0,
+            start: c.start + g.full_step,
+        };
+    }
+    Cursor {
+        memory: c.memory + 1,
+        bit: 0,
+        start: c.start + g.part_step,
+    }
+}
+
+// Writes the trits of a row to its places, from the first entry's on.
+fn put_entries(image: &mut [u8], first: Cursor, g: Steps, entries: &[u32], trits: &[u8])
+    requires { ⌜ Lows first g (length (now entries)) ⌝ }
+    ensures { λ _. ⌜ now (image .exit) ≡ putRow (indexFrom g first) (now (entries .entry)) 0 (now (trits .entry)) (now (image .entry)) ⌝ }
+{
+    let mut c = first;
+    let mut i: usize = 0;
+    while i < entries.len() {
+        entry::put_trit(image, c.start + c.bit, trits, entries[i]);
+        c = next_place(c, g);
+        i += 1;
+    }
+}
+
+// Takes the trits at a row's places, from the first entry's on.
+fn take_entries(room: &mut [u8], first: Cursor, g: Steps, entries: &[u32], image: &[u8])
+    requires { ⌜ Lows first g (length (now entries)) ⌝ }
+    ensures { λ _. ⌜ now (room .exit) ≡ takeRow (indexFrom g first) (now (entries .entry)) 0 (now (image .entry)) (now (room .entry)) ⌝ }
+{
+    let mut c = first;
+    let mut i: usize = 0;
+    while i < entries.len() {
+        entry::take_trit(room, entries[i], image, c.start + c.bit);
+        c = next_place(c, g);
+        i += 1;
+    }
+}
+
+// Writes one row.
+fn write_row(
+    image: &mut [u8],
+    p: image_geometry::Params,
+    g: Steps,
+    entries: &[u32],
+    row: u32,
+    trits: &[u8],
+)
+    requires { ⌜ Ready p g (now entries) ⌝ }
+    requires { ⌜ row < p .depth ⌝ }
+    ensures { λ _. ⌜ now (image .exit) ≡ writeRow (layoutBy p (now (entries .entry))) row (now (trits .entry)) (now (image .entry)) ⌝ }
+{
+    let first = cursor_at(p, g, entries, row, 0);
+    put_entries(image, first, g, entries, trits);
+}
+
+// Numbers 4, 15 and 20 of a patch, where the image has `size` trits.
+fn patch_number(p: image_geometry::Params, size: u64, row: u32, trits: &[u8], room: usize) -> u32
+    ensures { λ r. ⌜ r ≡ patchNumber (p .width) (p .depth) size row (now (trits .entry)) room ⌝ }
+{
+    if trits.len() != lists::usize_of_u32(p.width) {
+        return 4;
+    }
+    if !net_logic::trits_good(trits) {
+        return 4;
+    }
+    if p.depth <= row {
+        return 15;
+    }
+    if lists::u64_of_usize(room) < size {
+        return 20;
+    }
+    0
+}
+
+// Exchanges one row of an image with this layout, or refuses by a number.
+pub fn patch_row(
+    image: &mut [u8],
+    p: image_geometry::Params,
+    entries: &[u32],
+    row: u32,
+    trits: &[u8],
+) -> u32
+    ensures { λ r. ⌜ filledWith r (now (image .exit)) ≡ patchCall (handedOn (layoutBy p (now (entries .entry)))) (record { row = row; trits = now (trits .entry); room = length (now (image .entry)) }) (now (image .entry)) ⌝ }
+{
+    let image_check::Checked::Good(s) = image_check::check_layout(p, entries) else {
+        return 23;
+    };
+    let refused = patch_number(p, s.image_size, row, trits, image.len());
+    if refused != 0 {
+        return refused;
+    }
+    write_row(image, p, steps_of(s, p.unit), entries, row, trits);
+    0
+}
+
+// Writes every row, row 0 first.
+fn write_rows(image: &mut [u8], p: image_geometry::Params, g: Steps, entries: &[u32], rows: &[u8])
+    requires { ⌜ Ready p g (now entries) ⌝ }
+    requires { ⌜ length (now rows) ≡ p .depth * p .width ⌝ }
+    ensures { λ _. ⌜ now (image .exit) ≡ writeRows (layoutBy p (now (entries .entry))) (now (rows .entry)) (p .depth) (now (image .entry)) ⌝ }
+{
+    let width = lists::usize_of_u32(p.width);
+    let mut from: usize = 0;
+    let mut row: u32 = 0;
+    while row < p.depth {
+        let to = from + width;
+        write_row(image, p, g, entries, row, &rows[from..to]);
+        from = to;
+        row += 1;
+    }
+}
+
+// Numbers 2 and 20 of a layout of `len` trits, where the image has `size`.
+fn fill_number(p: image_geometry::Params, size: u64, room: usize, len: usize) -> u32
+    ensures { λ r. ⌜ r ≡ fillNumber (p .depth) (p .width) size room len ⌝ }
+{
+    if lists::u64_of_usize(len) != lists::u64_of_u32(p.depth) * lists::u64_of_u32(p.width) {
+        return 2;
+    }
+    if lists::u64_of_usize(room) < size {
+        return 20;
+    }
+    0
+}
+
+// Lays the rows out in an image with this layout, or refuses by a number. The rows' trit codes are not looked at: number 4 is the swizzle's.
+pub fn fill_rows(image: &mut [u8], p: image_geometry::Params, entries: &[u32], rows: &[u8]) -> u32
+    ensures { λ r. ⌜ filledWith r (now (image .exit)) ≡ fillCall (handedOn (layoutBy p (now (entries .entry)))) (now (rows .entry)) (now (image .entry)) ⌝ }
+{
+    let image_check::Checked::Good(s) = image_check::check_layout(p, entries) else {
+        return 23;
+    };
+    let n = fill_number(p, s.image_size, image.len(), rows.len());
+    if n != 0 {
+        return n;
+    }
+    lists::fill_u8(image, 0, lists::usize_of_u64(s.image_size), rules::TRIT_X);
+    write_rows(image, p, steps_of(s, p.unit), entries, rows);
+    0
+}
+
+// Takes one row.
+fn take_row(
+    room: &mut [u8],
+    p: image_geometry::Params,
+    g: Steps,
+    entries: &[u32],
+    row: u32,
+    image: &[u8],
+)
+    requires { ⌜ Ready p g (now entries) ⌝ }
+    requires { ⌜ row < p .depth ⌝ }
+    ensures { λ _. ⌜ now (room .exit) ≡ takeRow (indexOf (layoutBy p (now (entries .entry))) row) (now (entries .entry)) 0 (now (image .entry)) (now (room .entry)) ⌝ }
+{
+    let first = cursor_at(p, g, entries, row, 0);
+    take_entries(room, first, g, entries, image);
+}
+
+// Numbers 15 and 20 of a row read back, where the image has `size` trits.
+fn read_number(p: image_geometry::Params, size: u64, room: usize, len: usize, row: u32) -> u32
+    ensures { λ r. ⌜ r ≡ readNumber (p .depth) (p .width) size room len row ⌝ }
+{
+    if p.depth <= row {
+        return 15;
+    }
+    if lists::u64_of_usize(len) < size {
+        return 20;
+    }
+    if room < lists::usize_of_u32(p.width) {
+        return 20;
+    }
+    0
+}
+
+// The trits at a row's places in an image with this layout, into `room`, or a number.
+pub fn read_row(
+    room: &mut [u8],
+    p: image_geometry::Params,
+    entries: &[u32],
+    image: &[u8],
+    row: u32,
+) -> u32
+    ensures { λ r. ⌜ filledWith r (now (room .exit)) ≡ readRowCall (handedOn (layoutBy p (now (entries .entry)))) (now (room .entry)) (now (image .entry)) row ⌝ }
+{
+    let image_check::Checked::Good(s) = image_check::check_layout(p, entries) else {
+        return 23;
+    };
+    let n = read_number(p, s.image_size, room.len(), image.len(), row);
+    if n != 0 {
+        return n;
+    }
+    take_row(room, p, steps_of(s, p.unit), entries, row, image);
+    0
+}
+
+// The place of entry number `entry` of a row, or a number: 1 for sizes past their limits, 15 for no such row or entry.
+pub fn place_of(p: image_geometry::Params, entries: &[u32], row: u32, entry: usize) -> Placed
+    ensures { λ r. ⌜ placedOf r ≡ placeCall (layoutBy p (now (entries .entry))) row entry ⌝ }
+{
+    let image_geometry::Measured::Done(s) = image_geometry::measure(p, entries) else {
+        return Placed::Refused(1);
+    };
+    if p.depth <= row {
+        return Placed::Refused(15);
+    }
+    if entries.len() <= entry {
+        return Placed::Refused(15);
+    }
+    let c = cursor_at(p, steps_of(s, p.unit), entries, row, entry);
+    let spot = image_geometry::walk_row(p.soft_mask, p.hard, row);
+    Placed::At(Place {
+        memory: c.memory,
+        row: lists::u64_of_u32(spot.row),
+        bit: c.bit,
+        index: c.start + c.bit,
+    })
+}

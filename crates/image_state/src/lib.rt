@@ -1,0 +1,108 @@
+// Images: the state that a swizzle hands on, and by it an image laid out from rows, a row patched and a row read back.
+ghost use mathlib.Core.Path.{_≡_};
+ghost use mathlib.Core.Option.{none};
+ghost use Prim.Native.Nat.{_<_};
+ghost use lib.ListN.{length};
+ghost use Rattle.rules.specs.Shape.{handedOn};
+ghost use Rattle.rules.specs.Layouts.{fillCall, readRowCall};
+ghost use Rattle.rules.specs.Answers.{patchCall};
+ghost use Rattle.image_geometry.specs.View.{layoutBy, filledWith};
+ghost use Rattle.image_state.specs.View.{paramsOf, laidOf, unsetLaid, laidBy};
+
+// What a swizzle hands on for patches: the layout's numbers, and the entries of a row, of which the first `len` are in use. The unit is 0 where
+// no swizzle was accepted yet.
+pub struct Laid {
+    pub depth: u32,
+    pub width: u32,
+    pub soft_mask: u32,
+    pub hard: u32,
+    pub unit: u32,
+    pub len: u32,
+    pub entries: [u32; rules::MAX_ROW],
+}
+
+// The state before any swizzle is accepted.
+pub fn unset() -> Laid
+    ensures { λ r. ⌜ r ≡ unsetLaid ⌝ }
+    ensures { λ r. ⌜ laidOf r ≡ none ⌝ }
+{
+    Laid {
+        depth: 0,
+        width: 0,
+        soft_mask: 0,
+        hard: 0,
+        unit: 0,
+        len: 0,
+        entries: [0u32; rules::MAX_ROW],
+    }
+}
+
+// The state of a layout: unset where no accepted swizzle has it.
+pub fn laid_out(p: image_geometry::Params, entries: &[u32]) -> Laid
+    ensures { λ r. ⌜ r ≡ laidBy p (now (entries .entry)) ⌝ }
+    ensures { λ r. ⌜ laidOf r ≡ handedOn (layoutBy p (now (entries .entry))) ⌝ }
+{
+    if rules::MAX_ROW < entries.len() {
+        return unset();
+    }
+    let mut kept = [0u32; rules::MAX_ROW];
+    lists::copy_u32(&mut kept, 0, entries);
+    Laid {
+        depth: p.depth,
+        width: p.width,
+        soft_mask: p.soft_mask,
+        hard: p.hard,
+        unit: p.unit,
+        len: entries.len() as u32,
+        entries: kept,
+    }
+}
+
+// The state's numbers.
+pub fn params(laid: Laid) -> image_geometry::Params
+    ensures { λ r. ⌜ r ≡ paramsOf laid ⌝ }
+{
+    image_geometry::Params {
+        depth: laid.depth,
+        width: laid.width,
+        soft_mask: laid.soft_mask,
+        hard: laid.hard,
+        unit: laid.unit,
+    }
+}
+
+// Exchanges one row of the last accepted swizzle, or refuses by a number.
+pub fn patch(image: &mut [u8], laid: Laid, row: u32, trits: &[u8]) -> u32
+    ensures { λ r. ⌜ filledWith r (now (image .exit)) ≡ patchCall (laidOf laid) (record { row = row; trits = now (trits .entry); room = length (now (image .entry)) }) (now (image .entry)) ⌝ }
+{
+    let len = lists::usize_of_u32(laid.len);
+    if rules::MAX_ROW < len {
+        return 23;
+    }
+    let entries = laid.entries;
+    image_rows::patch_row(image, params(laid), &entries[..len], row, trits)
+}
+
+// Lays the rows out in the image of a swizzle, or refuses by a number.
+pub fn fill(image: &mut [u8], laid: Laid, rows: &[u8]) -> u32
+    ensures { λ r. ⌜ filledWith r (now (image .exit)) ≡ fillCall (laidOf laid) (now (rows .entry)) (now (image .entry)) ⌝ }
+{
+    let len = lists::usize_of_u32(laid.len);
+    if rules::MAX_ROW < len {
+        return 23;
+    }
+    let entries = laid.entries;
+    image_rows::fill_rows(image, params(laid), &entries[..len], rows)
+}
+
+// The trits that the image of a swizzle holds at a row's places, into `room`, or a number.
+pub fn read_row(room: &mut [u8], laid: Laid, image: &[u8], row: u32) -> u32
+    ensures { λ r. ⌜ filledWith r (now (room .exit)) ≡ readRowCall (laidOf laid) (now (room .entry)) (now (image .entry)) row ⌝ }
+{
+    let len = lists::usize_of_u32(laid.len);
+    if rules::MAX_ROW < len {
+        return 23;
+    }
+    let entries = laid.entries;
+    image_rows::read_row(room, params(laid), &entries[..len], image, row)
+}

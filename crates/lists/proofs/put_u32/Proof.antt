@@ -1,0 +1,25 @@
+-- `lists::put_u32` meets its contract.
+use mathlib.Core.Path.{sym}
+use Prim.Native.Nat.{_-_}
+use lib.Seq.{set-out}
+use borrow.Author.Needs.{needs}
+use Rattle.lists.proofs.put_u32.Statement.{statement}
+use Rattle.lists.proofs.put_u32.Tie as tie
+
+mul-to : tie.Need-mul-to
+mul-to c = search needs
+
+slice-write-to : tie.Need-slice-write-to
+slice-write-to c = search needs
+
+same-length : tie.Need-same-length
+same-length c = search needs
+
+returns : tie.Need-returns
+returns c = search needs
+
+returns-2 : tie.Need-returns-2
+returns-2 c = sym (set-out _ _ _ (c .if1 .left))
+
+pub put-u32-spec : {M : Type 1} → statement M
+put-u32-spec = tie.close (tie.spec mul-to slice-write-to same-length returns returns-2)

@@ -1,0 +1,64 @@
+-- A request on a lent log state: its answer, and the state and the log that it leaves. A refused one leaves both as they were.
+use Prim.Native.Nat.{ℕ}
+use mathlib.Core.List.{List, [], _∷_}
+use Rattle.lists.specs.Lists.{upFrom}
+use Rattle.rules.specs.Value.{Value}
+use Rattle.rules.specs.Cell as cell
+use Rattle.rules.specs.Log.{LogState}
+use Rattle.rules.specs.Answers.{Answer, Refused, Accepted, After, Logged}
+use Rattle.net_flip_flop.specs.View.{controlsOf}
+use Rattle.log_entries.specs.declared.LogState as machine
+use Rattle.log_entries.specs.View.{stateOf}
+use Rattle.log_lent.specs.declared.NewNets as nets
+use Rattle.log_lent.specs.declared.OneNet as net
+use Rattle.log_lent.specs.declared.NoValue as none
+use Rattle.log_lent.specs.declared.NewControls as controls
+
+pub record Returned (A : Type 0) : Type 0 where
+  pub answer : Answer A
+  pub state : LogState
+  pub log : List ℕ
+
+module _ {A : Type 0} where
+  -- the machine's state and log, with an answer
+  abbrev pub returned : Answer A → machine.LogState → List ℕ → Returned A
+  returned a s log = record { answer = a; state = stateOf s; log = log }
+
+  -- an answer's value, and the state after it where s was before
+  abbrev pub valueOf : Answer (After A) → Answer A
+  valueOf (Refused n) = Refused n
+  valueOf (Accepted a) = Accepted (a .value)
+
+  abbrev pub stateLeft : LogState → Answer (After A) → LogState
+  stateLeft s (Refused n) = s
+  stateLeft s (Accepted a) = a .state
+
+  -- a request's answer, from the state s
+  abbrev pub lentCall : LogState → Logged A → Returned A
+  lentCall s l = record { answer = valueOf (l .answer); state = stateLeft s (l .answer); log = l .log }
+
+-- ---- the machine's answers
+-- new nets, from the first one on
+abbrev pub netsOf : nets.NewNets → Answer Value
+netsOf (nets.the-variants.Refused n) = Refused n
+netsOf (nets.the-variants.Done first width) = Accepted (upFrom first width)
+
+-- one net: as a net, and as a value
+abbrev pub netOf : net.OneNet → Answer ℕ
+netOf (net.the-variants.Refused n) = Refused n
+netOf (net.the-variants.Done n) = Accepted (n .0)
+
+abbrev pub posOf : net.OneNet → Answer Value
+posOf (net.the-variants.Refused n) = Refused n
+posOf (net.the-variants.Done n) = Accepted (n .0 ∷ [])
+
+abbrev pub noNets : Value
+noNets = []
+
+abbrev pub noneOf : none.NoValue → Answer Value
+noneOf (none.the-variants.Refused n) = Refused n
+noneOf none.the-variants.Done = Accepted noNets
+
+abbrev pub newControlsOf : controls.NewControls → Answer cell.Controls
+newControlsOf (controls.the-variants.Refused n) = Refused n
+newControlsOf (controls.the-variants.Done c) = Accepted (controlsOf c)

@@ -1,3 +1,0 @@
--- The laws behind the merges' numbers.
-pub mod Numbers
-pub mod Most

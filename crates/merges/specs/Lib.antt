@@ -1,2 +1,0 @@
--- The definitions that the contracts of merges cite.
-pub mod Lens

@@ -1,2 +1,0 @@
--- `swizzle_mux_bits` on a machine's memory and plan.
-pub mod Calls

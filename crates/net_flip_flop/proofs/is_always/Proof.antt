@@ -1,0 +1,22 @@
+-- `net_flip_flop::is_always` meets its contract.
+use Rattle.rules.specs.Value.{isAlways, sameControl}
+use borrow.Author.Needs.{needs}
+use Rattle.net_flip_flop.proofs.is_always.Statement.{statement}
+use Rattle.net_flip_flop.proofs.is_always.Tie as tie
+
+enum-known-c : tie.Need-enum-known-c
+enum-known-c c = search needs
+
+enum-told : tie.Need-enum-told
+enum-told c = search needs
+
+returns : tie.Need-returns
+unfolding isAlways sameControl
+returns c = simp (c .before .before .c .given .1)
+
+returns-2 : tie.Need-returns-2
+unfolding isAlways sameControl
+returns-2 c = simp (c .enum-told .given .1)
+
+pub is-always-spec : {M : Type 1} → statement M
+is-always-spec = tie.close (tie.spec enum-known-c enum-told returns returns-2)

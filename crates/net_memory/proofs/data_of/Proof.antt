@@ -1,0 +1,19 @@
+-- `net_memory::data_of` meets its contract.
+use borrow.Author.Needs.{needs}
+use Rattle.net_memory.proofs.data_of.Statement.{statement}
+use Rattle.net_memory.proofs.data_of.Tie as tie
+
+usize-of-u32-requires : tie.Need-usize-of-u32-requires
+usize-of-u32-requires c κs = search needs
+
+usize-of-u32-requires-2 : tie.Need-usize-of-u32-requires-2
+usize-of-u32-requires-2 c κs = search needs
+
+part-u32-requires : tie.Need-part-u32-requires
+part-u32-requires c κs = search needs
+
+returns : tie.Need-returns
+returns c = cc
+
+pub data-of-spec : {M : Type 1} → statement M
+data-of-spec = tie.close (tie.spec usize-of-u32-requires usize-of-u32-requires-2 part-u32-requires returns)

@@ -1,0 +1,3 @@
+-- The machine's answers in terms of the rules.
+pub mod Wide
+pub mod View

@@ -1,2 +1,0 @@
--- A pattern in a lent array.
-pub mod Paint

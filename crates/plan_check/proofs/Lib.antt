@@ -1,4 +1,0 @@
--- Laws that belong to no one function.
-pub mod Wides
-pub mod Logs
-pub mod Whole

@@ -1,2 +1,0 @@
--- The numbers of a whole plan.
-pub mod Calls

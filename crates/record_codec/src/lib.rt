@@ -1,0 +1,273 @@
+// The image record: its head, writing one and reading one.
+ghost use mathlib.Core.Path.{_≡_};
+ghost use mathlib.Core.Bool.{false};
+ghost use Prim.Native.Nat.{_+_, _-_, _*_, _<_, _≤_, min};
+ghost use lib.ListN.{length, drop};
+ghost use lib.Seq.{sets};
+ghost use Rattle.lists.specs.Lists.{part};
+ghost use Rattle.rules.specs.Limits.{headBytes};
+ghost use Rattle.rules.specs.Record.{sizeTrits, recordImage, word16, arrayBytes, recordHead, encodeRecord, headSizes, recordBytes, bitsOf, decodeImage};
+ghost use Rattle.rules.specs.Conditions.{badHead, badBits};
+ghost use Rattle.rules.specs.Refusals.{recordRefusal, readRecordRefusal, writeRecordRefusal};
+ghost use Rattle.rules.specs.Answers.{answerOf, writeRecordCall, readRecordCall};
+ghost use Rattle.rules.specs.Header.{badHeadOf, headerRefusal, headerCall};
+ghost use Rattle.record_sizes.specs.View.{viewSizes};
+ghost use Rattle.record_bits.specs.Groups.{tritsBy, badBy};
+ghost use Rattle.record_reader.specs.Reading.{manyTrits, Words};
+ghost use Rattle.record_codec.specs.View.{viewHead, viewWritten};
+use record_sizes::Sizes;
+
+// ---- the head
+
+// The sizes of a record, or the number that refuses it.
+pub enum Head {
+    Refused(u32),
+    Accepted(Sizes),
+}
+
+// The bytes of a record of so many trits.
+fn bytes_for(trits: u64) -> u64
+    requires { ⌜ trits ≤ manyTrits ⌝ }
+    ensures { λ r. ⌜ r ≡ headBytes + 2 * arrayBytes trits ⌝ }
+{
+    (rules::HEAD_BYTES as u64) + 2 * ((trits + 7) / 8)
+}
+
+// Number 16, of a record of `total` bytes whose first are given.
+fn bad_head(first: &[u8], total: usize) -> bool
+    ensures { λ r. ⌜ r ≡ badHeadOf (now (first .entry)) total ⌝ }
+{
+    if first.len() < rules::HEAD_BYTES {
+        return true;
+    }
+    if record_reader::word_at(first, 0) != rules::RECORD_MARK {
+        return true;
+    }
+    total as u64 != bytes_for(record_reader::head_trits(first))
+}
+
+// 16, then 17, of a record of `total` bytes whose first are given.
+pub fn header_refusal(first: &[u8], total: usize) -> u32
+    ensures { λ r. ⌜ r ≡ headerRefusal (now (first .entry)) total ⌝ }
+{
+    if bad_head(first, total) {
+        return 16;
+    }
+    if record_sizes::bad_sizes(record_reader::head_sizes(first)) {
+        return 17;
+    }
+    0
+}
+
+// The sizes of a record of `total` bytes whose first are given.
+pub fn record_header(first: &[u8], total: usize) -> Head
+    ensures { λ r. ⌜ viewHead r ≡ headerCall (now (first .entry)) total ⌝ }
+{
+    let n = header_refusal(first, total);
+    if n != 0 {
+        return Head::Refused(n);
+    }
+    Head::Accepted(record_reader::head_sizes(first))
+}
+
+// ---- writing
+
+// The bytes of the record, or the number that refuses it.
+pub enum Written {
+    Refused(u32),
+    Bytes(usize),
+}
+
+// 4, 17, 20.
+fn write_refusal(s: Sizes, image: &[u8], room: usize) -> u32
+    ensures { λ r. ⌜ r ≡ writeRecordRefusal room (viewSizes s) (now (image .entry)) ⌝ }
+{
+    if !net_logic::trits_good(record_sizes::image_of(s, image)) {
+        return 4;
+    }
+    if record_sizes::bad_sizes(s) {
+        return 17;
+    }
+    let count = record_sizes::trits_within(s, rules::MAX_IMAGE);
+    if (image.len() as u64) < count {
+        return 20;
+    }
+    if (room as u64) < bytes_for(count) {
+        return 20;
+    }
+    0
+}
+
+// Stores a word.
+fn put_word(out: &mut [u8], at: usize, w: u32)
+    requires { ⌜ (w < 65536) × (at + 1 < length (now out)) ⌝ }
+    ensures { λ _. ⌜ now (out .exit) ≡ sets (now (out .entry)) at (word16 w) ⌝ }
+{
+    out[at] = (w % 256) as u8;
+    out[at + 1] = (w / 256) as u8;
+}
+
+// Stores the six words.
+fn put_head(out: &mut [u8], s: Sizes)
+    requires { ⌜ Words s × (headBytes ≤ length (now out)) ⌝ }
+    ensures { λ _. ⌜ now (out .exit) ≡ sets (now (out .entry)) 0 (recordHead (viewSizes s)) ⌝ }
+{
+    put_word(out, 0, rules::RECORD_MARK as u32);
+    put_word(out, 2, s.unit);
+    put_word(out, 4, s.full);
+    put_word(out, 6, s.full_depth);
+    put_word(out, 8, s.partial);
+    put_word(out, 10, s.partial_depth);
+}
+
+// Stores the record of an image that no number refuses.
+fn put_record(s: Sizes, image: &[u8], out: &mut [u8]) -> usize
+    requires { ⌜ writeRecordRefusal (length (now out)) (viewSizes s) (now image) ≡ 0 ⌝ }
+    ensures { λ r. ⌜ (r ≡ recordBytes (viewSizes s)) × (now (out .exit) ≡ sets (now (out .entry)) 0 (encodeRecord (viewSizes s) (recordImage (viewSizes s) (now (image .entry))))) ⌝ }
+{
+    put_head(out, s);
+    let ts = record_sizes::image_of(s, image);
+    record_bits::put_arrays(out, rules::HEAD_BYTES, ts);
+    bytes_for(ts.len() as u64) as usize
+}
+
+// Writes the record of an image; the rest of the room is kept.
+pub fn write_record(s: Sizes, image: &[u8], out: &mut [u8]) -> Written
+    ensures { λ r. ⌜ (viewWritten r ≡ answerOf (writeRecordRefusal (length (now (out .entry))) (viewSizes s) (now (image .entry))) (recordBytes (viewSizes s))) × (now (out .exit) ≡ writeRecordCall (now (out .entry)) (viewSizes s) (now (image .entry)) .out) ⌝ }
+{
+    let n = write_refusal(s, image, out.len());
+    if n != 0 {
+        return Written::Refused(n);
+    }
+    Written::Bytes(put_record(s, image, out))
+}
+
+// ---- reading
+
+// A value bit without its known bit, or a spare bit set, in two arrays of so many trits.
+fn bad_arrays(count: usize, ks: &[u8], vs: &[u8]) -> bool
+    requires { ⌜ length (now ks) ≡ length (now vs) ⌝ }
+    ensures { λ r. ⌜ r ≡ badBy count (bitsOf (now (ks .entry))) (bitsOf (now (vs .entry))) ⌝ }
+{
+    let mut left = count;
+    let mut j = 0;
+    while j < ks.len() {
+        if record_bits::bad_group(left, ks[j], vs[j]) {
+            return true;
+        }
+        left = less_eight(left);
+        j += 1;
+    }
+    false
+}
+
+// Eight less, or 0.
+fn less_eight(left: usize) -> usize
+    ensures { λ r. ⌜ r ≡ left - 8 ⌝ }
+{
+    if left < 8 {
+        return 0;
+    }
+    left - 8
+}
+
+// Where the second array starts.
+fn middle_of(bytes: &[u8]) -> usize
+    ensures { λ r. ⌜ (r ≡ headBytes + arrayBytes (sizeTrits (headSizes (now (bytes .entry))))) × (r < manyTrits) ⌝ }
+{
+    rules::HEAD_BYTES + (record_reader::head_trits(bytes) as usize + 7) / 8
+}
+
+fn least(a: usize, b: usize) -> usize
+    ensures { λ r. ⌜ r ≡ min a b ⌝ }
+{
+    if b < a { b } else { a }
+}
+
+// The bytes of a record's known bits, and those of its value bits; of other bytes, what stands there.
+pub fn known_array(bytes: &[u8]) -> &[u8]
+    ensures { λ r. ⌜ (now r ≡ part headBytes (arrayBytes (sizeTrits (headSizes (now (bytes .entry))))) (now (bytes .entry))) × (length (now r) < manyTrits) ⌝ }
+{
+    let end = least(middle_of(bytes), bytes.len());
+    let start = least(rules::HEAD_BYTES, end);
+    &bytes[start..end]
+}
+
+pub fn value_array(bytes: &[u8]) -> &[u8]
+    ensures { λ r. ⌜ now r ≡ drop (headBytes + arrayBytes (sizeTrits (headSizes (now (bytes .entry))))) (now (bytes .entry)) ⌝ }
+{
+    let start = least(middle_of(bytes), bytes.len());
+    &bytes[start..]
+}
+
+// Number 18, of a record whose head is good.
+fn bad_bits(bytes: &[u8]) -> bool
+    requires { ⌜ badHead (now bytes) ≡ false ⌝ }
+    ensures { λ r. ⌜ r ≡ badBits (now (bytes .entry)) ⌝ }
+{
+    let count = record_reader::head_trits(bytes) as usize;
+    bad_arrays(count, known_array(bytes), value_array(bytes))
+}
+
+// 16, 17, 18.
+pub fn record_refusal(bytes: &[u8]) -> u32
+    ensures { λ r. ⌜ r ≡ recordRefusal (now (bytes .entry)) ⌝ }
+{
+    let n = header_refusal(bytes, bytes.len());
+    if n != 0 {
+        return n;
+    }
+    if bad_bits(bytes) {
+        return 18;
+    }
+    0
+}
+
+// 16, 17, 18, 20.
+fn read_refusal(bytes: &[u8], room: usize) -> u32
+    ensures { λ r. ⌜ r ≡ readRecordRefusal room (now (bytes .entry)) ⌝ }
+{
+    let n = record_refusal(bytes);
+    if n != 0 {
+        return n;
+    }
+    if (room as u64) < record_reader::head_trits(bytes) {
+        return 20;
+    }
+    0
+}
+
+// Stores the trits of two arrays.
+fn put_trits(image: &mut [u8], count: usize, ks: &[u8], vs: &[u8])
+    requires { ⌜ (length (now ks) ≡ length (now vs)) × (length (now ks) < manyTrits) ⌝ }
+    ensures { λ _. ⌜ now (image .exit) ≡ sets (now (image .entry)) 0 (tritsBy count (bitsOf (now (ks .entry))) (bitsOf (now (vs .entry)))) ⌝ }
+{
+    let mut left = count;
+    let mut j = 0;
+    while j < ks.len() {
+        record_bits::spread(image, 8 * j, left, ks[j], vs[j]);
+        left = less_eight(left);
+        j += 1;
+    }
+}
+
+// Stores the image of a record whose head is good.
+fn put_image(bytes: &[u8], image: &mut [u8])
+    requires { ⌜ badHead (now bytes) ≡ false ⌝ }
+    ensures { λ _. ⌜ now (image .exit) ≡ sets (now (image .entry)) 0 (decodeImage (now (bytes .entry))) ⌝ }
+{
+    let count = record_reader::head_trits(bytes) as usize;
+    put_trits(image, count, known_array(bytes), value_array(bytes));
+}
+
+// Reads a record: its sizes, and its image into the lent array, whose rest is kept.
+pub fn read_record(bytes: &[u8], image: &mut [u8]) -> Head
+    ensures { λ r. ⌜ (viewHead r ≡ readRecordCall (now (image .entry)) (now (bytes .entry)) .answer) × (now (image .exit) ≡ readRecordCall (now (image .entry)) (now (bytes .entry)) .image) ⌝ }
+{
+    let n = read_refusal(bytes, image.len());
+    if n != 0 {
+        return Head::Refused(n);
+    }
+    put_image(bytes, image);
+    Head::Accepted(record_reader::head_sizes(bytes))
+}

@@ -1,0 +1,77 @@
+-- `record_reader::head_sizes` meets its contract.
+use Rattle.rules.specs.Record.{headSizes}
+use mathlib.Core.Path.{_∙_}
+use Prim.Native.Nat.{_-_}
+use native.Mathlib.Omega.{arith}
+use borrow.Author.Needs.{needs}
+use Rattle.record_reader.proofs.head_sizes.Statement.{statement}
+use Rattle.record_reader.proofs.head_sizes.Tie as tie
+
+word-at-requires : tie.Need-word-at-requires
+word-at-requires c κs = search needs
+
+wide-requires : tie.Need-wide-requires
+wide-requires c κs = search needs
+
+word-at-requires-2 : tie.Need-word-at-requires-2
+word-at-requires-2 c κs = search needs
+
+wide-requires-2 : tie.Need-wide-requires-2
+wide-requires-2 c κs = search needs
+
+word-at-requires-3 : tie.Need-word-at-requires-3
+word-at-requires-3 c κs = search needs
+
+wide-requires-3 : tie.Need-wide-requires-3
+wide-requires-3 c κs = search needs
+
+word-at-requires-4 : tie.Need-word-at-requires-4
+word-at-requires-4 c κs = search needs
+
+wide-requires-4 : tie.Need-wide-requires-4
+wide-requires-4 c κs = search needs
+
+word-at-requires-5 : tie.Need-word-at-requires-5
+word-at-requires-5 c κs = search needs
+
+wide-requires-5 : tie.Need-wide-requires-5
+wide-requires-5 c κs = search needs
+
+returns : tie.Need-returns
+unfolding headSizes
+returns c =
+    let q5 = c .before in
+    let q4 = q5 .before .before in
+    let q3 = q4 .before .before in
+    let q2 = q3 .before .before in
+    let q1 = q2 .before .before in
+    let e1 = q2 .before .wide .ensures ∙ q1 .word-at .ensures in
+    let e2 = q3 .before .wide2 .ensures ∙ q2 .word-at2 .ensures in
+    let e3 = q4 .before .wide3 .ensures ∙ q3 .word-at3 .ensures in
+    let e4 = q5 .before .wide4 .ensures ∙ q4 .word-at4 .ensures in
+    let e5 = c .wide5 .ensures ∙ q5 .word-at5 .ensures in (
+      λ i. record { unit = e1 i; full = e2 i; fullDepth = e3 i; partial = e4 i; partialDepth = e5 i },
+      record {
+        unit-word = omega (arith, q2 .before .wide .ensures, q1 .word-at .ok);
+        full-word = omega (arith, q3 .before .wide2 .ensures, q2 .word-at2 .ok);
+        full-depth-word = omega (arith, q4 .before .wide3 .ensures, q3 .word-at3 .ok);
+        partial-word = omega (arith, q5 .before .wide4 .ensures, q4 .word-at4 .ok);
+        partial-depth-word = omega (arith, c .wide5 .ensures, q5 .word-at5 .ok);
+      },
+    )
+
+pub head-sizes-spec : {M : Type 1} → statement M
+head-sizes-spec =
+    tie.close
+    (tie.spec
+    word-at-requires
+    wide-requires
+    word-at-requires-2
+    wide-requires-2
+    word-at-requires-3
+    wide-requires-3
+    word-at-requires-4
+    wide-requires-4
+    word-at-requires-5
+    wide-requires-5
+    returns)

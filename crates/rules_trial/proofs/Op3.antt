@@ -1,0 +1,63 @@
+-- Calls 3 of the call format, which the rules answer as the Rust does. Made by scripts/sample.py.
+use Prim.Native.Nat.{ℕ}
+use mathlib.Core.Path.{_≡_, refl}
+use mathlib.Core.Bool.{true}
+use mathlib.Core.List.{List, [], _∷_}
+use Rattle.rules.specs.Conditions.{unequal, badTrits, noRoom}
+use Rattle.rules.specs.Log.{_>>=_, _>>_}
+use Rattle.rules.specs.Logic.{tritOf, codeOf, tritOr, tritwise, constOr, areTrits}
+use Rattle.rules.specs.Refusals.{constPairRefusal}
+use Rattle.rules_trial.specs.Read.{give, word, wordsOf, list}
+use Rattle.rules_trial.specs.Wire.{reply, asList, op3, agrees, agree, Case, case}
+
+abbrev pub cases : List Case
+cases =
+    case (3 ∷ 3 ∷ 4294967295 ∷ 0 ∷ 0 ∷ []) (0 ∷ 1 ∷ 0 ∷ [])
+    ∷
+    case (3 ∷ 5 ∷ 4294967295 ∷ 1 ∷ 0 ∷ 1 ∷ 0 ∷ []) (0 ∷ 2 ∷ 1 ∷ 0 ∷ [])
+    ∷
+    case (3 ∷ 9 ∷ 7 ∷ 3 ∷ 1 ∷ 1 ∷ 1 ∷ 3 ∷ 0 ∷ 0 ∷ 0 ∷ []) (0 ∷ 4 ∷ 3 ∷ 1 ∷ 1 ∷ 1 ∷ [])
+    ∷
+    case (3 ∷ 5 ∷ 4294967295 ∷ 1 ∷ 0 ∷ 1 ∷ 1 ∷ []) (0 ∷ 2 ∷ 1 ∷ 1 ∷ [])
+    ∷
+    case (3 ∷ 5 ∷ 4294967295 ∷ 1 ∷ 0 ∷ 1 ∷ 2 ∷ []) (0 ∷ 2 ∷ 1 ∷ 2 ∷ [])
+    ∷
+    case (3 ∷ 7 ∷ 4294967295 ∷ 2 ∷ 0 ∷ 0 ∷ 2 ∷ 0 ∷ 0 ∷ []) (0 ∷ 3 ∷ 2 ∷ 0 ∷ 0 ∷ [])
+    ∷
+    case (3 ∷ 7 ∷ 4294967295 ∷ 2 ∷ 0 ∷ 0 ∷ 2 ∷ 0 ∷ 1 ∷ []) (0 ∷ 3 ∷ 2 ∷ 0 ∷ 1 ∷ [])
+    ∷
+    case (3 ∷ 7 ∷ 4294967295 ∷ 2 ∷ 0 ∷ 0 ∷ 2 ∷ 0 ∷ 2 ∷ []) (0 ∷ 3 ∷ 2 ∷ 0 ∷ 2 ∷ [])
+    ∷
+    case (3 ∷ 7 ∷ 4294967295 ∷ 2 ∷ 0 ∷ 0 ∷ 2 ∷ 1 ∷ 0 ∷ []) (0 ∷ 3 ∷ 2 ∷ 1 ∷ 0 ∷ [])
+    ∷
+    case (3 ∷ 7 ∷ 4294967295 ∷ 2 ∷ 0 ∷ 0 ∷ 2 ∷ 1 ∷ 1 ∷ []) (0 ∷ 3 ∷ 2 ∷ 1 ∷ 1 ∷ [])
+    ∷
+    case (3 ∷ 7 ∷ 4294967295 ∷ 2 ∷ 0 ∷ 0 ∷ 2 ∷ 1 ∷ 2 ∷ []) (0 ∷ 3 ∷ 2 ∷ 1 ∷ 2 ∷ [])
+    ∷
+    case (3 ∷ 7 ∷ 4294967295 ∷ 2 ∷ 0 ∷ 0 ∷ 2 ∷ 2 ∷ 0 ∷ []) (0 ∷ 3 ∷ 2 ∷ 2 ∷ 0 ∷ [])
+    ∷
+    case (3 ∷ 7 ∷ 4294967295 ∷ 2 ∷ 0 ∷ 0 ∷ 2 ∷ 2 ∷ 1 ∷ []) (0 ∷ 3 ∷ 2 ∷ 2 ∷ 1 ∷ [])
+    ∷
+    case (3 ∷ 7 ∷ 4294967295 ∷ 2 ∷ 0 ∷ 0 ∷ 2 ∷ 2 ∷ 2 ∷ []) (0 ∷ 3 ∷ 2 ∷ 2 ∷ 2 ∷ [])
+    ∷
+    case (3 ∷ 9 ∷ 3 ∷ 3 ∷ 2 ∷ 2 ∷ 2 ∷ 3 ∷ 2 ∷ 1 ∷ 2 ∷ []) (0 ∷ 4 ∷ 3 ∷ 2 ∷ 1 ∷ 2 ∷ [])
+    ∷
+    case (3 ∷ 9 ∷ 3 ∷ 3 ∷ 2 ∷ 2 ∷ 2 ∷ 3 ∷ 0 ∷ 1 ∷ 1 ∷ []) (0 ∷ 4 ∷ 3 ∷ 2 ∷ 1 ∷ 1 ∷ [])
+    ∷
+    case (3 ∷ 4 ∷ 9 ∷ 1 ∷ 0 ∷ 0 ∷ []) (2 ∷ 0 ∷ [])
+    ∷
+    case (3 ∷ 6 ∷ 0 ∷ 1 ∷ 3 ∷ 2 ∷ 0 ∷ 1 ∷ []) (2 ∷ 0 ∷ [])
+    ∷
+    case (3 ∷ 7 ∷ 9 ∷ 2 ∷ 0 ∷ 3 ∷ 2 ∷ 0 ∷ 0 ∷ []) (4 ∷ 0 ∷ [])
+    ∷
+    case (3 ∷ 5 ∷ 0 ∷ 1 ∷ 0 ∷ 1 ∷ 4 ∷ []) (4 ∷ 0 ∷ [])
+    ∷
+    case (3 ∷ 7 ∷ 1 ∷ 2 ∷ 0 ∷ 1 ∷ 2 ∷ 1 ∷ 1 ∷ []) (20 ∷ 0 ∷ [])
+    ∷
+    case (3 ∷ 15 ∷ 0 ∷ 6 ∷ 2 ∷ 1 ∷ 2 ∷ 2 ∷ 1 ∷ 0 ∷ 6 ∷ 2 ∷ 0 ∷ 1 ∷ 2 ∷ 1 ∷ 1 ∷ []) (20 ∷ 0 ∷ [])
+    ∷
+    []
+
+pub agreed : agree op3 cases ≡ true
+unfolding unequal badTrits noRoom _>>=_ _>>_ tritOf codeOf tritOr tritwise constOr areTrits constPairRefusal give word wordsOf list reply asList op3 agrees agree Rattle.rules_trial.specs.Read._>>=_
+agreed = refl

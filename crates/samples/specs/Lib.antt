@@ -1,2 +1,0 @@
--- Memories for the programs that try the calls.
-pub mod Build

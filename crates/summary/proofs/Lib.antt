@@ -1,3 +1,0 @@
--- Laws of the summaries.
-pub mod Starts
-pub mod Numbers

@@ -1,0 +1,5 @@
+-- Laws that belong to no one function.
+pub mod Planned
+pub mod Wides
+pub mod Logs
+pub mod Whole

@@ -1,0 +1,53 @@
+-- `swizzle_plan::planned_number` meets its contract.
+use Rattle.swizzle_plan.proofs.Planned.{by-memory, by-seven, by-eight}
+use mathlib.Core.Path.{sym, ap, _∙_}
+use Prim.Native.Nat.{_-_}
+use mathlib.Core.Bool.{Bool, false, _||_}
+use Rattle.rules.specs.Limits.{maxNets}
+use Rattle.net_check.specs.Number.{memoryNumber}
+use borrow.Author.Needs.{needs}
+use Rattle.swizzle_plan.proofs.planned_number.Statement.{statement}
+use Rattle.swizzle_plan.proofs.planned_number.Tie as tie
+
+plan-too-large-requires : tie.Need-plan-too-large-requires
+plan-too-large-requires c κs = search needs
+
+either-requires : tie.Need-either-requires
+either-requires c κs = search needs
+
+memory-number-requires : tie.Need-memory-number-requires
+memory-number-requires c κs = search needs
+
+returns : tie.Need-returns
+returns c =
+    let v = c .before .before .before .before .before .before .before .before .before .args in
+    by-memory (v .m) (v .nets .now) (v .trits .now) (v .s) (v .entries .now) (v .writes .now) (v .reads .now) (v .long) _ (c .before .memory-number .ensures ∙ ap (λ (t : Bool). memoryNumber t false false maxNets (v .m) (v .nets .now) (v .trits .now)) (c .before .before .either .ensures ∙ ap (λ (t : Bool). t || v .long) (c .before .before .before .plan-too-large .ensures))) (c .if1 .taken)
+
+entries-refusal-requires : tie.Need-entries-refusal-requires
+entries-refusal-requires c κs = search needs
+
+returns-2 : tie.Need-returns-2
+returns-2 c =
+    let v = c .before .before .before .before .before .before .before .before .before .before .before .args in
+    by-seven (v .m) (v .nets .now) (v .trits .now) (v .s) (v .entries .now) (v .writes .now) (v .reads .now) (v .long) (sym (c .before .before .before .memory-number .ensures ∙ ap (λ (t : Bool). memoryNumber t false false maxNets (v .m) (v .nets .now) (v .trits .now)) (c .before .before .before .before .either .ensures ∙ ap (λ (t : Bool). t || v .long) (c .before .before .before .before .before .plan-too-large .ensures))) ∙ c .before .before .if1 .left) _ (c .before .entries-refusal .ensures) (c .if2 .taken)
+
+soft-mask-refusal-requires : tie.Need-soft-mask-refusal-requires
+soft-mask-refusal-requires c κs = search needs
+
+returns-3 : tie.Need-returns-3
+returns-3 c =
+    let v = c .before .before .before .before .before .before .before .before .before .before .before .before .args in
+    by-eight (v .m) (v .nets .now) (v .trits .now) (v .s) (v .entries .now) (v .writes .now) (v .reads .now) (v .long) (sym (c .before .before .before .before .memory-number .ensures ∙ ap (λ (t : Bool). memoryNumber t false false maxNets (v .m) (v .nets .now) (v .trits .now)) (c .before .before .before .before .before .either .ensures ∙ ap (λ (t : Bool). t || v .long) (c .before .before .before .before .before .before .plan-too-large .ensures))) ∙ c .before .before .before .if1 .left) _ (c .before .before .entries-refusal .ensures) (c .before .if2 .left) _ (c .soft-mask-refusal .ensures)
+
+pub planned-number-spec : {M : Type 1} → statement M
+planned-number-spec =
+    tie.close
+    (tie.spec
+    plan-too-large-requires
+    either-requires
+    memory-number-requires
+    returns
+    entries-refusal-requires
+    returns-2
+    soft-mask-refusal-requires
+    returns-3)

@@ -1,0 +1,3 @@
+-- A pattern in a lent array.
+pub mod Paint
+pub mod Build

@@ -1,0 +1,166 @@
+// Lists records and prints each length, and whether the text is the one that is wanted. The lent array is painted before and compared after, also past the text.
+use libc::STDOUT_FILENO;
+use record_sizes::Sizes;
+
+fn say(text: &[u8]) {
+    io::write_all(STDOUT_FILENO, text);
+}
+
+fn say_if(test: bool, yes: &[u8], no: &[u8]) {
+    if test {
+        say(yes);
+    } else {
+        say(no);
+    }
+}
+
+fn list(name: &[u8], bytes: &[u8], out: &mut [u8], want: &[u8]) {
+    try_kit::paint::paint(out);
+    let n = record_listing::list_record(bytes, out);
+    say(name);
+    io::print_decimal(STDOUT_FILENO, n as u64);
+    say_if(try_kit::paint::starts(out, want), b" same", b" DIFFERENT");
+    say_if(try_kit::paint::painted(out, n), b" kept\n", b" CHANGED\n");
+}
+
+// An input of which only the first bytes are stored.
+fn list_long(name: &[u8], first: &[u8], total: usize, out: &mut [u8], want: &[u8]) {
+    try_kit::paint::paint(out);
+    let n = record_listing::list_input(first, total, out);
+    say(name);
+    io::print_decimal(STDOUT_FILENO, n as u64);
+    say_if(try_kit::paint::starts(out, want), b" same", b" DIFFERENT");
+    say_if(try_kit::paint::painted(out, n), b" kept\n", b" CHANGED\n");
+}
+
+fn list_cases(out: &mut [u8]) {
+    let text = b"memories 2 trits 6\n0 2 3 2 load\n1 1 2 0 blank\n";
+    list(
+        b"the first ",
+        b"\x05\x00\x02\x00\x01\x00\x02\x00\x01\x00\x01\x00\x3B\x09",
+        out,
+        text,
+    );
+    list(b"nothing ", b"", out, b"refused 16\n");
+}
+
+fn list_refused(out: &mut [u8]) {
+    list(
+        b"sizes ",
+        b"\x05\x00\x00\x00\x01\x00\x02\x00\x01\x00\x01\x00",
+        out,
+        b"refused 17\n",
+    );
+    list(
+        b"a spare bit ",
+        b"\x05\x00\x02\x00\x01\x00\x02\x00\x01\x00\x01\x00\x3B\x49",
+        out,
+        b"refused 18\n",
+    );
+}
+
+fn list_none(out: &mut [u8]) {
+    list(
+        b"no memories ",
+        b"\x05\x00\x01\x00\x00\x00\x00\x00\x00\x00\x00\x00",
+        out,
+        b"memories 0 trits 0\n",
+    );
+}
+
+fn list_short(out: &mut [u8]) {
+    list(b"into a short room ", b"", out, b"refused 1");
+}
+
+fn list_inputs(out: &mut [u8]) {
+    let first = b"\x05\x00\x00\x01\x80\x00\x08\x00\x00\x00\x00\x00";
+    list_long(b"too many trits ", first, 65548, out, b"refused 17\n");
+    list_long(b"another length ", first, 65549, out, b"refused 16\n");
+}
+
+fn small_cases() {
+    let mut room = [0u8; 80];
+    list_cases(&mut room);
+    list_refused(&mut room);
+    list_none(&mut room);
+    list_inputs(&mut room);
+}
+
+fn short_case() {
+    let mut room = [0u8; 9];
+    list_short(&mut room);
+}
+
+// ---- the largest image
+
+// One memory of the largest depth, and the most memories.
+fn deep_sizes() -> Sizes {
+    Sizes {
+        unit: 4,
+        full: 1,
+        full_depth: 32768,
+        partial: 0,
+        partial_depth: 0,
+    }
+}
+
+fn many_sizes() -> Sizes {
+    Sizes {
+        unit: 1,
+        full: 32768,
+        full_depth: 4,
+        partial: 0,
+        partial_depth: 0,
+    }
+}
+
+fn fill_trits(image: &mut [u8]) {
+    let mut i = 0;
+    while i < image.len() {
+        image[i] = (i % 3) as u8;
+        i += 1;
+    }
+}
+
+// Lists the record of an image of the largest size.
+fn list_largest(name: &[u8], s: Sizes, out: &mut [u8], want: &[u8]) {
+    let mut image = image_room();
+    let mut bytes = bytes_room();
+    fill_trits(&mut image);
+    record_codec::write_record(s, &image, &mut bytes);
+    list(name, &bytes, out, want);
+}
+
+fn image_room() -> [u8; 131072] {
+    [0u8; 131072]
+}
+
+fn bytes_room() -> [u8; 32780] {
+    [0u8; 32780]
+}
+
+fn text_room() -> [u8; 700000] {
+    [0u8; 700000]
+}
+
+fn largest_cases(out: &mut [u8]) {
+    list_largest(
+        b"the deepest ",
+        deep_sizes(),
+        out,
+        b"memories 1 trits 131072\n0 32768 87382 43691 load\n",
+    );
+    list_largest(
+        b"the most ",
+        many_sizes(),
+        out,
+        b"memories 32768 trits 131072\n0 4 3 1 load\n1 4 3 2 load\n2 4 2 1 load\n",
+    );
+}
+
+fn main() {
+    let mut text = text_room();
+    small_cases();
+    short_case();
+    largest_cases(&mut text);
+}

@@ -1,0 +1,454 @@
+// The ten requests that log one entry: 360 cases each, of five lengths, four rooms and six next free nets, with good values, with a bad net, and
+// with one value a bit longer than the other.
+use crate::tally;
+use crate::tally::Tally;
+use crate::words::both;
+use crate::words::fill;
+use crate::words::minus;
+use crate::words::net_above;
+use crate::words::paint;
+use crate::words::plus;
+use crate::words::put;
+use crate::words::put_all;
+use crate::words::put_trits;
+use crate::words::same;
+use crate::words::word;
+use log_entries::LogState;
+use log_requests::Answer;
+use net_flip_flop::Controls;
+use net_value::ControlNet;
+use net_value::Net;
+use rules::FIRST_CELL;
+use rules::MAX_MERGE;
+use rules::MAX_NETS;
+
+// A request by its kind: its values' lengths, whether its select is Neg, whether a net is bad, and the log's state and room.
+struct Case {
+    kind: u32,
+    n: usize,
+    m: usize,
+    neg: bool,
+    bad: bool,
+    used: usize,
+    room: usize,
+    next: u32,
+}
+
+const STRIDE: u32 = 3;
+
+fn length_at(k: u32) -> usize {
+    match k {
+        0 => 0,
+        1 => 1,
+        2 => 4095,
+        3 => 4096,
+        _ => 4097,
+    }
+}
+
+// The words of an entry.
+fn entry_words(kind: u32, n: usize, m: usize) -> usize {
+    match kind {
+        1 => 4,
+        2 => plus(4, n),
+        5 => plus(5, plus(n, m)),
+        7 => plus(6, plus(n, m)),
+        8 => plus(6, plus(n, m)),
+        9 => plus(plus(13, n), plus(n, plus(n, m))),
+        _ => plus(4, plus(n, m)),
+    }
+}
+
+// The nets that a request makes.
+fn results(kind: u32, n: usize) -> usize {
+    match kind {
+        6 => 1,
+        10 => 0,
+        _ => n,
+    }
+}
+
+fn room_at(k: u32, used: usize, words: usize) -> usize {
+    match k {
+        0 => plus(used, words),
+        1 => minus(plus(used, words), 1),
+        2 => plus(plus(used, words), 7),
+        _ => minus(used, 1),
+    }
+}
+
+// The next free net from which so many nets end at the limit.
+fn last_next(nets: usize) -> u32 {
+    let n = word(nets);
+    if MAX_NETS < n {
+        return 2;
+    }
+    MAX_NETS - n
+}
+
+// The third ends at the limit, and the fourth is one net short of it.
+fn next_at(k: u32, nets: usize) -> u32 {
+    let most = if word(nets) < MAX_NETS {
+        MAX_NETS - word(nets)
+    } else {
+        2
+    };
+    match k {
+        0 => 2,
+        1 => 100,
+        2 => most,
+        3 => net_above(most, 1),
+        4 => 1,
+        _ => MAX_NETS,
+    }
+}
+
+fn case_at(kind: u32, k: u32) -> Case {
+    let n = length_at(k % 5);
+    let variant = k / 120 % 3;
+    let m = if variant == 2 { plus(n, 1) } else { n };
+    let words = entry_words(kind, n, m);
+    Case {
+        kind,
+        n,
+        m,
+        neg: k % 2 == 1,
+        bad: variant == 1,
+        used: 3,
+        room: room_at(k / 5 % 4, 3, words),
+        next: next_at(k / 20 % 6, results(kind, n)),
+    }
+}
+
+// Whether a request compares its two lengths.
+fn paired(kind: u32) -> bool {
+    match kind {
+        1 => false,
+        2 => false,
+        7 => false,
+        8 => false,
+        _ => true,
+    }
+}
+
+// 1, 2 and 4 of a case.
+fn input_number(c: Case) -> u32 {
+    if c.kind == 5 {
+        if MAX_MERGE < c.m {
+            return 1;
+        }
+    }
+    if paired(c.kind) {
+        if c.n != c.m {
+            return 2;
+        }
+    }
+    if c.kind == 5 {
+        if c.neg {
+            if c.next <= FIRST_CELL {
+                return 4;
+            }
+        }
+    }
+    if c.kind == 9 {
+        if c.next <= FIRST_CELL {
+            return 4;
+        }
+    }
+    if c.kind != 1 {
+        if c.bad {
+            if 0 < c.n {
+                return 4;
+            }
+        }
+    }
+    0
+}
+
+// The number that a case expects.
+fn number(c: Case) -> u32 {
+    let first = input_number(c);
+    if first != 0 {
+        return first;
+    }
+    let words = entry_words(c.kind, c.n, c.m);
+    if c.room < plus(c.used, words) {
+        return 20;
+    }
+    if c.next < FIRST_CELL {
+        return 21;
+    }
+    if MAX_NETS < net_above(c.next, results(c.kind, c.n)) {
+        return 21;
+    }
+    0
+}
+
+// The head of an entry.
+fn put_head(want: &mut [u32], c: Case) {
+    let first = if c.kind == 10 { 0 } else { c.next };
+    let count = minus(entry_words(c.kind, c.n, c.m), 4);
+    let head = [c.kind, word(results(c.kind, c.n)), first, word(count)];
+    put_all(want, c.used, &head);
+}
+
+// Two values, from a place on.
+fn put_two(want: &mut [u32], at: usize, a: &[u32], b: &[u32]) {
+    put_all(want, at, a);
+    put_all(want, plus(at, a.len()), b);
+}
+
+fn put_mux(want: &mut [u32], c: Case, a: &[u32], b: &[u32]) {
+    let at = plus(c.used, 4);
+    if c.neg {
+        put(want, at, FIRST_CELL);
+        put_two(want, plus(at, 1), b, a);
+    } else {
+        put(want, at, 1);
+        put_two(want, plus(at, 1), a, b);
+    }
+}
+
+fn put_shift(want: &mut [u32], c: Case, a: &[u32], b: &[u32]) {
+    let at = plus(c.used, 4);
+    put(want, at, STRIDE);
+    put(want, plus(at, 1), word(b.len()));
+    put_two(want, plus(at, 2), b, a);
+}
+
+// The controls that every flip-flop here has: clock Pos 2, clear Pos 0, reset Neg 2, enable Pos 1, the reset over the enable where `neg` says.
+fn controls(over: bool) -> Controls {
+    Controls {
+        clock: ControlNet::Pos(Net(2)),
+        clear: ControlNet::Pos(Net(0)),
+        reset: ControlNet::Neg(Net(2)),
+        enable: ControlNet::Pos(Net(1)),
+        reset_over_enable: over,
+    }
+}
+
+fn put_controls(want: &mut [u32], at: usize, over: bool) {
+    let nine = [0u32, 2, 0, 0, 1, 2, 0, 1, flag(over)];
+    put_all(want, at, &nine);
+}
+
+fn flag(test: bool) -> u32 {
+    if test {
+        return 1;
+    }
+    0
+}
+
+fn put_dff(want: &mut [u32], c: Case, a: &[u32], trits: &[u8]) {
+    let at = plus(c.used, 4);
+    put_all(want, at, a);
+    put_controls(want, plus(at, c.n), c.neg);
+    put_dff_trits(want, plus(plus(at, c.n), 9), c.n, trits);
+}
+
+fn put_dff_trits(want: &mut [u32], at: usize, n: usize, trits: &[u8]) {
+    put_trits(want, at, net_logic::const_slice(trits, 0, n));
+    put_trits(
+        want,
+        plus(at, n),
+        net_logic::const_slice(trits, 1, plus(n, 1)),
+    );
+    put_trits(
+        want,
+        plus(at, plus(n, n)),
+        net_logic::const_slice(trits, 2, plus(n, 2)),
+    );
+}
+
+// The entry of an accepted case.
+fn put_entry(want: &mut [u32], c: Case, a: &[u32], b: &[u32], trits: &[u8]) {
+    put_head(want, c);
+    let kind = c.kind;
+    match kind {
+        1 => {}
+        2 => put_all(want, plus(c.used, 4), a),
+        5 => put_mux(want, c, a, b),
+        7 => put_shift(want, c, a, b),
+        8 => put_shift(want, c, a, b),
+        9 => put_dff(want, c, a, trits),
+        _ => put_two(want, plus(c.used, 4), a, b),
+    }
+}
+
+fn select_of(neg: bool) -> ControlNet {
+    if neg {
+        return ControlNet::Neg(Net(2));
+    }
+    ControlNet::Pos(Net(1))
+}
+
+fn call_dff(log: &mut [u32], st: LogState, c: Case, a: &[u32], trits: &[u8]) -> Answer {
+    log_requests::add_dff(
+        log,
+        st,
+        controls(c.neg),
+        a,
+        net_logic::const_slice(trits, 0, c.n),
+        net_logic::const_slice(trits, 1, plus(c.n, 1)),
+        net_logic::const_slice(trits, 2, plus(c.m, 2)),
+    )
+}
+
+fn call_late(log: &mut [u32], st: LogState, c: Case, a: &[u32], b: &[u32]) -> Answer {
+    if c.kind == 6 {
+        return log_requests::add_eq(log, st, a, b);
+    }
+    if c.kind == 7 {
+        return log_requests::add_shl(log, st, STRIDE, b, a);
+    }
+    if c.kind == 8 {
+        return log_requests::add_ushr(log, st, STRIDE, b, a);
+    }
+    log_requests::replace_value(log, st, a, b)
+}
+
+fn call(log: &mut [u32], st: LogState, c: Case, a: &[u32], b: &[u32]) -> Answer {
+    if c.kind == 1 {
+        return log_requests::add_void(log, st, word(c.n));
+    }
+    if c.kind == 2 {
+        return log_requests::add_not(log, st, a);
+    }
+    if c.kind == 3 {
+        return log_requests::add_and(log, st, a, b);
+    }
+    if c.kind == 4 {
+        return log_requests::add_or(log, st, a, b);
+    }
+    if c.kind == 5 {
+        return log_requests::add_mux(log, st, select_of(c.neg), a, b);
+    }
+    call_late(log, st, c, a, b)
+}
+
+// The call, in the room that the case lends.
+fn call_in(log: &mut [u32], c: Case, a: &[u32], b: &[u32], trits: &[u8]) -> Answer {
+    let room = c.room;
+    if log.len() < room {
+        return Answer::Refused(99);
+    }
+    let st = LogState {
+        used: c.used,
+        next: c.next,
+    };
+    if c.kind == 9 {
+        return call_dff(&mut log[..room], st, c, a, trits);
+    }
+    call(&mut log[..room], st, c, a, b)
+}
+
+// Whether an answer is the one expected.
+fn answered(c: Case, n: u32, r: Answer) -> bool {
+    match r {
+        Answer::Refused(k) => {
+            if n == 0 {
+                return false;
+            }
+            k == n
+        }
+        Answer::Done(s) => {
+            if n != 0 {
+                return false;
+            }
+            if s.used != plus(c.used, entry_words(c.kind, c.n, c.m)) {
+                return false;
+            }
+            s.next == net_above(c.next, results(c.kind, c.n))
+        }
+    }
+}
+
+// The lowest net that is not good.
+fn bad_net(next: u32) -> u32 {
+    if next < FIRST_CELL {
+        return FIRST_CELL;
+    }
+    next
+}
+
+// The last of n nets is bad.
+fn spoil(a: &mut [u32], n: usize, next: u32) {
+    if 0 < n {
+        put(a, minus(n, 1), bad_net(next));
+    }
+}
+
+// Nets for a case.
+fn set_nets(c: Case, a: &mut [u32], b: &mut [u32]) {
+    fill(b, c.next, 2);
+    fill(a, c.next, 0);
+    if c.bad {
+        spoil(a, c.n, c.next);
+    }
+}
+
+// The log expected.
+fn want_entry(want: &mut [u32], n: u32, c: Case, a: &[u32], b: &[u32], trits: &[u8]) {
+    paint(want);
+    if n == 0 {
+        put_entry(want, c, a, b, trits);
+    }
+}
+
+// A case: every word of the log is compared.
+fn try_case(
+    t: Tally,
+    c: Case,
+    log: &mut [u32],
+    want: &mut [u32],
+    a: &[u32],
+    b: &[u32],
+    trits: &[u8],
+) -> Tally {
+    let n = number(c);
+    want_entry(want, n, c, a, b, trits);
+    paint(log);
+    let r = call_in(log, c, a, b, trits);
+    let ok = answered(c, n, r);
+    let kept = same(log, want);
+    tally::add(t, n, both(ok, kept))
+}
+
+fn set_and_try(
+    t: Tally,
+    c: Case,
+    log: &mut [u32],
+    want: &mut [u32],
+    a: &mut [u32],
+    b: &mut [u32],
+    trits: &[u8],
+) -> Tally {
+    set_nets(c, a, b);
+    try_case(
+        t,
+        c,
+        log,
+        want,
+        net_value::value_slice(a, 0, c.n),
+        net_value::value_slice(b, 0, c.m),
+        trits,
+    )
+}
+
+// All the cases of one kind.
+pub(crate) fn cases(
+    kind: u32,
+    log: &mut [u32],
+    want: &mut [u32],
+    a: &mut [u32],
+    b: &mut [u32],
+    trits: &[u8],
+) -> Tally {
+    let mut t = tally::start();
+    let mut k: u32 = 0;
+    while k < 360 {
+        t = set_and_try(t, case_at(kind, k), log, want, a, b, trits);
+        k += 1;
+    }
+    t
+}

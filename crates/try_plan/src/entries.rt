@@ -1,0 +1,47 @@
+// make_data_swizzle: a painted room, of which the first words are lent.
+use crate::room;
+use crate::tally::Tally;
+use crate::tally::add;
+use net_memory::Memory;
+use swizzle_entries::DataSwizzle;
+
+const ROOM: usize = 300;
+
+// A number that refuses, or 0 and how many entries there are.
+fn answer_is(r: DataSwizzle, number: u32, count: usize) -> bool {
+    match r {
+        DataSwizzle::Refused(n) => { if number == 0 { false } else { n == number } }
+        DataSwizzle::Entries(k) => { if number == 0 { k == count } else { false } }
+    }
+}
+
+// The call with a part of a room.
+fn call(
+    m: Memory,
+    nets: &[u32],
+    trits: &[u8],
+    sizes: &[u32],
+    out: &mut [u32],
+    lent: usize,
+) -> DataSwizzle {
+    let n = room::at_most(lent, out.len());
+    swizzle_entries::make_data_swizzle(m, nets, trits, sizes, &mut out[0..n])
+}
+
+// A call's number and the entries that the room holds after it.
+pub(crate) fn made(
+    t: Tally,
+    m: Memory,
+    nets: &[u32],
+    trits: &[u8],
+    sizes: &[u32],
+    lent: usize,
+    number: u32,
+    want: &[u32],
+) -> Tally {
+    let mut out = [0u32; ROOM];
+    room::paint_words(&mut out);
+    let r = call(m, nets, trits, sizes, &mut out, lent);
+    let t = add(t, answer_is(r, number, want.len()));
+    add(t, room::words_are(&out, want))
+}

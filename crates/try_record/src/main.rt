@@ -1,0 +1,424 @@
+// Runs the calls on records over cases and prints each answer. Every lent array is painted before and compared after, also past the part that is used.
+use libc::STDOUT_FILENO;
+use record_codec::Head;
+use record_codec::Written;
+use record_listing::summary::Summarized;
+use record_listing::summary::Summary;
+use record_sizes::Sizes;
+
+// ---- answers
+
+fn say(text: &[u8]) {
+    io::write_all(STDOUT_FILENO, text);
+}
+
+fn say_if(test: bool, yes: &[u8], no: &[u8]) {
+    if test {
+        say(yes);
+    } else {
+        say(no);
+    }
+}
+
+fn refused(n: u32, kept: bool) {
+    say(b" refused ");
+    io::print_decimal(STDOUT_FILENO, n as u64);
+    say_if(kept, b" kept\n", b" CHANGED\n");
+}
+
+fn done(n: usize, same: bool, kept: bool) {
+    say(b" gives ");
+    io::print_decimal(STDOUT_FILENO, n as u64);
+    say_if(same, b" same", b" DIFFERENT");
+    say_if(kept, b" kept\n", b" CHANGED\n");
+}
+
+fn same_sizes(a: Sizes, b: Sizes) -> bool {
+    if a.unit != b.unit {
+        return false;
+    }
+    if a.full != b.full {
+        return false;
+    }
+    if a.full_depth != b.full_depth {
+        return false;
+    }
+    if a.partial != b.partial {
+        return false;
+    }
+    a.partial_depth == b.partial_depth
+}
+
+// ---- the calls
+
+fn write(name: &[u8], s: Sizes, image: &[u8], out: &mut [u8], want: &[u8]) {
+    say(name);
+    try_kit::paint::paint(out);
+    match record_codec::write_record(s, image, out) {
+        Written::Refused(n) => refused(n, try_kit::paint::painted(out, 0)),
+        Written::Bytes(n) => done(
+            n,
+            try_kit::paint::starts(out, want),
+            try_kit::paint::painted(out, n),
+        ),
+    }
+}
+
+fn read(name: &[u8], bytes: &[u8], image: &mut [u8], s: Sizes, want: &[u8]) {
+    say(name);
+    try_kit::paint::paint(image);
+    match record_codec::read_record(bytes, image) {
+        Head::Refused(n) => refused(n, try_kit::paint::painted(image, 0)),
+        Head::Accepted(z) => read_done(same_sizes(z, s), image, want),
+    }
+}
+
+fn read_done(same: bool, image: &[u8], want: &[u8]) {
+    if same {
+        done(
+            want.len(),
+            try_kit::paint::starts(image, want),
+            try_kit::paint::painted(image, want.len()),
+        );
+    } else {
+        say(b" OTHER SIZES\n");
+    }
+}
+
+fn head(name: &[u8], first: &[u8], total: usize, s: Sizes) {
+    say(name);
+    match record_codec::record_header(first, total) {
+        Head::Refused(n) => refused(n, true),
+        Head::Accepted(z) => done(total, same_sizes(z, s), true),
+    }
+}
+
+fn summarize(name: &[u8], s: Sizes, image: &[u8], index: usize) {
+    say(name);
+    match record_listing::summary::memory_summary(s, image, index) {
+        Summarized::Refused(n) => refused(n, true),
+        Summarized::Memory(y) => show(y),
+    }
+}
+
+fn show_number(n: usize) {
+    say(b" ");
+    io::print_decimal(STDOUT_FILENO, n as u64);
+}
+
+fn show(y: Summary) {
+    show_number(y.index);
+    show_number(y.depth);
+    show_number(y.known);
+    show_number(y.ones);
+    say(b"\n");
+}
+
+// ---- small cases: document 01's record, and records that break one rule
+
+fn first_sizes() -> Sizes {
+    Sizes {
+        unit: 2,
+        full: 1,
+        full_depth: 2,
+        partial: 1,
+        partial_depth: 1,
+    }
+}
+
+// A full depth that is no power of two.
+fn bad_sizes() -> Sizes {
+    Sizes {
+        unit: 2,
+        full: 1,
+        full_depth: 3,
+        partial: 1,
+        partial_depth: 1,
+    }
+}
+
+fn no_sizes() -> Sizes {
+    Sizes {
+        unit: 1,
+        full: 0,
+        full_depth: 0,
+        partial: 0,
+        partial_depth: 0,
+    }
+}
+
+fn huge_sizes() -> Sizes {
+    Sizes {
+        unit: 4294967295,
+        full: 4294967295,
+        full_depth: 4294967295,
+        partial: 4294967295,
+        partial_depth: 4294967295,
+    }
+}
+
+fn write_cases(out: &mut [u8]) {
+    let image = b"\x01\x00\x02\x01\x00\x00\x01\x00\x07";
+    let record = b"\x05\x00\x02\x00\x01\x00\x02\x00\x01\x00\x01\x00\x3B\x09";
+    write(b"write the first", first_sizes(), image, out, record);
+    write(b"write sizes", bad_sizes(), image, out, record);
+}
+
+fn write_bad(out: &mut [u8]) {
+    let bad = b"\x01\x00\x02\x01\x03\x00\x01\x00";
+    write(b"write a bad trit", first_sizes(), bad, out, bad);
+    write(b"write a bad trit, sizes", bad_sizes(), bad, out, bad);
+}
+
+fn write_more(out: &mut [u8]) {
+    let image = b"\x01\x00\x02\x01\x00";
+    write(b"write huge sizes", huge_sizes(), image, out, image);
+    write(b"write a short image", first_sizes(), image, out, image);
+}
+
+fn write_none(out: &mut [u8]) {
+    write(
+        b"write no memories",
+        no_sizes(),
+        b"\x09",
+        out,
+        b"\x05\x00\x01\x00\x00\x00\x00\x00\x00\x00\x00\x00",
+    );
+}
+
+fn write_short(out: &mut [u8]) {
+    let image = b"\x01\x00\x02\x01\x00\x00";
+    write(b"write a short room", first_sizes(), image, out, image);
+}
+
+fn read_first(name: &[u8], bytes: &[u8], image: &mut [u8]) {
+    read(
+        name,
+        bytes,
+        image,
+        first_sizes(),
+        b"\x01\x00\x02\x01\x00\x00",
+    );
+}
+
+fn read_cases(image: &mut [u8]) {
+    read_first(
+        b"read the first",
+        b"\x05\x00\x02\x00\x01\x00\x02\x00\x01\x00\x01\x00\x3B\x09",
+        image,
+    );
+    read_first(b"read nothing", b"", image);
+}
+
+fn read_lengths(image: &mut [u8]) {
+    read_first(
+        b"read a short one",
+        b"\x05\x00\x02\x00\x01\x00\x02\x00\x01\x00\x01\x00\x3B",
+        image,
+    );
+    read_first(
+        b"read a long one",
+        b"\x05\x00\x02\x00\x01\x00\x02\x00\x01\x00\x01\x00\x3B\x09\x00",
+        image,
+    );
+}
+
+fn read_words(image: &mut [u8]) {
+    read_first(
+        b"read another first word",
+        b"\x04\x00\x02\x00\x01\x00\x02\x00\x01\x00\x01\x00\x3B\x09",
+        image,
+    );
+    read_first(
+        b"read sizes",
+        b"\x05\x00\x00\x00\x01\x00\x02\x00\x01\x00\x01\x00",
+        image,
+    );
+}
+
+fn read_bits(image: &mut [u8]) {
+    read_first(
+        b"read a value bit alone",
+        b"\x05\x00\x02\x00\x01\x00\x02\x00\x01\x00\x01\x00\x3A\x09",
+        image,
+    );
+    read_first(
+        b"read a spare known bit",
+        b"\x05\x00\x02\x00\x01\x00\x02\x00\x01\x00\x01\x00\x7B\x09",
+        image,
+    );
+}
+
+fn read_spare(image: &mut [u8]) {
+    read_first(
+        b"read a spare value bit",
+        b"\x05\x00\x02\x00\x01\x00\x02\x00\x01\x00\x01\x00\x3B\x49",
+        image,
+    );
+    read_first(
+        b"read two spare bits",
+        b"\x05\x00\x02\x00\x01\x00\x02\x00\x01\x00\x01\x00\xBB\x89",
+        image,
+    );
+}
+
+fn read_none(image: &mut [u8]) {
+    read(
+        b"read no memories",
+        b"\x05\x00\x01\x00\x00\x00\x00\x00\x00\x00\x00\x00",
+        image,
+        no_sizes(),
+        b"",
+    );
+}
+
+fn read_short(image: &mut [u8]) {
+    read_first(
+        b"read into a short room",
+        b"\x05\x00\x02\x00\x01\x00\x02\x00\x01\x00\x01\x00\x3B\x09",
+        image,
+    );
+    read_first(
+        b"read a value bit alone, room",
+        b"\x05\x00\x02\x00\x01\x00\x02\x00\x01\x00\x01\x00\x3A\x09",
+        image,
+    );
+}
+
+fn head_cases() {
+    let first = b"\x05\x00\x02\x00\x01\x00\x02\x00\x01\x00\x01\x00";
+    head(b"head of the first", first, 14, first_sizes());
+    head(b"head of another length", first, 15, first_sizes());
+}
+
+fn head_more() {
+    let largest = b"\x05\x00\xFF\xFF\xFF\xFF\xFF\xFF\xFF\xFF\xFF\xFF";
+    head(
+        b"head of the largest words",
+        largest,
+        140731046002700,
+        no_sizes(),
+    );
+    head(
+        b"head of the largest words, length",
+        largest,
+        2700,
+        no_sizes(),
+    );
+    head(
+        b"head of eleven bytes",
+        b"\x05\x00\x02\x00\x01\x00\x02\x00\x01\x00\x01",
+        14,
+        first_sizes(),
+    );
+}
+
+fn summary_cases() {
+    let image = b"\x01\x00\x02\x01\x00\x00\x09";
+    summarize(b"memory 0", first_sizes(), image, 0);
+    summarize(b"memory 1", first_sizes(), image, 1);
+    summarize(b"memory 2", first_sizes(), image, 2);
+}
+
+fn summary_more() {
+    summarize(b"memory 2, trit", first_sizes(), b"\x03", 2);
+    summarize(b"memory 0, room", first_sizes(), b"\x01\x00", 0);
+}
+
+fn summary_sizes() {
+    summarize(b"memory 2, sizes", bad_sizes(), b"", 2);
+    summarize(b"memory 0, sizes", bad_sizes(), b"", 0);
+}
+
+// ---- rooms for the small cases
+
+fn writes(room: &mut [u8]) {
+    write_cases(room);
+    write_bad(room);
+    write_more(room);
+    write_none(room);
+}
+
+fn reads(room: &mut [u8]) {
+    read_cases(room);
+    read_lengths(room);
+    read_words(room);
+    read_bits(room);
+    read_spare(room);
+    read_none(room);
+}
+
+fn short_rooms() {
+    let mut room = [0u8; 13];
+    let mut trits = [0u8; 5];
+    write_short(&mut room);
+    read_short(&mut trits);
+}
+
+// ---- the largest image
+
+// One memory of the largest depth.
+fn deep_sizes() -> Sizes {
+    Sizes {
+        unit: 4,
+        full: 1,
+        full_depth: 32768,
+        partial: 0,
+        partial_depth: 0,
+    }
+}
+
+fn fill_trits(image: &mut [u8]) {
+    let mut i = 0;
+    while i < image.len() {
+        image[i] = (i % 3) as u8;
+        i += 1;
+    }
+}
+
+fn front(bytes: &[u8], n: usize) -> &[u8] {
+    if bytes.len() < n {
+        return bytes;
+    }
+    &bytes[..n]
+}
+
+fn largest(s: Sizes, image: &mut [u8], bytes: &mut [u8], back: &mut [u8]) {
+    fill_trits(image);
+    write(b"write the largest", s, image, bytes, b"\x05\x00");
+    read(
+        b"read the largest",
+        front(bytes, 32780),
+        back,
+        s,
+        front(image, 131072),
+    );
+}
+
+fn image_room() -> [u8; 131080] {
+    [0u8; 131080]
+}
+
+fn bytes_room() -> [u8; 32790] {
+    [0u8; 32790]
+}
+
+fn largest_case() {
+    let mut image = image_room();
+    let mut back = image_room();
+    let mut bytes = bytes_room();
+    largest(deep_sizes(), &mut image, &mut bytes, &mut back);
+}
+
+fn main() {
+    let mut room = [0u8; 40];
+    writes(&mut room);
+    reads(&mut room);
+    short_rooms();
+    head_cases();
+    head_more();
+    summary_cases();
+    summary_more();
+    summary_sizes();
+    largest_case();
+}

@@ -1,2 +1,0 @@
--- The machine's answers in terms of the rules.
-pub mod View
