@@ -26,11 +26,11 @@ cast-out c = omega arith
 loop-holds : tie.Need-loop-holds Inv-loop μ-loop
 loop-holds c = (omega arith, refl)
 
-mul-wide : tie.Need-mul-wide Inv-loop μ-loop
-mul-wide c = omega arith
+mul-usize-of-u32 : tie.Need-mul-usize-of-u32 Inv-loop μ-loop
+mul-usize-of-u32 c = omega arith
 
-shared-slice-read-wide : tie.Need-shared-slice-read-wide Inv-loop μ-loop
-shared-slice-read-wide c = omega arith
+shared-slice-read-usize-of-u32 : tie.Need-shared-slice-read-usize-of-u32 Inv-loop μ-loop
+shared-slice-read-usize-of-u32 c = omega arith
 
 usize-of-u32-requires : tie.Need-usize-of-u32-requires Inv-loop μ-loop
 usize-of-u32-requires c κs = search needs
@@ -85,8 +85,8 @@ pick-ports-spec =
     μ-loop
     cast-out
     loop-holds
-    mul-wide
-    shared-slice-read-wide
+    mul-usize-of-u32
+    shared-slice-read-usize-of-u32
     usize-of-u32-requires
     mul-p
     element-copy-out-p

@@ -26,11 +26,11 @@ abbrev μ-loop : tie.MeasureT-loop
 loop-holds : tie.Need-loop-holds Inv-loop μ-loop
 loop-holds c = (omega arith, λ n t. refl, λ n t. refl, omega arith)
 
-mul-wide : tie.Need-mul-wide Inv-loop μ-loop
-mul-wide c = omega arith
+mul-usize-of-u32 : tie.Need-mul-usize-of-u32 Inv-loop μ-loop
+mul-usize-of-u32 c = omega arith
 
-shared-slice-read-wide : tie.Need-shared-slice-read-wide Inv-loop μ-loop
-shared-slice-read-wide c = omega arith
+shared-slice-read-usize-of-u32 : tie.Need-shared-slice-read-usize-of-u32 Inv-loop μ-loop
+shared-slice-read-usize-of-u32 c = omega arith
 
 usize-of-u32-requires : tie.Need-usize-of-u32-requires Inv-loop μ-loop
 usize-of-u32-requires c κs = search needs
@@ -83,8 +83,8 @@ put-outputs-spec =
     Inv-loop
     μ-loop
     loop-holds
-    mul-wide
-    shared-slice-read-wide
+    mul-usize-of-u32
+    shared-slice-read-usize-of-u32
     usize-of-u32-requires
     output-part-requires
     copy-u32-requires

@@ -25,11 +25,11 @@ ports-used-requires c κs = search needs
 loop-holds : tie.Need-loop-holds Inv-loop μ-loop
 loop-holds c = (omega arith, refl)
 
-mul-wide : tie.Need-mul-wide Inv-loop μ-loop
-mul-wide c = omega arith
+mul-usize-of-u32 : tie.Need-mul-usize-of-u32 Inv-loop μ-loop
+mul-usize-of-u32 c = omega arith
 
-shared-slice-read-wide : tie.Need-shared-slice-read-wide Inv-loop μ-loop
-shared-slice-read-wide c = omega arith
+shared-slice-read-usize-of-u32 : tie.Need-shared-slice-read-usize-of-u32 Inv-loop μ-loop
+shared-slice-read-usize-of-u32 c = omega arith
 
 usize-of-u32-requires : tie.Need-usize-of-u32-requires Inv-loop μ-loop
 usize-of-u32-requires c κs = search needs
@@ -71,8 +71,8 @@ port-missing-spec =
     μ-loop
     ports-used-requires
     loop-holds
-    mul-wide
-    shared-slice-read-wide
+    mul-usize-of-u32
+    shared-slice-read-usize-of-u32
     usize-of-u32-requires
     returns
     add-i

@@ -27,11 +27,11 @@ smaller-requires c κs = search needs
 loop-holds : tie.Need-loop-holds Inv-loop μ-loop
 loop-holds c = (omega arith, λ nets trits es ws rs. refl)
 
-mul-wide : tie.Need-mul-wide Inv-loop μ-loop
-mul-wide c = omega arith
+mul-usize-of-u32 : tie.Need-mul-usize-of-u32 Inv-loop μ-loop
+mul-usize-of-u32 c = omega arith
 
-shared-slice-read-wide : tie.Need-shared-slice-read-wide Inv-loop μ-loop
-shared-slice-read-wide c = omega arith
+shared-slice-read-usize-of-u32 : tie.Need-shared-slice-read-usize-of-u32 Inv-loop μ-loop
+shared-slice-read-usize-of-u32 c = omega arith
 
 usize-of-u32-requires : tie.Need-usize-of-u32-requires Inv-loop μ-loop
 usize-of-u32-requires c κs = search needs
@@ -42,11 +42,11 @@ read-data-len-requires c κs = search needs
 wide-log-requires : tie.Need-wide-log-requires Inv-loop μ-loop
 wide-log-requires c κs = search needs
 
-mul-wide-bad : tie.Need-mul-wide-bad Inv-loop μ-loop
-mul-wide-bad c = omega arith
+mul-usize-of-u32-bad : tie.Need-mul-usize-of-u32-bad Inv-loop μ-loop
+mul-usize-of-u32-bad c = omega arith
 
-shared-slice-read-wide-bad : tie.Need-shared-slice-read-wide-bad Inv-loop μ-loop
-shared-slice-read-wide-bad c = omega arith
+shared-slice-read-usize-of-u32-bad : tie.Need-shared-slice-read-usize-of-u32-bad Inv-loop μ-loop
+shared-slice-read-usize-of-u32-bad c = omega arith
 
 wide-bad-requires : tie.Need-wide-bad-requires Inv-loop μ-loop
 wide-bad-requires c κs = search needs
@@ -92,13 +92,13 @@ listed-bad-spec =
     μ-loop
     smaller-requires
     loop-holds
-    mul-wide
-    shared-slice-read-wide
+    mul-usize-of-u32
+    shared-slice-read-usize-of-u32
     usize-of-u32-requires
     read-data-len-requires
     wide-log-requires
-    mul-wide-bad
-    shared-slice-read-wide-bad
+    mul-usize-of-u32-bad
+    shared-slice-read-usize-of-u32-bad
     wide-bad-requires
     returns
     add-i
