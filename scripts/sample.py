@@ -1,34 +1,44 @@
 #!/usr/bin/env python3
-"""sample.py FILE: writes crates/trial/proofs/ from the oracle's sample (`oracle sample`): one file a call, with its cases and one proved sentence.
+"""sample.py [FILE]: writes the sentences that antt proves by computing.
 
-A line of FILE is a case's words in decimal, ` = `, and the words of the Rust's answer. The sentence says that the rules give the same answers;
-it is proved by computing, so the file names every definition that is unfolded on the way.
+crates/rules_trial/proofs/: one file a call, with cases and one sentence: the rules give the Rust's own answers. With FILE the cases are those of the
+oracle's sample (`oracle sample`): a line is a case's words in decimal, ` = `, and the words of the Rust's answer. Without it the committed cases stay.
+crates/rules/proofs/Starred.antt: the starred examples hold.
+A sentence names every definition that is unfolded on the way: this script finds them.
 """
 import glob
 import os
 import re
 import sys
 
-SPECS = sorted(glob.glob('crates/lists/specs/*.antt') + glob.glob('crates/rules/specs/*.antt') + glob.glob('crates/trial/specs/*.antt'))
-PROOFS = 'crates/trial/proofs'
+SPECS = sorted(p for c in ('lists', 'rules', 'rules_trial') for p in glob.glob(f'crates/{c}/specs/**/*.antt', recursive=True))
+PROOFS = 'crates/rules_trial/proofs'
+STARRED = 'crates/rules/proofs/Starred.antt'
+
+
+def module_of(path, own):
+    """A spec file's module, as the crate `own` names it."""
+    parts = path[:-5].split('/')
+    crate, names = parts[1], '.'.join(parts[3:])
+    return f'Rattle.{crate}.specs.{names}' if crate == own else f'Rattle.{crate}.specs.{names}'
 
 
 def definitions():
-    """Each unfoldable definition: its module, and the words of its body."""
+    """Each definition: its file, its kind, and the words of its body. A name that stands for two things is an error, but for the two `do`s."""
     found = {}
     for path in SPECS:
-        crate, name = path.split('/')[1], os.path.basename(path)[:-5]
-        module = f'Rattle.{crate}.specs.{name}' if crate != 'trial' else f'Rattle.trial.specs.{name}'
         text = re.sub(r'--[^\n]*', '', open(path, encoding='utf-8').read())
         parts = re.split(r'^\s*(abbrev|unfoldable) pub (\S+) :', text, flags=re.M)
         for kind, what, body in zip(parts[1::3], parts[2::3], parts[3::3]):
             words = set(re.findall(r"[^\s(){}\[\],;.|]+", body))
-            found.setdefault(what, (module, kind, words))
+            if what in found and what != '_>>=_':
+                sys.exit(f'sample: {what} stands in {found[what][0]} and in {path}')
+            found.setdefault(what, (path, kind, words))
     return found
 
 
 def reached(start, table):
-    """The names that a definition reaches, in the order of the spec files."""
+    """The unfoldable names that a definition reaches, in the order of the spec files."""
     seen, todo = set(), [start]
     operators = {n.strip('_'): n for n in table if n.startswith('_') or n.endswith('_')}
     while todo:
@@ -40,51 +50,84 @@ def reached(start, table):
             for other in (word, operators.get(word), operators.get('>>=') if word == 'do' else None):
                 if other in table and other not in seen:
                     todo.append(other)
-    return [n for n in table if n in seen]
+    return [n for n in table if n in seen and table[n][1] == 'unfoldable']
+
+
+def uses(names, table, own):
+    """The `use` lines of some names."""
+    groups = {}
+    for name in names:
+        groups.setdefault(module_of(table[name][0], own), []).append(name)
+    return groups
 
 
 def numerals(words):
     return ' ∷ '.join(words + ['[]'])
 
 
-def module_text(op, cases, table):
-    names = [n for n in reached(f'op{op}', table) if table[n][1] == 'unfoldable'] + ['agrees', 'agree']
-    names = list(dict.fromkeys(names))
-    binds = 'Rattle.trial.specs.Read._>>=_'
-    uses = {}
-    for name in names:
-        uses.setdefault(table[name][0], []).append(name)
-    wire = 'Rattle.trial.specs.Wire'
-    uses.setdefault(wire, []).extend(['Case', 'case'])
+def trial_text(op, cases, table):
+    names = list(dict.fromkeys(reached(f'op{op}', table) + ['agrees', 'agree']))
+    groups = uses(names, table, 'rules_trial')
+    groups.setdefault('Rattle.rules_trial.specs.Wire', []).extend(['Case', 'case'])
     lines = [f'-- Calls {op} of the call format, which the rules answer as the Rust does. Made by scripts/sample.py.']
     lines += ['use Prim.Native.Nat.{ℕ}', 'use mathlib.Core.Path.{_≡_, refl}', 'use mathlib.Core.Bool.{true}', 'use mathlib.Core.List.{List, [], _∷_}']
-    lines += [f'use {module}.{{{", ".join(group)}}}' for module, group in uses.items()]
+    lines += [f'use {module}.{{{", ".join(group)}}}' for module, group in groups.items()]
     lines += ['', 'abbrev pub cases : List Case', 'cases =']
     for given, answer in cases:
         lines.append(f'    case ({numerals(given)}) ({numerals(answer)})')
         lines.append('    ∷')
     lines.append('    []')
+    binds = 'Rattle.rules_trial.specs.Read._>>=_'
     lines += ['', f'pub agreed : agree op{op} cases ≡ true', 'unfolding ' + ' '.join(names + [binds]), 'agreed = refl', '']
     return '\n'.join(lines)
 
 
-def main():
+def starred_text(table):
+    table = {n: d for n, d in table.items() if '/rules_trial/' not in d[0]}
+    names = list(dict.fromkeys(reached('holds', table) + ['allHold', 'starred']))
+    lines = ['-- The starred examples hold, all of them: one sentence, which antt computes. Made by scripts/sample.py.']
+    lines += ['use mathlib.Core.Path.{_≡_, refl}', 'use mathlib.Core.Bool.{true}']
+    lines += [f'use {module}.{{{", ".join(group)}}}' for module, group in uses(names, table, 'rules').items()]
+    lines += ['', 'pub starred-hold : allHold starred ≡ true', 'unfolding ' + ' '.join(names), 'starred-hold = refl', '']
+    return '\n'.join(lines)
+
+
+def sampled(path):
+    """The cases of the oracle's sample, by call."""
     by_op = {}
-    for line in open(sys.argv[1], encoding='utf-8'):
+    for line in open(path, encoding='utf-8'):
         line = line.split('#')[0].strip()
-        if not line:
-            continue
-        given, answer = (side.split() for side in line.split('='))
-        by_op.setdefault(int(given[0]), []).append((given, answer))
+        if line:
+            given, answer = (side.split() for side in line.split('='))
+            by_op.setdefault(int(given[0]), []).append((given, answer))
+    return by_op
+
+
+def committed():
+    """The cases that stand in the proofs, by call."""
+    by_op = {}
+    for path in glob.glob(f'{PROOFS}/Op*.antt'):
+        for given, answer in re.findall(r'case \(([^()]*)\) \(([^()]*)\)', open(path, encoding='utf-8').read()):
+            words = [re.findall(r'\d+', side) for side in (given, answer)]
+            by_op.setdefault(int(words[0][0]), []).append((words[0], words[1]))
+    return by_op
+
+
+def put(path, text):
+    with open(path, 'w', encoding='utf-8') as out:
+        out.write(text)
+
+
+def main():
+    by_op = sampled(sys.argv[1]) if len(sys.argv) > 1 else committed()
     table = definitions()
     for old in glob.glob(f'{PROOFS}/Op*.antt'):
         os.remove(old)
     for op, cases in sorted(by_op.items()):
-        with open(f'{PROOFS}/Op{op}.antt', 'w', encoding='utf-8') as out:
-            out.write(module_text(op, cases, table))
-    with open(f'{PROOFS}/Lib.antt', 'w', encoding='utf-8') as out:
-        out.write('-- A sample of calls on which the rules give the Rust\'s own answers: one sentence for each call of the format.\n')
-        out.writelines(f'pub mod Op{op}\n' for op in sorted(by_op))
+        put(f'{PROOFS}/Op{op}.antt', trial_text(op, cases, table))
+    head = "-- A sample of calls on which the rules give the Rust's own answers: one sentence for each call of the format.\n"
+    put(f'{PROOFS}/Lib.antt', head + ''.join(f'pub mod Op{op}\n' for op in sorted(by_op)))
+    put(STARRED, starred_text(table))
 
 
 main()

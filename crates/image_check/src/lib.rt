@@ -7,7 +7,7 @@ ghost use lib.ListN.{getD, replicate};
 ghost use Rattle.lists.specs.Lists.{any, upFrom};
 ghost use Rattle.rules.specs.Limits.{maxWidth};
 ghost use Rattle.rules.specs.Conditions.{badEntry, badNames, badEntries};
-ghost use Rattle.rules.specs.Shape.{entriesNumber, laidShape};
+ghost use Rattle.rules.specs.Beside.Shape.{entriesNumber, laidShape};
 ghost use Rattle.image_geometry.specs.View.{layoutBy};
 ghost use Rattle.image_check.specs.Marks.{bumped, Marked, notOnce};
 ghost use Rattle.image_check.specs.View.{checkedOf};

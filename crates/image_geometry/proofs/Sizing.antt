@@ -13,7 +13,7 @@ use Rattle.rules.specs.Limits.{addrBits, maxDepth, maxRow, maxUnit}
 use Rattle.rules.specs.Numbers.{ceilDiv, topBits, bitsFor}
 use Rattle.rules.specs.Geometry.{Layout, softBits, soft, rowLen, fullDepth, fullChunks, partDepth, allChunks, fullMems, allMems, columns, chunkMuxBits}
 use Rattle.rules.specs.Image.{trits, imageSize}
-use Rattle.rules.specs.Shape.{Small, shapeOf}
+use Rattle.rules.specs.Beside.Shape.{Small, shapeOf}
 use Rattle.rules.proofs.Places.{full-all}
 use Rattle.rules.proofs.Extents.{trits-is, first-max, second-max, third-max, columns-max}
 use Rattle.rules.proofs.Walks.{tops-zero, softs-le, pow-32}

@@ -1,7 +1,7 @@
 -- What the private functions ask and give.
 use Prim.Native.Nat.{ℕ, _+_, _-_, _*_, _≤_}
 use mathlib.Core.Bool.{Bool, true, false}
-use Rattle.rules.specs.Shape.{Small}
+use Rattle.rules.specs.Beside.Shape.{Small}
 use Rattle.rules.specs.Geometry.{Layout, fullMems, allMems, fullDepth, partDepth}
 use Rattle.image_geometry.specs.declared.Params.{Params}
 use Rattle.image_geometry.specs.declared.Mems.{Mems}

@@ -3,7 +3,7 @@ use Prim.Native.Nat.{ℕ}
 use mathlib.Core.List.{List}
 use Rattle.rules.specs.Geometry as rules
 use Rattle.rules.specs.Geometry.{Layout}
-use Rattle.rules.specs.Shape as sizes
+use Rattle.rules.specs.Beside.Shape as sizes
 use Rattle.rules.specs.Answers.{Answer, Refused, Accepted, Filled}
 use Rattle.image_geometry.specs.declared.Params.{Params}
 use Rattle.image_geometry.specs.declared.Spot.{Spot}

@@ -9,7 +9,7 @@ ghost use Rattle.rules.specs.Limits.{addrBits};
 ghost use Rattle.rules.specs.Numbers.{ceilDiv, topBits};
 ghost use Rattle.rules.specs.Geometry.{softBits, chunkMuxBits, toChunk, walk};
 ghost use Rattle.rules.specs.Conditions.{badLayoutSizes};
-ghost use Rattle.rules.specs.Shape.{shapeOf, shapeCall, depthsCall, softMaskNumber, resultNumber};
+ghost use Rattle.rules.specs.Beside.Shape.{shapeOf, shapeCall, depthsCall, softMaskNumber, resultNumber};
 ghost use Rattle.image_geometry.specs.View.{spotOf, layoutBy, shapeBy, measuredOf, filledWith};
 ghost use Rattle.image_geometry.specs.Steps.{Narrow, memsOf, Roomy, stepped};
 

@@ -16,8 +16,8 @@ use Rattle.rules.specs.Image.{Patch, Laid}
 use Rattle.rules.specs.Conditions.{badLayout}
 use Rattle.rules.specs.Refusals.{swizzleRefusal}
 use Rattle.rules.specs.Patch.{patched, calledAll, laidOut, Demand}
-use Rattle.rules.specs.Shape.{handedOn}
-use Rattle.rules.specs.Layouts.{fillRefusalOf, fillRefusal, filledBy, fillCall, fillAndPatchCall}
+use Rattle.rules.specs.Beside.Shape.{handedOn}
+use Rattle.rules.specs.Beside.Layouts.{fillRefusalOf, fillRefusal, filledBy, fillCall, fillAndPatchCall}
 use Rattle.rules.specs.Answers.{Filled}
 use Rattle.rules.proofs.Demand.{demand-3}
 use Rattle.rules.proofs.GoodLayouts.{good-accepted, handed-none, handed-some}

@@ -12,7 +12,7 @@ use Rattle.lists.proofs.Choice.{cases-le}
 use Rattle.rules.specs.Limits.{addrBits, maxDepth, maxRow, maxUnit}
 use Rattle.rules.specs.Geometry.{Layout, rowLen, fullDepth, partDepth, fullMems}
 use Rattle.rules.specs.Image.{spotOf, column, placeOf, depthAt, rowsBefore, flatAt, flat, indexOf}
-use Rattle.rules.specs.Shape.{Small, Located}
+use Rattle.rules.specs.Beside.Shape.{Small, Located}
 use Rattle.rules.proofs.Walks.{walk-le}
 use Rattle.rules.proofs.Places.{before-suc, before-low, before-high}
 use Rattle.rules.proofs.Extents.{full-max, deep-max, part-max}

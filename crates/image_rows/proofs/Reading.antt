@@ -14,7 +14,7 @@ use Rattle.lists.proofs.Choice.{if-zero, or-false}
 use Rattle.rules.specs.Geometry.{Layout}
 use Rattle.rules.specs.Image.{imageSize, Laid}
 use Rattle.rules.specs.Conditions.{notBelow, noRoom}
-use Rattle.rules.specs.Layouts.{readRow, readRowRefusalOf, readRowRefusal, rowRead, readRowCall}
+use Rattle.rules.specs.Beside.Layouts.{readRow, readRowRefusalOf, readRowRefusal, rowRead, readRowCall}
 use Rattle.rules.specs.Answers.{Filled, filled}
 use Rattle.rules.proofs.Answering.{filled-refused, filled-done}
 use Rattle.image_rows.specs.Steps.{readNumber}

@@ -7,9 +7,9 @@ use mathlib.Core.List.{List}
 use native.Mathlib.Omega.{arith}
 use Rattle.rules.specs.Geometry.{rowLen, fullMems, fullDepth, partDepth}
 use Rattle.rules.specs.Image.{imageSize}
-use Rattle.rules.specs.Shape as sizes
+use Rattle.rules.specs.Beside.Shape as sizes
 use Rattle.rules.specs.Conditions.{badLayout}
-use Rattle.rules.specs.Shape.{Small, shapeOf, handedOn, laidShape}
+use Rattle.rules.specs.Beside.Shape.{Small, shapeOf, handedOn, laidShape}
 use Rattle.rules.proofs.GoodLayouts.{badSizes, good, handed-none, handed-some, none-told, some-told}
 use Rattle.rules.proofs.Extents.{deep-max, part-max}
 use Rattle.rules.proofs.Shaping.{shape-small}

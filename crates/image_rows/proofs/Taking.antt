@@ -18,7 +18,7 @@ use Rattle.rules.specs.Limits.{None, tritX}
 use Rattle.rules.specs.Geometry.{Layout}
 use Rattle.rules.specs.Image.{put, indexOf}
 use Rattle.rules.specs.Conditions.{times, badLayout}
-use Rattle.rules.specs.Layouts.{bitOf, readRow}
+use Rattle.rules.specs.Beside.Layouts.{bitOf, readRow}
 use Rattle.rules.proofs.Named.{name-in, name-at, name-only, once}
 use Rattle.rules.proofs.GoodLayouts.{good, good-small, named}
 use Rattle.rules.proofs.ReadBack.{length-readRow, getD-readRow}

@@ -1,5 +1,5 @@
 -- The place of an entry as the rules' record.
-use Rattle.rules.specs.Shape.{Located}
+use Rattle.rules.specs.Beside.Shape.{Located}
 use Rattle.rules.specs.Answers.{Answer, Refused, Accepted}
 use Rattle.image_rows.specs.declared.Place.{Place}
 use Rattle.image_rows.specs.declared.Placed as placed

@@ -20,7 +20,7 @@ use Rattle.rules.specs.Refusals.{swizzleRefusal}
 use Rattle.rules.proofs.Accepts.{layout-good}
 use Rattle.rules.specs.Geometry.{layoutOf, rowLen}
 use Rattle.rules.specs.Conditions.{badLayoutSizes, badLayout}
-use Rattle.rules.specs.Shape.{handedOn}
+use Rattle.rules.specs.Beside.Shape.{handedOn}
 use Rattle.rules.proofs.GoodLayouts.{bad-1, handed-none, handed-some}
 use Rattle.image_geometry.specs.declared.Params.{Params}
 use Rattle.image_geometry.specs.View.{layoutBy}

@@ -9,7 +9,7 @@ use Rattle.lists.specs.Choice.{if_then_else_}
 use Rattle.rules.specs.Limits.{maxRow}
 use Rattle.rules.specs.Geometry.{Layout}
 use Rattle.rules.specs.Image as rules
-use Rattle.rules.specs.Shape.{handedOn}
+use Rattle.rules.specs.Beside.Shape.{handedOn}
 use Rattle.image_geometry.specs.declared.Params.{Params}
 use Rattle.image_geometry.specs.View.{layoutBy}
 use Rattle.image_state.specs.declared.Laid.{Laid}

@@ -11,7 +11,7 @@ use Rattle.lists.proofs.Stores.{sets-then}
 use Rattle.rules.specs.Limits.{maxWords}
 use Rattle.rules.specs.Cell.{FlipFlop}
 use Rattle.rules.specs.Log.{entry, dffOperands, addDff, LogState}
-use Rattle.rules.specs.Decode.{controlsWords}
+use Rattle.rules.specs.Beside.Decode.{controlsWords}
 use Rattle.rules.proofs.Entries.{length-operands}
 use Rattle.rules.proofs.Decode.{operands-right, length-controls}
 use Rattle.log_entries.specs.Emission.{Lent, counts, advanced, overflowed, run}

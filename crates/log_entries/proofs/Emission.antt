@@ -14,7 +14,7 @@ use Rattle.lists.proofs.Choice.{cases-le, and-true}
 use Rattle.lists.proofs.Store.{sets-append}
 use Rattle.rules.specs.Limits.{maxNets, maxWords, X}
 use Rattle.rules.specs.Log.{Entry, entry, encode, words, Trace, _>>=_, done, LogState, startNet, added, stateAfter, logAfter}
-use Rattle.rules.specs.Chain.{resultWidth, Chained, Chains}
+use Rattle.rules.specs.Beside.Chain.{resultWidth, Chained, Chains}
 use Rattle.rules.specs.Refusals.{roomRefusal, logRefusal}
 use Rattle.rules.proofs.Entries.{length-entry}
 use Rattle.rules.proofs.Traces.{next-after, start-same}

@@ -6,7 +6,7 @@ use lib.ListN.{length}
 use Rattle.rules.specs.Value.{Value}
 use Rattle.rules.specs.Cell.{FlipFlop}
 use Rattle.rules.specs.Log.{entry, encode, dffOperands, request, addVoid, addNot, addAnd, addOr, muxBy, addEq, addShl, addUshr, addDff, replaceValue}
-use Rattle.rules.specs.Chain.{resultWidth}
+use Rattle.rules.specs.Beside.Chain.{resultWidth}
 use Rattle.log_entries.specs.Emission.{Lent, emitWords, emit, run}
 
 module _ (l : Lent) where

@@ -9,7 +9,7 @@ use lib.Dec.{eqb, leb, ltb}
 use Rattle.lists.specs.Choice.{if_then_else_}
 use Rattle.rules.specs.Limits.{maxWords, X}
 use Rattle.rules.specs.Log.{Entry, encode, Trace, LogState, startNet}
-use Rattle.rules.specs.Chain.{resultWidth}
+use Rattle.rules.specs.Beside.Chain.{resultWidth}
 use Rattle.rules.specs.Refusals.{roomRefusal}
 
 -- a lent log and the state of it

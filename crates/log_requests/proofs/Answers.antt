@@ -13,7 +13,7 @@ use Rattle.rules.specs.Limits.{X}
 use Rattle.lists.specs.Lists.{upFrom}
 use Rattle.rules.specs.Value.{Value}
 use Rattle.rules.specs.Log.{Trace, request, addNot, addAnd, addOr, addEq, addShl, addUshr, replaceValue, LogState, stateAfter, logAfter}
-use Rattle.rules.specs.Chain.{Chains}
+use Rattle.rules.specs.Beside.Chain.{Chains}
 use Rattle.rules.specs.Refusals.{roomRefusal, logRefusal}
 use Rattle.rules.specs.Answers as rules
 use Rattle.rules.proofs.Counted.{Counted, counted-refusal}

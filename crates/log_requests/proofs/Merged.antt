@@ -12,7 +12,7 @@ use Rattle.lists.specs.Choice.{_orElse_, leaves}
 use Rattle.lists.proofs.Choice.{else-first, else-rest, leaves-refused, leaves-accepted}
 use Rattle.rules.specs.Value.{Value}
 use Rattle.rules.specs.Log.{Trace, LogState}
-use Rattle.rules.specs.Chain.{Chains}
+use Rattle.rules.specs.Beside.Chain.{Chains}
 use Rattle.rules.specs.Conditions.{noRoom}
 use Rattle.rules.specs.Refusals.{logRefusal, resultRefusal}
 use Rattle.rules.specs.Answers as rules

@@ -13,7 +13,7 @@ use Rattle.rules.specs.Value.{Value, Control, Pos}
 use Rattle.rules.specs.Log.{Trace, _>>=_, done, addMux, LogState, startNet}
 use Rattle.rules.specs.Merge.{same2, spread, addDedupMux, muxRuns, runs, addBitwiseMux}
 use Rattle.rules.proofs.Counted.{AtMost, most-counted, most-done, most-bind, counted-mux, start-le}
-use Rattle.rules.specs.Chain.{Chains}
+use Rattle.rules.specs.Beside.Chain.{Chains}
 use Rattle.rules.proofs.Chain.{chains-bitwise-mux}
 use Rattle.merge_mux.specs.Results.{limited}
 use Rattle.merge_mux.specs.Runs.{bitsOf, bitwiseOf}

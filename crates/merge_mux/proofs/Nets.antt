@@ -6,7 +6,7 @@ use mathlib.Core.List.{List}
 use Rattle.lists.specs.Lists.{upFrom}
 use Rattle.rules.specs.Value.{Value}
 use Rattle.rules.specs.Log.{Entry, Trace, request}
-use Rattle.rules.specs.Chain.{Chains}
+use Rattle.rules.specs.Beside.Chain.{Chains}
 use Rattle.rules.specs.Merge.{spread}
 use Rattle.log_entries.specs.Emission.{Lent, isOver, run}
 use Rattle.log_entries.proofs.Emission.{run-next}

@@ -6,7 +6,7 @@ use lib.ListN.{getD}
 use Rattle.rules.specs.Value.{Control, Pos, Neg, controlWords}
 use Rattle.rules.specs.Cell.{Controls}
 use Rattle.rules.specs.Log.{flag}
-use Rattle.rules.specs.Decode.{controlsWords}
+use Rattle.rules.specs.Beside.Decode.{controlsWords}
 
 -- the two words of a control, one by one
 two-words : (c : Control) (l : List ℕ) → getD (controlWords c) 0 0 ∷ getD (controlWords c) 1 0 ∷ l ≡ controlWords c ++ l

@@ -4,7 +4,7 @@ ghost use Rattle.rules.specs.Value.{isAlways, controlWords};
 ghost use Rattle.rules.specs.Log.{flag};
 ghost use Rattle.rules.specs.Conditions.{badControls};
 ghost use Rattle.net_value.specs.View.{controlOf};
-ghost use Rattle.rules.specs.Decode.{controlsWords};
+ghost use Rattle.rules.specs.Beside.Decode.{controlsWords};
 ghost use Rattle.net_flip_flop.specs.View.{controlsOf};
 use net_value::ControlNet;
 

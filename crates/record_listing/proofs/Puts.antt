@@ -6,7 +6,7 @@ use borrow.Author.Tests.{eq-eqb, ne-eqb}
 use Rattle.lists.specs.Choice.{_orElse_}
 use Rattle.rules.specs.Refusals.{recordRefusal}
 use Rattle.rules.specs.Header.{headerRefusal}
-use Rattle.rules.specs.Stored.{listerStored}
+use Rattle.rules.specs.Beside.Stored.{listerStored}
 use native.Mathlib.Omega.{arith}
 use mathlib.Core.List.{List, [], _∷_, _++_}
 use lib.ListN.{length, take, drop, length-append, length-drop}

@@ -15,7 +15,7 @@ use Rattle.rules.specs.Record.{arrayBytes, wordAt, headSizes}
 use Rattle.rules.specs.Refusals.{recordRefusal}
 use Rattle.rules.specs.Lister.{lister}
 use Rattle.rules.specs.Header.{badHeadOf, headerRefusal}
-use Rattle.rules.specs.Stored.{maxRecord, listerStored}
+use Rattle.rules.specs.Beside.Stored.{maxRecord, listerStored}
 use Rattle.rules.proofs.Headers.{record-head, kept}
 use Rattle.record_codec.proofs.Arrays.{whole}
 use Rattle.record_codec.proofs.Reading.{head-good}

@@ -9,7 +9,7 @@ ghost use Rattle.rules.specs.Record.{sizeMems, sizeTrits, bitsOf, headSizes, de
 ghost use Rattle.rules.specs.Refusals.{recordRefusal};
 ghost use Rattle.rules.specs.Lister.{decimal, space, blankText, loadText, headLine, memoryLine, refusedLine, summaryOf, summaries, listed, lister};
 ghost use Rattle.rules.specs.Header.{headerRefusal};
-ghost use Rattle.rules.specs.Stored.{listerStored};
+ghost use Rattle.rules.specs.Beside.Stored.{listerStored};
 ghost use Rattle.record_sizes.specs.View.{viewSizes};
 ghost use Rattle.record_listing.specs.Summary.{viewSummary};
 ghost use Rattle.record_listing.specs.Put.{maxText, maxPlace, Put};

@@ -10,7 +10,7 @@ use Rattle.rules.specs.Value.{Value, Control, Pos, Neg, isAlways}
 use Rattle.rules.specs.Cell.{Controls, FlipFlop}
 use Rattle.rules.specs.Log.{Entry, Trace, _>>=_, _>>_, done, request, addVoid, addNot, addAnd, addOr, muxBy, addMux, addEq, addShl, addUshr, addDff, replaceValue, intoPos, remapResetOverEnable}
 use Rattle.rules.specs.Merge.{addDedupMux, addDedupDff, muxRuns, addBitwiseMux}
-use Rattle.rules.specs.Chain.{resultWidth, StartsAt, Chained, Chains}
+use Rattle.rules.specs.Beside.Chain.{resultWidth, StartsAt, Chained, Chains}
 
 pub chained-append : (n m k : ℕ) (es fs : List Entry) → Chained n es m → Chained m fs k → Chained n (es ++ fs) k
 unfolding Chained

@@ -11,7 +11,7 @@ use Rattle.rules.specs.Limits.{maxNets, X}
 use Rattle.rules.specs.Value.{Value, Control, Pos, Neg, isAlways}
 use Rattle.rules.specs.Cell.{Controls, FlipFlop}
 use Rattle.rules.specs.Log.{Trace, _>>=_, done, LogState, startNet, added, words, addVoid, addNot, addAnd, addOr, addMux, addEq, addShl, addUshr, addDff, replaceValue, request, intoPos, withReset, remapResetOverEnable}
-use Rattle.rules.specs.Chain.{Chains}
+use Rattle.rules.specs.Beside.Chain.{Chains}
 use Rattle.rules.specs.Refusals.{roomRefusal, logRefusal}
 use Rattle.rules.proofs.Entries.{words-void, words-not, words-and, words-or, words-mux, words-eq, words-shl, words-ushr, words-dff, words-replace, next-void, next-not, next-and, next-or, next-mux, next-eq, next-shl, next-ushr, next-dff, next-replace}
 use Rattle.rules.proofs.Traces.{same-added, same-next, log-refusal}

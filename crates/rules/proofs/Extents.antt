@@ -11,7 +11,7 @@ use Rattle.rules.specs.Numbers.{ceilDiv}
 use Rattle.rules.specs.Geometry.{Layout, soft, rowLen, fullDepth, fullChunks, partDepth, allChunks, fullMems, allMems}
 use Rattle.rules.specs.Image.{memStart, trits}
 use Rattle.rules.proofs.Places.{full-all, before-high}
-use Rattle.rules.specs.Shape.{Small}
+use Rattle.rules.specs.Beside.Shape.{Small}
 
 ceil-le : (a b : ℕ) → ceilDiv a b ≤ a + (b - 1)
 unfolding ceilDiv

@@ -1,5 +1,5 @@
 -- What a layout has that passes the test of 23: its sizes, its entries, and what demand 3 asks of it.
-use Prim.Native.Nat.{ℕ, _*_, _^_, _<_}
+use Prim.Native.Nat.{ℕ, _*_, _<_}
 use mathlib.Core.Path.{_≡_, refl, sym, ap, _∙_}
 use mathlib.Core.Logic.{_≢_}
 use mathlib.Core.Bool.{Bool, true, false, not, _&&_}
@@ -12,11 +12,11 @@ use borrow.Author.Tests.{eq-eqb, eqb-true, eqb-false, ltb-false, leb-false, ne-e
 use Rattle.lists.proofs.Choice.{or-left, or-right, or-false, or-both, and-false, not-is-true}
 use Rattle.lists.specs.Choice.{if_then_else_}
 use Rattle.lists.proofs.All.{any-at}
-use Rattle.rules.specs.Limits.{maxDepth, maxWidth, maxBits, maxRow, maxUnit, maxHard, addrBits, None}
+use Rattle.rules.specs.Limits.{maxDepth, maxWidth, maxBits, maxRow, maxUnit, maxHard, maxMask, addrBits, None}
 use Rattle.rules.specs.Numbers.{topBits}
 use Rattle.rules.specs.Geometry.{Layout, rowLen}
-use Rattle.rules.specs.Conditions.{indivisible, badEntry, badNames, badEntries, resultTooLarge, badLayoutSizes, badLayout}
-use Rattle.rules.specs.Shape.{Small, Shape, shapeOf, handedOn, laidShape}
+use Rattle.rules.specs.Conditions.{indivisible, badEntry, badNames, badEntries, resultTooLarge, imageTooLarge, badLayoutSizes, badLayout}
+use Rattle.rules.specs.Beside.Shape.{Small, Shape, shapeOf, handedOn, laidShape}
 use Rattle.rules.proofs.Demand.{Accepted}
 
 -- ---- sizes within number 1's limits
@@ -43,32 +43,31 @@ small d w l u h e =
     }
 
 -- ---- a layout that passes
-abbrev pub badSizes : Layout → Bool
-badSizes q = badLayoutSizes (q .depth) (q .width) (rowLen q) (q .unit) (q .hard)
+abbrev pub layoutTooLarge : Layout → Bool
+layoutTooLarge q = badLayoutSizes (q .depth) (q .width) (rowLen q) (q .unit) (q .hard)
 
 abbrev pub badSoft : Layout → Bool
 badSoft q = indivisible (q .depth) (topBits addrBits (q .softMask))
 
-abbrev pub badResult : Layout → Bool
-badResult q = not (eqb (q .width) 0) && resultTooLarge q
-
 pub record Good (q : Layout) : Type 0 where
-  pub sizes : badSizes q ≡ false
+  pub sizes : layoutTooLarge q ≡ false
   pub entries : badEntries (q .width) (q .entries) ≡ false
   pub soft : badSoft q ≡ false
-  pub result : badResult q ≡ false
+  pub result : imageTooLarge q ≡ false
+  pub mask : ltb maxMask (q .softMask) ≡ false
 
 pub good : (q : Layout) → badLayout q ≡ false → Good q
 unfolding badLayout
 good q e =
-    let a = or-false (badSizes q) _ e in
+    let a = or-false (layoutTooLarge q) _ e in
     let b = or-false (badEntries (q .width) (q .entries)) _ (a .1) in
-    let c = or-false (badSoft q) (badResult q) (b .1) in
-    record { sizes = a .0; entries = b .0; soft = c .0; result = c .1 }
+    let c = or-false (badSoft q) _ (b .1) in
+    let d = or-false (imageTooLarge q) (ltb maxMask (q .softMask)) (c .1) in
+    record { sizes = a .0; entries = b .0; soft = c .0; result = d .0; mask = d .1 }
 
 pub good-back : (q : Layout) → Good q → badLayout q ≡ false
 unfolding badLayout
-good-back q g = or-both (g .sizes) (or-both (g .entries) (or-both (g .soft) (g .result)))
+good-back q g = or-both (g .sizes) (or-both (g .entries) (or-both (g .soft) (or-both (g .result) (g .mask))))
 
 pub names-good : (width : ℕ) (es : List ℕ) → badEntries width es ≡ false → badNames width es ≡ false
 unfolding badEntries
@@ -84,13 +83,12 @@ module _ (q : Layout) (e : badLayout q ≡ false) where
   pub good-small : Small (q .depth) (q .width) (rowLen q) (q .unit) (q .hard)
   good-small = small (q .depth) (q .width) (rowLen q) (q .unit) (q .hard) (good q e .sizes)
 
-  -- a soft mask is a word of 32 bits
-  pub good-accepted : q .softMask < 2 ^ 32 → Accepted q
+  pub good-accepted : Accepted q
   unfolding indivisible
-  good-accepted mask = record {
+  good-accepted = record {
     sized = record {
       unit-pos = good-small .unit-pos;
-      mask-fits = mask;
+      mask-fits = omega (arith, ltb-false maxMask (q .softMask) (good q e .mask));
       depth-fits = omega (arith, good-small .depth-max);
       aligned = eqb-true _ _ (not-false _ (good q e .soft));
     };
@@ -108,27 +106,29 @@ handed-some q e = rw e
 
 -- ---- a layout that fails, by its first test that does
 module _ (q : Layout) where
-  pub bad-1 : badSizes q ≡ true → badLayout q ≡ true
+  pub bad-1 : layoutTooLarge q ≡ true → badLayout q ≡ true
   unfolding badLayout
   bad-1 a = or-left _ a
 
-  pub bad-7 : badSizes q ≡ false → badEntries (q .width) (q .entries) ≡ true → badLayout q ≡ true
+  pub bad-7 : layoutTooLarge q ≡ false → badEntries (q .width) (q .entries) ≡ true → badLayout q ≡ true
   unfolding badLayout
   bad-7 a b = or-right a (or-left _ b)
 
-  pub bad-8 : badSizes q ≡ false → badEntries (q .width) (q .entries) ≡ false → badSoft q ≡ true → badLayout q ≡ true
+  pub bad-8 : layoutTooLarge q ≡ false → badEntries (q .width) (q .entries) ≡ false → badSoft q ≡ true → badLayout q ≡ true
   unfolding badLayout
   bad-8 a b c = or-right a (or-right b (or-left _ c))
 
-  pub bad-10 : badSizes q ≡ false → badEntries (q .width) (q .entries) ≡ false → badSoft q ≡ false → badResult q ≡ true → badLayout q ≡ true
+  pub bad-10 : layoutTooLarge q ≡ false → badEntries (q .width) (q .entries) ≡ false → badSoft q ≡ false → imageTooLarge q ≡ true → badLayout q ≡ true
   unfolding badLayout
-  bad-10 a b c d = or-right a (or-right b (or-right c d))
+  bad-10 a b c d = or-right a (or-right b (or-right c (or-left _ d)))
 
   -- width 0 has no result to be too large
-  pub no-result : q .width ≡ 0 → badResult q ≡ false
+  pub no-result : q .width ≡ 0 → imageTooLarge q ≡ false
+  unfolding imageTooLarge
   no-result e = ap (λ (t : Bool). not t && resultTooLarge q) (eq-eqb (q .width) 0 e)
 
-  pub some-result : (t : Bool) → q .width ≢ 0 → resultTooLarge q ≡ t → badResult q ≡ t
+  pub some-result : (t : Bool) → q .width ≢ 0 → resultTooLarge q ≡ t → imageTooLarge q ≡ t
+  unfolding imageTooLarge
   some-result t n e = ap (λ (t : Bool). not t && resultTooLarge q) (ne-eqb (q .width) 0 n) ∙ e
 
 -- ---- the sizes of a layout that passes

@@ -1,4 +1,4 @@
--- The head of a whole record is what a reader refuses first; and the limits that accepted sizes keep.
+-- The limits that accepted sizes keep.
 use Prim.Native.Nat.{ℕ, _+_, _*_, _<_, _≤_, min}
 use mathlib.Core.Path.{_≡_, refl, sym, ap, _∙_}
 use mathlib.Core.Bool.{Bool, true, false, not, _&&_}
@@ -13,24 +13,7 @@ use lib.ListN.{length}
 use Rattle.lists.specs.Choice.{if_then_else_, _orElse_}
 use Rattle.rules.specs.Logic.{areTrits}
 use Rattle.rules.specs.Record.{Sizes, sizeMems, sizeTrits, headSizes}
-use Rattle.rules.specs.Conditions.{badTrits, isPower, badUnit, unlike, badDepths, badHead, badSizes, badBits}
-use Rattle.rules.specs.Refusals.{recordRefusal}
-use Rattle.rules.specs.Header.{badHeadOf, headerRefusal}
-
-pub head-whole : (bytes : List ℕ) → badHeadOf bytes (length bytes) ≡ badHead bytes
-unfolding badHeadOf badHead
-head-whole bytes = refl
-
-chain : (a b c : Bool) → (if a then 16 else if b then 17 else if c then 18 else 0) ≡ ((if a then 16 else if b then 17 else 0) orElse (if c then 18 else 0))
-unfolding _orElse_
-chain true b c = refl
-chain false true c = refl
-chain false false c = refl
-
--- 16 and 17 by the head, then 18
-pub record-head : (bytes : List ℕ) → recordRefusal bytes ≡ (headerRefusal bytes (length bytes) orElse (if badBits bytes then 18 else 0))
-unfolding recordRefusal headerRefusal
-record-head bytes = rw (head-whole bytes) (chain (badHead bytes) (badSizes (headSizes bytes)) (badBits bytes))
+use Rattle.rules.specs.Conditions.{badTrits, isPower, badUnit, unlike, badDepths, badSizes}
 
 -- ---- what sizes keep that 17 does not refuse
 pub record Kept (s : Sizes) : Type 0 where

@@ -29,5 +29,4 @@ pub mod Memories
 pub mod ReadBack
 pub mod SwizzleSizes
 pub mod Exact
-pub mod WholePlans
 pub mod Columns

@@ -1,5 +1,5 @@
 -- What is read back at a row's places: after a layout the row, and after any list of patch calls the amended row.
-use Prim.Native.Nat.{ℕ, _+_, _*_, _^_, _≤_, _<_}
+use Prim.Native.Nat.{ℕ, _+_, _*_, _≤_, _<_}
 use mathlib.Core.Path.{_≡_, sym, ap, _∙_, subst}
 use mathlib.Core.Logic.{_≢_, ⊎-elim}
 use mathlib.Core.Bool.{false}
@@ -15,20 +15,21 @@ use Rattle.lists.specs.Distinct.{placeIn}
 use Rattle.lists.proofs.UpFrom.{length-up, getD-up}
 use Rattle.rules.specs.Limits.{tritX, None}
 use Rattle.rules.specs.Value.{Value}
-use Rattle.rules.specs.Cell.{Mem, Plan}
+use Rattle.rules.specs.Cell.{Given, Plan}
 use Rattle.rules.specs.Log.{LogState}
 use Rattle.rules.specs.Geometry.{Layout, layoutOf, rowLen}
-use Rattle.rules.specs.Image.{imageSize, indexOf, rowOf, layout, Patch}
+use Rattle.rules.specs.Image.{imageSize, indexOf, rowOf, layout, Laid, Patch}
 use Rattle.rules.specs.Conditions.{times, badLayout}
-use Rattle.rules.specs.Refusals.{swizzleRefusal}
-use Rattle.rules.specs.Patch.{lentTo, calledAll, exchange, amended, laidOut, LaysOut, Demand}
-use Rattle.rules.specs.Layouts.{bitOf, readRow}
+use Rattle.rules.specs.Answers as answers
+use Rattle.rules.specs.Answers.{SwizzleLent, swizzleCall}
+use Rattle.rules.specs.Patch.{lentTo, calledAll, patched, exchange, amended, laidOut, LaysOut, Demand}
+use Rattle.rules.specs.Beside.Layouts.{bitOf, readRow}
 use Rattle.rules.proofs.Named.{name-in, name-at, once}
 use Rattle.rules.proofs.Rows.{length-exchange}
 use Rattle.rules.proofs.Demand.{Accepted, taken, refused, places-below, demand-3}
 use Rattle.rules.proofs.Meaning.{layout-means}
 use Rattle.rules.proofs.GoodLayouts.{good, good-small, good-accepted}
-use Rattle.rules.proofs.Accepts.{layout-good, init-len, swizzle-then-patches}
+use Rattle.rules.proofs.Accepts.{layout-good, init-len, number-zero, handed, swizzle-then-patches}
 
 pub length-readRow : (q : Layout) (image : List ℕ) (r : ℕ) → length (readRow q image r) ≡ q .width
 unfolding readRow
@@ -49,9 +50,9 @@ getD-rowOf : (w r b : ℕ) (rows : List ℕ) → b < w → getD (rowOf w rows r)
 unfolding rowOf
 getD-rowOf w r b rows l = getD-take w (drop (r * w) rows) b 0 l ∙ getD-drop (r * w) rows b 0
 
-module _ (q : Layout) (e : badLayout q ≡ false) (mask : q .softMask < 2 ^ 32) where
+module _ (q : Layout) (e : badLayout q ≡ false) where
   z : Accepted q
-  z = good-accepted q e mask
+  z = good-accepted q e
 
   named-once : (b : ℕ) → b < q .width → times b (q .entries) ≡ 1
   named-once = once (q .width) (q .entries) (good q e .entries)
@@ -132,11 +133,13 @@ module _ (q : Layout) (e : badLayout q ≡ false) (mask : q .softMask < 2 ^ 32) 
       → (r : ℕ) → r < q .depth → readRow q (calledAll q cs (laidOut q rows buffer)) r ≡ rowOf (q .width) (amended q (length buffer) cs rows) r
   read-patched rows buffer cs k s = read-demanded rows buffer cs _ k (demand-3 q z rows buffer k s cs)
 
--- from the swizzle's own number on
-pub swizzle-then-read : (room words : ℕ) (s : LogState) (m : Mem) (output : Value) (p : Plan) (e : swizzleRefusal room words s m output p ≡ 0) → p .softMask < 2 ^ 32
-    → (buffer : List ℕ) → length buffer ≡ room → (cs : List Patch) (r : ℕ) → r < m .depth
-    → readRow (layoutOf m p) (calledAll (layoutOf m p) cs (laidOut (layoutOf m p) (m .init) buffer)) r ≡ rowOf (m .width) (amended (layoutOf m p) (length buffer) cs (m .init)) r
-unfolding layoutOf
-swizzle-then-read room words s m output p e mask buffer h cs =
-    read-demanded (layoutOf m p) (layout-good room words s m output p e) mask (m .init) buffer cs _ (init-len room words s m output p e)
-    (swizzle-then-patches room words s m output p e mask buffer h cs)
+-- from an accepted swizzle on: by the state that it hands on and the image that it leaves
+module _ (l : SwizzleLent) (log : List ℕ) (s : LogState) (g : Given) (output : Value) (p : Plan) where
+  pub swizzle-then-read : (laid : Laid) → swizzleCall l log s g output p .laid ≡ answers.Accepted laid → (cs : List Patch) (r : ℕ) → r < g .mem .depth
+      → readRow (layoutOf (g .mem) p) (patched laid cs (swizzleCall l log s g output p .image)) r
+      ≡ rowOf (g .mem .width) (amended (layoutOf (g .mem) p) (length (l .image)) cs (g .mem .init)) r
+  unfolding layoutOf
+  swizzle-then-read laid e cs =
+      let n = number-zero l log s g output p (handed l log s g output p laid e .0) in
+      read-demanded (layoutOf (g .mem) p) (layout-good (s .next) g output p n) (g .mem .init) (l .image) cs _ (init-len (s .next) g output p n)
+      (swizzle-then-patches l log s g output p laid e cs)

@@ -10,13 +10,13 @@ use lib.ListN.{length, take, drop, replicate, length-append, length-map}
 use lib.Seq.{take-at, drop-at, drop-drop}
 use borrow.Author.Tests.{leb-true, eq-eqb, le-ltb}
 use Rattle.rules.specs.Limits.{tritX, headBytes, recordMark}
-use Rattle.lists.specs.Choice.{if_then_else_}
+use Rattle.lists.specs.Choice.{if_then_else_, _orElse_}
 use Rattle.lists.specs.Lists.{all, any, pairs}
 use Rattle.rules.specs.Numbers.{ceilDiv}
 use Rattle.rules.specs.Logic.{areTrits}
 use Rattle.rules.specs.Record.{Sizes, sizeTrits, word16, wordAt, packBits, arrayBytes, knownBit, valueBit, recordHead, encodeRecord, headSizes, recordBytes, knownBits, valueBits, bitPairs, decodeImage}
 use Rattle.rules.specs.Conditions.{badHead, badSizes, badBits, spareBits}
-use Rattle.rules.specs.Refusals.{recordRefusal, ReadsBack}
+use Rattle.rules.specs.Refusals.{headerRefusal, recordRefusal, ReadsBack}
 use Rattle.lists.proofs.Choice.{and-true}
 use Rattle.rules.proofs.Bits.{areBits, length-pack, pack-bits, image-bits}
 
@@ -134,7 +134,7 @@ module _ (s : Sizes) (image : List ℕ) where
       unfolding decodeImage
       image-back = rw pairs-are (image-bits image codes)
 
-      head-good : badHead (encodeRecord s image) ≡ false
+      head-good : badHead (encodeRecord s image) (length (encodeRecord s image)) ≡ false
       unfolding badHead recordBytes
       head-good =
           let l = length-record in
@@ -147,5 +147,5 @@ module _ (s : Sizes) (image : List ℕ) where
       bits-good = rw (pairs-are, pairs-good image codes, spare-are, no-ones-tail)
 
       pub reads-back : ReadsBack s image
-      unfolding ReadsBack recordRefusal
+      unfolding ReadsBack recordRefusal headerRefusal _orElse_
       reads-back = (rw (head-good, head-sizes, good, bits-good), head-sizes, image-back)

@@ -17,66 +17,66 @@ use Rattle.rules.specs.Numbers.{topBits}
 use Rattle.rules.specs.Image.{trits, placeOf, indexOf}
 use Rattle.rules.specs.Conditions.{noRoom, indivisible, resultTooLarge, notBelow}
 use Rattle.rules.specs.Answers.{Refused, Accepted}
-use Rattle.rules.specs.Shape.{Shape, Small, shapeOf, shapeNumber, shapeCall, depthsNumber, softMaskNumber, resultNumber, Located, placeNumber, placeCall}
+use Rattle.rules.specs.Beside.Shape.{Shape, Small, shapeOf, shapeNumber, shapeCall, depthsNumber, softMaskNumber, resultNumber, Located, placeNumber, placeCall}
 use Rattle.rules.proofs.Answering.{answer-refused, answer-accepted, tells-accepted, tells-refused}
-use Rattle.rules.proofs.GoodLayouts.{badSizes, small}
+use Rattle.rules.proofs.GoodLayouts.{layoutTooLarge, small}
 
 module _ (q : Layout) where
-  number-one : badSizes q ≡ true → shapeNumber q ≡ 1
+  number-one : layoutTooLarge q ≡ true → shapeNumber q ≡ 1
   unfolding shapeNumber
   number-one e = rw e
 
-  number-none : badSizes q ≡ false → shapeNumber q ≡ 0
+  number-none : layoutTooLarge q ≡ false → shapeNumber q ≡ 0
   unfolding shapeNumber
   number-none e = rw e
 
-  none-passed : shapeNumber q ≡ 0 → badSizes q ≡ false
+  none-passed : shapeNumber q ≡ 0 → layoutTooLarge q ≡ false
   unfolding shapeNumber
-  none-passed e = if-zero (badSizes q) 0 0 e .0
+  none-passed e = if-zero (layoutTooLarge q) 0 0 e .0
 
-  pub shape-refused : badSizes q ≡ true → Refused 1 ≡ shapeCall q
+  pub shape-refused : layoutTooLarge q ≡ true → Refused 1 ≡ shapeCall q
   unfolding shapeCall
   shape-refused e = sym (answer-refused (shapeNumber q) (shapeOf q) (λ z. not-zero (sym (number-one e) ∙ z)) ∙ ap Refused (number-one e))
     where
       not-zero : _≡_ {A = ℕ} 1 0 → ⊥
       not-zero h = omega arith
 
-  pub shape-done : badSizes q ≡ false → (s : Shape) → s ≡ shapeOf q → Accepted s ≡ shapeCall q
+  pub shape-done : layoutTooLarge q ≡ false → (s : Shape) → s ≡ shapeOf q → Accepted s ≡ shapeCall q
   unfolding shapeCall
   shape-done e s h = ap Accepted h ∙ sym (answer-accepted (shapeNumber q) (shapeOf q) (number-none e))
 
   -- what a caller learns
-  pub shape-told : (s : Shape) → Accepted s ≡ shapeCall q → (badSizes q ≡ false) × (s ≡ shapeOf q)
+  pub shape-told : (s : Shape) → Accepted s ≡ shapeCall q → (layoutTooLarge q ≡ false) × (s ≡ shapeOf q)
   unfolding shapeCall
   shape-told s e =
       let t = tells-accepted (shapeNumber q) (shapeOf q) s e in
       (none-passed (t .0), t .1)
 
-  pub shape-not-told : (k : ℕ) → Refused k ≡ shapeCall q → (k ≡ 1) × (badSizes q ≡ true)
+  pub shape-not-told : (k : ℕ) → Refused k ≡ shapeCall q → (k ≡ 1) × (layoutTooLarge q ≡ true)
   unfolding shapeCall
-  shape-not-told k e = on (badSizes q) refl
+  shape-not-told k e = on (layoutTooLarge q) refl
     where
       t : (shapeNumber q ≡ k) × (shapeNumber q ≢ 0)
       t = tells-refused (shapeNumber q) k (shapeOf q) e
 
-      on : (b : Bool) → badSizes q ≡ b → (k ≡ 1) × (badSizes q ≡ true)
+      on : (b : Bool) → layoutTooLarge q ≡ b → (k ≡ 1) × (layoutTooLarge q ≡ true)
       on true h = (sym (t .0) ∙ number-one h, h)
       on false h = absurd (t .1 (number-none h))
 
-  pub shape-small : badSizes q ≡ false → Small (q .depth) (q .width) (rowLen q) (q .unit) (q .hard)
+  pub shape-small : layoutTooLarge q ≡ false → Small (q .depth) (q .width) (rowLen q) (q .unit) (q .hard)
   shape-small = small (q .depth) (q .width) (rowLen q) (q .unit) (q .hard)
 
 -- ---- the depths into lent room
 module _ (q : Layout) (room : ℕ) where
-  pub depths-1 : badSizes q ≡ true → depthsNumber room q ≡ 1
+  pub depths-1 : layoutTooLarge q ≡ true → depthsNumber room q ≡ 1
   unfolding depthsNumber
   depths-1 e = rw e
 
-  pub depths-20 : badSizes q ≡ false → room < allMems q → depthsNumber room q ≡ 20
+  pub depths-20 : layoutTooLarge q ≡ false → room < allMems q → depthsNumber room q ≡ 20
   unfolding depthsNumber noRoom
   depths-20 e l = rw (e, lt-ltb room (allMems q) l)
 
-  pub depths-0 : badSizes q ≡ false → allMems q ≤ room → depthsNumber room q ≡ 0
+  pub depths-0 : layoutTooLarge q ≡ false → allMems q ≤ room → depthsNumber room q ≡ 0
   unfolding depthsNumber noRoom
   depths-0 e l = rw (e, le-ltb room (allMems q) l)
 
@@ -140,29 +140,29 @@ module _ (q : Layout) (s : Shape) (e : s ≡ shapeOf q) where
       or-both (le-ltb maxColumns (columns q) (subst (λ (n : ℕ). n ≤ maxColumns) columns-is l)) (le-ltb maxImage (trits q) (subst (λ (n : ℕ). n ≤ maxImage) trits-is m))
 
 module _ (q : Layout) where
-  pub result-1 : badSizes q ≡ true → resultNumber q ≡ 1
+  pub result-1 : layoutTooLarge q ≡ true → resultNumber q ≡ 1
   unfolding resultNumber
   result-1 e = rw e
 
-  pub result-10 : badSizes q ≡ false → resultTooLarge q ≡ true → resultNumber q ≡ 10
+  pub result-10 : layoutTooLarge q ≡ false → resultTooLarge q ≡ true → resultNumber q ≡ 10
   unfolding resultNumber
   result-10 e f = rw (e, f)
 
-  pub result-0 : badSizes q ≡ false → resultTooLarge q ≡ false → resultNumber q ≡ 0
+  pub result-0 : layoutTooLarge q ≡ false → resultTooLarge q ≡ false → resultNumber q ≡ 0
   unfolding resultNumber
   result-0 e f = rw (e, f)
 
 -- ---- the place of an entry
 module _ (q : Layout) (row i : ℕ) where
-  place-1 : badSizes q ≡ true → placeNumber q row i ≡ 1
+  place-1 : layoutTooLarge q ≡ true → placeNumber q row i ≡ 1
   unfolding placeNumber
   place-1 e = rw e
 
-  place-15 : badSizes q ≡ false → (notBelow (q .depth) row || notBelow (rowLen q) i) ≡ true → placeNumber q row i ≡ 15
+  place-15 : layoutTooLarge q ≡ false → (notBelow (q .depth) row || notBelow (rowLen q) i) ≡ true → placeNumber q row i ≡ 15
   unfolding placeNumber
   place-15 e f = rw (e, f)
 
-  place-0 : badSizes q ≡ false → (notBelow (q .depth) row || notBelow (rowLen q) i) ≡ false → placeNumber q row i ≡ 0
+  place-0 : layoutTooLarge q ≡ false → (notBelow (q .depth) row || notBelow (rowLen q) i) ≡ false → placeNumber q row i ≡ 0
   unfolding placeNumber
   place-0 e f = rw (e, f)
 
@@ -173,17 +173,17 @@ module _ (q : Layout) (row i : ℕ) where
       not-zero : suc n ≡ 0 → ⊥
       not-zero h = omega arith
 
-  pub placed-1 : badSizes q ≡ true → Refused 1 ≡ placeCall q row i
+  pub placed-1 : layoutTooLarge q ≡ true → Refused 1 ≡ placeCall q row i
   placed-1 e = refused-by 0 (place-1 e)
 
-  pub placed-15-row : badSizes q ≡ false → q .depth ≤ row → Refused 15 ≡ placeCall q row i
+  pub placed-15-row : layoutTooLarge q ≡ false → q .depth ≤ row → Refused 15 ≡ placeCall q row i
   unfolding notBelow
   placed-15-row e l = refused-by 14 (place-15 e (or-left _ (le-leb (q .depth) row l)))
 
-  pub placed-15-entry : badSizes q ≡ false → row < q .depth → rowLen q ≤ i → Refused 15 ≡ placeCall q row i
+  pub placed-15-entry : layoutTooLarge q ≡ false → row < q .depth → rowLen q ≤ i → Refused 15 ≡ placeCall q row i
   unfolding notBelow
   placed-15-entry e l k = refused-by 14 (place-15 e (or-right (lt-leb (q .depth) row l) (le-leb (rowLen q) i k)))
 
-  pub placed-at : (p : Located) → badSizes q ≡ false → row < q .depth → i < rowLen q → p ≡ record { place = placeOf q row i; index = indexOf q row i } → Accepted p ≡ placeCall q row i
+  pub placed-at : (p : Located) → layoutTooLarge q ≡ false → row < q .depth → i < rowLen q → p ≡ record { place = placeOf q row i; index = indexOf q row i } → Accepted p ≡ placeCall q row i
   unfolding placeCall notBelow
   placed-at p e l k h = ap Accepted h ∙ sym (answer-accepted (placeNumber q row i) _ (place-0 e (or-both (lt-leb (q .depth) row l) (lt-leb (rowLen q) i k))))

@@ -16,15 +16,15 @@ use Rattle.lists.proofs.All.{any-has}
 use Rattle.lists.proofs.UpFrom.{up-at, length-up}
 use Rattle.rules.specs.Limits.{maxHard, maxUnit, maxRow, maxDepth, maxPartial, maxColumns, maxImage}
 use Rattle.rules.specs.Value.{Value}
-use Rattle.rules.specs.Cell.{Mem, Plan}
-use Rattle.rules.specs.Log.{LogState}
+use Rattle.rules.specs.Cell.{Given, Plan}
 use Rattle.rules.specs.Geometry.{Layout, layoutOf, soft, rowLen, fullDepth, partDepth, fullChunks, allChunks, fullMems, allMems, columns}
 use Rattle.rules.specs.Image.{rowsBefore, memStart, trits, imageSize}
 use Rattle.rules.specs.Record.{Sizes, depthIf, sizesOf, sizeMems, sizeTrits}
-use Rattle.rules.specs.Conditions.{tooLarge, planTooLarge, badOutputLen, badValue, badWrites, badReads, allReads, resultTooLarge, isPower, badUnit, unlike, badDepths, badSizes}
-use Rattle.rules.specs.Refusals.{memNumber, planNumber, swizzleNumber, swizzleRefusal}
+use Rattle.rules.specs.Conditions.{resultTooLarge, imageTooLarge, isPower, badUnit, unlike, badDepths, badSizes, badLayout}
+use Rattle.rules.specs.Refusals.{swizzleNumber}
 use Rattle.rules.proofs.Places.{ceil-mono, before-high}
-use Rattle.rules.proofs.Accepts.{passed}
+use Rattle.rules.proofs.GoodLayouts.{good, good-small}
+use Rattle.rules.proofs.Accepts.{layout-good}
 
 -- a count is 0, or not
 zero-or {ℓ} : {P : Type ℓ} (n : ℕ) → (eqb n 0 ≡ true → P) → (eqb n 0 ≡ false → P) → P
@@ -163,50 +163,24 @@ module _ (q : Layout) (pos : 0 < q .unit) (small : q .unit ≤ 256) (hard : q .h
       (λ w. rw (w, zero-mul (depthIf 0 (2 ^ q .hard)), zero-mul (depthIf 0 (partDepth q)), mul-zero (q .unit)))
       (λ w. rw (w, if-rows (fullMems q) (2 ^ q .hard), if-rows (allMems q - fullMems q) (partDepth q), before-high (fullMems q) (2 ^ q .hard) (partDepth q) (allMems q) full-all) (mul-comm (q .unit) _))
 
-  pub layout-sizes : (not (eqb (q .width) 0) && resultTooLarge q) ≡ false → badSizes (sizesOf q) ≡ false
+  pub layout-sizes : imageTooLarge q ≡ false → badSizes (sizesOf q) ≡ false
+  unfolding imageTooLarge
   layout-sizes r = zero-or (q .width) empty-good (λ w. result-good w (and-false (not (eqb (q .width) 0)) (resultTooLarge q) (not-is-true (eqb (q .width) 0) w) r))
 
 -- ---- of an accepted swizzle
-module _ (room words : ℕ) (s : LogState) (m : Mem) (output : Value) (p : Plan) (e : swizzleRefusal room words s m output p ≡ 0) where
-  plan-fits : planTooLarge p ≡ false
-  plan-fits = or-false (tooLarge m) (planTooLarge p) (passed room words s m output p e .sizes) .1
+module _ (next : ℕ) (g : Given) (output : Value) (p : Plan) (e : swizzleNumber next g output p ≡ 0) where
+  abbrev q : Layout
+  q = layoutOf (g .mem) p
 
-  unit-fits : (0 < p .unit) × (p .unit ≤ 256) × (p .hard ≤ 15)
-  unfolding planTooLarge
-  unit-fits =
-      let a = or-false (ltb maxRow (length (p .entries))) _ plan-fits .1 in
-      let b = or-false (eqb (p .unit) 0) _ a in
-      let c = or-false (ltb maxUnit (p .unit)) _ (b .1) in
-      let d = or-false (ltb maxHard (p .hard)) _ (c .1) in
-      (positive (p .unit) (eqb-false (p .unit) 0 (b .0)), ltb-false maxUnit (p .unit) (c .0), ltb-false maxHard (p .hard) (d .0))
+  passes : badLayout q ≡ false
+  passes = layout-good next g output p e
 
-  result-fits : (not (eqb (m .width) 0) && resultTooLarge (layoutOf m p)) ≡ false
-  unfolding swizzleRefusal swizzleNumber
-  result-fits =
-      let n = else-zero (swizzleNumber (s .next) m output p) _ e in
-      let i = else-zero (memNumber (planTooLarge p) (badOutputLen m output) (badValue (s .next) output) (s .next) m) _ (n .0) in
-      let k = else-zero (planNumber m p) _ (i .1) in
-      let a = if-zero (badWrites m p || badReads m (allReads m) p) 8 _ (k .1) in
-      if-zero (not (eqb (m .width) 0) && resultTooLarge (layoutOf m p)) 9 _ (a .1) .0
+  pub swizzle-trits : sizeTrits (sizesOf q) ≡ imageSize q
+  swizzle-trits =
+      let s = good-small q passes in
+      layout-trits q (s .unit-pos) (s .unit-max) (s .hard-max)
 
-  unit-pos : 0 < layoutOf m p .unit
-  unfolding layoutOf
-  unit-pos = unit-fits .0
-
-  unit-max : layoutOf m p .unit ≤ 256
-  unfolding layoutOf
-  unit-max = unit-fits .1
-
-  hard-max : layoutOf m p .hard ≤ 15
-  unfolding layoutOf
-  hard-max = unit-fits .2
-
-  result : (not (eqb (layoutOf m p .width) 0) && resultTooLarge (layoutOf m p)) ≡ false
-  unfolding layoutOf
-  result = result-fits
-
-  pub swizzle-trits : sizeTrits (sizesOf (layoutOf m p)) ≡ imageSize (layoutOf m p)
-  swizzle-trits = layout-trits (layoutOf m p) unit-pos unit-max hard-max
-
-  pub swizzle-sizes : badSizes (sizesOf (layoutOf m p)) ≡ false
-  swizzle-sizes = layout-sizes (layoutOf m p) unit-pos unit-max hard-max result
+  pub swizzle-sizes : badSizes (sizesOf q) ≡ false
+  swizzle-sizes =
+      let s = good-small q passes in
+      layout-sizes q (s .unit-pos) (s .unit-max) (s .hard-max) (good q passes .result)

@@ -15,8 +15,8 @@ use Rattle.rules.specs.Logic.{areTrits}
 use Rattle.rules.specs.Value.{fromUint}
 use Rattle.rules.specs.Record.{sizeTrits, word16, wordAt, byteOf, packBits, bitsOf, arrayBytes, knownBit, valueBit, tritBy, recordHead, encodeRecord, headSizes, recordBytes, knownBits, valueBits, bitPairs, decodeImage}
 use Rattle.rules.specs.Conditions.{badHead, badSizes, badBits, spareBits}
-use Rattle.rules.specs.Refusals.{recordRefusal, WritesBack}
-use Rattle.lists.proofs.Choice.{and-true, if-zero, or-false}
+use Rattle.rules.specs.Refusals.{headerRefusal, recordRefusal, WritesBack}
+use Rattle.lists.proofs.Choice.{and-true, if-zero, or-false, else-zero}
 use Rattle.lists.proofs.All.{all-take, all-drop}
 use Rattle.rules.proofs.Bits.{areBits}
 
@@ -199,15 +199,15 @@ byte-at (a ∷ l) e (suc i) = byte-at l (and-true (ltb a 256) (areBytes l) e .1)
 
 module _ (bytes : List ℕ) (good : areBytes bytes ≡ true) (e : recordRefusal bytes ≡ 0) where
   record Read : Type 0 where
-    head : badHead bytes ≡ false
+    head : badHead bytes (length bytes) ≡ false
     bits : badBits bytes ≡ false
 
   read : Read
-  unfolding recordRefusal
+  unfolding recordRefusal headerRefusal
   read =
-      let a = if-zero (badHead bytes) 15 _ e in
-      let b = if-zero (badSizes (headSizes bytes)) 16 _ (a .1) in
-      let c = if-zero (badBits bytes) 17 0 (b .1) in
+      let h = else-zero (headerRefusal bytes (length bytes)) _ e in
+      let a = if-zero (badHead bytes (length bytes)) 15 _ (h .0) in
+      let c = if-zero (badBits bytes) 17 0 (h .1) in
       record { head = a .0; bits = c .0 }
 
   n : ℕ

@@ -3,7 +3,7 @@
 use Prim.Native.Nat.{ℕ, _-_}
 use mathlib.Core.Bool.{Bool}
 use mathlib.Core.List.{List}
-use lib.ListN.{length}
+use lib.ListN.{length, drop}
 use lib.Seq.{sets}
 use lib.Dec.{eqb}
 use Rattle.lists.specs.Choice.{if_then_else_, leaves}
@@ -11,16 +11,16 @@ use Rattle.lists.specs.Lists.{all, part}
 use Rattle.rules.specs.Limits.{X}
 use Rattle.rules.specs.Logic.{Const, Trit, tritOf, constNot, constAnd, constOr, isUndef}
 use Rattle.rules.specs.Value.{Value, netOfCell, zext, Control, inverse, isAlways}
-use Rattle.rules.specs.Cell.{Controls, FlipFlop, Mem, Plan, wideLog2, outputLen, outputStart, readAt}
-use Rattle.rules.specs.Log.{Trace, LogState, stateAfter, logAfter, addVoid, addNot, addMux, addDff, intoPos, remapResetOverEnable}
+use Rattle.rules.specs.Cell.{Controls, FlipFlop, Mem, Given, Plan, wideLog2, outputLen, outputStart, readAt, orEmpty, flatNets, flatTrits}
+use Rattle.rules.specs.Log.{Trace, _>>=_, done, LogState, stateAfter, logAfter, addVoid, addNot, addMux, addDff, intoPos, remapResetOverEnable}
 use Rattle.rules.specs.Merge.{addDedupMux, addDedupDff, addBitwiseMux}
 use Rattle.rules.specs.Ports.{narrowerSelect, Overlay, transparencyMux, Driving, extractReadPorts, unmapReadDff, unmapReadInitResetTransparency, emulateReadBeforeWrite}
 use Rattle.rules.specs.Geometry.{makeDataSwizzle, layoutOf, swizzleDepths, writeMuxBits, readMuxBits}
 use Rattle.rules.specs.Image.{Laid, Patch}
-use Rattle.rules.specs.Swizzle.{swizzle, swizzleLaid}
-use Rattle.rules.specs.Fallback.{canLowerFallback, lowerFallback}
+use Rattle.rules.specs.Swizzle.{swizzle, swizzleLaid, sharedNets, sharedTrits, swizzleScratch}
+use Rattle.rules.specs.Fallback.{canLowerFallback, lowerFallback, fallbackScratch}
 use Rattle.rules.specs.Record.{Sizes, sizesOf, encodeRecord, headSizes, decodeImage, recordImage}
-use Rattle.rules.specs.Refusals.{tritRefusal, constNotRefusal, constPairRefusal, isUndefRefusal, controlRefusal, wideLog2Refusal, sliceRefusal, valueRefusal, zextRefusal, netOfCellRefusal, narrowerSelectRefusal, addVoidRefusal, addNotRefusal, addPairRefusal, addShiftRefusal, addMuxRefusal, addDffRefusal, addDedupMuxRefusal, addDedupDffRefusal, addBitwiseMuxRefusal, intoPosRefusal, remapResetOverEnableRefusal, memRefusal, outputSliceRefusal, transparencyMuxRefusal, extractReadPortsRefusal, unmapReadDffRefusal, unmapReadInitResetTransparencyRefusal, emulateReadBeforeWriteRefusal, makeDataSwizzleRefusal, swizzleDepthsRefusal, swizzleMuxBitsRefusal, swizzleRefusal, canLowerFallbackRefusal, lowerFallbackRefusal, patchRefusal, writeRecordRefusal, readRecordRefusal, summaryRefusal}
+use Rattle.rules.specs.Refusals.{Rooms, OverlayRooms, SwizzleRooms, alone, tritRefusal, constNotRefusal, constPairRefusal, isUndefRefusal, controlRefusal, wideLog2Refusal, sliceRefusal, valueRefusal, zextRefusal, netOfCellRefusal, narrowerSelectRefusal, addVoidRefusal, addNotRefusal, addPairRefusal, addShiftRefusal, addMuxRefusal, addDffRefusal, addDedupMuxRefusal, addDedupDffRefusal, addBitwiseMuxRefusal, intoPosRefusal, remapResetOverEnableRefusal, memRefusal, outputSliceRefusal, transparencyMuxRefusal, extractReadPortsRefusal, unmapReadDffRefusal, unmapReadInitResetTransparencyRefusal, emulateReadBeforeWriteRefusal, makeDataSwizzleRefusal, swizzleDepthsRefusal, swizzleMuxBitsRefusal, swizzleRefusal, canLowerFallbackRefusal, lowerFallbackRefusal, patchRefusal, writeRecordRefusal, readRecordRefusal, summaryRefusal, headerRefusal}
 use Rattle.rules.specs.Patch.{patchedOne, laidOut}
 use Rattle.rules.specs.Lister.{Summary, summaryOf}
 
@@ -144,63 +144,149 @@ addDedupDffCall out log s f = merged (addDedupDffRefusal (length out) (length lo
 unfoldable pub addBitwiseMuxCall : List ℕ → List ℕ → LogState → Value → Value → Value → Merged
 addBitwiseMuxCall out log s c a b = merged (addBitwiseMuxRefusal (length out) (length log) s c a b) out log s (addBitwiseMux c a b)
 
--- ---- calls on a memory
-unfoldable pub outputLenCall : Mem → Answer ℕ
-outputLenCall m = answerOf (memRefusal m) (outputLen m)
+-- ---- calls on a memory, as it is given
+unfoldable pub outputLenCall : Given → Answer ℕ
+outputLenCall g = answerOf (memRefusal g) (outputLen (g .mem))
 
 -- the start and the length of a port's part of the outputs
-unfoldable pub outputSliceCall : Mem → ℕ → Answer (ℕ × ℕ)
-outputSliceCall m i = answerOf (outputSliceRefusal m i) (outputStart m i, readAt m i .dataLen)
+unfoldable pub outputSliceCall : Given → ℕ → Answer (ℕ × ℕ)
+outputSliceCall g i = answerOf (outputSliceRefusal g i) (outputStart (g .mem) i, readAt (g .mem) i .dataLen)
 
-unfoldable pub extractReadPortsCall : Mem → List ℕ → Value → Answer Driving
-extractReadPortsCall m ports output = answerOf (extractReadPortsRefusal m ports output) (extractReadPorts m ports output)
+unfoldable pub canLowerFallbackCall : Given → Answer Bool
+canLowerFallbackCall g = answerOf (canLowerFallbackRefusal g) (canLowerFallback (g .mem))
 
-unfoldable pub transparencyMuxCall : List ℕ → LogState → Mem → ℕ → ℕ → Overlay → Logged Overlay
-transparencyMuxCall log s m i j o = logged (transparencyMuxRefusal (length log) s m i j o) log s (transparencyMux m i j o)
+-- a memory and its outputs in lent room, and the rooms after the call
+pub record Extracted : Type 0 where
+  pub answer : Answer Driving
+  pub nets : List ℕ
+  pub trits : List ℕ
+  pub output : List ℕ
 
-unfoldable pub unmapReadDffCall : List ℕ → LogState → Mem → ℕ → Value → Logged Driving
-unmapReadDffCall log s m i output = logged (unmapReadDffRefusal (length log) s m i output) log s (unmapReadDff m i output)
+unfoldable pub extractReadPortsCall : List ℕ → List ℕ → List ℕ → Given → List ℕ → Value → Extracted
+extractReadPortsCall nets trits out g ports output =
+    let n = extractReadPortsRefusal (record { nets = length nets; trits = length trits; output = length out }) g ports output in
+    let d = extractReadPorts (g .mem) ports output in
+    record {
+      answer = answerOf n d;
+      nets = leaves n nets (sets nets 0 (flatNets (d .memory)));
+      trits = leaves n trits (sets trits 0 (flatTrits (d .memory)));
+      output = leaves n out (sets out 0 (d .output));
+    }
 
-unfoldable pub unmapResetCall : List ℕ → LogState → Mem → ℕ → Bool → Value → Logged Driving
-unmapResetCall log s m i incl output =
-    logged (unmapReadInitResetTransparencyRefusal (length log) s m i incl output) log s (unmapReadInitResetTransparency m i incl output)
+-- data and mask in lent room, and the rooms after the call; without a mask its room stays
+pub record Overlaid : Type 0 where
+  pub logged : Logged Overlay
+  pub bits : List ℕ
+  pub mask : List ℕ
 
-unfoldable pub emulateCall : List ℕ → LogState → Mem → Logged Mem
-emulateCall log s m = logged (emulateReadBeforeWriteRefusal (length log) s m) log s (emulateReadBeforeWrite m)
+unfoldable pub transparencyMuxCall : List ℕ → List ℕ → List ℕ → LogState → Given → ℕ → ℕ → Overlay → Overlaid
+transparencyMuxCall bits mask log s g i j o =
+    let n = transparencyMuxRefusal (record { bits = length bits; mask = length mask }) (length log) s g i j o in
+    let t = transparencyMux (g .mem) i j o in
+    record {
+      logged = logged n log s t;
+      bits = leaves n bits (sets bits 0 (t (s .next) .value .bits));
+      mask = leaves n mask (sets mask 0 (orEmpty (t (s .next) .value .mask)));
+    }
+
+-- a call that changes a memory and the outputs in place: the state after it or the number, and what log, memory and outputs hold afterwards
+pub record Driven : Type 0 where
+  pub answer : Answer LogState
+  pub log : List ℕ
+  pub memory : Mem
+  pub output : Value
+
+unfoldable pub driven : ℕ → List ℕ → LogState → Driving → Trace Driving → Driven
+driven n log s d t =
+    let x = t (s .next) in
+    record {
+      answer = answerOf n (stateAfter s x);
+      log = leaves n log (logAfter log s x);
+      memory = leaves n (d .memory) (x .value .memory);
+      output = leaves n (d .output) (x .value .output);
+    }
+
+-- `r` are the lengths of the arrays that the memory and the outputs are lent in
+unfoldable pub unmapReadDffCall : Rooms → List ℕ → LogState → Given → ℕ → Value → Driven
+unmapReadDffCall r log s g i output =
+    driven (unmapReadDffRefusal r (length log) s g i output) log s (record { memory = g .mem; output = output }) (unmapReadDff (g .mem) i output)
+
+unfoldable pub unmapResetCall : Rooms → List ℕ → LogState → Given → ℕ → Bool → Value → Driven
+unmapResetCall r log s g i incl output =
+    driven (unmapReadInitResetTransparencyRefusal r (length log) s g i incl output) log s (record { memory = g .mem; output = output })
+    (unmapReadInitResetTransparency (g .mem) i incl output)
+
+-- the outputs play no part
+unfoldable pub emulateCall : Rooms → List ℕ → LogState → Given → Driven
+emulateCall r log s g =
+    driven (emulateReadBeforeWriteRefusal r (length log) s g) log s (alone (g .mem)) (emulateReadBeforeWrite (g .mem) >>= λ m. done (alone m))
 
 -- ---- calls with a plan
-unfoldable pub makeDataSwizzleCall : ℕ → Mem → List ℕ → Answer (List ℕ)
-makeDataSwizzleCall room m gs = answerOf (makeDataSwizzleRefusal room m gs) (makeDataSwizzle m gs)
+-- how many elements a result list has, and the lent room after the call
+pub record Listed : Type 0 where
+  pub answer : Answer ℕ
+  pub out : List ℕ
 
-unfoldable pub swizzleDepthsCall : List ℕ → Mem → Plan → Filled
-swizzleDepthsCall out m p = filled (swizzleDepthsRefusal (length out) m p) out (swizzleDepths (layoutOf m p))
+unfoldable pub makeDataSwizzleCall : List ℕ → Given → List ℕ → Listed
+makeDataSwizzleCall out g gs =
+    let n = makeDataSwizzleRefusal (length out) g gs in
+    let es = makeDataSwizzle (g .mem) gs in
+    record { answer = answerOf n (length es); out = leaves n out (sets out 0 es) }
+
+unfoldable pub swizzleDepthsCall : List ℕ → Given → Plan → Filled
+swizzleDepthsCall out g p = filled (swizzleDepthsRefusal (length out) g p) out (swizzleDepths (layoutOf (g .mem) p))
 
 -- the mux bits of the write ports and of the listed read ports
-unfoldable pub swizzleMuxBitsCall : Mem → List ℕ → Plan → Answer (List ℕ × List ℕ)
-swizzleMuxBitsCall m ports p = answerOf (swizzleMuxBitsRefusal m ports p) (writeMuxBits m p, readMuxBits m ports p)
+unfoldable pub swizzleMuxBitsCall : Given → List ℕ → Plan → Answer (List ℕ × List ℕ)
+swizzleMuxBitsCall g ports p = answerOf (swizzleMuxBitsRefusal g ports p) (writeMuxBits (g .mem) p, readMuxBits (g .mem) ports p)
 
--- what a swizzle gives beside the log: the lent image after it, the state that patches go by, and the record's sizes
+-- the arrays that a swizzle is lent
+pub record SwizzleLent : Type 0 where
+  pub image : List ℕ
+  pub nets : List ℕ
+  pub trits : List ℕ
+  pub scratch : List ℕ
+
+-- what a swizzle gives beside the log: the lent arrays after it, the state that patches go by, and the record's sizes. Of the scratch only what lies past
+-- its need is kept by an accepted call; the memory and the outputs that it is given are never changed
 pub record Swizzled : Type 0 where
   pub logged : Logged (List Driving)
   pub image : List ℕ
+  pub nets : List ℕ
+  pub trits : List ℕ
+  pub scratchKept : List ℕ
   pub laid : Answer Laid
   pub sizes : Answer Sizes
 
-unfoldable pub swizzleCall : List ℕ → List ℕ → LogState → Mem → Value → Plan → Swizzled
-swizzleCall image log s m output p =
-    let n = swizzleRefusal (length image) (length log) s m output p in
+unfoldable pub roomsOf : SwizzleLent → SwizzleRooms
+roomsOf l = record { image = length (l .image); nets = length (l .nets); trits = length (l .trits); scratch = length (l .scratch) }
+
+unfoldable pub swizzleCall : SwizzleLent → List ℕ → LogState → Given → Value → Plan → Swizzled
+swizzleCall l log s g output p =
+    let n = swizzleRefusal (roomsOf l) (length log) s g output p in
+    let ds = swizzle (g .mem) output p (s .next) .value in
     record {
-      logged = logged n log s (swizzle m output p);
-      image = leaves n image (laidOut (layoutOf m p) (m .init) image);
-      laid = answerOf n (swizzleLaid m p);
-      sizes = answerOf n (sizesOf (layoutOf m p));
+      logged = logged n log s (swizzle (g .mem) output p);
+      image = leaves n (l .image) (laidOut (layoutOf (g .mem) p) (g .mem .init) (l .image));
+      nets = leaves n (l .nets) (sets (l .nets) 0 (sharedNets (g .mem) ds));
+      trits = leaves n (l .trits) (sets (l .trits) 0 (sharedTrits (g .mem) ds));
+      scratchKept = leaves n (l .scratch) (drop (swizzleScratch (g .mem) p) (l .scratch));
+      laid = answerOf n (swizzleLaid (g .mem) p);
+      sizes = answerOf n (sizesOf (layoutOf (g .mem) p));
     }
 
-unfoldable pub canLowerFallbackCall : Mem → Answer Bool
-canLowerFallbackCall m = answerOf (canLowerFallbackRefusal m) (canLowerFallback m)
+-- what a fallback leaves: the log and the scratch past its need
+pub record Lowered : Type 0 where
+  pub logged : Logged Unit
+  pub scratchKept : List ℕ
 
-unfoldable pub lowerFallbackCall : List ℕ → LogState → Mem → Value → Logged Value
-lowerFallbackCall log s m output = logged (lowerFallbackRefusal (length log) s m output) log s (lowerFallback m output)
+unfoldable pub lowerFallbackCall : List ℕ → List ℕ → LogState → Given → Value → Lowered
+lowerFallbackCall scratch log s g output =
+    let n = lowerFallbackRefusal (length scratch) (length log) s g output in
+    record {
+      logged = logged n log s (lowerFallback (g .mem) output);
+      scratchKept = leaves n scratch (drop (fallbackScratch (g .mem)) scratch);
+    }
 
 -- ---- patches and records
 unfoldable pub patchCall : Laid → Patch → List ℕ → Filled
@@ -221,3 +307,7 @@ readRecordCall image bytes =
 
 unfoldable pub summaryCall : Sizes → Const → ℕ → Answer Summary
 summaryCall z image i = answerOf (summaryRefusal z image i) (summaryOf z image i)
+
+-- a record's sizes from its first bytes and its length
+unfoldable pub headerCall : List ℕ → ℕ → Answer Sizes
+headerCall first total = answerOf (headerRefusal first total) (headSizes first)

@@ -8,7 +8,7 @@ use lib.ListN.{length, getD, set, take}
 use lib.Seq.{sets}
 use Rattle.rules.specs.Limits.{addrBits}
 use Rattle.lists.specs.Choice.{if_then_else_}
-use Rattle.lists.specs.Lists.{sumBy, part}
+use Rattle.lists.specs.Lists.{sumBy, part, concatMap}
 use Rattle.rules.specs.Numbers.{topBits}
 use Rattle.rules.specs.Logic.{Const, undef}
 use Rattle.rules.specs.Value.{Value, Control, Pos}
@@ -68,6 +68,17 @@ pub record Mem : Type 0 where
   pub init : Const
   pub writes : List WritePort
   pub reads : List ReadPort
+
+-- a memory as a call is given it. The lists of a `Mem` do not show everything that a caller can get wrong: its record may say more ports than it has
+-- place for, which breaks 1, or lengths that its arrays do not have, which breaks 2
+pub record Given : Type 0 where
+  pub mem : Mem
+  pub extraPorts : Bool
+  pub wrongLens : Bool
+
+-- a memory by its lists alone
+abbrev pub given : Mem → Given
+given m = record { mem = m; extraPorts = false; wrongLens = false }
 
 -- MemorySwizzle: each entry of a row names a bit or is None
 pub record Plan : Type 0 where
@@ -155,6 +166,23 @@ orEmpty (some l) = l
 unfoldable pub held : {A : Type 0} → Option A → List A
 held none = []
 held (some a) = a ∷ []
+
+-- a port's nets and trits, one list after the other
+unfoldable pub portNets : WritePort → Value
+portNets p = p .addr ++ (p .bits ++ p .mask)
+
+unfoldable pub flipFlopTrits : ReadFlipFlop → Const
+flipFlopTrits f = f .clearValue ++ (f .resetValue ++ f .initValue)
+
+unfoldable pub portTrits : ReadPort → Const
+portTrits p = concatMap flipFlopTrits (held (p .flipFlop))
+
+-- a memory in two arrays: the nets of each write port, then the address of each read port; the initial trits, then the trits of each read port
+unfoldable pub flatNets : Mem → Value
+flatNets m = concatMap portNets (m .writes) ++ concatMap (λ p. p .addr) (m .reads)
+
+unfoldable pub flatTrits : Mem → Const
+flatTrits m = m .init ++ concatMap portTrits (m .reads)
 
 -- the flip-flops of the clocked read ports, in order
 unfoldable pub flipFlops : List ReadPort → List ReadFlipFlop

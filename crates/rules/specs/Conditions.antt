@@ -4,7 +4,7 @@ use mathlib.Core.Bool.{Bool, false, _&&_, _||_, not}
 use mathlib.Core.List.{List, [], _∷_, _++_}
 use lib.ListN.{length, drop}
 use lib.Dec.{eqb, ltb, leb}
-use Rattle.rules.specs.Limits.{maxDepth, maxWidth, maxBits, maxPorts, maxWide, addrBits, maxRow, maxUnit, maxHard, maxGranularity, maxMerge, maxColumns, maxImage, maxNets, maxPartial, None, recordMark, headBytes, maxWords}
+use Rattle.rules.specs.Limits.{maxDepth, maxWidth, maxBits, maxPorts, maxWide, addrBits, maxRow, maxUnit, maxHard, maxMask, maxGranularity, maxMerge, maxColumns, maxImage, maxNets, maxPartial, None, recordMark, headBytes, maxWords}
 use Rattle.lists.specs.Choice.{if_then_else_}
 use Rattle.lists.specs.Lists.{any, sumBy, pairs, upFrom}
 use Rattle.rules.specs.Numbers.{softs, topBits}
@@ -34,7 +34,8 @@ planTooLarge p =
     || (ltb maxUnit (p .unit)
     || (ltb maxHard (p .hard)
     || (any (ltb maxWide) (p .writeWide)
-    || any (ltb maxWide) (p .readWide)))))
+    || (any (ltb maxWide) (p .readWide)
+    || ltb maxMask (p .softMask))))))
 
 unfoldable pub longList : List ℕ → Bool
 longList l = ltb maxPorts (length l)
@@ -159,6 +160,10 @@ allReads m = upFrom 0 (length (m .reads))
 unfoldable pub resultTooLarge : Layout → Bool
 resultTooLarge q = ltb maxColumns (columns q) || ltb maxImage (trits q)
 
+-- of a swizzle: a memory of width 0 gives no memories, so nothing that is too large
+unfoldable pub imageTooLarge : Layout → Bool
+imageTooLarge q = not (eqb (q .width) 0) && resultTooLarge q
+
 -- ---- 11 write clocks
 unfoldable pub writeClocksDiffer : Mem → Bool
 writeClocksDiffer m = not (canLowerFallback m)
@@ -196,10 +201,10 @@ notBelow n i = leb n i
 unfoldable pub badPort : Mem → ℕ → Bool
 badPort m i = notBelow (length (m .reads)) i
 
--- ---- 16 a record's first word, or its length
-unfoldable pub badHead : List ℕ → Bool
-badHead bytes =
-    ltb (length bytes) headBytes || (not (eqb (wordAt bytes 0) recordMark) || not (eqb (length bytes) (recordBytes (headSizes bytes))))
+-- ---- 16 a record's first word, or its length: of a record that starts with these bytes and is `total` bytes long
+unfoldable pub badHead : List ℕ → ℕ → Bool
+badHead first total =
+    ltb (length first) headBytes || (not (eqb (wordAt first 0) recordMark) || not (eqb total (recordBytes (headSizes first))))
 
 -- ---- 17 a record's sizes
 unfoldable pub isPower : ℕ → Bool
@@ -262,4 +267,4 @@ badLayout q =
     badLayoutSizes (q .depth) (q .width) (rowLen q) (q .unit) (q .hard)
     || (badEntries (q .width) (q .entries)
     || (indivisible (q .depth) (topBits addrBits (q .softMask))
-    || not (eqb (q .width) 0) && resultTooLarge q))
+    || (imageTooLarge q || ltb maxMask (q .softMask))))

@@ -1,11 +1,12 @@
 -- `can_lower_fallback` and `lower_fallback`: each row a memory of depth 1.
-use Prim.Native.Nat.{ℕ, _-_, _^_, max}
+use Prim.Native.Nat.{ℕ, _+_, _-_, _*_, _^_, max}
 use mathlib.Core.Bool.{Bool}
 use mathlib.Core.List.{List, [], _∷_, map}
 use lib.ListN.{length, take, drop}
 use Rattle.lists.specs.Lists.{all, upFrom}
+use Rattle.rules.specs.Numbers.{largest}
 use Rattle.rules.specs.Value.{Value, ofConst, sameControl}
-use Rattle.rules.specs.Cell.{WritePort, ReadPort, Mem, Plan, newFlipFlop, withInit, writeWideLog2, readWideLog2, writeAt}
+use Rattle.rules.specs.Cell.{WritePort, ReadPort, Mem, Plan, newFlipFlop, withInit, writeWideLog2, readWideLog2, writeAt, outputLen}
 use Rattle.rules.specs.Log.{Trace, _>>=_, _>>_, done, addVoid, addDff, replaceValue}
 use Rattle.rules.specs.Merge.{addBitwiseMux}
 use Rattle.rules.specs.Ports.{Driving, unmapAll}
@@ -13,10 +14,6 @@ use Rattle.rules.specs.Swizzle.{swizzle}
 
 unfoldable pub canLowerFallback : Mem → Bool
 canLowerFallback m = all (λ p. sameControl (p .clock) (writeAt m 0 .clock)) (m .writes)
-
-unfoldable pub largest : List ℕ → ℕ
-largest [] = 0
-largest (a ∷ l) = max a (largest l)
 
 -- the largest k of the ports
 unfoldable pub maxWideLog2 : Mem → ℕ
@@ -54,21 +51,26 @@ rowValue [] m = done (ofConst (m .init))
 rowValue (p ∷ ps) m = rowFlipFlop m
 
 -- each read port's part of the outputs is the row
-unfoldable pub driveOutputs : List ReadPort → Value → Value → Trace Value
-driveOutputs [] output v = done []
+unfoldable pub driveOutputs : List ReadPort → Value → Value → Trace Unit
+driveOutputs [] output v = done tt
 driveOutputs (p ∷ ps) output v = do
   replaceValue (take (length v) output) v
   driveOutputs ps (drop (length v) output) v
 
-unfoldable pub lowerRows : List Driving → Trace Value
-lowerRows [] = done []
+unfoldable pub lowerRows : List Driving → Trace Unit
+lowerRows [] = done tt
 lowerRows (d ∷ ds) = do
   v ← rowValue (d .memory .writes) (d .memory)
   driveOutputs (d .memory .reads) (d .output) v
   lowerRows ds
 
-unfoldable pub lowerFallback : Mem → Value → Trace Value
+-- nothing is given but what is logged
+unfoldable pub lowerFallback : Mem → Value → Trace Unit
 lowerFallback m output = do
   x ← unmapAll m output
   ds ← swizzle (x .memory) (x .output) (fallbackPlan (x .memory))
   lowerRows ds
+
+-- the nets of scratch that a call is lent: the outputs, the data and the mask of each write port for all rows, and the pieces of one read port
+unfoldable pub fallbackScratch : Mem → ℕ
+fallbackScratch m = outputLen m + (2 * length (m .writes) + 1) * (m .depth * m .width)

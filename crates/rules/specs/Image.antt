@@ -59,7 +59,7 @@ unfoldable pub indexOf : Layout → ℕ → ℕ → ℕ
 indexOf q row i = flat q (placeOf q row i)
 
 -- ---- the layout
--- entry e, which names a bit of the trits or none: the trit goes to place at
+-- the trit t goes to index `at` of the image, unless its entry is None
 unfoldable pub put : Bool → ℕ → ℕ → List ℕ → List ℕ
 put true at t image = image
 put false at t image = set image at t

@@ -1,28 +1,22 @@
 -- The rules of document 01: what a memory is, what each call asks for and gives, and which number refuses it.
+-- `Beside` has what is not document 01.
 pub mod Limits
 pub mod Numbers
 pub mod Logic
 pub mod Value
 pub mod Cell
 pub mod Log
-pub mod Chain
 pub mod Merge
 pub mod Ports
 pub mod Geometry
 pub mod Image
 pub mod Swizzle
-pub mod Counts
 pub mod Fallback
 pub mod Record
 pub mod Conditions
-pub mod Decode
 pub mod Refusals
 pub mod Patch
 pub mod Lister
 pub mod Answers
-pub mod Header
-pub mod Shape
-pub mod Layouts
-pub mod Stored
 pub mod Examples
-pub mod WholePlan
+pub mod Beside

@@ -11,7 +11,7 @@ use Rattle.lists.specs.Lists.{upFrom}
 use Rattle.rules.specs.Value.{Value, firstCell, Control, isAlways, controlWords, Pos, Neg}
 use Rattle.rules.specs.Cell.{Controls, FlipFlop}
 
--- Each holds its first result net.
+-- Each but Replace, which has no result, holds its first result net first.
 pub data Entry : Type 0 where
   Void : ℕ → ℕ → Entry
   Not : ℕ → Value → Entry

@@ -1,6 +1,7 @@
 -- Functions of numbers that the rules use: division rounded up, and the bits of a number.
-use Prim.Native.Nat.{ℕ, zero, suc, _+_, _-_, _/_, _%_}
+use Prim.Native.Nat.{ℕ, zero, suc, _+_, _-_, _/_, _%_, max}
 use mathlib.Core.Bool.{true, false}
+use mathlib.Core.List.{List, [], _∷_}
 use lib.Dec.{eqb}
 use Rattle.rules.specs.Limits.{addrBits}
 
@@ -21,3 +22,8 @@ topBits (suc n) m = elim (eqb m 0) [ true ↦ 0 | false ↦ suc (topBits n (m / 
 -- how many bits count up to n things: 0 for 0 and 1, else ilog2(n - 1) + 1
 unfoldable pub bitsFor : ℕ → ℕ
 bitsFor n = topBits addrBits (n - 1)
+
+-- the largest of some numbers, 0 of none
+unfoldable pub largest : List ℕ → ℕ
+largest [] = 0
+largest (a ∷ l) = max a (largest l)

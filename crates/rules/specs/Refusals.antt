@@ -1,5 +1,6 @@
 -- For each call the number that refuses it, 0 where none does: the conditions in document 01's order.
--- Where a call has numbers for the state, those for the input stand by themselves, under a name that ends in `Number`.
+-- A name that ends in `Number` gives numbers for the input alone (1 to 18), one that ends in `Refusal` all that concern its call or its part, those for
+-- the state (20 to 23) among them. Numbers for the input come first, then 22, 20 and 21; a patch tries 23 before all others.
 use Prim.Native.Nat.{ℕ, _-_}
 use mathlib.Core.Path.{_≡_}
 use mathlib.Core.Bool.{Bool, false, _&&_, _||_, not}
@@ -12,16 +13,16 @@ use Rattle.lists.specs.Lists.{any}
 use Rattle.rules.specs.Limits.{maxNets}
 use Rattle.rules.specs.Logic.{Const}
 use Rattle.rules.specs.Value.{Value, netOfCell, Control, goodSelect}
-use Rattle.rules.specs.Cell.{Controls, FlipFlop, Mem, Plan, readAt, held}
+use Rattle.rules.specs.Cell.{Controls, FlipFlop, ReadPort, Mem, Given, Plan, readAt, held, flatNets, flatTrits}
 use Rattle.rules.specs.Log.{Trace, startNet, added, addVoid, addNot, addMux, addDff, intoPos, remapResetOverEnable, LogState}
 use Rattle.rules.specs.Merge.{addDedupMux, addDedupDff, addBitwiseMux}
-use Rattle.rules.specs.Ports.{Overlay, transparencyMux, unmapReadDff, unmapReadInitResetTransparency, emulateReadBeforeWrite}
+use Rattle.rules.specs.Ports.{Overlay, transparencyMux, Driving, extractReadPorts, unmapReadDff, unmapReadInitResetTransparency, emulateReadBeforeWrite}
 use Rattle.rules.specs.Geometry.{makeDataSwizzle, Layout, layoutOf, allMems}
 use Rattle.rules.specs.Image.{imageSize, Laid, Patch}
-use Rattle.rules.specs.Swizzle.{swizzle}
-use Rattle.rules.specs.Fallback.{lowerFallback}
+use Rattle.rules.specs.Swizzle.{swizzle, sharedNets, sharedTrits, swizzleScratch}
+use Rattle.rules.specs.Fallback.{lowerFallback, fallbackScratch}
 use Rattle.rules.specs.Record.{Sizes, sizeMems, sizeTrits, recordImage, encodeRecord, headSizes, recordBytes, decodeImage}
-use Rattle.rules.specs.Conditions.{tooLarge, planTooLarge, longList, longValue, unequal, badDataLen, badTritLens, badShape, badOutputLen, badDepth, badValue, badControl, badTrits, badControls, badNets, badGranularities, rowTooLong, badEntries, badSoftMask, badWrites, badReads, allReads, resultTooLarge, writeClocksDiffer, readClocksDiffer, mixedRelations, tooFewBits, shortPair, shortPort, shortPorts, notBelow, badPort, badHead, badSizes, badBits, logFull, noRoom, netsFull, unclocked}
+use Rattle.rules.specs.Conditions.{tooLarge, planTooLarge, longList, longValue, unequal, badDataLen, badTritLens, badShape, badOutputLen, badDepth, badValue, badControl, badTrits, badControls, badNets, badGranularities, rowTooLong, badEntries, badSoftMask, badWrites, badReads, allReads, resultTooLarge, imageTooLarge, writeClocksDiffer, readClocksDiffer, mixedRelations, tooFewBits, shortPair, shortPort, shortPorts, notBelow, badPort, badHead, badSizes, badBits, logFull, noRoom, netsFull, unclocked}
 
 -- ---- leaves
 unfoldable pub tritRefusal : ℕ → ℕ
@@ -120,9 +121,14 @@ dffNumber next f = if badFlipFlopLens f then 2 else if badFlipFlop next f then 4
 unfoldable pub addDffRefusal : ℕ → LogState → FlipFlop → ℕ
 addDffRefusal room s f = dffNumber (s .next) f orElse logRefusal room s (addDff f)
 
+-- ---- lent room for another result
+-- 20 for so many elements
+abbrev pub lentRefusal : ℕ → ℕ → ℕ
+lentRefusal room need = if noRoom room need then 20 else 0
+
 -- ---- merges: the result's nets are lent room too
 unfoldable pub resultRefusal : ℕ → Value → ℕ
-resultRefusal out a = if noRoom out (length a) then 20 else 0
+resultRefusal out a = lentRefusal out (length a)
 
 unfoldable pub addDedupMuxRefusal : ℕ → ℕ → LogState → Control → Value → Value → ℕ
 addDedupMuxRefusal out room s c a b =
@@ -159,29 +165,43 @@ remapNumber next c = if badControl next (c .reset) || badControl next (c .enable
 unfoldable pub remapResetOverEnableRefusal : ℕ → LogState → Controls → ℕ
 remapResetOverEnableRefusal room s c = remapNumber (s .next) c orElse logRefusal room s (remapResetOverEnable c)
 
+-- ---- rooms for a memory
+-- rooms for a memory, in two arrays, and for the outputs that it drives
+pub record Rooms : Type 0 where
+  pub nets : ℕ
+  pub trits : ℕ
+  pub output : ℕ
+
+unfoldable pub noRooms : Rooms → Driving → Bool
+noRooms r d =
+    noRoom (r .nets) (length (flatNets (d .memory))) || (noRoom (r .trits) (length (flatTrits (d .memory))) || noRoom (r .output) (length (d .output)))
+
+unfoldable pub drivingRefusal : Rooms → Driving → ℕ
+drivingRefusal r d = if noRooms r d then 20 else 0
+
 -- ---- a memory: 1 to 4, each with what else of the call breaks it
-unfoldable pub memNumber : Bool → Bool → Bool → ℕ → Mem → ℕ
-memNumber one two four next m =
-    if tooLarge m || one then 1
-    else if badShape m || two then 2
-    else if badDepth m then 3
-    else if badNets next m || four then 4
+unfoldable pub memNumber : Bool → Bool → Bool → ℕ → Given → ℕ
+memNumber one two four next g =
+    if tooLarge (g .mem) || (g .extraPorts || one) then 1
+    else if badShape (g .mem) || (g .wrongLens || two) then 2
+    else if badDepth (g .mem) then 3
+    else if badNets next (g .mem) || four then 4
     else 0
 
 -- a call that has only the memory
-unfoldable pub memRefusal : Mem → ℕ
-memRefusal m = memNumber false false false maxNets m
+unfoldable pub memRefusal : Given → ℕ
+memRefusal g = memNumber false false false maxNets g
 
--- the memory and the nets that its outputs drive
-unfoldable pub drivingNumber : ℕ → Mem → Value → ℕ
-drivingNumber next m output = memNumber false (badOutputLen m output) (badValue next output) next m
+-- the memory and the nets that its outputs drive, with what else of the call breaks 1
+unfoldable pub drivingNumber : Bool → ℕ → Given → Value → ℕ
+drivingNumber one next g output = memNumber one (badOutputLen (g .mem) output) (badValue next output) next g
 
 unfoldable pub portNumber : Mem → ℕ → ℕ
 portNumber m i = if badPort m i then 15 else 0
 
 -- output_len is memRefusal's; read_port_output_slice
-unfoldable pub outputSliceRefusal : Mem → ℕ → ℕ
-outputSliceRefusal m i = memRefusal m orElse portNumber m i
+unfoldable pub outputSliceRefusal : Given → ℕ → ℕ
+outputSliceRefusal g i = memRefusal g orElse portNumber (g .mem) i
 
 -- ---- calls on ports
 -- the values of an overlay
@@ -198,93 +218,154 @@ noPair m i j = badPort m i || notBelow (length (m .writes)) j
 unfoldable pub pairPortsNumber : Mem → ℕ → ℕ → ℕ
 pairPortsNumber m i j = if not (noPair m i j) && shortPair m (readAt m i) j then 14 else if noPair m i j then 15 else 0
 
-unfoldable pub transparencyMuxNumber : ℕ → Mem → ℕ → ℕ → Overlay → ℕ
-transparencyMuxNumber next m i j o =
-    memNumber (any longValue (overlayValues o)) (badOverlayLens m i o) (any (badValue next) (overlayValues o)) next m orElse pairPortsNumber m i j
+unfoldable pub transparencyMuxNumber : ℕ → Given → ℕ → ℕ → Overlay → ℕ
+transparencyMuxNumber next g i j o =
+    memNumber (any longValue (overlayValues o)) (badOverlayLens (g .mem) i o) (any (badValue next) (overlayValues o)) next g
+    orElse pairPortsNumber (g .mem) i j
 
-unfoldable pub transparencyMuxRefusal : ℕ → LogState → Mem → ℕ → ℕ → Overlay → ℕ
-transparencyMuxRefusal room s m i j o = transparencyMuxNumber (s .next) m i j o orElse logRefusal room s (transparencyMux m i j o)
+-- rooms for the data and for the mask after, which are as long as the port's data
+pub record OverlayRooms : Type 0 where
+  pub bits : ℕ
+  pub mask : ℕ
 
-unfoldable pub extractReadPortsRefusal : Mem → List ℕ → Value → ℕ
-extractReadPortsRefusal m ports output =
-    memNumber (longList ports) (badOutputLen m output) (badValue maxNets output) maxNets m orElse (if any (badPort m) ports then 15 else 0)
+unfoldable pub overlayRefusal : OverlayRooms → ℕ → Overlay → ℕ
+overlayRefusal r n o = if noRoom (r .bits) n || any (λ k. noRoom (r .mask) n) (held (o .mask)) then 20 else 0
 
-unfoldable pub unmapReadDffNumber : ℕ → Mem → ℕ → Value → ℕ
-unmapReadDffNumber next m i output =
-    drivingNumber next m output orElse (if shortPort m (readAt m i) then 14 else portNumber m i)
+unfoldable pub transparencyMuxRefusal : OverlayRooms → ℕ → LogState → Given → ℕ → ℕ → Overlay → ℕ
+transparencyMuxRefusal r room s g i j o =
+    transparencyMuxNumber (s .next) g i j o
+    orElse overlayRefusal r (readAt (g .mem) i .dataLen) o
+    orElse logRefusal room s (transparencyMux (g .mem) i j o)
 
-unfoldable pub unmapReadDffRefusal : ℕ → LogState → Mem → ℕ → Value → ℕ
-unmapReadDffRefusal room s m i output = unmapReadDffNumber (s .next) m i output orElse logRefusal room s (unmapReadDff m i output)
+unfoldable pub extractReadPortsRefusal : Rooms → Given → List ℕ → Value → ℕ
+extractReadPortsRefusal r g ports output =
+    drivingNumber (longList ports) maxNets g output
+    orElse (if any (badPort (g .mem)) ports then 15 else drivingRefusal r (extractReadPorts (g .mem) ports output))
 
-unfoldable pub unmapResetNumber : ℕ → Mem → ℕ → Bool → Value → ℕ
-unmapResetNumber next m i incl output =
-    drivingNumber next m output
-    orElse (if incl && shortPort m (readAt m i) then 14 else if badPort m i then 15 else if unclocked (readAt m i) then 22 else 0)
+-- 20 and 21 of a call that changes a memory and its outputs: the room for them, and the log
+unfoldable pub drivenRefusal : Rooms → ℕ → LogState → Trace Driving → ℕ
+drivenRefusal r room s t = drivingRefusal r (t (startNet s) .value) orElse logRefusal room s t
 
-unfoldable pub unmapReadInitResetTransparencyRefusal : ℕ → LogState → Mem → ℕ → Bool → Value → ℕ
-unmapReadInitResetTransparencyRefusal room s m i incl output =
-    unmapResetNumber (s .next) m i incl output orElse logRefusal room s (unmapReadInitResetTransparency m i incl output)
+-- 22
+unfoldable pub flipFlopRefusal : ReadPort → ℕ
+flipFlopRefusal p = if unclocked p then 22 else 0
 
-unfoldable pub emulateNumber : ℕ → Mem → ℕ
-emulateNumber next m =
-    memNumber false false false next m
-    orElse (if readClocksDiffer m then 12 else if mixedRelations m then 13 else if any unclocked (m .reads) then 22 else 0)
+unfoldable pub unmapReadDffNumber : ℕ → Given → ℕ → Value → ℕ
+unmapReadDffNumber next g i output =
+    drivingNumber false next g output orElse (if shortPort (g .mem) (readAt (g .mem) i) then 14 else portNumber (g .mem) i)
 
-unfoldable pub emulateReadBeforeWriteRefusal : ℕ → LogState → Mem → ℕ
-emulateReadBeforeWriteRefusal room s m = emulateNumber (s .next) m orElse logRefusal room s (emulateReadBeforeWrite m)
+unfoldable pub unmapReadDffRefusal : Rooms → ℕ → LogState → Given → ℕ → Value → ℕ
+unmapReadDffRefusal r room s g i output =
+    unmapReadDffNumber (s .next) g i output orElse drivenRefusal r room s (unmapReadDff (g .mem) i output)
+
+unfoldable pub unmapResetNumber : ℕ → Given → ℕ → Bool → Value → ℕ
+unmapResetNumber next g i incl output =
+    drivingNumber false next g output orElse (if incl && shortPort (g .mem) (readAt (g .mem) i) then 14 else portNumber (g .mem) i)
+
+unfoldable pub unmapReadInitResetTransparencyRefusal : Rooms → ℕ → LogState → Given → ℕ → Bool → Value → ℕ
+unmapReadInitResetTransparencyRefusal r room s g i incl output =
+    unmapResetNumber (s .next) g i incl output
+    orElse flipFlopRefusal (readAt (g .mem) i)
+    orElse drivenRefusal r room s (unmapReadInitResetTransparency (g .mem) i incl output)
+
+unfoldable pub emulateNumber : ℕ → Given → ℕ
+emulateNumber next g =
+    memNumber false false false next g orElse (if readClocksDiffer (g .mem) then 12 else if mixedRelations (g .mem) then 13 else 0)
+
+-- a memory that changes without its outputs
+unfoldable pub alone : Mem → Driving
+alone m = record { memory = m; output = [] }
+
+unfoldable pub emulateReadBeforeWriteRefusal : Rooms → ℕ → LogState → Given → ℕ
+emulateReadBeforeWriteRefusal r room s g =
+    emulateNumber (s .next) g
+    orElse (if any unclocked (g .mem .reads) then 22 else 0)
+    orElse drivingRefusal r (alone (emulateReadBeforeWrite (g .mem) (startNet s) .value))
+    orElse logRefusal room s (emulateReadBeforeWrite (g .mem))
 
 -- ---- calls with a plan
-unfoldable pub makeDataSwizzleRefusal : ℕ → Mem → List ℕ → ℕ
-makeDataSwizzleRefusal room m gs =
-    memRefusal m
-    orElse (if badGranularities m gs then 5
-    else if rowTooLong m gs then 6
-    else if noRoom room (length (makeDataSwizzle m gs)) then 20
-    else 0)
+unfoldable pub makeDataSwizzleRefusal : ℕ → Given → List ℕ → ℕ
+makeDataSwizzleRefusal room g gs =
+    memRefusal g
+    orElse (if badGranularities (g .mem) gs then 5
+    else if rowTooLong (g .mem) gs then 6
+    else lentRefusal room (length (makeDataSwizzle (g .mem) gs)))
 
 -- 7 and 8
 unfoldable pub planNumber : Mem → Plan → ℕ
 planNumber m p = if badEntries (m .width) (p .entries) then 7 else if badSoftMask m p then 8 else 0
 
-unfoldable pub swizzleDepthsRefusal : ℕ → Mem → Plan → ℕ
-swizzleDepthsRefusal room m p =
-    memNumber (planTooLarge p) false false maxNets m
-    orElse planNumber m p
-    orElse (if resultTooLarge (layoutOf m p) then 10 else if noRoom room (allMems (layoutOf m p)) then 20 else 0)
+-- 9, of the write ports and the read ports in a list
+unfoldable pub wideNumber : Mem → List ℕ → Plan → ℕ
+wideNumber m ports p = if badWrites m p || badReads m ports p then 9 else 0
 
-unfoldable pub swizzleMuxBitsRefusal : Mem → List ℕ → Plan → ℕ
-swizzleMuxBitsRefusal m ports p =
-    memNumber (planTooLarge p || longList ports) false false maxNets m
-    orElse planNumber m p
-    orElse (if badWrites m p || badReads m ports p then 9 else if any (badPort m) ports then 15 else 0)
+-- 10 of a swizzle
+unfoldable pub imageNumber : Mem → Plan → ℕ
+imageNumber m p = if imageTooLarge (layoutOf m p) then 10 else 0
 
--- width 0 has no result to be too large; depth 0 unmaps the flip-flops
-unfoldable pub swizzleNumber : ℕ → Mem → Value → Plan → ℕ
-swizzleNumber next m output p =
-    memNumber (planTooLarge p) (badOutputLen m output) (badValue next output) next m
-    orElse planNumber m p
-    orElse (if badWrites m p || badReads m (allReads m) p then 9
-    else if not (eqb (m .width) 0) && resultTooLarge (layoutOf m p) then 10
-    else if eqb (m .depth) 0 && shortPorts m then 14
-    else 0)
+-- 7 to 10, as a swizzle tries them
+unfoldable pub wholePlan : Mem → Plan → ℕ
+wholePlan m p = planNumber m p orElse wideNumber m (allReads m) p orElse imageNumber m p
+
+-- 1 to 4, 7 and 8 of a call that only looks, with what else of the call breaks 1
+unfoldable pub plannedNumber : Bool → Given → Plan → ℕ
+plannedNumber long g p = memNumber (planTooLarge p || long) false false maxNets g orElse planNumber (g .mem) p
+
+unfoldable pub swizzleDepthsRefusal : ℕ → Given → Plan → ℕ
+swizzleDepthsRefusal room g p =
+    plannedNumber false g p
+    orElse (if resultTooLarge (layoutOf (g .mem) p) then 10 else lentRefusal room (allMems (layoutOf (g .mem) p)))
+
+unfoldable pub swizzleMuxBitsRefusal : Given → List ℕ → Plan → ℕ
+swizzleMuxBitsRefusal g ports p =
+    plannedNumber (longList ports) g p
+    orElse wideNumber (g .mem) ports p
+    orElse (if any (badPort (g .mem)) ports then 15 else 0)
+
+-- 1 to 4 and 7 to 10 of a swizzle
+unfoldable pub swizzlePlanNumber : ℕ → Given → Value → Plan → ℕ
+swizzlePlanNumber next g output p = drivingNumber (planTooLarge p) next g output orElse wholePlan (g .mem) p
+
+-- depth 0 unmaps the flip-flops
+unfoldable pub swizzleNumber : ℕ → Given → Value → Plan → ℕ
+swizzleNumber next g output p =
+    swizzlePlanNumber next g output p orElse (if eqb (g .mem .depth) 0 && shortPorts (g .mem) then 14 else 0)
+
+-- what a swizzle is lent: room for the image, for the nets and the trits of the resulting memories, and scratch
+pub record SwizzleRooms : Type 0 where
+  pub image : ℕ
+  pub nets : ℕ
+  pub trits : ℕ
+  pub scratch : ℕ
 
 unfoldable pub imageRefusal : ℕ → Layout → ℕ
-imageRefusal room q = if noRoom room (imageSize q) then 20 else 0
+imageRefusal room q = lentRefusal room (imageSize q)
 
-unfoldable pub swizzleRefusal : ℕ → ℕ → LogState → Mem → Value → Plan → ℕ
-swizzleRefusal imageRoom room s m output p =
-    swizzleNumber (s .next) m output p orElse imageRefusal imageRoom (layoutOf m p) orElse logRefusal room s (swizzle m output p)
+-- the resulting memories
+unfoldable pub resultsRefusal : SwizzleRooms → Mem → List Driving → ℕ
+resultsRefusal r m ds = if noRoom (r .nets) (length (sharedNets m ds)) || noRoom (r .trits) (length (sharedTrits m ds)) then 20 else 0
+
+unfoldable pub swizzleRefusal : SwizzleRooms → ℕ → LogState → Given → Value → Plan → ℕ
+swizzleRefusal r room s g output p =
+    swizzleNumber (s .next) g output p
+    orElse imageRefusal (r .image) (layoutOf (g .mem) p)
+    orElse resultsRefusal r (g .mem) (swizzle (g .mem) output p (startNet s) .value)
+    orElse lentRefusal (r .scratch) (swizzleScratch (g .mem) p)
+    orElse logRefusal room s (swizzle (g .mem) output p)
 
 -- ---- fallback
-unfoldable pub canLowerFallbackRefusal : Mem → ℕ
-canLowerFallbackRefusal m = memRefusal m
+unfoldable pub canLowerFallbackRefusal : Given → ℕ
+canLowerFallbackRefusal g = memRefusal g
 
-unfoldable pub lowerFallbackNumber : ℕ → Mem → Value → ℕ
-lowerFallbackNumber next m output =
-    drivingNumber next m output orElse (if writeClocksDiffer m then 11 else if shortPorts m then 14 else 0)
+unfoldable pub lowerFallbackNumber : ℕ → Given → Value → ℕ
+lowerFallbackNumber next g output =
+    drivingNumber false next g output orElse (if writeClocksDiffer (g .mem) then 11 else if shortPorts (g .mem) then 14 else 0)
 
-unfoldable pub lowerFallbackRefusal : ℕ → LogState → Mem → Value → ℕ
-lowerFallbackRefusal room s m output = lowerFallbackNumber (s .next) m output orElse logRefusal room s (lowerFallback m output)
+unfoldable pub lowerFallbackRefusal : ℕ → ℕ → LogState → Given → Value → ℕ
+lowerFallbackRefusal scratch room s g output =
+    lowerFallbackNumber (s .next) g output
+    orElse lentRefusal scratch (fallbackScratch (g .mem))
+    orElse logRefusal room s (lowerFallback (g .mem) output)
 
 -- ---- patches: 23 before all others
 unfoldable pub patchRefusalOf : Layout → Patch → ℕ
@@ -298,10 +379,13 @@ patchRefusal none c = 23
 patchRefusal (some q) c = patchRefusalOf q c
 
 -- ---- records
--- 16, 17, 18: what a reader refuses whatever its room
+-- 16 and 17, of a record that starts with these bytes and is `total` bytes long
+unfoldable pub headerRefusal : List ℕ → ℕ → ℕ
+headerRefusal first total = if badHead first total then 16 else if badSizes (headSizes first) then 17 else 0
+
+-- 16, 17 and 18: what a reader refuses whatever its room
 unfoldable pub recordRefusal : List ℕ → ℕ
-recordRefusal bytes =
-    if badHead bytes then 16 else if badSizes (headSizes bytes) then 17 else if badBits bytes then 18 else 0
+recordRefusal bytes = headerRefusal bytes (length bytes) orElse (if badBits bytes then 18 else 0)
 
 -- the image is the first trits of the lent array, as many as the sizes say
 unfoldable pub writeRecordRefusal : ℕ → Sizes → Const → ℕ
@@ -316,11 +400,10 @@ summaryRefusal z image i =
     if badTrits (recordImage z image) then 4
     else if notBelow (sizeMems z) i then 15
     else if badSizes z then 17
-    else if noRoom (length image) (sizeTrits z) then 20
-    else 0
+    else lentRefusal (length image) (sizeTrits z)
 
 unfoldable pub readRecordRefusal : ℕ → List ℕ → ℕ
-readRecordRefusal room bytes = recordRefusal bytes orElse (if noRoom room (sizeTrits (headSizes bytes)) then 20 else 0)
+readRecordRefusal room bytes = recordRefusal bytes orElse lentRefusal room (sizeTrits (headSizes bytes))
 
 -- ---- the two round trips of records, as statements
 -- what is written is read back

@@ -8,11 +8,11 @@ use lib.Seq.{sets}
 use lib.Dec.{eqb, ltb}
 use Rattle.rules.specs.Limits.{X, tritX, None}
 use Rattle.lists.specs.Choice.{if_then_else_}
-use Rattle.lists.specs.Lists.{sumBy, part, upFrom, concatMap}
-use Rattle.rules.specs.Numbers.{softs, bitsFor}
+use Rattle.lists.specs.Lists.{sumBy, part, pairs, upFrom, concatMap}
+use Rattle.rules.specs.Numbers.{softs, bitsFor, largest}
 use Rattle.rules.specs.Logic.{Const}
 use Rattle.rules.specs.Value.{Value, fromUint, xNets, zext, Pos}
-use Rattle.rules.specs.Cell.{WritePort, ReadFlipFlop, ReadPort, Mem, Plan, newFlipFlop, withEnable, writeWideLog2, readWideLog2}
+use Rattle.rules.specs.Cell.{WritePort, ReadFlipFlop, ReadPort, Mem, Plan, newFlipFlop, withEnable, writeWideLog2, readWideLog2, writeAt, readAt, held}
 use Rattle.rules.specs.Log.{flag, Trace, _>>=_, _>>_, done, addVoid, addMux, addEq, addDff, replaceValue}
 use Rattle.rules.specs.Merge.{addDedupMux}
 use Rattle.rules.specs.Ports.{Driving, unmapAll, isEmpty}
@@ -357,3 +357,33 @@ swizzleImage m p = layout (layoutOf m p) (m .init)
 
 unfoldable pub swizzleLaid : Mem → Plan → Laid
 swizzleLaid m p = some (layoutOf m p)
+
+-- ---- the lent room of a result
+-- the memories share ports: for each write port its address once, then the data and then the mask of all memories, memory after memory; then for
+-- each read port its address
+unfoldable pub sharedWrite : List Driving → ℕ → Value
+sharedWrite ds j =
+    getD (map (λ d. writeAt (d .memory) j .addr) ds) 0 []
+    ++ (concatMap (λ d. writeAt (d .memory) j .bits) ds ++ concatMap (λ d. writeAt (d .memory) j .mask) ds)
+
+unfoldable pub sharedNets : Mem → List Driving → Value
+sharedNets m ds =
+    concatMap (sharedWrite ds) (upFrom 0 (length (m .writes)))
+    ++ concatMap (λ i. getD (map (λ d. readAt (d .memory) i .addr) ds) 0 []) (upFrom 0 (length (m .reads)))
+
+-- for each clocked read port the trits of clear of all memories, then those of reset and of init
+unfoldable pub sharedRead : List Driving → ℕ → Const
+sharedRead ds i =
+    let fs = concatMap (λ d. held (readAt (d .memory) i .flipFlop)) ds in
+    concatMap (λ f. f .clearValue) fs ++ (concatMap (λ f. f .resetValue) fs ++ concatMap (λ f. f .initValue) fs)
+
+unfoldable pub sharedTrits : Mem → List Driving → Const
+sharedTrits m ds = concatMap (sharedRead ds) (upFrom 0 (length (m .reads)))
+
+-- the nets of scratch that a call is lent: the pieces of one read port
+unfoldable pub pieceNets : Mem → Plan → ReadPort × ℕ → ℕ
+pieceNets m p x = splitAddr (layoutOf m p) (readWideLog2 m (x .0)) (x .1) (x .0 .addr) .pieces * x .0 .dataLen
+
+unfoldable pub swizzleScratch : Mem → Plan → ℕ
+swizzleScratch m p =
+    if eqb (m .width) 0 then 0 else if eqb (m .depth) 0 then 0 else largest (map (pieceNets m p) (pairs (m .reads) (p .readWide)))

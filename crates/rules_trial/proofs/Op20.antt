@@ -4,16 +4,19 @@ use mathlib.Core.Path.{_≡_, refl}
 use mathlib.Core.Bool.{true}
 use mathlib.Core.List.{List, [], _∷_}
 use Rattle.lists.specs.Choice.{_orElse_}
-use Rattle.rules.specs.Cell.{wideLog2, writeWideLog2, readWideLog2, readAt, outputLen, outputStart, outputSlice, withReads, held}
-use Rattle.rules.specs.Conditions.{tooLarge, longList, unequal, badDataLen, badAddrLen, badWriteShape, badTritLens, badFlipFlopShape, badReadShape, badShape, badOutputLen, indivisible, badDepth, badValue, badControl, badTrits, badControls, badWriteNets, badRelation, badFlipFlopNets, badReadNets, badNets, notBelow, badPort}
+use Rattle.rules.specs.Beside.Decode.{controlsWords}
+use Rattle.rules.specs.Cell.{wideLog2, writeWideLog2, readWideLog2, readAt, outputLen, outputStart, outputSlice, withReads, held, portNets, flipFlopTrits, portTrits, flatNets, flatTrits}
+use Rattle.rules.specs.Conditions.{tooLarge, longList, unequal, badDataLen, badAddrLen, badWriteShape, badTritLens, badFlipFlopShape, badReadShape, badShape, badOutputLen, indivisible, badDepth, badValue, badControl, badTrits, badControls, badWriteNets, badRelation, badFlipFlopNets, badReadNets, badNets, notBelow, badPort, noRoom}
+use Rattle.rules.specs.Geometry.{softBits, soft, rowLen, fullDepth, fullChunks, partDepth, allChunks, fullMems, allMems}
+use Rattle.rules.specs.Image.{rowsBefore, memStart, trits}
 use Rattle.rules.specs.Log.{flag, _>>=_, _>>_}
 use Rattle.rules.specs.Logic.{areTrits}
-use Rattle.rules.specs.Numbers.{topBits}
+use Rattle.rules.specs.Numbers.{ceilDiv, softs, topBits}
 use Rattle.rules.specs.Ports.{extractReadPorts}
-use Rattle.rules.specs.Refusals.{memNumber, extractReadPortsRefusal}
+use Rattle.rules.specs.Refusals.{noRooms, drivingRefusal, memNumber, drivingNumber, extractReadPortsRefusal}
 use Rattle.rules.specs.Value.{isCellNet, goodNet, goodValue, goodControl, controlWords}
 use Rattle.rules_trial.specs.Read.{give, many, word, wordsOf, list, test, control, option, controls, flipFlop, writePort, readFlipFlop, readPort, memory}
-use Rattle.rules_trial.specs.Wire.{reply, asList, controlsWords, writeWords, flipFlopWords, readWords, memWords, drivingWords, op20, agrees, agree, Case, case}
+use Rattle.rules_trial.specs.Wire.{reply, asList, writeWords, flipFlopWords, readWords, memWords, drivingWords, op20, agrees, agree, Case, case}
 
 abbrev pub cases : List Case
 cases =
@@ -72,5 +75,5 @@ cases =
     []
 
 pub agreed : agree op20 cases ≡ true
-unfolding _orElse_ wideLog2 writeWideLog2 readWideLog2 readAt outputLen outputStart outputSlice withReads held tooLarge longList unequal badDataLen badAddrLen badWriteShape badTritLens badFlipFlopShape badReadShape badShape badOutputLen indivisible badDepth badValue badControl badTrits badControls badWriteNets badRelation badFlipFlopNets badReadNets badNets notBelow badPort flag _>>=_ _>>_ areTrits topBits extractReadPorts memNumber extractReadPortsRefusal isCellNet goodNet goodValue goodControl controlWords give many word wordsOf list test control option controls flipFlop writePort readFlipFlop readPort memory reply asList controlsWords writeWords flipFlopWords readWords memWords drivingWords op20 agrees agree Rattle.rules_trial.specs.Read._>>=_
+unfolding _orElse_ controlsWords wideLog2 writeWideLog2 readWideLog2 readAt outputLen outputStart outputSlice withReads held portNets flipFlopTrits portTrits flatNets flatTrits tooLarge longList unequal badDataLen badAddrLen badWriteShape badTritLens badFlipFlopShape badReadShape badShape badOutputLen indivisible badDepth badValue badControl badTrits badControls badWriteNets badRelation badFlipFlopNets badReadNets badNets notBelow badPort noRoom softBits soft rowLen fullDepth fullChunks partDepth allChunks fullMems allMems rowsBefore memStart trits flag _>>=_ _>>_ areTrits ceilDiv softs topBits extractReadPorts noRooms drivingRefusal memNumber drivingNumber extractReadPortsRefusal isCellNet goodNet goodValue goodControl controlWords give many word wordsOf list test control option controls flipFlop writePort readFlipFlop readPort memory reply asList writeWords flipFlopWords readWords memWords drivingWords op20 agrees agree Rattle.rules_trial.specs.Read._>>=_
 agreed = refl

@@ -4,17 +4,20 @@ use mathlib.Core.Path.{_≡_, refl}
 use mathlib.Core.Bool.{true}
 use mathlib.Core.List.{List, [], _∷_}
 use Rattle.lists.specs.Choice.{_orElse_}
-use Rattle.rules.specs.Cell.{flipFlopOf, wideLog2, writeWideLog2, readWideLog2, writeAt, readAt, outputLen, outputStart, outputSlice, withOutput, withReads, withFlipFlop, held, isTransparent, transparentFrom, transparentPorts}
-use Rattle.rules.specs.Conditions.{tooLarge, unequal, badDataLen, badAddrLen, badWriteShape, badTritLens, badFlipFlopShape, badReadShape, badShape, badOutputLen, indivisible, badDepth, badValue, badControl, badTrits, badControls, badWriteNets, badRelation, badFlipFlopNets, badReadNets, badNets, tooFewBits, shortPair, shortPort, notBelow, badPort, logFull, netsFull}
+use Rattle.rules.specs.Beside.Decode.{controlsWords}
+use Rattle.rules.specs.Cell.{flipFlopOf, wideLog2, writeWideLog2, readWideLog2, writeAt, readAt, outputLen, outputStart, outputSlice, withOutput, withReads, withFlipFlop, held, portNets, flipFlopTrits, portTrits, flatNets, flatTrits, isTransparent, transparentFrom, transparentPorts}
+use Rattle.rules.specs.Conditions.{tooLarge, unequal, badDataLen, badAddrLen, badWriteShape, badTritLens, badFlipFlopShape, badReadShape, badShape, badOutputLen, indivisible, badDepth, badValue, badControl, badTrits, badControls, badWriteNets, badRelation, badFlipFlopNets, badReadNets, badNets, tooFewBits, shortPair, shortPort, notBelow, badPort, logFull, noRoom, netsFull}
+use Rattle.rules.specs.Geometry.{softBits, soft, rowLen, fullDepth, fullChunks, partDepth, allChunks, fullMems, allMems}
+use Rattle.rules.specs.Image.{rowsBefore, memStart, trits}
 use Rattle.rules.specs.Log.{entry, flag, dffOperands, encode, words, _>>=_, _>>_, done, request, addVoid, addOr, muxBy, addMux, addEq, addShl, addUshr, addDff, replaceValue, startNet, added, stateAfter}
 use Rattle.rules.specs.Logic.{areTrits}
 use Rattle.rules.specs.Merge.{spread, addDedupMux, longer, runs, muxRuns, addBitwiseMux}
-use Rattle.rules.specs.Numbers.{topBits}
+use Rattle.rules.specs.Numbers.{ceilDiv, softs, topBits}
 use Rattle.rules.specs.Ports.{narrowerSelect, seenWider, seenNarrower, seen, overlaidMask, transparencyMux, transparencies, unmapDff, unmapReadDffOf, unmapReadDff}
-use Rattle.rules.specs.Refusals.{roomRefusal, logRefusal, memNumber, drivingNumber, portNumber, unmapReadDffNumber, unmapReadDffRefusal}
+use Rattle.rules.specs.Refusals.{roomRefusal, logRefusal, noRooms, drivingRefusal, memNumber, drivingNumber, portNumber, drivenRefusal, unmapReadDffNumber, unmapReadDffRefusal}
 use Rattle.rules.specs.Value.{zext, isCellNet, goodNet, goodValue, goodControl, controlWords}
 use Rattle.rules_trial.specs.Read.{give, many, word, wordsOf, list, test, control, option, log, controls, flipFlop, writePort, readFlipFlop, readPort, memory}
-use Rattle.rules_trial.specs.Wire.{reply, asList, logOut, controlsWords, writeWords, flipFlopWords, readWords, memWords, drivingWords, drivingAnswer, op21, agrees, agree, Case, case}
+use Rattle.rules_trial.specs.Wire.{reply, asList, logOut, writeWords, flipFlopWords, readWords, memWords, drivingWords, drivingAnswer, op21, agrees, agree, Case, case}
 
 abbrev pub cases : List Case
 cases =
@@ -85,5 +88,5 @@ cases =
     []
 
 pub agreed : agree op21 cases ≡ true
-unfolding _orElse_ flipFlopOf wideLog2 writeWideLog2 readWideLog2 writeAt readAt outputLen outputStart outputSlice withOutput withReads withFlipFlop held isTransparent transparentFrom transparentPorts tooLarge unequal badDataLen badAddrLen badWriteShape badTritLens badFlipFlopShape badReadShape badShape badOutputLen indivisible badDepth badValue badControl badTrits badControls badWriteNets badRelation badFlipFlopNets badReadNets badNets tooFewBits shortPair shortPort notBelow badPort logFull netsFull entry flag dffOperands encode words _>>=_ _>>_ done request addVoid addOr muxBy addMux addEq addShl addUshr addDff replaceValue startNet added stateAfter areTrits spread addDedupMux longer runs muxRuns addBitwiseMux topBits narrowerSelect seenWider seenNarrower seen overlaidMask transparencyMux transparencies unmapDff unmapReadDffOf unmapReadDff roomRefusal logRefusal memNumber drivingNumber portNumber unmapReadDffNumber unmapReadDffRefusal zext isCellNet goodNet goodValue goodControl controlWords give many word wordsOf list test control option log controls flipFlop writePort readFlipFlop readPort memory reply asList logOut controlsWords writeWords flipFlopWords readWords memWords drivingWords drivingAnswer op21 agrees agree Rattle.rules_trial.specs.Read._>>=_
+unfolding _orElse_ controlsWords flipFlopOf wideLog2 writeWideLog2 readWideLog2 writeAt readAt outputLen outputStart outputSlice withOutput withReads withFlipFlop held portNets flipFlopTrits portTrits flatNets flatTrits isTransparent transparentFrom transparentPorts tooLarge unequal badDataLen badAddrLen badWriteShape badTritLens badFlipFlopShape badReadShape badShape badOutputLen indivisible badDepth badValue badControl badTrits badControls badWriteNets badRelation badFlipFlopNets badReadNets badNets tooFewBits shortPair shortPort notBelow badPort logFull noRoom netsFull softBits soft rowLen fullDepth fullChunks partDepth allChunks fullMems allMems rowsBefore memStart trits entry flag dffOperands encode words _>>=_ _>>_ done request addVoid addOr muxBy addMux addEq addShl addUshr addDff replaceValue startNet added stateAfter areTrits spread addDedupMux longer runs muxRuns addBitwiseMux ceilDiv softs topBits narrowerSelect seenWider seenNarrower seen overlaidMask transparencyMux transparencies unmapDff unmapReadDffOf unmapReadDff roomRefusal logRefusal noRooms drivingRefusal memNumber drivingNumber portNumber drivenRefusal unmapReadDffNumber unmapReadDffRefusal zext isCellNet goodNet goodValue goodControl controlWords give many word wordsOf list test control option log controls flipFlop writePort readFlipFlop readPort memory reply asList logOut writeWords flipFlopWords readWords memWords drivingWords drivingAnswer op21 agrees agree Rattle.rules_trial.specs.Read._>>=_
 agreed = refl

@@ -4,17 +4,20 @@ use mathlib.Core.Path.{_≡_, refl}
 use mathlib.Core.Bool.{true}
 use mathlib.Core.List.{List, [], _∷_}
 use Rattle.lists.specs.Choice.{_orElse_}
-use Rattle.rules.specs.Cell.{plainControls, newFlipFlop, withInit, wideLog2, writeWideLog2, readWideLog2, isSome, held, flipFlops, isTransparent, isReadBeforeWrite}
-use Rattle.rules.specs.Conditions.{tooLarge, unequal, badDataLen, badAddrLen, badWriteShape, badTritLens, badFlipFlopShape, badReadShape, badShape, indivisible, badDepth, badValue, badControl, badTrits, badControls, badWriteNets, badRelation, badFlipFlopNets, badReadNets, badNets, clocksDiffer, readClocksDiffer, mixedRelations, logFull, netsFull, unclocked}
+use Rattle.rules.specs.Beside.Decode.{controlsWords}
+use Rattle.rules.specs.Cell.{plainControls, newFlipFlop, withInit, wideLog2, writeWideLog2, readWideLog2, isSome, held, portNets, flipFlopTrits, portTrits, flatNets, flatTrits, flipFlops, isTransparent, isReadBeforeWrite}
+use Rattle.rules.specs.Conditions.{tooLarge, unequal, badDataLen, badAddrLen, badWriteShape, badTritLens, badFlipFlopShape, badReadShape, badShape, indivisible, badDepth, badValue, badControl, badTrits, badControls, badWriteNets, badRelation, badFlipFlopNets, badReadNets, badNets, clocksDiffer, readClocksDiffer, mixedRelations, logFull, noRoom, netsFull, unclocked}
+use Rattle.rules.specs.Geometry.{softBits, soft, rowLen, fullDepth, fullChunks, partDepth, allChunks, fullMems, allMems}
+use Rattle.rules.specs.Image.{rowsBefore, memStart, trits}
 use Rattle.rules.specs.Log.{entry, flag, dffOperands, encode, words, _>>=_, _>>_, done, request, addDff, startNet, added, stateAfter}
 use Rattle.rules.specs.Logic.{isUndef, undef, zeros, areTrits}
 use Rattle.rules.specs.Merge.{spread, dffKeys, dffOf, addDedupDff}
-use Rattle.rules.specs.Numbers.{topBits}
+use Rattle.rules.specs.Numbers.{ceilDiv, softs, topBits}
 use Rattle.rules.specs.Ports.{relatesTo, delayed, delayWrites, settled, settledFlipFlop, settledPort, emulateReadBeforeWrite}
-use Rattle.rules.specs.Refusals.{roomRefusal, logRefusal, memNumber, emulateNumber, emulateReadBeforeWriteRefusal}
+use Rattle.rules.specs.Refusals.{roomRefusal, logRefusal, noRooms, drivingRefusal, memNumber, emulateNumber, alone, emulateReadBeforeWriteRefusal}
 use Rattle.rules.specs.Value.{isCellNet, goodNet, goodValue, inverse, sameControl, goodControl, controlWords}
 use Rattle.rules_trial.specs.Read.{give, many, word, wordsOf, list, test, control, option, log, controls, flipFlop, writePort, readFlipFlop, readPort, memory}
-use Rattle.rules_trial.specs.Wire.{reply, asList, logOut, controlsWords, writeWords, flipFlopWords, readWords, memWords, memAnswer, op23, agrees, agree, Case, case}
+use Rattle.rules_trial.specs.Wire.{reply, asList, logOut, writeWords, flipFlopWords, readWords, memWords, memAnswer, op23, agrees, agree, Case, case}
 
 abbrev pub cases : List Case
 cases =
@@ -93,5 +96,5 @@ cases =
     []
 
 pub agreed : agree op23 cases ≡ true
-unfolding _orElse_ plainControls newFlipFlop withInit wideLog2 writeWideLog2 readWideLog2 isSome held flipFlops isTransparent isReadBeforeWrite tooLarge unequal badDataLen badAddrLen badWriteShape badTritLens badFlipFlopShape badReadShape badShape indivisible badDepth badValue badControl badTrits badControls badWriteNets badRelation badFlipFlopNets badReadNets badNets clocksDiffer readClocksDiffer mixedRelations logFull netsFull unclocked entry flag dffOperands encode words _>>=_ _>>_ done request addDff startNet added stateAfter isUndef undef zeros areTrits spread dffKeys dffOf addDedupDff topBits relatesTo delayed delayWrites settled settledFlipFlop settledPort emulateReadBeforeWrite roomRefusal logRefusal memNumber emulateNumber emulateReadBeforeWriteRefusal isCellNet goodNet goodValue inverse sameControl goodControl controlWords give many word wordsOf list test control option log controls flipFlop writePort readFlipFlop readPort memory reply asList logOut controlsWords writeWords flipFlopWords readWords memWords memAnswer op23 agrees agree Rattle.rules_trial.specs.Read._>>=_
+unfolding _orElse_ controlsWords plainControls newFlipFlop withInit wideLog2 writeWideLog2 readWideLog2 isSome held portNets flipFlopTrits portTrits flatNets flatTrits flipFlops isTransparent isReadBeforeWrite tooLarge unequal badDataLen badAddrLen badWriteShape badTritLens badFlipFlopShape badReadShape badShape indivisible badDepth badValue badControl badTrits badControls badWriteNets badRelation badFlipFlopNets badReadNets badNets clocksDiffer readClocksDiffer mixedRelations logFull noRoom netsFull unclocked softBits soft rowLen fullDepth fullChunks partDepth allChunks fullMems allMems rowsBefore memStart trits entry flag dffOperands encode words _>>=_ _>>_ done request addDff startNet added stateAfter isUndef undef zeros areTrits spread dffKeys dffOf addDedupDff ceilDiv softs topBits relatesTo delayed delayWrites settled settledFlipFlop settledPort emulateReadBeforeWrite roomRefusal logRefusal noRooms drivingRefusal memNumber emulateNumber alone emulateReadBeforeWriteRefusal isCellNet goodNet goodValue inverse sameControl goodControl controlWords give many word wordsOf list test control option log controls flipFlop writePort readFlipFlop readPort memory reply asList logOut writeWords flipFlopWords readWords memWords memAnswer op23 agrees agree Rattle.rules_trial.specs.Read._>>=_
 agreed = refl

@@ -11,7 +11,7 @@ use Rattle.rules.specs.Image.{rowsBefore, memStart, trits}
 use Rattle.rules.specs.Log.{flag, _>>=_, _>>_}
 use Rattle.rules.specs.Logic.{areTrits}
 use Rattle.rules.specs.Numbers.{ceilDiv, softs, topBits}
-use Rattle.rules.specs.Refusals.{memNumber, planNumber, swizzleDepthsRefusal}
+use Rattle.rules.specs.Refusals.{memNumber, planNumber, plannedNumber, swizzleDepthsRefusal}
 use Rattle.rules.specs.Value.{isCellNet, goodNet, goodValue, goodControl}
 use Rattle.rules_trial.specs.Read.{give, many, word, wordsOf, list, test, control, option, controls, flipFlop, writePort, readFlipFlop, readPort, memory, plan}
 use Rattle.rules_trial.specs.Wire.{reply, asList, op25, agrees, agree, Case, case}
@@ -95,5 +95,5 @@ cases =
     []
 
 pub agreed : agree op25 cases ≡ true
-unfolding _orElse_ wideLog2 writeWideLog2 readWideLog2 held tooLarge planTooLarge unequal badDataLen badAddrLen badWriteShape badTritLens badFlipFlopShape badReadShape badShape indivisible badDepth badValue badControl badTrits badControls badWriteNets badRelation badFlipFlopNets badReadNets badNets times badEntry badNames badEntries badSoftMask resultTooLarge noRoom layoutOf softBits soft rowLen fullDepth fullChunks partDepth allChunks fullMems allMems columns swizzleDepths rowsBefore memStart trits flag _>>=_ _>>_ areTrits ceilDiv softs topBits memNumber planNumber swizzleDepthsRefusal isCellNet goodNet goodValue goodControl give many word wordsOf list test control option controls flipFlop writePort readFlipFlop readPort memory plan reply asList op25 agrees agree Rattle.rules_trial.specs.Read._>>=_
+unfolding _orElse_ wideLog2 writeWideLog2 readWideLog2 held tooLarge planTooLarge unequal badDataLen badAddrLen badWriteShape badTritLens badFlipFlopShape badReadShape badShape indivisible badDepth badValue badControl badTrits badControls badWriteNets badRelation badFlipFlopNets badReadNets badNets times badEntry badNames badEntries badSoftMask resultTooLarge noRoom layoutOf softBits soft rowLen fullDepth fullChunks partDepth allChunks fullMems allMems columns swizzleDepths rowsBefore memStart trits flag _>>=_ _>>_ areTrits ceilDiv softs topBits memNumber planNumber plannedNumber swizzleDepthsRefusal isCellNet goodNet goodValue goodControl give many word wordsOf list test control option controls flipFlop writePort readFlipFlop readPort memory plan reply asList op25 agrees agree Rattle.rules_trial.specs.Read._>>=_
 agreed = refl

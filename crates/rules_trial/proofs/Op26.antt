@@ -10,7 +10,7 @@ use Rattle.rules.specs.Geometry.{layoutOf, softBits, soft, chunkMuxBits, muxBit
 use Rattle.rules.specs.Log.{flag, _>>=_, _>>_}
 use Rattle.rules.specs.Logic.{areTrits}
 use Rattle.rules.specs.Numbers.{ceilDiv, softs, topBits, bitsFor}
-use Rattle.rules.specs.Refusals.{memNumber, planNumber, swizzleMuxBitsRefusal}
+use Rattle.rules.specs.Refusals.{memNumber, planNumber, wideNumber, plannedNumber, swizzleMuxBitsRefusal}
 use Rattle.rules.specs.Value.{isCellNet, goodNet, goodValue, goodControl}
 use Rattle.rules_trial.specs.Read.{give, many, word, wordsOf, list, test, control, option, controls, flipFlop, writePort, readFlipFlop, readPort, memory, plan}
 use Rattle.rules_trial.specs.Wire.{reply, asList, op26, agrees, agree, Case, case}
@@ -90,5 +90,5 @@ cases =
     []
 
 pub agreed : agree op26 cases ≡ true
-unfolding _orElse_ wideLog2 writeWideLog2 readWideLog2 readAt held tooLarge planTooLarge longList unequal badDataLen badAddrLen badWriteShape badTritLens badFlipFlopShape badReadShape badShape indivisible badDepth badValue badControl badTrits badControls badWriteNets badRelation badFlipFlopNets badReadNets badNets times badEntry badNames badEntries badSoftMask badWide badWrites badReads notBelow badPort layoutOf softBits soft chunkMuxBits muxBits writeMuxBits readMuxBits flag _>>=_ _>>_ areTrits ceilDiv softs topBits bitsFor memNumber planNumber swizzleMuxBitsRefusal isCellNet goodNet goodValue goodControl give many word wordsOf list test control option controls flipFlop writePort readFlipFlop readPort memory plan reply asList op26 agrees agree Rattle.rules_trial.specs.Read._>>=_
+unfolding _orElse_ wideLog2 writeWideLog2 readWideLog2 readAt held tooLarge planTooLarge longList unequal badDataLen badAddrLen badWriteShape badTritLens badFlipFlopShape badReadShape badShape indivisible badDepth badValue badControl badTrits badControls badWriteNets badRelation badFlipFlopNets badReadNets badNets times badEntry badNames badEntries badSoftMask badWide badWrites badReads notBelow badPort layoutOf softBits soft chunkMuxBits muxBits writeMuxBits readMuxBits flag _>>=_ _>>_ areTrits ceilDiv softs topBits bitsFor memNumber planNumber wideNumber plannedNumber swizzleMuxBitsRefusal isCellNet goodNet goodValue goodControl give many word wordsOf list test control option controls flipFlop writePort readFlipFlop readPort memory plan reply asList op26 agrees agree Rattle.rules_trial.specs.Read._>>=_
 agreed = refl

@@ -10,7 +10,7 @@ use Rattle.lists.specs.Lists.{all, concatMap, sameList}
 use Rattle.rules.specs.Limits.{X}
 use Rattle.rules.specs.Logic.{constNot, constAnd, constOr, isUndef}
 use Rattle.rules.specs.Value.{Value, inverse, controlWords, Pos}
-use Rattle.rules.specs.Cell.{Controls, WritePort, ReadFlipFlop, ReadPort, Mem}
+use Rattle.rules.specs.Cell.{Controls, WritePort, ReadFlipFlop, ReadPort, Mem, given}
 use Rattle.rules.specs.Log.{flag, Made, remapResetOverEnable, LogState, added, stateAfter}
 use Rattle.rules.specs.Merge.{addDedupMux, addDedupDff, addBitwiseMux}
 use Rattle.rules.specs.Ports.{Overlay, transparencyMux, Driving, extractReadPorts, unmapReadDff, unmapReadInitResetTransparency, emulateReadBeforeWrite}
@@ -19,7 +19,8 @@ use Rattle.rules.specs.Image.{Laid}
 use Rattle.rules.specs.Swizzle.{swizzle, swizzleImage, swizzleLaid}
 use Rattle.rules.specs.Fallback.{canLowerFallback, lowerFallback}
 use Rattle.rules.specs.Record.{recordImage, encodeRecord, headSizes, decodeImage}
-use Rattle.rules.specs.Refusals.{constNotRefusal, constPairRefusal, isUndefRefusal, controlRefusal, addDedupMuxRefusal, addDedupDffRefusal, addBitwiseMuxRefusal, remapResetOverEnableRefusal, transparencyMuxRefusal, extractReadPortsRefusal, unmapReadDffRefusal, unmapReadInitResetTransparencyRefusal, emulateReadBeforeWriteRefusal, makeDataSwizzleRefusal, swizzleDepthsRefusal, swizzleMuxBitsRefusal, swizzleRefusal, canLowerFallbackRefusal, lowerFallbackRefusal, patchRefusal, writeRecordRefusal, readRecordRefusal}
+use Rattle.rules.specs.Refusals.{Rooms, OverlayRooms, SwizzleRooms, constNotRefusal, constPairRefusal, isUndefRefusal, controlRefusal, addDedupMuxRefusal, addDedupDffRefusal, addBitwiseMuxRefusal, remapResetOverEnableRefusal, transparencyMuxRefusal, extractReadPortsRefusal, unmapReadDffRefusal, unmapReadInitResetTransparencyRefusal, emulateReadBeforeWriteRefusal, makeDataSwizzleRefusal, swizzleDepthsRefusal, swizzleMuxBitsRefusal, swizzleRefusal, canLowerFallbackRefusal, lowerFallbackRefusal, patchRefusal, writeRecordRefusal, readRecordRefusal}
+use Rattle.rules.specs.Beside.Decode.{controlsWords}
 use Rattle.rules.specs.Patch.{patched}
 use Rattle.rules.specs.Lister.{lister}
 use Rattle.rules_trial.specs.Read.{Reader, _>>=_, give, many, word, list, test, control, option, log, controls, flipFlop, memory, plan, patch, sizes}
@@ -33,9 +34,6 @@ asList l = length l ∷ l
 
 unfoldable pub logOut : {A : Type 0} → LogState → Made A → List ℕ
 logOut s t = stateAfter s t .used ∷ stateAfter s t .next ∷ asList (added t)
-
-unfoldable pub controlsWords : Controls → List ℕ
-controlsWords c = controlWords (c .clock) ++ controlWords (c .clear) ++ controlWords (c .reset) ++ controlWords (c .enable) ++ (flag (c .resetOverEnable) ∷ [])
 
 unfoldable pub writeWords : WritePort → List ℕ
 writeWords p = asList (p .addr) ++ asList (p .bits) ++ asList (p .mask) ++ controlWords (p .clock)
@@ -62,6 +60,17 @@ drivings ds = length ds ∷ concatMap drivingWords ds
 unfoldable pub optionWords : Option Value → List ℕ
 optionWords none = 0 ∷ []
 optionWords (some v) = 1 ∷ asList v
+
+-- ---- rooms that every result fits
+abbrev pub rooms : Rooms
+rooms = record { nets = X; trits = X; output = X }
+
+abbrev pub overlayRooms : OverlayRooms
+overlayRooms = record { bits = X; mask = X }
+
+-- the format says the image's room alone
+abbrev pub swizzleRooms : ℕ → SwizzleRooms
+swizzleRooms image = record { image = image; nets = X; trits = X; scratch = X }
 
 -- ---- the calls
 unfoldable pub op1 : Reader (List ℕ)
@@ -146,14 +155,14 @@ op13 = do
   j ← word
   v ← list
   k ← option list
-  give (overlayAnswer (transparencyMuxRefusal (l .room) (l .state) m i j (record { bits = v; mask = k })) (l .state) (transparencyMux m i j (record { bits = v; mask = k }) (l .state .next)))
+  give (overlayAnswer (transparencyMuxRefusal overlayRooms (l .room) (l .state) (given m) i j (record { bits = v; mask = k })) (l .state) (transparencyMux m i j (record { bits = v; mask = k }) (l .state .next)))
 
 unfoldable pub op20 : Reader (List ℕ)
 op20 = do
   m ← memory
   ports ← list
   output ← list
-  give (reply (extractReadPortsRefusal m ports output) (drivingWords (extractReadPorts m ports output)))
+  give (reply (extractReadPortsRefusal rooms (given m) ports output) (drivingWords (extractReadPorts m ports output)))
 
 unfoldable pub drivingAnswer : ℕ → LogState → Made Driving → List ℕ
 drivingAnswer n s t = reply n (logOut s t ++ drivingWords (t .value))
@@ -164,7 +173,7 @@ op21 = do
   m ← memory
   i ← word
   output ← list
-  give (drivingAnswer (unmapReadDffRefusal (l .room) (l .state) m i output) (l .state) (unmapReadDff m i output (l .state .next)))
+  give (drivingAnswer (unmapReadDffRefusal rooms (l .room) (l .state) (given m) i output) (l .state) (unmapReadDff m i output (l .state .next)))
 
 unfoldable pub op22 : Reader (List ℕ)
 op22 = do
@@ -173,7 +182,7 @@ op22 = do
   i ← word
   incl ← test
   output ← list
-  give (drivingAnswer (unmapReadInitResetTransparencyRefusal (l .room) (l .state) m i incl output) (l .state) (unmapReadInitResetTransparency m i incl output (l .state .next)))
+  give (drivingAnswer (unmapReadInitResetTransparencyRefusal rooms (l .room) (l .state) (given m) i incl output) (l .state) (unmapReadInitResetTransparency m i incl output (l .state .next)))
 
 unfoldable pub memAnswer : ℕ → LogState → Made Mem → List ℕ
 memAnswer n s t = reply n (logOut s t ++ memWords (t .value))
@@ -182,28 +191,28 @@ unfoldable pub op23 : Reader (List ℕ)
 op23 = do
   l ← log
   m ← memory
-  give (memAnswer (emulateReadBeforeWriteRefusal (l .room) (l .state) m) (l .state) (emulateReadBeforeWrite m (l .state .next)))
+  give (memAnswer (emulateReadBeforeWriteRefusal rooms (l .room) (l .state) (given m)) (l .state) (emulateReadBeforeWrite m (l .state .next)))
 
 unfoldable pub op24 : Reader (List ℕ)
 op24 = do
   room ← word
   m ← memory
   gs ← list
-  give (reply (makeDataSwizzleRefusal room m gs) (asList (makeDataSwizzle m gs)))
+  give (reply (makeDataSwizzleRefusal room (given m) gs) (asList (makeDataSwizzle m gs)))
 
 unfoldable pub op25 : Reader (List ℕ)
 op25 = do
   room ← word
   m ← memory
   p ← plan
-  give (reply (swizzleDepthsRefusal room m p) (asList (swizzleDepths (layoutOf m p))))
+  give (reply (swizzleDepthsRefusal room (given m) p) (asList (swizzleDepths (layoutOf m p))))
 
 unfoldable pub op26 : Reader (List ℕ)
 op26 = do
   m ← memory
   ports ← list
   p ← plan
-  give (reply (swizzleMuxBitsRefusal m ports p) (asList (writeMuxBits m p) ++ asList (readMuxBits m ports p)))
+  give (reply (swizzleMuxBitsRefusal (given m) ports p) (asList (writeMuxBits m p) ++ asList (readMuxBits m ports p)))
 
 unfoldable pub op27 : Reader (List ℕ)
 op27 = do
@@ -216,21 +225,21 @@ op27 = do
   cs ← many patch n
   give (
       let t = swizzle m output p (l .state .next) in
-      reply (swizzleRefusal imageRoom (l .room) (l .state) m output p)
+      reply (swizzleRefusal (swizzleRooms imageRoom) (l .room) (l .state) (given m) output p)
       (logOut (l .state) t ++ drivings (t .value) ++ asList (map (patchRefusal (swizzleLaid m p)) cs)
       ++ asList (patched (swizzleLaid m p) cs (swizzleImage m p))))
 
 unfoldable pub op28 : Reader (List ℕ)
 op28 = do
   m ← memory
-  give (reply (canLowerFallbackRefusal m) (flag (canLowerFallback m) ∷ []))
+  give (reply (canLowerFallbackRefusal (given m)) (flag (canLowerFallback m) ∷ []))
 
 unfoldable pub op29 : Reader (List ℕ)
 op29 = do
   l ← log
   m ← memory
   output ← list
-  give (reply (lowerFallbackRefusal (l .room) (l .state) m output) (logOut (l .state) (lowerFallback m output (l .state .next))))
+  give (reply (lowerFallbackRefusal X (l .room) (l .state) (given m) output) (logOut (l .state) (lowerFallback m output (l .state .next))))
 
 -- ---- a history: one laid-out state and its image through all steps
 pub record Held : Type 0 where
@@ -250,7 +259,7 @@ swizzleStep h = do
   output ← list
   p ← plan
   give (
-      let n = swizzleRefusal imageRoom (l .room) (l .state) m output p in
+      let n = swizzleRefusal (swizzleRooms imageRoom) (l .room) (l .state) (given m) output p in
       record { number = n; held = if eqb n 0 then record { laid = swizzleLaid m p; image = swizzleImage m p } else h })
 
 unfoldable pub fallbackStep : Held → Reader Stepped
@@ -258,7 +267,7 @@ fallbackStep h = do
   l ← log
   m ← memory
   output ← list
-  give (record { number = lowerFallbackRefusal (l .room) (l .state) m output; held = h })
+  give (record { number = lowerFallbackRefusal X (l .room) (l .state) (given m) output; held = h })
 
 unfoldable pub patchStep : Held → Reader Stepped
 patchStep h = do

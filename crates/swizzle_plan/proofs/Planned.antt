@@ -17,7 +17,7 @@ use Rattle.rules.specs.Geometry.{Layout, layoutOf, rowLen, allMems}
 use Rattle.rules.specs.Conditions.{tooLarge, planTooLarge, badEntries, badSoftMask, indivisible, badLayoutSizes, resultTooLarge, noRoom}
 use Rattle.rules.specs.Refusals.{planNumber}
 use Rattle.rules.specs.Answers.{filled}
-use Rattle.rules.specs.Shape.{entriesNumber, softMaskNumber, resultNumber, depthsNumber}
+use Rattle.rules.specs.Beside.Shape.{entriesNumber, softMaskNumber, resultNumber, depthsNumber}
 use Rattle.net_memory.specs.declared.Memory.{Memory}
 use Rattle.net_memory.specs.View.{memoryOf}
 use Rattle.net_check.specs.Number.{memoryNumber}

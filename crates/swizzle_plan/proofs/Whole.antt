@@ -16,7 +16,7 @@ use Rattle.rules.specs.Cell.{Plan}
 use Rattle.rules.specs.Geometry.{layoutOf, rowLen}
 use Rattle.rules.specs.Conditions.{tooLarge, planTooLarge, badEntries, badSoftMask, indivisible, badWrites, badReads, allReads, badLayoutSizes, resultTooLarge, badOutputLen, badValue}
 use Rattle.rules.specs.Refusals.{planNumber}
-use Rattle.rules.specs.Shape.{entriesNumber, softMaskNumber, resultNumber}
+use Rattle.rules.specs.Beside.Shape.{entriesNumber, softMaskNumber, resultNumber}
 use Rattle.rules.specs.WholePlan.{wideNumber, sizeNumber, wholePlan}
 use Rattle.net_memory.specs.declared.Memory.{Memory}
 use Rattle.net_memory.specs.View.{memoryOf, readsOf}

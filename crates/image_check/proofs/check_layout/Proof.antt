@@ -1,7 +1,7 @@
 -- `image_check::check_layout` meets its contract.
 use mathlib.Core.Path.{_≡_, sym, ap, _∙_}
 use mathlib.Core.Bool.{true, false}
-use Rattle.rules.specs.Shape.{shapeOf}
+use Rattle.rules.specs.Beside.Shape.{shapeOf}
 use Rattle.rules.specs.Conditions.{resultTooLarge, badLayout}
 use Rattle.rules.proofs.GoodLayouts.{badSizes, good-back, bad-1, bad-7, bad-8, bad-10, no-result, some-result, shape-none, shape-some}
 use Rattle.rules.proofs.Shaping.{shape-told, shape-not-told, soft-passed, soft-failed, large-columns, large-trits, not-large}

@@ -2,7 +2,7 @@
 use mathlib.Core.Path.{sym, ap, _∙_}
 use mathlib.Core.Bool.{Bool}
 use Rattle.lists.specs.Choice.{if_then_else_}
-use Rattle.rules.specs.Shape.{entriesNumber}
+use Rattle.rules.specs.Beside.Shape.{entriesNumber}
 use borrow.Author.Needs.{needs}
 use Rattle.image_check.proofs.entries_refusal.Statement.{statement}
 use Rattle.image_check.proofs.entries_refusal.Tie as tie

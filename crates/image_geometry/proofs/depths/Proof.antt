@@ -4,8 +4,8 @@ use mathlib.Core.Path.{_≡_, sym, ap, _∙_}
 use mathlib.Core.Bool.{false}
 use lib.ListN.{length}
 use Rattle.rules.specs.Geometry.{fullMems, allMems, fullDepth, partDepth}
-use Rattle.rules.specs.Shape as rules
-use Rattle.rules.specs.Shape.{shapeOf, depthsCall, depthsNumber}
+use Rattle.rules.specs.Beside.Shape as rules
+use Rattle.rules.specs.Beside.Shape.{shapeOf, depthsCall, depthsNumber}
 use Rattle.rules.proofs.GoodLayouts.{badSizes}
 use Rattle.rules.proofs.Answering.{filled-refused, filled-done}
 use Rattle.rules.proofs.Shaping.{shape-told, shape-not-told, shape-small, depths-1, depths-20, depths-0, depths-stored}

@@ -2,7 +2,7 @@
 use Prim.Native.Nat.{ℕ}
 use mathlib.Core.Path.{sym, _∙_, subst}
 use Rattle.rules.specs.Geometry.{rowLen}
-use Rattle.rules.specs.Shape.{Small}
+use Rattle.rules.specs.Beside.Shape.{Small}
 use Rattle.rules.proofs.Shaping.{shape-refused, shape-done, shape-small}
 use Rattle.image_geometry.specs.View.{layoutBy}
 use borrow.Author.Needs.{needs}

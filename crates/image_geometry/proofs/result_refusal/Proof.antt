@@ -1,7 +1,7 @@
 -- `image_geometry::result_refusal` meets its contract.
 use mathlib.Core.Path.{_≡_, sym, ap, _∙_}
 use mathlib.Core.Bool.{false}
-use Rattle.rules.specs.Shape.{shapeOf}
+use Rattle.rules.specs.Beside.Shape.{shapeOf}
 use Rattle.rules.proofs.GoodLayouts.{badSizes}
 use Rattle.rules.proofs.Shaping.{shape-told, shape-not-told, large-columns, large-trits, not-large, result-1, result-10, result-0}
 use Rattle.image_geometry.specs.View.{layoutBy, shapeBy, measuredOf}

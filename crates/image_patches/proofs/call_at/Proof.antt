@@ -3,7 +3,7 @@ use Prim.Native.Nat.{_*_}
 use mathlib.Core.Path.{_∙_}
 use mathlib.Core.List.{[], _∷_}
 use lib.ListN.{getD, take, drop}
-use Rattle.rules.specs.Shape.{handedOn}
+use Rattle.rules.specs.Beside.Shape.{handedOn}
 use Rattle.rules.specs.Patch.{patched}
 use Rattle.image_geometry.specs.View.{layoutBy}
 use Rattle.image_patches.specs.Calls.{callAt}

@@ -1,7 +1,7 @@
 -- `image_patches::call_one` meets its contract.
 use mathlib.Core.Path.{sym}
 use lib.Seq.{length-take-le}
-use Rattle.rules.specs.Shape.{handedOn}
+use Rattle.rules.specs.Beside.Shape.{handedOn}
 use Rattle.image_geometry.specs.View.{layoutBy}
 use Rattle.image_patches.proofs.Calling.{whole-call, part-call}
 use borrow.Author.Needs.{needs}

@@ -1,5 +1,5 @@
 -- `image_patches::fill_then_patch` meets its contract.
-use Rattle.rules.specs.Shape.{handedOn}
+use Rattle.rules.specs.Beside.Shape.{handedOn}
 use Rattle.image_geometry.specs.View.{layoutBy}
 use Rattle.image_geometry.proofs.Fields.{mask-word}
 use Rattle.image_patches.specs.Calls.{callsOf}

@@ -3,7 +3,7 @@ use Prim.Native.Nat.{ℕ, _-_, _/_, _≤_}
 use mathlib.Core.Path.{_≡_, refl, sym, ap, _∙_}
 use native.Mathlib.Nat.{sub-zero}
 use lib.ListN.{length}
-use Rattle.rules.specs.Shape.{handedOn}
+use Rattle.rules.specs.Beside.Shape.{handedOn}
 use Rattle.rules.specs.Patch.{patched}
 use Rattle.image_geometry.specs.View.{layoutBy}
 use Rattle.image_patches.specs.Calls.{callsFrom, callsOf}

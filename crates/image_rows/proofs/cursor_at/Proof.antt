@@ -3,7 +3,7 @@ use mathlib.Core.Path.{refl, ap, _∙_}
 use Prim.Native.Nat.{_≤_}
 use Rattle.rules.specs.Geometry.{Layout, Spot, rowLen}
 use Rattle.rules.specs.Image.{spotOf}
-use Rattle.rules.specs.Shape.{Small}
+use Rattle.rules.specs.Beside.Shape.{Small}
 use Rattle.rules.proofs.Shaping.{shape-small}
 use Rattle.image_geometry.specs.View.{layoutBy}
 use Rattle.image_rows.proofs.Cursors.{Held, product-fits, column-fits, unit-pos, above-fits, low-fits, high-fits, over-fits, made-low, made-high}

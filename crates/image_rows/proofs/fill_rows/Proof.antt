@@ -2,8 +2,8 @@
 use mathlib.Core.Path.{_≡_, sym, ap, _∙_}
 use mathlib.Core.Option.{some}
 use lib.ListN.{length}
-use Rattle.rules.specs.Shape.{handedOn, laidShape}
-use Rattle.rules.specs.Layouts.{fillRefusalOf}
+use Rattle.rules.specs.Beside.Shape.{handedOn, laidShape}
+use Rattle.rules.specs.Beside.Layouts.{fillRefusalOf}
 use Rattle.rules.proofs.GoodLayouts.{good-accepted}
 use Rattle.image_geometry.specs.View.{layoutBy, shapeBy}
 use Rattle.image_geometry.proofs.Fields.{mask-word}

@@ -2,7 +2,7 @@
 use mathlib.Core.Path.{_≡_, sym, ap, _∙_}
 use mathlib.Core.Option.{some}
 use lib.ListN.{length}
-use Rattle.rules.specs.Shape.{handedOn, laidShape}
+use Rattle.rules.specs.Beside.Shape.{handedOn, laidShape}
 use Rattle.rules.specs.Refusals.{patchRefusalOf}
 use Rattle.rules.proofs.Demand.{taken}
 use Rattle.image_geometry.specs.View.{layoutBy, shapeBy}

@@ -4,7 +4,7 @@ use mathlib.Core.Bool.{false}
 use native.Mathlib.Nat.{le-of-lt}
 use Rattle.rules.specs.Geometry.{Spot, rowLen}
 use Rattle.rules.specs.Image.{spotOf}
-use Rattle.rules.specs.Shape.{shapeOf}
+use Rattle.rules.specs.Beside.Shape.{shapeOf}
 use Rattle.rules.proofs.GoodLayouts.{badSizes}
 use Rattle.rules.proofs.Shaping.{shape-told, shape-not-told, shape-small, placed-1, placed-15-row, placed-15-entry, placed-at}
 use Rattle.image_geometry.specs.View.{layoutBy, shapeBy, measuredOf}

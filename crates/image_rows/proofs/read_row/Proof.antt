@@ -2,8 +2,8 @@
 use mathlib.Core.Path.{_≡_, sym, ap, _∙_}
 use mathlib.Core.Option.{some}
 use lib.ListN.{length}
-use Rattle.rules.specs.Shape.{handedOn, laidShape}
-use Rattle.rules.specs.Layouts.{readRowRefusalOf}
+use Rattle.rules.specs.Beside.Shape.{handedOn, laidShape}
+use Rattle.rules.specs.Beside.Layouts.{readRowRefusalOf}
 use Rattle.image_geometry.specs.View.{layoutBy, shapeBy}
 use Rattle.image_check.specs.View.{checkedOf}
 use Rattle.image_rows.proofs.Sizing.{passed, handed, size-is, shallow, ready, not-passed}

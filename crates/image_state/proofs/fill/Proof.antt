@@ -4,7 +4,7 @@ use mathlib.Core.Path.{ap, _∙_, subst}
 use lib.ListN.{length-take}
 use Rattle.rules.specs.Limits.{maxRow}
 use Rattle.rules.specs.Image as rules
-use Rattle.rules.specs.Layouts.{fillCall}
+use Rattle.rules.specs.Beside.Layouts.{fillCall}
 use Rattle.image_state.proofs.Fields.{entries-long}
 use Rattle.image_state.proofs.Laying.{laid-long, laid-lent}
 use Rattle.image_rows.proofs.Filling.{fill-unset}

@@ -1,7 +1,7 @@
 -- `swizzle_plan::whole_number` meets its contract.
 use mathlib.Core.Path.{sym, ap, _∙_}
 use borrow.Author.Tests.{eq-eqb, ne-eqb}
-use Rattle.rules.specs.Shape.{resultNumber}
+use Rattle.rules.specs.Beside.Shape.{resultNumber}
 use Rattle.image_geometry.specs.declared.Params.{Params}
 use Rattle.image_geometry.specs.View.{layoutBy}
 use Rattle.swizzle_plan.proofs.Whole.{by-seven, by-eight, by-nine, by-flat, by-ten}

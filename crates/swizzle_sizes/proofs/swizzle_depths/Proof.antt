@@ -6,7 +6,7 @@ use lib.ListN.{length}
 use Rattle.swizzle_plan.specs.Calls.{planOf, swizzleDepthsRefusal, swizzleDepthsCall}
 use Rattle.rules.specs.Answers.{Filled, filled}
 use Rattle.rules.specs.Geometry.{layoutOf, swizzleDepths}
-use Rattle.rules.specs.Shape.{depthsCall, resultNumber}
+use Rattle.rules.specs.Beside.Shape.{depthsCall, resultNumber}
 use Rattle.image_geometry.specs.View.{layoutBy}
 use Rattle.net_memory.specs.View.{memoryOf}
 use Rattle.rules.proofs.Answers.{filled-refused}

@@ -5,11 +5,7 @@ use lib.ListN.{length}
 use lib.Dec.{eqb}
 use Rattle.lists.specs.Choice.{if_then_else_, _orElse_}
 use Rattle.rules.specs.Lister.{refusedLine, lister}
-use Rattle.rules.specs.Header.{headerRefusal}
-
--- the bytes of the longest record that is accepted
-abbrev pub maxRecord : ℕ
-maxRecord = 32780
+use Rattle.rules.specs.Refusals.{headerRefusal}
 
 -- an input of which not all is stored is refused by its head; one that its head would accept has the wrong length
 unfoldable pub listerStored : List ℕ → ℕ → List ℕ
