@@ -72,7 +72,7 @@ fn can_lower_fallback(given: &[u32], words: &mut [u32], trits: &mut [u8]) -> Rep
     );
     match r {
         CanLower::Refused(n) => pieces::refused(n),
-        CanLower::Answer(b) => put_flag(words, b),
+        CanLower::Accepted(b) => put_flag(words, b),
     }
 }
 
@@ -96,7 +96,7 @@ fn make_data_swizzle(given: &[u32], words: &mut [u32], trits: &mut [u8]) -> Repl
     );
     match r {
         DataSwizzle::Refused(n) => pieces::refused(n),
-        DataSwizzle::Entries(n) => put_words(words, pieces::part(&row, 0, n)),
+        DataSwizzle::Accepted(n) => put_words(words, pieces::part(&row, 0, n)),
     }
 }
 
@@ -104,7 +104,7 @@ fn entries(given: &[u32], nets: &[u32], trits: &[u8], row: &mut [u32]) -> DataSw
     let m = memory_pieces::memory_at(given, 3);
     let list = pieces::list(given, memory_pieces::after_memory(given, 3));
     let n = pieces::lent(pieces::word(given, 2), ROOM_ROW);
-    swizzle_entries::make_data_swizzle(m, nets, trits, list, pieces::part_mut(row, 0, n))
+    swizzle_entries::make_data_swizzle(pieces::part_mut(row, 0, n), m, nets, trits, list)
 }
 
 // Call 25.

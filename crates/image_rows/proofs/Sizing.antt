@@ -10,7 +10,7 @@ use Rattle.rules.specs.Image.{imageSize}
 use Rattle.rules.specs.Beside.Shape as sizes
 use Rattle.rules.specs.Conditions.{badLayout}
 use Rattle.rules.specs.Beside.Shape.{Small, shapeOf, handedOn, laidShape}
-use Rattle.rules.proofs.GoodLayouts.{badSizes, good, handed-none, handed-some, none-told, some-told}
+use Rattle.rules.proofs.GoodLayouts.{layoutTooLarge, good, handed-none, handed-some, none-told, some-told}
 use Rattle.rules.proofs.Extents.{deep-max, part-max}
 use Rattle.rules.proofs.Shaping.{shape-small}
 use Rattle.image_geometry.specs.declared.Params.{Params}
@@ -20,7 +20,7 @@ use Rattle.image_rows.specs.declared.Steps.{Steps}
 use Rattle.image_rows.specs.Steps.{stepsBy, Ready}
 
 -- ---- the sizes of a layout within number 1's limits
-module _ (p : Params) (es : List ℕ) (s : Shape) (b : badSizes (layoutBy p es) ≡ false) (h : shapeBy s ≡ shapeOf (layoutBy p es)) where
+module _ (p : Params) (es : List ℕ) (s : Shape) (b : layoutTooLarge (layoutBy p es) ≡ false) (h : shapeBy s ≡ shapeOf (layoutBy p es)) where
   small : Small (p .depth) (p .width) (rowLen (layoutBy p es)) (p .unit) (p .hard)
   small = shape-small (layoutBy p es) b
 

@@ -13,8 +13,8 @@ use Rattle.rules.specs.Limits.{maxDepth, maxWidth, maxBits, maxPorts}
 use Rattle.rules.specs.Conditions.{tooLarge, badShape, badDepth, badNets}
 use Rattle.rules.specs.Refusals.{memNumber}
 use Rattle.net_memory.specs.declared.Memory.{Memory}
+use Rattle.net_memory.specs.Given.{tooManyPorts, longRelations, badLens, givenOf}
 use Rattle.net_memory.specs.View.{memoryOf, netsTotal, tritsTotal, readPorts}
-use Rattle.net_check.specs.Number.{tooManyPorts, longRelations, badLens, memoryNumber}
 
 pub record Valid (one two four : Bool) (next : ℕ) (m : Memory) (nets trits : List ℕ) : Type 0 where
   pub one-not : one ≡ false
@@ -27,8 +27,8 @@ pub record Valid (one two four : Bool) (next : ℕ) (m : Memory) (nets trits : L
   pub depth-not : badDepth (memoryOf m nets trits) ≡ false
   pub nets-not : badNets next (memoryOf m nets trits) ≡ false
 
-pub valid : (one two four : Bool) (next : ℕ) (m : Memory) (nets trits : List ℕ) → memoryNumber one two four next m nets trits ≡ 0 → Valid one two four next m nets trits
-unfolding memoryNumber memNumber
+pub valid : (one two four : Bool) (next : ℕ) (m : Memory) (nets trits : List ℕ) → memNumber one two four next (givenOf m nets trits) ≡ 0 → Valid one two four next m nets trits
+unfolding memNumber
 valid one two four next m nets trits e =
     let a = refused-not _ 1 _ (omega arith) e in
     let b = refused-not _ 2 _ (omega arith) (a .1) in

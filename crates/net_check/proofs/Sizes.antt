@@ -13,7 +13,8 @@ use Rattle.rules.specs.Conditions.{tooLarge, badShape, badDepth, badNets}
 use Rattle.rules.specs.Refusals.{memNumber}
 use Rattle.net_memory.specs.declared.Memory.{Memory}
 use Rattle.net_memory.specs.View.{writesOf, readsOf, memoryOf}
-use Rattle.net_check.specs.Number.{tooManyPorts, badLens, memoryNumber, numberBy}
+use Rattle.net_check.specs.Number.{numberBy}
+use Rattle.net_memory.specs.Given.{tooManyPorts, badLens, givenOf}
 use Rattle.net_check.proofs.Numbers.{merge}
 
 flat : (a b c x y : Bool) → a || (b || (c || (false || false))) || (x || y) ≡ a || (b || (c || (x || y)))
@@ -37,8 +38,8 @@ byTests large many one shape lens two depth nets four = if large || (many || one
 
 number-by : (one two four : Bool) (next : ℕ) (m : Memory) (nets trits : List ℕ)
     → byTests (tooLarge (memoryOf m nets trits)) (tooManyPorts m) one (badShape (memoryOf m nets trits)) (badLens m (length nets) (length trits)) two (badDepth (memoryOf m nets trits)) (badNets next (memoryOf m nets trits)) four
-    ≡ memoryNumber one two four next m nets trits
-unfolding memoryNumber memNumber
+    ≡ memNumber one two four next (givenOf m nets trits)
+unfolding memNumber
 number-by one two four next m nets trits = refl
 
 no : {A : Type 0} → true ≡ false → A
@@ -114,7 +115,7 @@ module _ (large many one shape lens two depth nets four : Bool) where
 -- ---- the same of a memory
 module _ (one two four : Bool) (next : ℕ) (m : Memory) (nets trits : List ℕ) where
   abbrev whole : ℕ
-  whole = memoryNumber one two four next m nets trits
+  whole = memNumber one two four next (givenOf m nets trits)
 
   abbrev L : Bool
   L = tooLarge (memoryOf m nets trits)

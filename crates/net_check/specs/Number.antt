@@ -15,34 +15,9 @@ use Rattle.net_memory.specs.declared.MemoryReadFlipFlop.{MemoryReadFlipFlop}
 use Rattle.net_memory.specs.declared.MemoryReadFlipFlop.the-variants.{None, Some}
 use Rattle.net_memory.specs.declared.MemoryReadPort.{MemoryReadPort}
 use Rattle.net_memory.specs.declared.Memory.{Memory}
+use Rattle.net_memory.specs.Given.{givenOf}
 use Rattle.net_memory.specs.View.{noReadPort, readPorts, readBy, readStart, tritStart, netsTotal, tritsTotal, memoryOf}
 
--- 1: more ports than there is place for
-unfoldable pub tooManyPorts : Memory → Bool
-tooManyPorts m = ltb maxPorts (m .«write_count») || ltb maxPorts (m .«read_count»)
-
--- 2: a clocked port says more relations than there is place for
-abbrev pub clocked : MemoryReadFlipFlop → Bool
-clocked None = false
-clocked (Some f) = true
-
-unfoldable pub longRelations : MemoryReadPort → Bool
-longRelations p = clocked (p .«flip_flop») && ltb maxPorts (p .«relations_len»)
-
--- 2: the arrays are not as long as the struct says
-unfoldable pub badLens : Memory → ℕ → ℕ → Bool
-badLens m nets trits = not (eqb nets (netsTotal m)) || (not (eqb trits (tritsTotal m)) || any longRelations (readPorts m))
-
--- the number 1 to 4, with what else of a call breaks 1, 2 and 4
-unfoldable pub memoryNumber : Bool → Bool → Bool → ℕ → Memory → List ℕ → List ℕ → ℕ
-memoryNumber one two four next m nets trits =
-    memNumber (tooManyPorts m || one) (badLens m (length nets) (length trits) || two) four next (memoryOf m nets trits)
-
--- a call that has only the memory
-unfoldable pub memoryRefusal : Memory → List ℕ → List ℕ → ℕ
-memoryRefusal m nets trits = memoryNumber false false false maxNets m nets trits
-
--- ---- the same, port by port
 -- 2, 3 or 4 by their tests, or 0
 abbrev pub numberBy : Bool → Bool → Bool → ℕ
 numberBy shape depth nets = if shape then 2 else if depth then 3 else if nets then 4 else 0

@@ -11,7 +11,9 @@ ghost use Rattle.rules.specs.Cell.{Mem};
 ghost use Rattle.net_flip_flop.specs.declared.Controls.{Controls};
 ghost use Rattle.rules.specs.Conditions.{tooLarge, badTrits, badWriteShape, badWriteNets, badFlipFlopShape, badFlipFlopNets, badRelation, badReadShape, badReadNets, badShape, badDepth, badNets};
 ghost use Rattle.net_memory.specs.View.{writeBy, clockedBy, readBy, writesOf, readsOf, readPorts, memoryOf};
-ghost use Rattle.net_check.specs.Number.{tooManyPorts, longRelations, badLens, memoryNumber, memoryRefusal, numberBy, writeNumber, readNumber, ReadsFrom, noRead};
+ghost use Rattle.net_memory.specs.Given.{tooManyPorts, longRelations, badLens, givenOf};
+ghost use Rattle.rules.specs.Refusals.{memNumber, memRefusal};
+ghost use Rattle.net_check.specs.Number.{numberBy, writeNumber, readNumber, ReadsFrom, noRead};
 use net_flip_flop::Controls;
 use net_memory::Memory;
 use net_memory::MemoryReadFlipFlop;
@@ -349,7 +351,7 @@ pub fn memory_number(
     two: bool,
     four: bool,
 ) -> u32
-    ensures { λ r. ⌜ r ≡ memoryNumber one two four next m (now (nets .entry)) (now (trits .entry)) ⌝ }
+    ensures { λ r. ⌜ r ≡ memNumber one two four next (givenOf m (now (nets .entry)) (now (trits .entry))) ⌝ }
 {
     if one {
         return 1;
@@ -372,7 +374,7 @@ pub fn memory_number(
 
 // The number that refuses a memory by itself, without the log state.
 pub fn memory_refusal(m: Memory, nets: &[u32], trits: &[u8]) -> u32
-    ensures { λ r. ⌜ r ≡ memoryRefusal m (now (nets .entry)) (now (trits .entry)) ⌝ }
+    ensures { λ r. ⌜ r ≡ memRefusal (givenOf m (now (nets .entry)) (now (trits .entry))) ⌝ }
 {
     memory_number(m, nets, trits, rules::MAX_NETS, false, false, false)
 }

@@ -1,3 +1,4 @@
 -- The machine's answers in terms of the rules.
 pub mod Wide
 pub mod View
+pub mod Given

@@ -18,7 +18,8 @@ use Rattle.rules.specs.Conditions.{longList, badPort, notBelow, badOutputLen, b
 use Rattle.net_memory.specs.declared.Memory.{Memory}
 use Rattle.net_memory.specs.View.{readsOf, memoryOf}
 use Rattle.net_check.proofs.Accept.{Valid, valid, Exact, exact}
-use Rattle.port_outputs.specs.Calls.{drivingNumber}
+use Rattle.rules.specs.Refusals.{drivingNumber}
+use Rattle.net_memory.specs.Given.{givenOf}
 use Rattle.port_extract.specs.Extract.{newNets, newTrits, newOutput, badRooms, extractRefusal, Listed}
 
 pub few : (list : List ℕ) → longList list ≡ false → length list ≤ 8
@@ -26,28 +27,28 @@ unfolding longList
 few list e = ltb-false 8 (length list) e
 
 module _ (m : Memory) (nets trits list output : List ℕ) where
-  pub driving-valid : drivingNumber (longList list) maxNets m nets trits output ≡ 0
+  pub driving-valid : drivingNumber (longList list) maxNets (givenOf m nets trits) output ≡ 0
       → Valid (longList list) (badOutputLen (memoryOf m nets trits) output) (badValue maxNets output) maxNets m nets trits
   unfolding drivingNumber
   driving-valid e = valid (longList list) (badOutputLen (memoryOf m nets trits) output) (badValue maxNets output) maxNets m nets trits e
 
   module _ (a b c : ℕ) where
-    pub by-number : (n : ℕ) → n ≡ drivingNumber (longList list) maxNets m nets trits output → n ≢ 0 → n ≡ extractRefusal m nets trits list output a b c
+    pub by-number : (n : ℕ) → n ≡ drivingNumber (longList list) maxNets (givenOf m nets trits) output → n ≢ 0 → n ≡ extractRefusal m nets trits list output a b c
     unfolding extractRefusal
-    by-number n e h = e ∙ sym (else-first (drivingNumber (longList list) maxNets m nets trits output) _ (λ z. h (e ∙ z)))
+    by-number n e h = e ∙ sym (else-first (drivingNumber (longList list) maxNets (givenOf m nets trits) output) _ (λ z. h (e ∙ z)))
 
-    module _ (z : drivingNumber (longList list) maxNets m nets trits output ≡ 0) where
+    module _ (z : drivingNumber (longList list) maxNets (givenOf m nets trits) output ≡ 0) where
       pub by-port : any (badPort (memoryOf m nets trits)) list ≡ true → 15 ≡ extractRefusal m nets trits list output a b c
       unfolding extractRefusal
-      by-port e = hit 15 _ e ∙ sym (else-rest (drivingNumber (longList list) maxNets m nets trits output) _ z)
+      by-port e = hit 15 _ e ∙ sym (else-rest (drivingNumber (longList list) maxNets (givenOf m nets trits) output) _ z)
 
       pub by-room : any (badPort (memoryOf m nets trits)) list ≡ false → badRooms m nets trits list output a b c ≡ true → 20 ≡ extractRefusal m nets trits list output a b c
       unfolding extractRefusal
-      by-room e f = miss 15 _ 20 e (hit 20 _ f) ∙ sym (else-rest (drivingNumber (longList list) maxNets m nets trits output) _ z)
+      by-room e f = miss 15 _ 20 e (hit 20 _ f) ∙ sym (else-rest (drivingNumber (longList list) maxNets (givenOf m nets trits) output) _ z)
 
       pub by-none : any (badPort (memoryOf m nets trits)) list ≡ false → badRooms m nets trits list output a b c ≡ false → 0 ≡ extractRefusal m nets trits list output a b c
       unfolding extractRefusal
-      by-none e f = miss 15 _ 0 e (miss 20 _ 0 f refl) ∙ sym (else-rest (drivingNumber (longList list) maxNets m nets trits output) _ z)
+      by-none e f = miss 15 _ 0 e (miss 20 _ 0 f refl) ∙ sym (else-rest (drivingNumber (longList list) maxNets (givenOf m nets trits) output) _ z)
 
     -- no number
     pub record Ready : Type 0 where
@@ -57,7 +58,7 @@ module _ (m : Memory) (nets trits list output : List ℕ) where
     pub ready : length (readsOf m nets trits) ≡ min maxPorts (m .«read_count») → extractRefusal m nets trits list output a b c ≡ 0 → Ready
     unfolding extractRefusal badPort notBelow memoryOf
     ready n e =
-        let d = else-zero (drivingNumber (longList list) maxNets m nets trits output) _ e in
+        let d = else-zero (drivingNumber (longList list) maxNets (givenOf m nets trits) output) _ e in
         let v = driving-valid (d .0) in
         let p = if-zero (any (badPort (memoryOf m nets trits)) list) 14 _ (d .1) in
         record {

@@ -13,7 +13,8 @@ use Rattle.rules.specs.Conditions.{longList, badPort, noRoom}
 use Rattle.net_memory.specs.declared.MemoryReadPort.{MemoryReadPort}
 use Rattle.net_memory.specs.declared.Memory.{Memory}
 use Rattle.net_memory.specs.View.{noReadPort, readPorts, readsStart, memoryOf, readNets, readTrits, netsTotal, tritsTotal}
-use Rattle.port_outputs.specs.Calls.{drivingNumber}
+use Rattle.rules.specs.Refusals.{drivingNumber}
+use Rattle.net_memory.specs.Given.{givenOf}
 use Rattle.port_extract.specs.declared.Extracted.{Extracted}
 
 -- the struct of a port
@@ -56,7 +57,7 @@ badRooms m nets trits list output a b c =
 
 unfoldable pub extractRefusal : Memory → List ℕ → List ℕ → List ℕ → List ℕ → ℕ → ℕ → ℕ → ℕ
 extractRefusal m nets trits list output a b c =
-    drivingNumber (longList list) maxNets m nets trits output
+    drivingNumber (longList list) maxNets (givenOf m nets trits) output
     orElse (if any (badPort (memoryOf m nets trits)) list then 15 else if badRooms m nets trits list output a b c then 20 else 0)
 
 -- the whole answer, and what is left in the rooms

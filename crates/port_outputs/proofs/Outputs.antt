@@ -15,32 +15,31 @@ use Rattle.rules.specs.Limits.{maxPorts}
 use Rattle.rules.specs.Value.{sameControl}
 use Rattle.rules.specs.Cell.{WritePort, ReadPort, outputStart, outputLen, writeAt}
 use Rattle.rules.specs.Conditions.{notBelow, badPort}
-use Rattle.rules.specs.Refusals.{portNumber}
+use Rattle.rules.specs.Refusals.{portNumber, memRefusal, outputSliceRefusal}
 use Rattle.rules.specs.Fallback.{canLowerFallback}
 use Rattle.net_value.specs.View.{controlOf}
 use Rattle.net_memory.specs.declared.Memory.{Memory}
 use Rattle.net_memory.specs.View.{memoryOf, writesOf, readsOf, writePort}
+use Rattle.net_memory.specs.Given.{givenOf}
 use Rattle.net_memory.proofs.Ports.{noWrite, writes-at, write-of-view}
-use Rattle.net_check.specs.Number.{memoryRefusal}
-use Rattle.port_outputs.specs.Calls.{outputSliceRefusal}
 
 -- the start past the last port is the length of all
 pub all-outputs : (m : Memory) (nets trits : List ℕ) → length (readsOf m nets trits) ≤ 8 → outputStart (memoryOf m nets trits) 8 ≡ outputLen (memoryOf m nets trits)
 unfolding outputStart outputLen memoryOf
 all-outputs m nets trits h = ap (sumBy (λ (p : ReadPort). p .dataLen)) (take-all 8 (readsOf m nets trits) h)
 
-module _ (m : Memory) (nets trits : List ℕ) (i : ℕ) (reads : length (readsOf m nets trits) ≡ min maxPorts (m .«read_count»)) (z : memoryRefusal m nets trits ≡ 0) where
-  pub port-out : min maxPorts (m .«read_count») ≤ i → 15 ≡ outputSliceRefusal m nets trits i
+module _ (m : Memory) (nets trits : List ℕ) (i : ℕ) (reads : length (readsOf m nets trits) ≡ min maxPorts (m .«read_count»)) (z : memRefusal (givenOf m nets trits) ≡ 0) where
+  pub port-out : min maxPorts (m .«read_count») ≤ i → 15 ≡ outputSliceRefusal (givenOf m nets trits) i
   unfolding outputSliceRefusal portNumber badPort notBelow memoryOf
   port-out h =
       let e : leb (length (readsOf m nets trits)) i ≡ true = ap (λ (n : ℕ). leb n i) reads ∙ le-leb _ _ h in
-      sym (else-rest (memoryRefusal m nets trits) _ z ∙ ap (λ (t : Bool). if t then 15 else 0) e)
+      sym (else-rest (memRefusal (givenOf m nets trits)) _ z ∙ ap (λ (t : Bool). if t then 15 else 0) e)
 
-  pub port-in : i < min maxPorts (m .«read_count») → 0 ≡ outputSliceRefusal m nets trits i
+  pub port-in : i < min maxPorts (m .«read_count») → 0 ≡ outputSliceRefusal (givenOf m nets trits) i
   unfolding outputSliceRefusal portNumber badPort notBelow memoryOf
   port-in h =
       let e : leb (length (readsOf m nets trits)) i ≡ false = ap (λ (n : ℕ). leb n i) reads ∙ lt-leb _ _ h in
-      sym (else-rest (memoryRefusal m nets trits) _ z ∙ ap (λ (t : Bool). if t then 15 else 0) e)
+      sym (else-rest (memRefusal (givenOf m nets trits)) _ z ∙ ap (λ (t : Bool). if t then 15 else 0) e)
 
 -- ---- the clocks
 module _ (m : Memory) (nets trits : List ℕ) where

@@ -10,26 +10,29 @@ ghost use Rattle.rules.specs.Conditions.{badOutputLen, badPort};
 ghost use Rattle.rules.specs.Fallback.{canLowerFallback};
 ghost use Rattle.net_value.specs.View.{controlOf};
 ghost use Rattle.net_memory.specs.View.{memoryOf};
-ghost use Rattle.port_outputs.specs.Calls.{lenOf, sliceOf, canOf, drivingNumber, outputLenCall, outputSliceRefusal, outputSliceCall, canLowerFallbackCall};
+ghost use Rattle.rules.specs.Refusals.{drivingNumber, outputSliceRefusal};
+ghost use Rattle.rules.specs.Answers.{outputLenCall, outputSliceCall, canLowerFallbackCall};
+ghost use Rattle.net_memory.specs.Given.{givenOf};
+ghost use Rattle.port_outputs.specs.Calls.{lenOf, sliceOf, canOf};
 use net_memory::Memory;
 use net_value::ControlNet;
 
 // The answer of `output_len`.
 pub enum OutputLen {
     Refused(u32),
-    Length(usize),
+    Accepted(usize),
 }
 
 // The answer of `read_port_output_slice`.
 pub enum OutputSlice {
     Refused(u32),
-    Slice { start: usize, size: usize },
+    Accepted { start: usize, size: usize },
 }
 
 // The answer of `can_lower_fallback`.
 pub enum CanLower {
     Refused(u32),
-    Answer(bool),
+    Accepted(bool),
 }
 
 // The read ports' data bits in all.
@@ -55,7 +58,7 @@ pub fn driving_number(
     next: u32,
     one: bool,
 ) -> u32
-    ensures { λ r. ⌜ r ≡ drivingNumber one next m (now (nets .entry)) (now (trits .entry)) (now (output .entry)) ⌝ }
+    ensures { λ r. ⌜ r ≡ drivingNumber one next (givenOf m (now (nets .entry)) (now (trits .entry))) (now (output .entry)) ⌝ }
 {
     let two = output_len_bad(m, output.len());
     let good = net_value::value_good(next, output);
@@ -64,18 +67,18 @@ pub fn driving_number(
 
 // The read ports' data bits in all.
 pub fn output_len(m: Memory, nets: &[u32], trits: &[u8]) -> OutputLen
-    ensures { λ r. ⌜ lenOf r ≡ outputLenCall m (now (nets .entry)) (now (trits .entry)) ⌝ }
+    ensures { λ r. ⌜ lenOf r ≡ outputLenCall (givenOf m (now (nets .entry)) (now (trits .entry))) ⌝ }
 {
     let n = net_check::memory_refusal(m, nets, trits);
     if n != 0 {
         return OutputLen::Refused(n);
     }
-    OutputLen::Length(outputs_of(m))
+    OutputLen::Accepted(outputs_of(m))
 }
 
 // The number that refuses `read_port_output_slice`, or 0.
 fn slice_refusal(m: Memory, nets: &[u32], trits: &[u8], port: usize) -> u32
-    ensures { λ r. ⌜ r ≡ outputSliceRefusal m (now (nets .entry)) (now (trits .entry)) port ⌝ }
+    ensures { λ r. ⌜ r ≡ outputSliceRefusal (givenOf m (now (nets .entry)) (now (trits .entry))) port ⌝ }
 {
     let n = net_check::memory_refusal(m, nets, trits);
     if n != 0 {
@@ -89,13 +92,13 @@ fn slice_refusal(m: Memory, nets: &[u32], trits: &[u8], port: usize) -> u32
 
 // Where a port's part of the outputs starts, and how long it is.
 pub fn read_port_output_slice(m: Memory, nets: &[u32], trits: &[u8], port: usize) -> OutputSlice
-    ensures { λ r. ⌜ sliceOf r ≡ outputSliceCall m (now (nets .entry)) (now (trits .entry)) port ⌝ }
+    ensures { λ r. ⌜ sliceOf r ≡ outputSliceCall (givenOf m (now (nets .entry)) (now (trits .entry))) port ⌝ }
 {
     let n = slice_refusal(m, nets, trits, port);
     if n != 0 {
         return OutputSlice::Refused(n);
     }
-    OutputSlice::Slice {
+    OutputSlice::Accepted {
         start: net_memory::output_start(m, port),
         size: net_memory::read_data_len(m, port),
     }
@@ -138,13 +141,13 @@ fn clocks_same(m: Memory) -> bool
 
 // A memory is legal for fallback lowering where all write ports have one clock.
 pub fn can_lower_fallback(m: Memory, nets: &[u32], trits: &[u8]) -> CanLower
-    ensures { λ r. ⌜ canOf r ≡ canLowerFallbackCall m (now (nets .entry)) (now (trits .entry)) ⌝ }
+    ensures { λ r. ⌜ canOf r ≡ canLowerFallbackCall (givenOf m (now (nets .entry)) (now (trits .entry))) ⌝ }
 {
     let n = net_check::memory_refusal(m, nets, trits);
     if n != 0 {
         return CanLower::Refused(n);
     }
-    CanLower::Answer(clocks_same(m))
+    CanLower::Accepted(clocks_same(m))
 }
 
 // A listed port is not there.

@@ -9,8 +9,7 @@ use borrow.Author.Tests.{lt-ltb, le-ltb, ltb-false}
 use Rattle.lists.proofs.Choice.{if-zero, else-first, else-rest, else-zero, hit, miss}
 use Rattle.rules.specs.Record.{sizeTrits, headSizes}
 use Rattle.rules.specs.Conditions.{badHead, badSizes, badBits, noRoom}
-use Rattle.rules.specs.Refusals.{recordRefusal, readRecordRefusal}
-use Rattle.rules.specs.Header.{badHeadOf, headerRefusal}
+use Rattle.rules.specs.Refusals.{recordRefusal, readRecordRefusal, headerRefusal}
 use Rattle.rules.proofs.Headers.{head-whole, record-head}
 
 module _ (bytes : List ℕ) where
@@ -18,7 +17,7 @@ module _ (bytes : List ℕ) where
   pub head-good : headerRefusal bytes (length bytes) ≡ 0 → (badHead bytes ≡ false) × (badSizes (headSizes bytes) ≡ false)
   unfolding headerRefusal
   head-good e =
-      let a = if-zero (badHeadOf bytes (length bytes)) 15 _ e in
+      let a = if-zero (badHead bytes (length bytes)) 15 _ e in
       (sym (head-whole bytes) ∙ a .0, if-zero (badSizes (headSizes bytes)) 16 0 (a .1) .0)
 
   pub record-good : recordRefusal bytes ≡ 0 → (badHead bytes ≡ false) × (badSizes (headSizes bytes) ≡ false) × (badBits bytes ≡ false)

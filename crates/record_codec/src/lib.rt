@@ -8,9 +8,8 @@ ghost use Rattle.lists.specs.Lists.{part};
 ghost use Rattle.rules.specs.Limits.{headBytes};
 ghost use Rattle.rules.specs.Record.{sizeTrits, recordImage, word16, arrayBytes, recordHead, encodeRecord, headSizes, recordBytes, bitsOf, decodeImage};
 ghost use Rattle.rules.specs.Conditions.{badHead, badBits};
-ghost use Rattle.rules.specs.Refusals.{recordRefusal, readRecordRefusal, writeRecordRefusal};
-ghost use Rattle.rules.specs.Answers.{answerOf, writeRecordCall, readRecordCall};
-ghost use Rattle.rules.specs.Header.{badHeadOf, headerRefusal, headerCall};
+ghost use Rattle.rules.specs.Refusals.{recordRefusal, readRecordRefusal, writeRecordRefusal, headerRefusal};
+ghost use Rattle.rules.specs.Answers.{answerOf, writeRecordCall, readRecordCall, headerCall};
 ghost use Rattle.record_sizes.specs.View.{viewSizes};
 ghost use Rattle.record_bits.specs.Groups.{tritsBy, badBy};
 ghost use Rattle.record_reader.specs.Reading.{manyTrits, Words};
@@ -35,7 +34,7 @@ fn bytes_for(trits: u64) -> u64
 
 // Number 16, of a record of `total` bytes whose first are given.
 fn bad_head(first: &[u8], total: usize) -> bool
-    ensures { λ r. ⌜ r ≡ badHeadOf (now (first .entry)) total ⌝ }
+    ensures { λ r. ⌜ r ≡ badHead (now (first .entry)) total ⌝ }
 {
     if first.len() < rules::HEAD_BYTES {
         return true;

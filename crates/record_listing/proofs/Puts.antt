@@ -4,8 +4,7 @@ use Prim.Native.Nat.{ℕ, _+_, _-_}
 use mathlib.Core.Logic.{_≢_}
 use borrow.Author.Tests.{eq-eqb, ne-eqb}
 use Rattle.lists.specs.Choice.{_orElse_}
-use Rattle.rules.specs.Refusals.{recordRefusal}
-use Rattle.rules.specs.Header.{headerRefusal}
+use Rattle.rules.specs.Refusals.{recordRefusal, headerRefusal}
 use Rattle.rules.specs.Beside.Stored.{listerStored}
 use native.Mathlib.Omega.{arith}
 use mathlib.Core.List.{List, [], _∷_, _++_}

@@ -12,13 +12,13 @@ use Rattle.lists.proofs.Choice.{cases-le, else-first}
 use Rattle.rules.specs.Limits.{headBytes}
 use Rattle.rules.specs.Numbers.{ceilDiv}
 use Rattle.rules.specs.Record.{arrayBytes, wordAt, headSizes}
-use Rattle.rules.specs.Refusals.{recordRefusal}
+use Rattle.rules.specs.Refusals.{recordRefusal, headerRefusal}
 use Rattle.rules.specs.Lister.{lister}
-use Rattle.rules.specs.Header.{badHeadOf, headerRefusal}
 use Rattle.rules.specs.Beside.Stored.{maxRecord, listerStored}
 use Rattle.rules.proofs.Headers.{record-head, kept}
 use Rattle.record_codec.proofs.Arrays.{whole}
 use Rattle.record_codec.proofs.Reading.{head-good}
+use Rattle.rules.specs.Conditions.{badHead}
 use Rattle.record_listing.proofs.Puts.{lister-refused, stored-whole, stored-part}
 
 module _ (bytes : List ℕ) where
@@ -45,8 +45,8 @@ module _ (bytes : List ℕ) where
         let f = word-same 10 (omega arith) in
         λ i. record { unit = a i; full = b i; fullDepth = c i; partial = d i; partialDepth = f i }
 
-    head-same : (total : ℕ) → badHeadOf first total ≡ badHeadOf bytes total
-    unfolding badHeadOf
+    head-same : (total : ℕ) → badHead first total ≡ badHead bytes total
+    unfolding badHead
     head-same total =
         rw (le-ltb (length first) headBytes (omega (arith, length-first)), le-ltb (length bytes) headBytes (omega arith), word-same 0 (omega arith), sizes-same)
 

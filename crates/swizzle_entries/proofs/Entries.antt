@@ -18,9 +18,9 @@ use Rattle.rules.specs.Cell.{Mem}
 use Rattle.rules.specs.Geometry.{changing, padded, swizzleFrom, makeDataSwizzle}
 use Rattle.rules.specs.Conditions.{badGranularities, rowTooLong, noRoom}
 use Rattle.net_memory.specs.declared.Memory.{Memory}
+use Rattle.rules.specs.Refusals.{memRefusal, makeDataSwizzleRefusal}
+use Rattle.net_memory.specs.Given.{givenOf}
 use Rattle.net_memory.specs.View.{memoryOf, writesOf}
-use Rattle.net_check.specs.Number.{memoryRefusal}
-use Rattle.swizzle_entries.specs.Calls.{makeDataSwizzleRefusal}
 
 module _ (m : Memory) (nets trits gs : List ℕ) where
   abbrev v : Mem
@@ -68,31 +68,31 @@ module _ (m : Memory) (nets trits gs : List ℕ) where
 
   -- ---- the refusal
   module _ (room : ℕ) where
-    pub by-memory : (n : ℕ) → n ≡ memoryRefusal m nets trits → n ≢ 0 → n ≡ makeDataSwizzleRefusal room m nets trits gs
+    pub by-memory : (n : ℕ) → n ≡ memRefusal (givenOf m nets trits) → n ≢ 0 → n ≡ makeDataSwizzleRefusal room (givenOf m nets trits) gs
     unfolding makeDataSwizzleRefusal
-    by-memory n e h = e ∙ sym (else-first (memoryRefusal m nets trits) _ (λ z. h (e ∙ z)))
+    by-memory n e h = e ∙ sym (else-first (memRefusal (givenOf m nets trits)) _ (λ z. h (e ∙ z)))
 
-    module _ (z : memoryRefusal m nets trits ≡ 0) where
-      pub by-five : badGranularities v gs ≡ true → 5 ≡ makeDataSwizzleRefusal room m nets trits gs
+    module _ (z : memRefusal (givenOf m nets trits) ≡ 0) where
+      pub by-five : badGranularities v gs ≡ true → 5 ≡ makeDataSwizzleRefusal room (givenOf m nets trits) gs
       unfolding makeDataSwizzleRefusal
-      by-five a = hit 5 _ a ∙ sym (else-rest (memoryRefusal m nets trits) _ z)
+      by-five a = hit 5 _ a ∙ sym (else-rest (memRefusal (givenOf m nets trits)) _ z)
 
       module _ (a : badGranularities v gs ≡ false) (k : ℕ) (e : k ≡ length (makeDataSwizzle v gs)) where
-        pub by-six : 256 < k → 6 ≡ makeDataSwizzleRefusal room m nets trits gs
+        pub by-six : 256 < k → 6 ≡ makeDataSwizzleRefusal room (givenOf m nets trits) gs
         unfolding makeDataSwizzleRefusal rowTooLong
-        by-six h = miss 5 _ 6 a (hit 6 _ (ap (ltb 256) (sym e) ∙ lt-ltb 256 k h)) ∙ sym (else-rest (memoryRefusal m nets trits) _ z)
+        by-six h = miss 5 _ 6 a (hit 6 _ (ap (ltb 256) (sym e) ∙ lt-ltb 256 k h)) ∙ sym (else-rest (memRefusal (givenOf m nets trits)) _ z)
 
-        pub by-room : k ≤ 256 → room < k → 20 ≡ makeDataSwizzleRefusal room m nets trits gs
+        pub by-room : k ≤ 256 → room < k → 20 ≡ makeDataSwizzleRefusal room (givenOf m nets trits) gs
         unfolding makeDataSwizzleRefusal rowTooLong noRoom
         by-room h l =
             miss 5 _ 20 a (miss 6 _ 20 (ap (ltb 256) (sym e) ∙ le-ltb 256 k h) (hit 20 _ (ap (ltb room) (sym e) ∙ lt-ltb room k l)))
-            ∙ sym (else-rest (memoryRefusal m nets trits) _ z)
+            ∙ sym (else-rest (memRefusal (givenOf m nets trits)) _ z)
 
-        pub by-none : k ≤ 256 → k ≤ room → 0 ≡ makeDataSwizzleRefusal room m nets trits gs
+        pub by-none : k ≤ 256 → k ≤ room → 0 ≡ makeDataSwizzleRefusal room (givenOf m nets trits) gs
         unfolding makeDataSwizzleRefusal rowTooLong noRoom
         by-none h l =
             miss 5 _ 0 a (miss 6 _ 0 (ap (ltb 256) (sym e) ∙ le-ltb 256 k h) (miss 20 _ 0 (ap (ltb room) (sym e) ∙ le-ltb room k l) refl))
-            ∙ sym (else-rest (memoryRefusal m nets trits) _ z)
+            ∙ sym (else-rest (memRefusal (givenOf m nets trits)) _ z)
 
 -- ---- number 5
 abbrev pub outOfLimits : ℕ → Bool

@@ -3,3 +3,4 @@ pub mod Slices
 pub mod Padding
 pub mod Changes
 pub mod Entries
+pub mod Answered

@@ -13,13 +13,16 @@ ghost use Rattle.rules.specs.Limits.{X, None, maxGranularity};
 ghost use Rattle.rules.specs.Geometry.{changing, aligned, padded, makeDataSwizzle};
 ghost use Rattle.rules.specs.Conditions.{badGranularities};
 ghost use Rattle.net_memory.specs.View.{memoryOf, writesOf, writeBy};
-ghost use Rattle.swizzle_entries.specs.Calls.{slice, unchanged, makeDataSwizzleRefusal, Made};
+ghost use Rattle.rules.specs.Refusals.{makeDataSwizzleRefusal};
+ghost use Rattle.rules.specs.Answers.{makeDataSwizzleCall};
+ghost use Rattle.net_memory.specs.Given.{givenOf};
+ghost use Rattle.swizzle_entries.specs.Calls.{slice, unchanged, listedOf};
 use net_memory::Memory;
 
 // How many entries there are, or the number that refuses the call.
 pub enum DataSwizzle {
     Refused(u32),
-    Entries(usize),
+    Accepted(usize),
 }
 
 // The net at a place, X past the end.
@@ -105,7 +108,7 @@ fn port_same(p: net_memory::MemoryWritePort, nets: &[u32], width: usize, bit: us
 }
 
 // Stores a granularity unless its port's mask is the same, and says how many there are then.
-fn keep(same: bool, out: &mut [u32], found: usize, g: u32) -> usize
+fn keep(out: &mut [u32], found: usize, same: bool, g: u32) -> usize
     requires { ⌜ found ≤ 8 ⌝ }
     ensures { λ r. ⌜ (r ≡ (if same then found else found + 1)) × (r ≤ found + 1) ⌝ }
     ensures { λ _. ⌜ now (out .exit) ≡ (if same then now (out .entry) else set (now (out .entry)) found g) ⌝ }
@@ -118,7 +121,7 @@ fn keep(same: bool, out: &mut [u32], found: usize, g: u32) -> usize
 }
 
 // Stores the granularities of the write ports whose mask changes between a bit and the one before, and says how many they are.
-fn changing_of(m: Memory, nets: &[u32], gs: &[u32], bit: usize, out: &mut [u32]) -> usize
+fn changing_of(out: &mut [u32], m: Memory, nets: &[u32], gs: &[u32], bit: usize) -> usize
     requires { ⌜ (0 < m .width) × (bit < 0x100000000) ⌝ }
     ensures { λ r. ⌜ ((trits : List ℕ) → r ≡ length (changing (memoryOf m (now (nets .entry)) trits) bit (writesOf m (now (nets .entry))) (now (gs .entry)))) ⌝ }
     ensures { λ _. ⌜ ((trits : List ℕ) → now (out .exit) ≡ sets (now (out .entry)) 0 (changing (memoryOf m (now (nets .entry)) trits) bit (writesOf m (now (nets .entry))) (now (gs .entry)))) ⌝ }
@@ -133,7 +136,7 @@ fn changing_of(m: Memory, nets: &[u32], gs: &[u32], bit: usize, out: &mut [u32])
         let size = net_memory::write_size(p);
         let part = lists::part_u32(nets, at, size);
         let same = port_same(p, part, width, bit);
-        found = keep(same, out, found, gs[i]);
+        found = keep(out, found, same, gs[i]);
         at += size;
         i += 1;
     }
@@ -146,8 +149,8 @@ fn bit_padding(m: Memory, nets: &[u32], gs: &[u32], bit: usize, n: usize) -> usi
     ensures { λ r. ⌜ ((trits : List ℕ) → r ≡ padded (changing (memoryOf m (now (nets .entry)) trits) bit (writesOf m (now (nets .entry))) (now (gs .entry))) n) ⌝ }
     ensures { λ r. ⌜ r ≤ 257 ⌝ }
 {
-    let mut kept = [0u32; 8];
-    let count = changing_of(m, nets, gs, bit, &mut kept);
+    let mut kept = [0u32; rules::MAX_PORTS];
+    let count = changing_of(&mut kept, m, nets, gs, bit);
     padding_of(lists::part_u32(&kept, 0, count), n)
 }
 
@@ -163,7 +166,7 @@ fn put_bit(out: &mut [u32], n: usize, count: usize, bit: u32) -> usize
 }
 
 // Stores the entries, and says how many they are.
-fn put_entries(m: Memory, nets: &[u32], gs: &[u32], out: &mut [u32]) -> usize
+fn put_entries(out: &mut [u32], m: Memory, nets: &[u32], gs: &[u32]) -> usize
     ensures { λ r. ⌜ ((trits : List ℕ) → r ≡ length (makeDataSwizzle (memoryOf m (now (nets .entry)) trits) (now (gs .entry)))) ⌝ }
     ensures { λ _. ⌜ ((trits : List ℕ) → now (out .exit) ≡ sets (now (out .entry)) 0 (makeDataSwizzle (memoryOf m (now (nets .entry)) trits) (now (gs .entry)))) ⌝ }
 {
@@ -210,7 +213,7 @@ fn granularities_bad(m: Memory, gs: &[u32]) -> bool
 
 // The number that refuses the call with a room of this length, or 0.
 fn swizzle_refusal(m: Memory, nets: &[u32], trits: &[u8], gs: &[u32], room: usize) -> u32
-    ensures { λ r. ⌜ r ≡ makeDataSwizzleRefusal room m (now (nets .entry)) (now (trits .entry)) (now (gs .entry)) ⌝ }
+    ensures { λ r. ⌜ r ≡ makeDataSwizzleRefusal room (givenOf m (now (nets .entry)) (now (trits .entry))) (now (gs .entry)) ⌝ }
 {
     let n = net_check::memory_refusal(m, nets, trits);
     if n != 0 {
@@ -220,7 +223,7 @@ fn swizzle_refusal(m: Memory, nets: &[u32], trits: &[u8], gs: &[u32], room: usiz
         return 5;
     }
     let mut none = [0u32; 1];
-    let count = put_entries(m, nets, gs, &mut none);
+    let count = put_entries(&mut none, m, nets, gs);
     if rules::MAX_ROW < count {
         return 6;
     }
@@ -232,18 +235,18 @@ fn swizzle_refusal(m: Memory, nets: &[u32], trits: &[u8], gs: &[u32], room: usiz
 
 // The entries of a row, padded with None so that masks with these granularities can be applied, one granularity to a write port.
 pub fn make_data_swizzle(
+    out: &mut [u32],
     m: Memory,
     nets: &[u32],
     trits: &[u8],
     granularities: &[u32],
-    out: &mut [u32],
 ) -> DataSwizzle
-    ensures { λ r. ⌜ Made m (now (nets .entry)) (now (trits .entry)) (now (granularities .entry)) r (now (out .entry)) (now (out .exit)) ⌝ }
+    ensures { λ r. ⌜ listedOf r (now (out .exit)) ≡ makeDataSwizzleCall (now (out .entry)) (givenOf m (now (nets .entry)) (now (trits .entry))) (now (granularities .entry)) ⌝ }
 {
     let n = swizzle_refusal(m, nets, trits, granularities, out.len());
     if n != 0 {
         return DataSwizzle::Refused(n);
     }
-    let count = put_entries(m, nets, granularities, out);
-    DataSwizzle::Entries(count)
+    let count = put_entries(out, m, nets, granularities);
+    DataSwizzle::Accepted(count)
 }

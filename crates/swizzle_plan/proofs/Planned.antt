@@ -15,15 +15,15 @@ use Rattle.rules.specs.Numbers.{topBits}
 use Rattle.rules.specs.Cell.{Plan}
 use Rattle.rules.specs.Geometry.{Layout, layoutOf, rowLen, allMems}
 use Rattle.rules.specs.Conditions.{tooLarge, planTooLarge, badEntries, badSoftMask, indivisible, badLayoutSizes, resultTooLarge, noRoom}
-use Rattle.rules.specs.Refusals.{planNumber}
+use Rattle.rules.specs.Refusals.{planNumber, memNumber, plannedNumber, swizzleDepthsRefusal}
 use Rattle.rules.specs.Answers.{filled}
 use Rattle.rules.specs.Beside.Shape.{entriesNumber, softMaskNumber, resultNumber, depthsNumber}
 use Rattle.net_memory.specs.declared.Memory.{Memory}
 use Rattle.net_memory.specs.View.{memoryOf}
-use Rattle.net_check.specs.Number.{memoryNumber}
 use Rattle.net_check.proofs.Accept.{Valid, valid}
 use Rattle.image_geometry.specs.View.{layoutBy}
-use Rattle.swizzle_plan.specs.Calls.{planOf, paramsBy, plannedNumber, swizzleDepthsRefusal}
+use Rattle.swizzle_plan.specs.Calls.{planOf, paramsBy}
+use Rattle.net_memory.specs.Given.{givenOf}
 use Rattle.swizzle_plan.specs.declared.MemorySwizzle.{MemorySwizzle}
 
 -- a chain whose first test refuses, and one whose first test does not
@@ -63,21 +63,21 @@ module _ (m : Memory) (nets trits : List ℕ) (s : MemorySwizzle) (es ws rs : Li
 
   module _ (long : Bool) where
     abbrev whole : ℕ
-    whole = memoryNumber (planTooLarge p || long) false false maxNets m nets trits
+    whole = memNumber (planTooLarge p || long) false false maxNets (givenOf m nets trits)
 
-    pub by-memory : (n : ℕ) → n ≡ whole → n ≢ 0 → n ≡ plannedNumber long m nets trits p
+    pub by-memory : (n : ℕ) → n ≡ whole → n ≢ 0 → n ≡ plannedNumber long (givenOf m nets trits) p
     unfolding plannedNumber
     by-memory n e h = e ∙ sym (else-first whole _ (λ z. h (e ∙ z)))
 
     module _ (z : whole ≡ 0) where
-      pub by-seven : (k : ℕ) → k ≡ entriesNumber (m .width) es → k ≢ 0 → k ≡ plannedNumber long m nets trits p
+      pub by-seven : (k : ℕ) → k ≡ entriesNumber (m .width) es → k ≢ 0 → k ≡ plannedNumber long (givenOf m nets trits) p
       unfolding plannedNumber entriesNumber
       by-seven k e h =
           e
           ∙ seven (badEntries (m .width) es) (indivisible (m .depth) (topBits addrBits (s .«soft_addr_bits_mask»))) (λ x. h (e ∙ x))
           ∙ sym (else-rest whole _ z ∙ plan-by)
 
-      pub by-eight : (k : ℕ) → k ≡ entriesNumber (m .width) es → k ≡ 0 → (r : ℕ) → r ≡ softMaskNumber (m .depth) (s .«soft_addr_bits_mask») → r ≡ plannedNumber long m nets trits p
+      pub by-eight : (k : ℕ) → k ≡ entriesNumber (m .width) es → k ≡ 0 → (r : ℕ) → r ≡ softMaskNumber (m .depth) (s .«soft_addr_bits_mask») → r ≡ plannedNumber long (givenOf m nets trits) p
       unfolding plannedNumber entriesNumber softMaskNumber
       by-eight k e h r f =
           f
@@ -85,11 +85,11 @@ module _ (m : Memory) (nets trits : List ℕ) (s : MemorySwizzle) (es ws rs : Li
           ∙ sym (else-rest whole _ z ∙ plan-by)
 
     -- no number
-    pub planned-valid : plannedNumber long m nets trits p ≡ 0 → Valid (planTooLarge p || long) false false maxNets m nets trits
+    pub planned-valid : plannedNumber long (givenOf m nets trits) p ≡ 0 → Valid (planTooLarge p || long) false false maxNets m nets trits
     unfolding plannedNumber
     planned-valid e = valid (planTooLarge p || long) false false maxNets m nets trits (else-zero whole _ e .0)
 
-    pub planned-sizes : plannedNumber long m nets trits p ≡ 0 → badLayoutSizes (m .depth) (m .width) (length es) (s .«data_width_unit») (s .«hard_addr_bits») ≡ false
+    pub planned-sizes : plannedNumber long (givenOf m nets trits) p ≡ 0 → badLayoutSizes (m .depth) (m .width) (length es) (s .«data_width_unit») (s .«hard_addr_bits») ≡ false
     unfolding badLayoutSizes planTooLarge tooLarge memoryOf
     planned-sizes e =
         let v = planned-valid e in
@@ -105,25 +105,25 @@ module _ (m : Memory) (nets trits : List ℕ) (s : MemorySwizzle) (es ws rs : Li
 
   -- ---- swizzle_depths
   module _ (room : ℕ) where
-    pub depths-first : (n : ℕ) → n ≡ plannedNumber false m nets trits p → n ≢ 0 → n ≡ swizzleDepthsRefusal room m nets trits p
+    pub depths-first : (n : ℕ) → n ≡ plannedNumber false (givenOf m nets trits) p → n ≢ 0 → n ≡ swizzleDepthsRefusal room (givenOf m nets trits) p
     unfolding swizzleDepthsRefusal
-    depths-first n e h = e ∙ sym (else-first (plannedNumber false m nets trits p) _ (λ z. h (e ∙ z)))
+    depths-first n e h = e ∙ sym (else-first (plannedNumber false (givenOf m nets trits) p) _ (λ z. h (e ∙ z)))
 
-    module _ (z : plannedNumber false m nets trits p ≡ 0) where
-      pub depths-ten : (k : ℕ) → k ≡ resultNumber q → k ≢ 0 → k ≡ swizzleDepthsRefusal room m nets trits p
+    module _ (z : plannedNumber false (givenOf m nets trits) p ≡ 0) where
+      pub depths-ten : (k : ℕ) → k ≡ resultNumber q → k ≢ 0 → k ≡ swizzleDepthsRefusal room (givenOf m nets trits) p
       unfolding swizzleDepthsRefusal resultNumber rowLen
       depths-ten k e h =
           e
           ∙ ten (badLayoutSizes (m .depth) (m .width) (length es) (s .«data_width_unit») (s .«hard_addr_bits»)) (resultTooLarge q) (if noRoom room (allMems q) then 20 else 0) (planned-sizes false z) (λ x. h (e ∙ x))
           ∙ ap (λ (l : Layout). if resultTooLarge l then 10 else if noRoom room (allMems l) then 20 else 0) same-layout
-          ∙ sym (else-rest (plannedNumber false m nets trits p) _ z)
+          ∙ sym (else-rest (plannedNumber false (givenOf m nets trits) p) _ z)
 
-      pub depths-rest : (k : ℕ) → k ≡ resultNumber q → k ≡ 0 → depthsNumber room q ≡ swizzleDepthsRefusal room m nets trits p
+      pub depths-rest : (k : ℕ) → k ≡ resultNumber q → k ≡ 0 → depthsNumber room q ≡ swizzleDepthsRefusal room (givenOf m nets trits) p
       unfolding swizzleDepthsRefusal resultNumber depthsNumber rowLen
       depths-rest k e h =
           room-left (badLayoutSizes (m .depth) (m .width) (length es) (s .«data_width_unit») (s .«hard_addr_bits»)) (resultTooLarge q) (noRoom room (allMems q)) (planned-sizes false z) (sym e ∙ h)
           ∙ ap (λ (l : Layout). if resultTooLarge l then 10 else if noRoom room (allMems l) then 20 else 0) same-layout
-          ∙ sym (else-rest (plannedNumber false m nets trits p) _ z)
+          ∙ sym (else-rest (plannedNumber false (givenOf m nets trits) p) _ z)
 
 -- a call that fills keeps the length of the room
 pub filled-length : (n : ℕ) (out l : List ℕ) → length (filled n out l .out) ≡ length out

@@ -15,17 +15,15 @@ use Rattle.rules.specs.Numbers.{topBits}
 use Rattle.rules.specs.Cell.{Plan}
 use Rattle.rules.specs.Geometry.{layoutOf, rowLen}
 use Rattle.rules.specs.Conditions.{tooLarge, planTooLarge, badEntries, badSoftMask, indivisible, badWrites, badReads, allReads, badLayoutSizes, resultTooLarge, badOutputLen, badValue}
-use Rattle.rules.specs.Refusals.{planNumber}
+use Rattle.rules.specs.Refusals.{planNumber, wideNumber, imageNumber, wholePlan, drivingNumber, swizzlePlanNumber}
 use Rattle.rules.specs.Beside.Shape.{entriesNumber, softMaskNumber, resultNumber}
-use Rattle.rules.specs.WholePlan.{wideNumber, sizeNumber, wholePlan}
 use Rattle.net_memory.specs.declared.Memory.{Memory}
 use Rattle.net_memory.specs.View.{memoryOf, readsOf}
 use Rattle.net_check.proofs.Accept.{Valid, valid}
-use Rattle.port_outputs.specs.Calls.{drivingNumber}
 use Rattle.image_geometry.specs.View.{layoutBy}
 use Rattle.swizzle_plan.specs.declared.MemorySwizzle.{MemorySwizzle}
+use Rattle.net_memory.specs.Given.{givenOf}
 use Rattle.swizzle_plan.specs.Calls.{planOf, paramsBy}
-use Rattle.swizzle_plan.specs.Numbers.{planCheck}
 
 -- the numbers of the first ports
 pub first-ports : (n : ℕ) → n ≤ 8 → part 0 n (0 ∷ 1 ∷ 2 ∷ 3 ∷ 4 ∷ 5 ∷ 6 ∷ 7 ∷ []) ≡ upFrom 0 n
@@ -95,7 +93,7 @@ module _ (m : Memory) (nets trits : List ℕ) (s : MemorySwizzle) (es ws rs : Li
   large = resultTooLarge (layoutBy (paramsBy m s) es)
 
   form : wholeOf names mask logs (eqb (m .width) 0) large ≡ wholePlan (memoryOf m nets trits) p
-  unfolding wholePlan wideNumber sizeNumber planNumber badSoftMask memoryOf layoutOf
+  unfolding wholePlan wideNumber imageNumber planNumber badSoftMask memoryOf layoutOf
   form = refl
 
   module _ (k : ℕ) (e : k ≡ entriesNumber (m .width) es) where
@@ -133,14 +131,14 @@ module _ (m : Memory) (nets trits : List ℕ) (s : MemorySwizzle) (es ws rs : Li
   -- ---- the whole number
   module _ (next : ℕ) (output : List ℕ) where
     abbrev first : ℕ
-    first = drivingNumber (planTooLarge p) next m nets trits output
+    first = drivingNumber (planTooLarge p) next (givenOf m nets trits) output
 
-    pub by-first : (n : ℕ) → n ≡ first → n ≢ 0 → n ≡ planCheck next m nets trits output p
-    unfolding planCheck
+    pub by-first : (n : ℕ) → n ≡ first → n ≢ 0 → n ≡ swizzlePlanNumber next (givenOf m nets trits) output p
+    unfolding swizzlePlanNumber
     by-first n e h = e ∙ sym (else-first first _ (λ z. h (e ∙ z)))
 
-    pub by-rest : first ≡ 0 → (n : ℕ) → n ≡ wholePlan (memoryOf m nets trits) p → n ≡ planCheck next m nets trits output p
-    unfolding planCheck
+    pub by-rest : first ≡ 0 → (n : ℕ) → n ≡ wholePlan (memoryOf m nets trits) p → n ≡ swizzlePlanNumber next (givenOf m nets trits) output p
+    unfolding swizzlePlanNumber
     by-rest z n e = e ∙ sym (else-rest first _ z)
 
     driven : first ≡ 0 → Valid (planTooLarge p) (badOutputLen (memoryOf m nets trits) output) (badValue next output) next m nets trits

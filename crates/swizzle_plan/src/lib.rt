@@ -8,10 +8,10 @@ ghost use lib.ListN.{length};
 ghost use Rattle.lists.specs.Lists.{any};
 ghost use Rattle.rules.specs.Limits.{maxWide};
 ghost use Rattle.rules.specs.Conditions.{planTooLarge, badLayoutSizes};
-ghost use Rattle.rules.specs.WholePlan.{wholePlan};
 ghost use Rattle.net_memory.specs.View.{memoryOf};
-ghost use Rattle.swizzle_plan.specs.Calls.{planOf, paramsBy, plannedNumber};
-ghost use Rattle.swizzle_plan.specs.Numbers.{planCheck};
+ghost use Rattle.rules.specs.Refusals.{wholePlan, plannedNumber, swizzlePlanNumber};
+ghost use Rattle.net_memory.specs.Given.{givenOf};
+ghost use Rattle.swizzle_plan.specs.Calls.{planOf, paramsBy};
 use net_memory::Memory;
 
 pub mod logs;
@@ -83,7 +83,7 @@ pub fn planned_number(
     reads: &[u32],
     long: bool,
 ) -> u32
-    ensures { λ r. ⌜ r ≡ plannedNumber long m (now (nets .entry)) (now (trits .entry)) (planOf s (now (entries .entry)) (now (writes .entry)) (now (reads .entry))) ⌝ }
+    ensures { λ r. ⌜ r ≡ plannedNumber long (givenOf m (now (nets .entry)) (now (trits .entry))) (planOf s (now (entries .entry)) (now (writes .entry)) (now (reads .entry))) ⌝ }
 {
     let one = either(plan_too_large(s, entries, writes, reads), long);
     let n = net_check::memory_number(m, nets, trits, rules::MAX_NETS, one, false, false);
@@ -147,7 +147,7 @@ pub fn plan_number(
     writes: &[u32],
     reads: &[u32],
 ) -> u32
-    ensures { λ r. ⌜ r ≡ planCheck next m (now (nets .entry)) (now (trits .entry)) (now (output .entry)) (planOf s (now (entries .entry)) (now (writes .entry)) (now (reads .entry))) ⌝ }
+    ensures { λ r. ⌜ r ≡ swizzlePlanNumber next (givenOf m (now (nets .entry)) (now (trits .entry))) (now (output .entry)) (planOf s (now (entries .entry)) (now (writes .entry)) (now (reads .entry))) ⌝ }
 {
     let one = plan_too_large(s, entries, writes, reads);
     let n = port_outputs::driving_number(m, nets, trits, output, next, one);

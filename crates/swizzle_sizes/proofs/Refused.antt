@@ -17,42 +17,43 @@ use Rattle.rules.proofs.Walks.{tops-le, softs-le}
 use Rattle.net_check.proofs.Accept.{Valid}
 use Rattle.image_geometry.specs.View.{layoutBy}
 use Rattle.swizzle_plan.specs.declared.MemorySwizzle.{MemorySwizzle}
-use Rattle.swizzle_plan.specs.Calls.{planOf, paramsBy, plannedNumber}
+use Rattle.swizzle_plan.specs.Calls.{planOf, paramsBy}
 use Rattle.swizzle_plan.proofs.Planned.{same-layout, planned-valid}
 use Rattle.swizzle_plan.proofs.Wides.{map-first}
 use Rattle.swizzle_plan.specs.Numbers.{writeLogs, readLogs}
-use Rattle.swizzle_sizes.specs.Calls.{swizzleMuxBitsRefusal}
 use mathlib.Core.List.{List, [], map}
 use lib.ListN.{length, getD, length-map, replicate}
 use lib.Seq.{sets}
 use Rattle.net_memory.specs.declared.Memory.{Memory}
 use Rattle.net_memory.specs.View.{memoryOf, writesOf, writeBy, writePort, writeStart, writeSize}
+use Rattle.rules.specs.Refusals.{plannedNumber, swizzleMuxBitsRefusal}
+use Rattle.net_memory.specs.Given.{givenOf}
 use Rattle.net_memory.proofs.Ports.{noWrite, writes-at}
 
 -- ---- the number of the call
 module _ (m : Memory) (nets trits ports : List ℕ) (p : Plan) where
   abbrev first : ℕ
-  first = plannedNumber (longList ports) m nets trits p
+  first = plannedNumber (longList ports) (givenOf m nets trits) p
 
-  pub by-planned : (n : ℕ) → n ≡ first → n ≢ 0 → n ≡ swizzleMuxBitsRefusal m nets trits ports p
+  pub by-planned : (n : ℕ) → n ≡ first → n ≢ 0 → n ≡ swizzleMuxBitsRefusal (givenOf m nets trits) ports p
   unfolding swizzleMuxBitsRefusal
   by-planned n e h = e ∙ sym (else-first first _ (λ z. h (e ∙ z)))
 
   module _ (z : first ≡ 0) where
-    pub by-nine : badWrites (memoryOf m nets trits) p || badReads (memoryOf m nets trits) ports p ≡ true → 9 ≡ swizzleMuxBitsRefusal m nets trits ports p
+    pub by-nine : badWrites (memoryOf m nets trits) p || badReads (memoryOf m nets trits) ports p ≡ true → 9 ≡ swizzleMuxBitsRefusal (givenOf m nets trits) ports p
     unfolding swizzleMuxBitsRefusal
     by-nine e = hit 9 _ e ∙ sym (else-rest first _ z)
 
     module _ (e : badWrites (memoryOf m nets trits) p || badReads (memoryOf m nets trits) ports p ≡ false) where
-      pub by-port : any (badPort (memoryOf m nets trits)) ports ≡ true → 15 ≡ swizzleMuxBitsRefusal m nets trits ports p
+      pub by-port : any (badPort (memoryOf m nets trits)) ports ≡ true → 15 ≡ swizzleMuxBitsRefusal (givenOf m nets trits) ports p
       unfolding swizzleMuxBitsRefusal
       by-port f = miss 9 _ 15 e (hit 15 _ f) ∙ sym (else-rest first _ z)
 
-      pub by-none : any (badPort (memoryOf m nets trits)) ports ≡ false → 0 ≡ swizzleMuxBitsRefusal m nets trits ports p
+      pub by-none : any (badPort (memoryOf m nets trits)) ports ≡ false → 0 ≡ swizzleMuxBitsRefusal (givenOf m nets trits) ports p
       unfolding swizzleMuxBitsRefusal
       by-none f = miss 9 _ 0 e (miss 15 _ 0 f refl) ∙ sym (else-rest first _ z)
 
-  pub mux-planned : swizzleMuxBitsRefusal m nets trits ports p ≡ 0 → first ≡ 0
+  pub mux-planned : swizzleMuxBitsRefusal (givenOf m nets trits) ports p ≡ 0 → first ≡ 0
   unfolding swizzleMuxBitsRefusal
   mux-planned e = else-zero first _ e .0
 
@@ -65,7 +66,7 @@ unfolding longList
 long-by ports = refl
 
 -- ---- where nothing refuses
-module _ (m : Memory) (nets trits ports : List ℕ) (s : MemorySwizzle) (es ws rs : List ℕ) (z : plannedNumber (longList ports) m nets trits (planOf s es ws rs) ≡ 0) where
+module _ (m : Memory) (nets trits ports : List ℕ) (s : MemorySwizzle) (es ws rs : List ℕ) (z : plannedNumber (longList ports) (givenOf m nets trits) (planOf s es ws rs) ≡ 0) where
   ok : Valid (planTooLarge (planOf s es ws rs) || longList ports) false false 16777216 m nets trits
   ok = planned-valid m nets trits s es ws rs (longList ports) z
 

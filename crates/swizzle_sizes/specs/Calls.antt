@@ -12,20 +12,21 @@ use Rattle.rules.specs.Geometry.{writeMuxBits, readMuxBits}
 use Rattle.rules.specs.Conditions.{longList, badWrites, badReads, badPort}
 use Rattle.net_memory.specs.declared.Memory.{Memory}
 use Rattle.net_memory.specs.View.{memoryOf}
-use Rattle.swizzle_plan.specs.Calls.{plannedNumber}
 use Rattle.swizzle_plan.specs.Numbers.{inEight}
+use Rattle.rules.specs.Refusals.{plannedNumber}
+use Rattle.net_memory.specs.Given.{givenOf}
 use Rattle.swizzle_sizes.specs.declared.MuxBits.{MuxBits}
 
 unfoldable pub swizzleMuxBitsRefusal : Memory → List ℕ → List ℕ → List ℕ → Plan → ℕ
-swizzleMuxBitsRefusal m nets trits ports p =
-    plannedNumber (longList ports) m nets trits p
+swizzleMuxBitsRefusal (givenOf m nets trits) ports p =
+    plannedNumber (longList ports) (givenOf m nets trits) p
     orElse (if badWrites (memoryOf m nets trits) p || badReads (memoryOf m nets trits) ports p then 9
     else if any (badPort (memoryOf m nets trits)) ports then 15
     else 0)
 
 -- the whole answer: nothing but zeros where it is refused
 pub record MuxBitsCall (m : Memory) (nets trits ports : List ℕ) (p : Plan) (r : MuxBits) : Type 0 where
-  pub refused : r .refusal ≡ swizzleMuxBitsRefusal m nets trits ports p
+  pub refused : r .refusal ≡ swizzleMuxBitsRefusal (givenOf m nets trits) ports p
   pub writes-are : r .writes ≡ leaves (r .refusal) (replicate maxPorts 0) (inEight (writeMuxBits (memoryOf m nets trits) p))
   pub reads-are : r .reads ≡ leaves (r .refusal) (replicate maxPorts 0) (inEight (readMuxBits (memoryOf m nets trits) ports p))
 

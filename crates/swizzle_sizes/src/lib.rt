@@ -8,9 +8,12 @@ ghost use Rattle.lists.specs.Lists.{pairs};
 ghost use Rattle.rules.specs.Geometry.{chunkMuxBits, softBits};
 ghost use Rattle.image_geometry.specs.View.{layoutBy, filledWith};
 ghost use Rattle.net_memory.specs.View.{memoryOf};
-ghost use Rattle.swizzle_plan.specs.Calls.{planOf, paramsBy, swizzleDepthsCall};
+ghost use Rattle.swizzle_plan.specs.Calls.{planOf, paramsBy};
 ghost use Rattle.swizzle_plan.specs.Numbers.{inEight, writeLogs, readLogs};
-ghost use Rattle.swizzle_sizes.specs.Calls.{swizzleMuxBitsRefusal, MuxBitsCall, Countable, Small};
+ghost use Rattle.rules.specs.Answers.{swizzleDepthsCall};
+ghost use Rattle.rules.specs.Refusals.{swizzleMuxBitsRefusal};
+ghost use Rattle.net_memory.specs.Given.{givenOf};
+ghost use Rattle.swizzle_sizes.specs.Calls.{MuxBitsCall, Countable, Small};
 use net_memory::Memory;
 use swizzle_plan::MemorySwizzle;
 
@@ -49,7 +52,7 @@ fn mux_refusal(
     writes: &[u32],
     reads: &[u32],
 ) -> u32
-    ensures { λ r. ⌜ r ≡ swizzleMuxBitsRefusal m (now (nets .entry)) (now (trits .entry)) (now (ports .entry)) (planOf s (now (entries .entry)) (now (writes .entry)) (now (reads .entry))) ⌝ }
+    ensures { λ r. ⌜ r ≡ swizzleMuxBitsRefusal (givenOf m (now (nets .entry)) (now (trits .entry))) (now (ports .entry)) (planOf s (now (entries .entry)) (now (writes .entry)) (now (reads .entry))) ⌝ }
 {
     let long = rules::MAX_PORTS < ports.len();
     let n = swizzle_plan::planned_number(m, nets, trits, s, entries, writes, reads, long);
@@ -151,7 +154,7 @@ pub fn swizzle_depths(
     reads: &[u32],
     out: &mut [u32],
 ) -> u32
-    ensures { λ r. ⌜ filledWith r (now (out .exit)) ≡ swizzleDepthsCall (now (out .entry)) m (now (nets .entry)) (now (trits .entry)) (planOf s (now (entries .entry)) (now (writes .entry)) (now (reads .entry))) ⌝ }
+    ensures { λ r. ⌜ filledWith r (now (out .exit)) ≡ swizzleDepthsCall (now (out .entry)) (givenOf m (now (nets .entry)) (now (trits .entry))) (planOf s (now (entries .entry)) (now (writes .entry)) (now (reads .entry))) ⌝ }
 {
     let n = swizzle_plan::planned_number(m, nets, trits, s, entries, writes, reads, false);
     if n != 0 {

@@ -19,7 +19,7 @@ pub(crate) const SLICE: u32 = 3;
 fn len_code(r: OutputLen) -> u64 {
     match r {
         OutputLen::Refused(n) => n as u64,
-        OutputLen::Length(n) => 1000000 + ((n % 1000000) as u64),
+        OutputLen::Accepted(n) => 1000000 + ((n % 1000000) as u64),
     }
 }
 
@@ -27,7 +27,7 @@ fn len_code(r: OutputLen) -> u64 {
 fn slice_code(r: OutputSlice) -> u64 {
     match r {
         OutputSlice::Refused(n) => n as u64,
-        OutputSlice::Slice { start, size } => {
+        OutputSlice::Accepted { start, size } => {
             1000000 + 1000 * ((start % 1000) as u64) + ((size % 1000) as u64)
         }
     }
@@ -37,7 +37,7 @@ fn slice_code(r: OutputSlice) -> u64 {
 fn can_code(r: CanLower) -> u64 {
     match r {
         CanLower::Refused(n) => n as u64,
-        CanLower::Answer(b) => { if b { 1000001 } else { 1000000 } }
+        CanLower::Accepted(b) => { if b { 1000001 } else { 1000000 } }
     }
 }
 

@@ -11,7 +11,7 @@ const ROOM: usize = 300;
 fn answer_is(r: DataSwizzle, number: u32, count: usize) -> bool {
     match r {
         DataSwizzle::Refused(n) => { if number == 0 { false } else { n == number } }
-        DataSwizzle::Entries(k) => { if number == 0 { k == count } else { false } }
+        DataSwizzle::Accepted(k) => { if number == 0 { k == count } else { false } }
     }
 }
 
@@ -25,7 +25,7 @@ fn call(
     lent: usize,
 ) -> DataSwizzle {
     let n = room::at_most(lent, out.len());
-    swizzle_entries::make_data_swizzle(m, nets, trits, sizes, &mut out[0..n])
+    swizzle_entries::make_data_swizzle(&mut out[0..n], m, nets, trits, sizes)
 }
 
 // A call's number and the entries that the room holds after it.

@@ -3,7 +3,7 @@ use mathlib.Core.Path.{_≡_, sym, ap, _∙_}
 use mathlib.Core.Bool.{true, false}
 use Rattle.rules.specs.Beside.Shape.{shapeOf}
 use Rattle.rules.specs.Conditions.{resultTooLarge, badLayout}
-use Rattle.rules.proofs.GoodLayouts.{badSizes, good-back, bad-1, bad-7, bad-8, bad-10, no-result, some-result, shape-none, shape-some}
+use Rattle.rules.proofs.GoodLayouts.{layoutTooLarge, good-back, bad-1, bad-7, bad-8, bad-10, no-result, some-result, shape-none, shape-some}
 use Rattle.rules.proofs.Shaping.{shape-told, shape-not-told, soft-passed, soft-failed, large-columns, large-trits, not-large}
 use Rattle.image_geometry.specs.View.{layoutBy, shapeBy, measuredOf}
 use borrow.Author.Needs.{needs}
@@ -11,7 +11,7 @@ use Rattle.image_check.proofs.check_layout.Statement.{statement}
 use Rattle.image_check.proofs.check_layout.Tie as tie
 
 -- what the sizes are that `measure` gave
-told : (c : tie.After-s) → (badSizes (layoutBy (c .before .before .before .before .args .p) (c .before .before .before .before .args .entries .now)) ≡ false) × (shapeBy (c .s .given .0 .0) ≡ shapeOf (layoutBy (c .before .before .before .before .args .p) (c .before .before .before .before .args .entries .now)))
+told : (c : tie.After-s) → (layoutTooLarge (layoutBy (c .before .before .before .before .args .p) (c .before .before .before .before .args .entries .now)) ≡ false) × (shapeBy (c .s .given .0 .0) ≡ shapeOf (layoutBy (c .before .before .before .before .args .p) (c .before .before .before .before .args .entries .now)))
 told c = shape-told (layoutBy (c .before .before .before .before .args .p) (c .before .before .before .before .args .entries .now)) _ (sym (ap measuredOf (c .s .given .1)) ∙ c .before .before .measure .ensures)
 
 returns : tie.Need-returns

@@ -6,7 +6,7 @@ use lib.ListN.{length}
 use Rattle.rules.specs.Geometry.{fullMems, allMems, fullDepth, partDepth}
 use Rattle.rules.specs.Beside.Shape as rules
 use Rattle.rules.specs.Beside.Shape.{shapeOf, depthsCall, depthsNumber}
-use Rattle.rules.proofs.GoodLayouts.{badSizes}
+use Rattle.rules.proofs.GoodLayouts.{layoutTooLarge}
 use Rattle.rules.proofs.Answering.{filled-refused, filled-done}
 use Rattle.rules.proofs.Shaping.{shape-told, shape-not-told, shape-small, depths-1, depths-20, depths-0, depths-stored}
 use Rattle.rules.proofs.Extents.{deep-max, part-max}
@@ -18,7 +18,7 @@ use Rattle.image_geometry.proofs.depths.Statement.{statement}
 use Rattle.image_geometry.proofs.depths.Tie as tie
 
 -- what the sizes are that `measure` gave
-told : (c : tie.After-s) → (badSizes (layoutBy (c .before .before .before .before .before .args .p) (c .before .before .before .before .before .args .entries .now)) ≡ false) × (shapeBy (c .s .given .0 .0) ≡ shapeOf (layoutBy (c .before .before .before .before .before .args .p) (c .before .before .before .before .before .args .entries .now)))
+told : (c : tie.After-s) → (layoutTooLarge (layoutBy (c .before .before .before .before .before .args .p) (c .before .before .before .before .before .args .entries .now)) ≡ false) × (shapeBy (c .s .given .0 .0) ≡ shapeOf (layoutBy (c .before .before .before .before .before .args .p) (c .before .before .before .before .before .args .entries .now)))
 told c = shape-told (layoutBy (c .before .before .before .before .before .args .p) (c .before .before .before .before .before .args .entries .now)) _ (sym (ap measuredOf (c .s .given .1)) ∙ c .before .before .measure .ensures)
 
 all-is : (c : tie.After-s) → c .s .given .0 .0 .«all_mems» ≡ allMems (layoutBy (c .before .before .before .before .before .args .p) (c .before .before .before .before .before .args .entries .now))

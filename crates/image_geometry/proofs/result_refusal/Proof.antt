@@ -2,7 +2,7 @@
 use mathlib.Core.Path.{_≡_, sym, ap, _∙_}
 use mathlib.Core.Bool.{false}
 use Rattle.rules.specs.Beside.Shape.{shapeOf}
-use Rattle.rules.proofs.GoodLayouts.{badSizes}
+use Rattle.rules.proofs.GoodLayouts.{layoutTooLarge}
 use Rattle.rules.proofs.Shaping.{shape-told, shape-not-told, large-columns, large-trits, not-large, result-1, result-10, result-0}
 use Rattle.image_geometry.specs.View.{layoutBy, shapeBy, measuredOf}
 use borrow.Author.Needs.{needs}
@@ -10,7 +10,7 @@ use Rattle.image_geometry.proofs.result_refusal.Statement.{statement}
 use Rattle.image_geometry.proofs.result_refusal.Tie as tie
 
 -- what the sizes are that `measure` gave
-told : (c : tie.After-s) → (badSizes (layoutBy (c .before .before .before .before .args .p) (c .before .before .before .before .args .entries .now)) ≡ false) × (shapeBy (c .s .given .0 .0) ≡ shapeOf (layoutBy (c .before .before .before .before .args .p) (c .before .before .before .before .args .entries .now)))
+told : (c : tie.After-s) → (layoutTooLarge (layoutBy (c .before .before .before .before .args .p) (c .before .before .before .before .args .entries .now)) ≡ false) × (shapeBy (c .s .given .0 .0) ≡ shapeOf (layoutBy (c .before .before .before .before .args .p) (c .before .before .before .before .args .entries .now)))
 told c = shape-told (layoutBy (c .before .before .before .before .args .p) (c .before .before .before .before .args .entries .now)) _ (sym (ap measuredOf (c .s .given .1)) ∙ c .before .before .measure .ensures)
 
 returns : tie.Need-returns

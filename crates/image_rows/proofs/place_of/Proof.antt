@@ -5,7 +5,7 @@ use native.Mathlib.Nat.{le-of-lt}
 use Rattle.rules.specs.Geometry.{Spot, rowLen}
 use Rattle.rules.specs.Image.{spotOf}
 use Rattle.rules.specs.Beside.Shape.{shapeOf}
-use Rattle.rules.proofs.GoodLayouts.{badSizes}
+use Rattle.rules.proofs.GoodLayouts.{layoutTooLarge}
 use Rattle.rules.proofs.Shaping.{shape-told, shape-not-told, shape-small, placed-1, placed-15-row, placed-15-entry, placed-at}
 use Rattle.image_geometry.specs.View.{layoutBy, shapeBy, measuredOf}
 use Rattle.image_rows.specs.Steps.{Ready, Low, stepsOf}
@@ -17,7 +17,7 @@ use Rattle.image_rows.proofs.place_of.Statement.{statement}
 use Rattle.image_rows.proofs.place_of.Tie as tie
 
 -- what the sizes are that `measure` gave
-told : (c : tie.After-s) → (badSizes (layoutBy (c .before .before .before .before .args .p) (c .before .before .before .before .args .entries .now)) ≡ false) × (shapeBy (c .s .given .0 .0) ≡ shapeOf (layoutBy (c .before .before .before .before .args .p) (c .before .before .before .before .args .entries .now)))
+told : (c : tie.After-s) → (layoutTooLarge (layoutBy (c .before .before .before .before .args .p) (c .before .before .before .before .args .entries .now)) ≡ false) × (shapeBy (c .s .given .0 .0) ≡ shapeOf (layoutBy (c .before .before .before .before .args .p) (c .before .before .before .before .args .entries .now)))
 told c = shape-told (layoutBy (c .before .before .before .before .args .p) (c .before .before .before .before .args .entries .now)) _ (sym (ap measuredOf (c .s .given .1)) ∙ c .before .before .measure .ensures)
 
 returns : tie.Need-returns

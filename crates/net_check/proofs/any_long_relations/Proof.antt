@@ -7,11 +7,11 @@ use lib.Seq.{getD-take}
 use borrow.Author.Needs.{needs}
 use Rattle.lists.specs.Lists.{any}
 use Rattle.net_memory.specs.View.{noReadPort, readPorts}
-use Rattle.net_check.specs.Number.{longRelations}
 use Rattle.lists.proofs.All.{any-pass, any-found, any-end}
 use Rattle.net_memory.proofs.Sized.{read-ports-length}
 use Rattle.rules.specs.Limits.{maxPorts}
 use Rattle.net_check.proofs.any_long_relations.Statement.{statement}
+use Rattle.net_memory.specs.Given.{longRelations}
 use Rattle.net_check.proofs.any_long_relations.Tie as tie
 
 abbrev Inv-loop : tie.InvT-loop

@@ -5,9 +5,9 @@ use mathlib.Core.Bool.{not}
 use lib.Dec.{eqb}
 use borrow.Author.Tests.{eq-eqb, ne-eqb}
 use Rattle.net_check.proofs.Tests.{found, passed}
-use Rattle.net_check.specs.Number.{badLens}
 use borrow.Author.Needs.{needs}
 use Rattle.net_check.proofs.lens_bad.Statement.{statement}
+use Rattle.net_memory.specs.Given.{badLens}
 use Rattle.net_check.proofs.lens_bad.Tie as tie
 
 nets-total-requires : tie.Need-nets-total-requires

@@ -3,11 +3,11 @@ use mathlib.Core.Path.{sym, ap, _∙_}
 use Prim.Native.Nat.{_-_}
 use mathlib.Core.Bool.{_&&_}
 use lib.Dec.{ltb}
-use Rattle.net_check.specs.Number.{clocked, longRelations}
 use Rattle.rules.specs.Limits.{maxPorts}
 use Rattle.net_memory.specs.declared.MemoryReadFlipFlop.{MemoryReadFlipFlop}
 use borrow.Author.Needs.{needs}
 use Rattle.net_check.proofs.long_relations.Statement.{statement}
+use Rattle.net_memory.specs.Given.{clocked, longRelations}
 use Rattle.net_check.proofs.long_relations.Tie as tie
 
 enum-told : tie.Need-enum-told

@@ -1,15 +1,15 @@
 -- `net_check::memory_refusal` meets its contract.
 use Prim.Native.Nat.{_-_}
-use Rattle.net_check.specs.Number.{memoryRefusal}
 use borrow.Author.Needs.{needs}
 use Rattle.net_check.proofs.memory_refusal.Statement.{statement}
+use Rattle.rules.specs.Refusals.{memRefusal}
 use Rattle.net_check.proofs.memory_refusal.Tie as tie
 
 memory-number-requires : tie.Need-memory-number-requires
 memory-number-requires c κs = search needs
 
 returns : tie.Need-returns
-unfolding memoryRefusal
+unfolding memRefusal
 returns c = c .memory-number .ensures
 
 pub memory-refusal-spec : {M : Type 1} → statement M

@@ -3,10 +3,10 @@ use mathlib.Core.Path.{refl, _∙_}
 use Prim.Native.Nat.{_-_}
 use mathlib.Core.Bool.{not}
 use Rattle.rules.specs.Conditions.{badValue}
-use Rattle.net_check.specs.Number.{memoryNumber}
-use Rattle.port_outputs.specs.Calls.{drivingNumber}
 use borrow.Author.Needs.{needs}
 use Rattle.port_outputs.proofs.driving_number.Statement.{statement}
+use Rattle.rules.specs.Refusals.{memNumber, drivingNumber}
+use Rattle.net_memory.specs.Given.{givenOf}
 use Rattle.port_outputs.proofs.driving_number.Tie as tie
 
 output-len-bad-requires : tie.Need-output-len-bad-requires
@@ -22,7 +22,7 @@ returns : tie.Need-returns
 unfolding drivingNumber badValue
 returns c =
     let v = c .before .before .before .before .before .before .args in
-    c .memory-number .ensures ∙ (λ k. memoryNumber (v .one) (c .before .before .output-len-bad .ensures (v .nets .now) (v .trits .now) (v .output .now) refl k) (not (c .before .value-good .ensures k)) (v .next) (v .m) (v .nets .now) (v .trits .now))
+    c .memory-number .ensures ∙ (λ k. memNumber (v .one) (c .before .before .output-len-bad .ensures (v .nets .now) (v .trits .now) (v .output .now) refl k) (not (c .before .value-good .ensures k)) (v .next) (givenOf (v .m) (v .nets .now) (v .trits .now)))
 
 pub driving-number-spec : {M : Type 1} → statement M
 driving-number-spec =

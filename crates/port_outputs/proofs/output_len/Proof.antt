@@ -1,14 +1,14 @@
 -- `port_outputs::output_len` meets its contract.
 use mathlib.Core.Path.{sym, ap, _∙_}
 use Prim.Native.Nat.{_-_}
-use Rattle.rules.specs.Answers.{Refused, Accepted}
+use Rattle.rules.specs.Answers.{Refused, Accepted, outputLenCall}
 use Rattle.rules.proofs.Answers.{answer-refused, answer-accepted}
 use Rattle.rules.specs.Cell.{outputLen}
 use Rattle.net_memory.specs.View.{memoryOf}
-use Rattle.net_check.specs.Number.{memoryRefusal}
-use Rattle.port_outputs.specs.Calls.{outputLenCall}
 use borrow.Author.Needs.{needs}
 use Rattle.port_outputs.proofs.output_len.Statement.{statement}
+use Rattle.rules.specs.Refusals.{memRefusal}
+use Rattle.net_memory.specs.Given.{givenOf}
 use Rattle.port_outputs.proofs.output_len.Tie as tie
 
 memory-refusal-requires : tie.Need-memory-refusal-requires
@@ -19,7 +19,7 @@ unfolding outputLenCall
 returns c =
     let v = c .before .before .before .before .args in
     let e = c .before .memory-refusal .ensures in
-    ap Refused e ∙ sym (answer-refused (memoryRefusal (v .m) (v .nets .now) (v .trits .now)) (outputLen (memoryOf (v .m) (v .nets .now) (v .trits .now))) (λ z. c .if1 .taken (e ∙ z)))
+    ap Refused e ∙ sym (answer-refused (memRefusal (givenOf (v .m) (v .nets .now) (v .trits .now))) (outputLen (memoryOf (v .m) (v .nets .now) (v .trits .now))) (λ z. c .if1 .taken (e ∙ z)))
 
 outputs-of-requires : tie.Need-outputs-of-requires
 outputs-of-requires c κs = search needs
@@ -29,7 +29,7 @@ unfolding outputLenCall
 returns-2 c =
     let v = c .before .before .before .before .before .args in
     let e = c .before .before .memory-refusal .ensures in
-    ap Accepted (c .outputs-of .ensures (v .nets .now) (v .trits .now)) ∙ sym (answer-accepted (memoryRefusal (v .m) (v .nets .now) (v .trits .now)) (outputLen (memoryOf (v .m) (v .nets .now) (v .trits .now))) (sym e ∙ c .before .if1 .left))
+    ap Accepted (c .outputs-of .ensures (v .nets .now) (v .trits .now)) ∙ sym (answer-accepted (memRefusal (givenOf (v .m) (v .nets .now) (v .trits .now))) (outputLen (memoryOf (v .m) (v .nets .now) (v .trits .now))) (sym e ∙ c .before .if1 .left))
 
 pub output-len-spec : {M : Type 1} → statement M
 output-len-spec =

@@ -3,12 +3,12 @@ use mathlib.Core.Path.{sym, _∙_}
 use Prim.Native.Nat.{_-_}
 use native.Mathlib.Omega.{arith}
 use Rattle.net_memory.proofs.Sized.{reads-length}
-use Rattle.net_check.specs.Number.{memoryRefusal}
-use Rattle.port_outputs.specs.Calls.{outputSliceRefusal}
 use Rattle.port_outputs.proofs.Outputs.{port-out, port-in}
 use Rattle.lists.proofs.Choice.{else-first}
 use borrow.Author.Needs.{needs}
 use Rattle.port_outputs.proofs.slice_refusal.Statement.{statement}
+use Rattle.rules.specs.Refusals.{memRefusal, outputSliceRefusal}
+use Rattle.net_memory.specs.Given.{givenOf}
 use Rattle.port_outputs.proofs.slice_refusal.Tie as tie
 
 memory-refusal-requires : tie.Need-memory-refusal-requires
@@ -19,7 +19,7 @@ unfolding outputSliceRefusal
 returns c =
     let v = c .before .before .before .before .args in
     let e = c .before .memory-refusal .ensures in
-    e ∙ sym (else-first (memoryRefusal (v .m) (v .nets .now) (v .trits .now)) _ (λ z. c .if1 .taken (e ∙ z)))
+    e ∙ sym (else-first (memRefusal (givenOf (v .m) (v .nets .now) (v .trits .now))) _ (λ z. c .if1 .taken (e ∙ z)))
 
 ports-used-requires : tie.Need-ports-used-requires
 ports-used-requires c κs = search needs

@@ -1,5 +1,4 @@
 -- `record_codec::bad_head` meets its contract.
-use Rattle.rules.specs.Header.{badHeadOf}
 use Rattle.rules.specs.Record.{recordBytes, arrayBytes}
 use Rattle.lists.proofs.Choice.{or-stop, or-skip, not-is-true, not-is-false}
 use mathlib.Core.Path.{sym, ap, _∙_}
@@ -9,17 +8,18 @@ use lib.Dec.{eqb}
 use borrow.Author.Tests.{lt-ltb, le-ltb, eq-eqb, ne-eqb}
 use borrow.Author.Needs.{needs}
 use Rattle.record_codec.proofs.bad_head.Statement.{statement}
+use Rattle.rules.specs.Conditions.{badHead}
 use Rattle.record_codec.proofs.bad_head.Tie as tie
 
 returns : tie.Need-returns
-unfolding badHeadOf
+unfolding badHead
 returns c = or-stop _ (lt-ltb _ _ (c .if1 .taken))
 
 word-at-requires : tie.Need-word-at-requires
 word-at-requires c κs = search needs
 
 returns-2 : tie.Need-returns-2
-unfolding badHeadOf
+unfolding badHead
 returns-2 c =
     let b = c .before .before in
     or-skip (le-ltb _ _ (b .if1 .left)) (or-stop _ (not-is-true _ (sym (ap (λ (n : ℕ). eqb n 5) (c .before .word-at .ensures)) ∙ ne-eqb _ _ (c .if2 .taken))))
@@ -31,7 +31,7 @@ bytes-for-requires : tie.Need-bytes-for-requires
 bytes-for-requires c κs = search needs
 
 returns-3 : tie.Need-returns-3
-unfolding badHeadOf recordBytes
+unfolding badHead recordBytes
 returns-3 c =
     let d = c .before .before in
     let b = d .before .before in

@@ -1,11 +1,11 @@
 -- `record_codec::header_refusal` meets its contract.
-use Rattle.rules.specs.Header.{headerRefusal}
 use Rattle.rules.specs.Conditions.{badSizes}
 use Rattle.lists.proofs.Choice.{hit, miss}
 use mathlib.Core.Path.{refl, sym, ap, _∙_}
 use Prim.Native.Nat.{_-_}
 use borrow.Author.Needs.{needs}
 use Rattle.record_codec.proofs.header_refusal.Statement.{statement}
+use Rattle.rules.specs.Refusals.{headerRefusal}
 use Rattle.record_codec.proofs.header_refusal.Tie as tie
 
 bad-head-requires : tie.Need-bad-head-requires

@@ -1,10 +1,10 @@
 -- `record_codec::record_header` meets its contract.
-use Rattle.rules.specs.Header.{headerCall}
 use Rattle.rules.proofs.Calls.{refused, accepted}
 use mathlib.Core.Path.{sym, _∙_}
 use Prim.Native.Nat.{_-_}
 use borrow.Author.Needs.{needs}
 use Rattle.record_codec.proofs.record_header.Statement.{statement}
+use Rattle.rules.specs.Answers.{headerCall}
 use Rattle.record_codec.proofs.record_header.Tie as tie
 
 header-refusal-requires : tie.Need-header-refusal-requires

@@ -17,10 +17,10 @@ use Rattle.swizzle_entries.proofs.changing_of.Statement.{statement}
 use Rattle.swizzle_entries.proofs.changing_of.Tie as tie
 
 abbrev Inv-loop : tie.InvT-loop
-Inv-loop nets gs bit out₀ m end width found₀ at₀ i₀ out found at i = (i ≤ end) × (at ≡ sumBy writeSize (take i (m .«write_ports»))) × (at ≤ i * 0x300000000) × (found ≤ i) × ((t : List ℕ) → found + length (rest (memoryOf m nets t) bit (writesOf m nets) gs i) ≡ length (changing (memoryOf m nets t) bit (writesOf m nets) gs)) × ((t : List ℕ) → sets out found (rest (memoryOf m nets t) bit (writesOf m nets) gs i) ≡ sets out₀ 0 (changing (memoryOf m nets t) bit (writesOf m nets) gs))
+Inv-loop out₀ nets gs bit m end width found₀ at₀ i₀ out found at i = (i ≤ end) × (at ≡ sumBy writeSize (take i (m .«write_ports»))) × (at ≤ i * 0x300000000) × (found ≤ i) × ((t : List ℕ) → found + length (rest (memoryOf m nets t) bit (writesOf m nets) gs i) ≡ length (changing (memoryOf m nets t) bit (writesOf m nets) gs)) × ((t : List ℕ) → sets out found (rest (memoryOf m nets t) bit (writesOf m nets) gs i) ≡ sets out₀ 0 (changing (memoryOf m nets t) bit (writesOf m nets) gs))
 
 abbrev μ-loop : tie.MeasureT-loop
-μ-loop nets gs bit out₀ m end width found₀ at₀ i₀ out found at i = end - i
+μ-loop out₀ nets gs bit m end width found₀ at₀ i₀ out found at i = end - i
 
 ports-used-requires : tie.Need-ports-used-requires Inv-loop μ-loop
 ports-used-requires c κs = search needs
@@ -72,17 +72,17 @@ loop-again c =
     let h = c .before .before .before .before .before .before .before .before .before .before in
     let v = c .before .before .before .before .before .before .before .before .before .before .before .before .before .before .before .before .before .args in
     let l = h .loop in
-    let n = writes-length (v .t1) _ (c .before .before .before .before .before .before .before .before .before .before .before .before .before .before .before .before .before .good .0) (v .nets .now) in
-    let i : l .i < min 8 (v .t1 .«write_count») = omega arith in
+    let n = writes-length (v .t2) _ (c .before .before .before .before .before .before .before .before .before .before .before .before .before .before .before .before .before .good .1 .0) (v .nets .now) in
+    let i : l .i < min 8 (v .t2 .«write_count») = omega arith in
     let g : l .i < length (v .gs .now) = omega arith in
     let x = c .before .before .before .before .before .before .part-u32 .ensures .0 ∙ (λ k. part (l .inv .1 k) (c .before .before .before .before .before .before .before .write-size .ensures .0 k) (v .nets .now)) in
-    let u : (t : List ℕ) → c .before .before .before .before .before .port-same .result ≡ unchanged (memoryOf (v .t1) (v .nets .now) t) (v .bit) (getD (writesOf (v .t1) (v .nets .now)) (l .i) _) = λ t. port-unchanged (v .t1) (v .nets .now) t (v .bit) (l .i) _ _ i x (λ m w. c .before .before .before .before .before .port-same .ensures m (w ∙ sym (h .before .usize-of-u32 .ensures .0))) in (
+    let u : (t : List ℕ) → c .before .before .before .before .before .port-same .result ≡ unchanged (memoryOf (v .t2) (v .nets .now) t) (v .bit) (getD (writesOf (v .t2) (v .nets .now)) (l .i) _) = λ t. port-unchanged (v .t2) (v .nets .now) t (v .bit) (l .i) _ _ i x (λ m w. c .before .before .before .before .before .port-same .ensures m (w ∙ sym (h .before .usize-of-u32 .ensures .0))) in (
       omega arith,
-      omega (arith, sum-take-more writeSize noWritePort refl (v .t1 .«write_ports») (l .i)),
+      omega (arith, sum-take-more writeSize noWritePort refl (v .t2 .«write_ports») (l .i)),
       omega arith,
       omega arith,
-      λ t. turn-length (memoryOf (v .t1) (v .nets .now) t) (v .bit) (writesOf (v .t1) (v .nets .now)) (v .gs .now) (l .i) (l .found) _ _ (omega (arith, n)) g (u t) (c .before .before .keep .ensures .0 .0) _ (l .inv .4 t),
-      λ t. turn-store (memoryOf (v .t1) (v .nets .now) t) (v .bit) (writesOf (v .t1) (v .nets .now)) (v .gs .now) (l .i) (l .found) _ _ (omega (arith, n)) g (u t) (c .before .before .keep .ensures .0 .0) _ _ _ (c .before .before .keep .ensures .1) (l .inv .5 t),
+      λ t. turn-length (memoryOf (v .t2) (v .nets .now) t) (v .bit) (writesOf (v .t2) (v .nets .now)) (v .gs .now) (l .i) (l .found) _ _ (omega (arith, n)) g (u t) (c .before .before .keep .ensures .0 .0) _ (l .inv .4 t),
+      λ t. turn-store (memoryOf (v .t2) (v .nets .now) t) (v .bit) (writesOf (v .t2) (v .nets .now)) (v .gs .now) (l .i) (l .found) _ _ (omega (arith, n)) g (u t) (c .before .before .keep .ensures .0 .0) _ _ _ (c .before .before .keep .ensures .1) (l .inv .5 t),
     )
 
 same-length : tie.Need-same-length Inv-loop μ-loop
@@ -93,8 +93,8 @@ returns c =
     let h = c .before in
     let v = c .before .before .before .before .before .before .before .before .args in
     let l = h .loop in
-    let n = writes-length (v .t1) _ (c .before .before .before .before .before .before .before .before .good .0) (v .nets .now) in
-    let e : (t : List ℕ) → rest (memoryOf (v .t1) (v .nets .now) t) (v .bit) (writesOf (v .t1) (v .nets .now)) (v .gs .now) (l .i) ≡ [] = λ t. rest-end (memoryOf (v .t1) (v .nets .now) t) (v .bit) (writesOf (v .t1) (v .nets .now)) (v .gs .now) (l .i) (omega (arith, n)) in
+    let n = writes-length (v .t2) _ (c .before .before .before .before .before .before .before .before .good .1 .0) (v .nets .now) in
+    let e : (t : List ℕ) → rest (memoryOf (v .t2) (v .nets .now) t) (v .bit) (writesOf (v .t2) (v .nets .now)) (v .gs .now) (l .i) ≡ [] = λ t. rest-end (memoryOf (v .t2) (v .nets .now) t) (v .bit) (writesOf (v .t2) (v .nets .now)) (v .gs .now) (l .i) (omega (arith, n)) in
     (λ t. omega (arith, l .inv .4 t, ap length (e t)), λ t. sym (ap (sets _ (l .found)) (e t)) ∙ l .inv .5 t)
 
 pub changing-of-spec : {M : Type 1} → statement M

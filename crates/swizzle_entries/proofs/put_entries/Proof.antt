@@ -15,10 +15,10 @@ use Rattle.swizzle_entries.proofs.put_entries.Statement.{statement}
 use Rattle.swizzle_entries.proofs.put_entries.Tie as tie
 
 abbrev Inv-loop : tie.InvT-loop
-Inv-loop m nets gs out₀ width n₀ bit₀ out n bit = (bit ≤ width) × (n ≤ bit * 258) × ((t : List ℕ) → n + length (left m nets t gs n bit) ≡ length (makeDataSwizzle (memoryOf m nets t) gs)) × ((t : List ℕ) → sets out n (left m nets t gs n bit) ≡ sets out₀ 0 (makeDataSwizzle (memoryOf m nets t) gs))
+Inv-loop out₀ m nets gs width n₀ bit₀ out n bit = (bit ≤ width) × (n ≤ bit * 258) × ((t : List ℕ) → n + length (left m nets t gs n bit) ≡ length (makeDataSwizzle (memoryOf m nets t) gs)) × ((t : List ℕ) → sets out n (left m nets t gs n bit) ≡ sets out₀ 0 (makeDataSwizzle (memoryOf m nets t) gs))
 
 abbrev μ-loop : tie.MeasureT-loop
-μ-loop m nets gs out₀ width n₀ bit₀ out n bit = width - bit
+μ-loop out₀ m nets gs width n₀ bit₀ out n bit = width - bit
 
 loop-holds : tie.Need-loop-holds Inv-loop μ-loop
 loop-holds c =

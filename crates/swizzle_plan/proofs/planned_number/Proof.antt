@@ -4,9 +4,10 @@ use mathlib.Core.Path.{sym, ap, _∙_}
 use Prim.Native.Nat.{_-_}
 use mathlib.Core.Bool.{Bool, false, _||_}
 use Rattle.rules.specs.Limits.{maxNets}
-use Rattle.net_check.specs.Number.{memoryNumber}
 use borrow.Author.Needs.{needs}
 use Rattle.swizzle_plan.proofs.planned_number.Statement.{statement}
+use Rattle.rules.specs.Refusals.{memNumber}
+use Rattle.net_memory.specs.Given.{givenOf}
 use Rattle.swizzle_plan.proofs.planned_number.Tie as tie
 
 plan-too-large-requires : tie.Need-plan-too-large-requires
@@ -21,7 +22,7 @@ memory-number-requires c κs = search needs
 returns : tie.Need-returns
 returns c =
     let v = c .before .before .before .before .before .before .before .before .before .args in
-    by-memory (v .m) (v .nets .now) (v .trits .now) (v .s) (v .entries .now) (v .writes .now) (v .reads .now) (v .long) _ (c .before .memory-number .ensures ∙ ap (λ (t : Bool). memoryNumber t false false maxNets (v .m) (v .nets .now) (v .trits .now)) (c .before .before .either .ensures ∙ ap (λ (t : Bool). t || v .long) (c .before .before .before .plan-too-large .ensures))) (c .if1 .taken)
+    by-memory (v .m) (v .nets .now) (v .trits .now) (v .s) (v .entries .now) (v .writes .now) (v .reads .now) (v .long) _ (c .before .memory-number .ensures ∙ ap (λ (t : Bool). memNumber t false false maxNets (givenOf (v .m) (v .nets .now) (v .trits .now))) (c .before .before .either .ensures ∙ ap (λ (t : Bool). t || v .long) (c .before .before .before .plan-too-large .ensures))) (c .if1 .taken)
 
 entries-refusal-requires : tie.Need-entries-refusal-requires
 entries-refusal-requires c κs = search needs
@@ -29,7 +30,7 @@ entries-refusal-requires c κs = search needs
 returns-2 : tie.Need-returns-2
 returns-2 c =
     let v = c .before .before .before .before .before .before .before .before .before .before .before .args in
-    by-seven (v .m) (v .nets .now) (v .trits .now) (v .s) (v .entries .now) (v .writes .now) (v .reads .now) (v .long) (sym (c .before .before .before .memory-number .ensures ∙ ap (λ (t : Bool). memoryNumber t false false maxNets (v .m) (v .nets .now) (v .trits .now)) (c .before .before .before .before .either .ensures ∙ ap (λ (t : Bool). t || v .long) (c .before .before .before .before .before .plan-too-large .ensures))) ∙ c .before .before .if1 .left) _ (c .before .entries-refusal .ensures) (c .if2 .taken)
+    by-seven (v .m) (v .nets .now) (v .trits .now) (v .s) (v .entries .now) (v .writes .now) (v .reads .now) (v .long) (sym (c .before .before .before .memory-number .ensures ∙ ap (λ (t : Bool). memNumber t false false maxNets (givenOf (v .m) (v .nets .now) (v .trits .now))) (c .before .before .before .before .either .ensures ∙ ap (λ (t : Bool). t || v .long) (c .before .before .before .before .before .plan-too-large .ensures))) ∙ c .before .before .if1 .left) _ (c .before .entries-refusal .ensures) (c .if2 .taken)
 
 soft-mask-refusal-requires : tie.Need-soft-mask-refusal-requires
 soft-mask-refusal-requires c κs = search needs
@@ -37,7 +38,7 @@ soft-mask-refusal-requires c κs = search needs
 returns-3 : tie.Need-returns-3
 returns-3 c =
     let v = c .before .before .before .before .before .before .before .before .before .before .before .before .args in
-    by-eight (v .m) (v .nets .now) (v .trits .now) (v .s) (v .entries .now) (v .writes .now) (v .reads .now) (v .long) (sym (c .before .before .before .before .memory-number .ensures ∙ ap (λ (t : Bool). memoryNumber t false false maxNets (v .m) (v .nets .now) (v .trits .now)) (c .before .before .before .before .before .either .ensures ∙ ap (λ (t : Bool). t || v .long) (c .before .before .before .before .before .before .plan-too-large .ensures))) ∙ c .before .before .before .if1 .left) _ (c .before .before .entries-refusal .ensures) (c .before .if2 .left) _ (c .soft-mask-refusal .ensures)
+    by-eight (v .m) (v .nets .now) (v .trits .now) (v .s) (v .entries .now) (v .writes .now) (v .reads .now) (v .long) (sym (c .before .before .before .before .memory-number .ensures ∙ ap (λ (t : Bool). memNumber t false false maxNets (givenOf (v .m) (v .nets .now) (v .trits .now))) (c .before .before .before .before .before .either .ensures ∙ ap (λ (t : Bool). t || v .long) (c .before .before .before .before .before .before .plan-too-large .ensures))) ∙ c .before .before .before .if1 .left) _ (c .before .before .entries-refusal .ensures) (c .before .if2 .left) _ (c .soft-mask-refusal .ensures)
 
 pub planned-number-spec : {M : Type 1} → statement M
 planned-number-spec =

@@ -3,8 +3,8 @@ use Rattle.swizzle_plan.proofs.Planned.{same-layout, depths-first, depths-ten, 
 use mathlib.Core.Path.{refl, sym, ap, _∙_}
 use Prim.Native.Nat.{_-_}
 use lib.ListN.{length}
-use Rattle.swizzle_plan.specs.Calls.{planOf, swizzleDepthsRefusal, swizzleDepthsCall}
-use Rattle.rules.specs.Answers.{Filled, filled}
+use Rattle.swizzle_plan.specs.Calls.{planOf}
+use Rattle.rules.specs.Answers.{Filled, filled, swizzleDepthsCall}
 use Rattle.rules.specs.Geometry.{layoutOf, swizzleDepths}
 use Rattle.rules.specs.Beside.Shape.{depthsCall, resultNumber}
 use Rattle.image_geometry.specs.View.{layoutBy}
@@ -13,6 +13,8 @@ use Rattle.rules.proofs.Answers.{filled-refused}
 use Rattle.image_geometry.specs.declared.Params.{Params}
 use borrow.Author.Needs.{needs}
 use Rattle.swizzle_sizes.proofs.swizzle_depths.Statement.{statement}
+use Rattle.rules.specs.Refusals.{swizzleDepthsRefusal}
+use Rattle.net_memory.specs.Given.{givenOf}
 use Rattle.swizzle_sizes.proofs.swizzle_depths.Tie as tie
 
 planned-number-requires : tie.Need-planned-number-requires
@@ -23,7 +25,7 @@ unfolding swizzleDepthsCall
 returns c =
     let v = c .before .before .before .before .before .before .before .before .args in
     let e = depths-first (v .m) (v .nets .now) (v .trits .now) (v .s) (v .entries .now) (v .writes .now) (v .reads .now) (length (v .out .now)) _ (c .before .planned-number .ensures) (c .if1 .taken) in
-    filled-refused (swizzleDepthsRefusal (length (v .out .now)) (v .m) (v .nets .now) (v .trits .now) (planOf (v .s) (v .entries .now) (v .writes .now) (v .reads .now))) _ (v .out .now) (v .out .now) (swizzleDepths (layoutOf (memoryOf (v .m) (v .nets .now) (v .trits .now)) (planOf (v .s) (v .entries .now) (v .writes .now) (v .reads .now)))) e (λ z. c .if1 .taken (e ∙ z)) refl
+    filled-refused (swizzleDepthsRefusal (length (v .out .now)) (givenOf (v .m) (v .nets .now) (v .trits .now)) (planOf (v .s) (v .entries .now) (v .writes .now) (v .reads .now))) _ (v .out .now) (v .out .now) (swizzleDepths (layoutOf (memoryOf (v .m) (v .nets .now) (v .trits .now)) (planOf (v .s) (v .entries .now) (v .writes .now) (v .reads .now)))) e (λ z. c .if1 .taken (e ∙ z)) refl
 
 params-of-requires : tie.Need-params-of-requires
 params-of-requires c κs = search needs
@@ -36,7 +38,7 @@ unfolding swizzleDepthsCall
 returns-2 c =
     let v = c .before .before .before .before .before .before .before .before .before .before .before .args in
     let e = depths-ten (v .m) (v .nets .now) (v .trits .now) (v .s) (v .entries .now) (v .writes .now) (v .reads .now) (length (v .out .now)) (sym (c .before .before .before .before .planned-number .ensures) ∙ c .before .before .before .if1 .left) _ (c .before .result-refusal .ensures ∙ ap (λ (x : Params). resultNumber (layoutBy x (v .entries .now))) (c .before .before .params-of .ensures)) (c .if2 .taken) in
-    filled-refused (swizzleDepthsRefusal (length (v .out .now)) (v .m) (v .nets .now) (v .trits .now) (planOf (v .s) (v .entries .now) (v .writes .now) (v .reads .now))) _ (v .out .now) (v .out .now) (swizzleDepths (layoutOf (memoryOf (v .m) (v .nets .now) (v .trits .now)) (planOf (v .s) (v .entries .now) (v .writes .now) (v .reads .now)))) e (λ z. c .if2 .taken (e ∙ z)) refl
+    filled-refused (swizzleDepthsRefusal (length (v .out .now)) (givenOf (v .m) (v .nets .now) (v .trits .now)) (planOf (v .s) (v .entries .now) (v .writes .now) (v .reads .now))) _ (v .out .now) (v .out .now) (swizzleDepths (layoutOf (memoryOf (v .m) (v .nets .now) (v .trits .now)) (planOf (v .s) (v .entries .now) (v .writes .now) (v .reads .now)))) e (λ z. c .if2 .taken (e ∙ z)) refl
 
 depths-requires : tie.Need-depths-requires
 depths-requires c κs = search needs

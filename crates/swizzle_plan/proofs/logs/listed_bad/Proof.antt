@@ -11,7 +11,7 @@ use Rattle.net_memory.specs.View.{memoryOf}
 use Rattle.swizzle_plan.specs.Calls.{planOf}
 use Rattle.swizzle_plan.specs.Numbers.{readLogs}
 use Rattle.swizzle_plan.proofs.Wides.{left, pair-found, pair-pass, pair-end}
-use Rattle.swizzle_plan.proofs.Logs.{log-at, read-logs-length}
+use Rattle.swizzle_plan.proofs.WideLogs.{log-at, read-logs-length}
 use Rattle.swizzle_plan.proofs.logs.listed_bad.Statement.{statement}
 use Rattle.swizzle_plan.proofs.logs.listed_bad.Tie as tie
 
