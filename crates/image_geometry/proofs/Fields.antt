@@ -1,5 +1,11 @@
 -- What a struct by value tells of its fields.
-use Prim.Native.Nat.{_<_, _^_}
+use Prim.Native.Nat.{_<_}
+use mathlib.Core.Path.{_≡_}
+use mathlib.Core.Bool.{false}
+use native.Mathlib.Omega.{arith}
+use lib.Dec.{ltb}
+use borrow.Author.Tests.{le-ltb}
+use Rattle.rules.specs.Limits.{maxMask}
 use mathlib.Core.List.{List}
 use mir.Val.{Val}
 use denote.Laws.{Is}
@@ -11,8 +17,12 @@ module _ (p : spec.Params) (vs : List Val) (g : Is (declared.row Params.the-type
   pub depth-word : p .depth < 4294967296
   depth-word = g .1 .1 .0 .1
 
-  pub mask-word : p .«soft_mask» < 2 ^ 32
+  mask-word : p .«soft_mask» < 4294967296
   mask-word = g .1 .1 .1 .1 .0 .1
+
+  -- a soft mask is a word, so never above its limit
+  pub mask-small : ltb maxMask (p .«soft_mask») ≡ false
+  mask-small = le-ltb maxMask (p .«soft_mask») (omega (arith, mask-word))
 
   pub width-word : p .width < 4294967296
   width-word = g .1 .1 .1 .0 .1

@@ -1,5 +1,5 @@
 -- A layout and the calls after it: the whole answer, and demand 3. And that the state which an accepted swizzle hands on is laid out.
-use Prim.Native.Nat.{ℕ, _^_, _<_}
+use Prim.Native.Nat.{ℕ}
 use mathlib.Core.Path.{_≡_, refl, sym, ap, _∙_, subst}
 use mathlib.Core.Logic.{_≢_}
 use mathlib.Core.Bool.{Bool, true, false}
@@ -9,20 +9,18 @@ use lib.ListN.{length}
 use Rattle.lists.specs.Choice.{leaves}
 use Rattle.lists.proofs.Choice.{leaves-refused, leaves-accepted}
 use Rattle.rules.specs.Value.{Value}
-use Rattle.rules.specs.Cell.{Mem, Plan}
+use Rattle.rules.specs.Cell.{Given, Plan}
 use Rattle.rules.specs.Log.{LogState}
 use Rattle.rules.specs.Geometry.{Layout, layoutOf}
 use Rattle.rules.specs.Image.{Patch, Laid}
 use Rattle.rules.specs.Conditions.{badLayout}
-use Rattle.rules.specs.Refusals.{swizzleRefusal}
 use Rattle.rules.specs.Patch.{patched, calledAll, laidOut, Demand}
 use Rattle.rules.specs.Beside.Shape.{handedOn}
 use Rattle.rules.specs.Beside.Layouts.{fillRefusalOf, fillRefusal, filledBy, fillCall, fillAndPatchCall}
-use Rattle.rules.specs.Answers.{Filled}
+use Rattle.rules.specs.Answers.{Accepted, Filled, SwizzleLent, swizzleCall}
 use Rattle.rules.proofs.Demand.{demand-3}
 use Rattle.rules.proofs.GoodLayouts.{good-accepted, handed-none, handed-some}
 use Rattle.rules.proofs.Accepts.{swizzle-then-patches}
-use Rattle.image_state.proofs.Laying.{handed-on}
 use Rattle.image_state.specs.declared.Laid as images
 use Rattle.image_state.specs.View.{laidOf}
 use Rattle.image_rows.proofs.Filling.{fills}
@@ -70,9 +68,9 @@ some-out q rows buffer after cs e =
     let f = sym (ap (λ (f : Filled). f .number) e) in
     (f, ap (λ (f : Filled). f .out) e ∙ leaves-accepted _ buffer (calledAll q cs (laidOut q rows buffer)) f)
 
-pub demanded : (q : Layout) → q .softMask < 2 ^ 32 → (rows buffer after : List ℕ) (cs : List Patch)
+pub demanded : (q : Layout) (rows buffer after : List ℕ) (cs : List Patch)
     → _≡_ {A = Filled} (record { number = 0; out = after }) (fillAndPatchCall (handedOn q) rows cs buffer) → Demanded (handedOn q) rows buffer cs after
-demanded q mask rows buffer after cs e = on (badLayout q) refl
+demanded q rows buffer after cs e = on (badLayout q) refl
   where
     on : (t : Bool) → badLayout q ≡ t → Demanded (handedOn q) rows buffer cs after
     on true h = subst (λ (l : Laid). Demanded l rows buffer cs after) (sym (handed-none q h)) tt
@@ -80,20 +78,11 @@ demanded q mask rows buffer after cs e = on (badLayout q) refl
         let s = some-out q rows buffer after cs (e ∙ ap (λ (l : Laid). fillAndPatchCall l rows cs buffer) (handed-some q h)) in
         let f = fills q (length buffer) (length rows) (s .0) in
         subst (λ (l : Laid). Demanded l rows buffer cs after) (sym (handed-some q h))
-        (subst (λ (x : List ℕ). Demand q rows buffer cs x) (sym (s .1)) (demand-3 q (good-accepted q h mask) rows buffer (f .0) (f .1) cs))
+        (subst (λ (x : List ℕ). Demand q rows buffer cs x) (sym (s .1)) (demand-3 q (good-accepted q h) rows buffer (f .0) (f .1) cs))
 
 -- ---- the state of an accepted swizzle
-patched-some : (q : Layout) (cs : List Patch) (b : List ℕ) → patched (some q) cs b ≡ calledAll q cs b
-unfolding patched
-patched-some q cs b = refl
-
-module _ (room words : ℕ) (s : LogState) (m : Mem) (output : Value) (p : Plan) (e : swizzleRefusal room words s m output p ≡ 0) where
-  -- every list of calls by that state, from the swizzle's own buffer on
-  pub swizzled : p .softMask < 2 ^ 32 → (l : images.Laid) → laidOf l ≡ handedOn (layoutOf m p) → (buffer : List ℕ) → length buffer ≡ room → (cs : List Patch)
-      → Demand (layoutOf m p) (m .init) buffer cs (patched (laidOf l) cs (laidOut (layoutOf m p) (m .init) buffer))
-  swizzled mask l h buffer b cs =
-      subst (λ (x : List ℕ). Demand (layoutOf m p) (m .init) buffer cs x) (sym (by-state (handed-on room words s m output p e l h)))
-      (swizzle-then-patches room words s m output p e mask buffer b cs)
-    where
-      by-state : laidOf l ≡ some (layoutOf m p) → patched (laidOf l) cs (laidOut (layoutOf m p) (m .init) buffer) ≡ calledAll (layoutOf m p) cs (laidOut (layoutOf m p) (m .init) buffer)
-      by-state x = ap (λ (l : Laid). patched l cs (laidOut (layoutOf m p) (m .init) buffer)) x ∙ patched-some (layoutOf m p) cs _
+module _ (a : SwizzleLent) (log : List ℕ) (s : LogState) (g : Given) (output : Value) (p : Plan) where
+  -- every list of calls by a struct that holds the state which the swizzle hands on, from the image that it leaves
+  pub swizzled : (l : images.Laid) → swizzleCall a log s g output p .laid ≡ Accepted (laidOf l) → (cs : List Patch)
+      → Demand (layoutOf (g .mem) p) (g .mem .init) (a .image) cs (patched (laidOf l) cs (swizzleCall a log s g output p .image))
+  swizzled l e cs = swizzle-then-patches a log s g output p (laidOf l) e cs

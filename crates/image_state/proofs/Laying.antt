@@ -14,9 +14,8 @@ use Rattle.lists.proofs.Choice.{or-later, or-left}
 use Rattle.lists.proofs.Store.{part-sets}
 use Rattle.rules.specs.Limits.{maxDepth, maxWidth, maxBits, maxRow}
 use Rattle.rules.specs.Value.{Value}
-use Rattle.rules.specs.Cell.{Mem, Plan}
-use Rattle.rules.specs.Log.{LogState}
-use Rattle.rules.specs.Refusals.{swizzleRefusal}
+use Rattle.rules.specs.Cell.{Given, Plan}
+use Rattle.rules.specs.Refusals.{swizzleNumber}
 use Rattle.rules.proofs.Accepts.{layout-good}
 use Rattle.rules.specs.Geometry.{layoutOf, rowLen}
 use Rattle.rules.specs.Conditions.{badLayoutSizes, badLayout}
@@ -78,6 +77,6 @@ pub laid-lent : (l : Laid) (p : Params) (n : ℕ) → p ≡ paramsOf l → n ≡
 laid-lent l p n e f h = (λ i. handedOn (layoutBy (e i) (take (f i) (l .entries)))) ∙ sym (laid-short l (subst (λ (n : ℕ). n ≤ maxRow) f h))
 
 -- ---- the state of an accepted swizzle is laid out
-pub handed-on : (room words : ℕ) (s : LogState) (m : Mem) (output : Value) (p : Plan) → swizzleRefusal room words s m output p ≡ 0
-    → (l : Laid) → laidOf l ≡ handedOn (layoutOf m p) → laidOf l ≡ some (layoutOf m p)
-handed-on room words s m output p e l h = h ∙ handed-some (layoutOf m p) (layout-good room words s m output p e)
+pub handed-on : (next : ℕ) (g : Given) (output : Value) (p : Plan) → swizzleNumber next g output p ≡ 0
+    → (l : Laid) → laidOf l ≡ handedOn (layoutOf (g .mem) p) → laidOf l ≡ some (layoutOf (g .mem) p)
+handed-on next g output p e l h = h ∙ handed-some (layoutOf (g .mem) p) (layout-good next g output p e)

@@ -6,6 +6,7 @@ use Rattle.rules.specs.Conditions.{resultTooLarge, badLayout}
 use Rattle.rules.proofs.GoodLayouts.{layoutTooLarge, good-back, bad-1, bad-7, bad-8, bad-10, no-result, some-result, shape-none, shape-some}
 use Rattle.rules.proofs.Shaping.{shape-told, shape-not-told, soft-passed, soft-failed, large-columns, large-trits, not-large}
 use Rattle.image_geometry.specs.View.{layoutBy, shapeBy, measuredOf}
+use Rattle.image_geometry.proofs.Fields.{mask-small}
 use borrow.Author.Needs.{needs}
 use Rattle.image_check.proofs.check_layout.Statement.{statement}
 use Rattle.image_check.proofs.check_layout.Tie as tie
@@ -37,6 +38,7 @@ returns-4 c =
       entries = sym (c .before .before .before .before .before .entries-bad .ensures) ∙ c .before .before .before .before .if1 .left;
       soft = soft-passed _ _ (sym (c .before .before .before .soft-mask-refusal .ensures) ∙ c .before .before .if2 .left);
       result = no-result q (c .if3 .taken);
+      mask = mask-small (c .before .before .before .before .before .before .before .before .before .before .before .args .p) _ (c .before .before .before .before .before .before .before .before .before .before .before .good .0);
     })) (told (c .before .before .before .before .before .before .before) .1)
 
 -- 10, of what has passed the others
@@ -63,6 +65,7 @@ returns-7 c =
       entries = sym (c .before .before .before .before .before .before .before .before .before .entries-bad .ensures) ∙ c .before .before .before .before .before .before .before .before .if1 .left;
       soft = soft-passed _ _ (sym (c .before .before .before .before .before .before .before .soft-mask-refusal .ensures) ∙ c .before .before .before .before .before .before .if2 .left);
       result = some-result q false (c .before .before .before .before .if3 .left) (not-large q _ (told (c .before .before .before .before .before .before .before .before .before .before .before) .1) (c .before .before .if4 .left) (c .if5 .left));
+      mask = mask-small (c .before .before .before .before .before .before .before .before .before .before .before .before .before .before .before .args .p) _ (c .before .before .before .before .before .before .before .before .before .before .before .before .before .before .before .good .0);
     })) (told (c .before .before .before .before .before .before .before .before .before .before .before) .1)
 
 measure-requires : tie.Need-measure-requires

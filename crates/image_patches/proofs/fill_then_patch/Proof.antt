@@ -1,7 +1,6 @@
 -- `image_patches::fill_then_patch` meets its contract.
 use Rattle.rules.specs.Beside.Shape.{handedOn}
 use Rattle.image_geometry.specs.View.{layoutBy}
-use Rattle.image_geometry.proofs.Fields.{mask-word}
 use Rattle.image_patches.specs.Calls.{callsOf}
 use Rattle.image_patches.proofs.Demanding.{both-refused, both-done, demanded}
 use borrow.Author.Needs.{needs}
@@ -18,7 +17,7 @@ returns-2 c =
     let a = c .before .before .before .before .before .before .before .before .before .before .before .before .before .before .args in
     let q = layoutBy (a .p) (a .entries .now) in
     let e = both-done (handedOn q) (a .rows .now) (a .buffer .now) (callsOf (a .calls .now) (a .trits .now)) _ _ _ (c .before .before .before .before .before .before .before .fill-rows .ensures) (c .before .before .before .before .if1 .left) (c .before .before .patch-each .ensures) in
-    (e, λ z. demanded q (mask-word (a .p) _ (c .before .before .before .before .before .before .before .before .before .before .before .before .before .before .good .1 .0)) (a .rows .now) (a .buffer .now) _ (callsOf (a .calls .now) (a .trits .now)) e)
+    (e, λ z. demanded q (a .rows .now) (a .buffer .now) _ (callsOf (a .calls .now) (a .trits .now)) e)
 
 fill-rows-requires : tie.Need-fill-rows-requires
 fill-rows-requires c κs = search needs

@@ -6,7 +6,6 @@ use Rattle.rules.specs.Beside.Shape.{handedOn, laidShape}
 use Rattle.rules.specs.Beside.Layouts.{fillRefusalOf}
 use Rattle.rules.proofs.GoodLayouts.{good-accepted}
 use Rattle.image_geometry.specs.View.{layoutBy, shapeBy}
-use Rattle.image_geometry.proofs.Fields.{mask-word}
 use Rattle.image_check.specs.View.{checkedOf}
 use Rattle.image_rows.proofs.Sizing.{passed, handed, size-is, shallow, ready, not-passed}
 use Rattle.image_rows.proofs.Filling.{fill-is, fill-number-is, fills, fill-unset, fill-refused, fill-done}
@@ -47,7 +46,7 @@ returns-3 c =
     let q = layoutBy (a .p) (a .entries .now) in
     let t = told (c .before .before .before .before .before .before .before .before .before .before .before .before .before) in
     fill-done _ _ _ q (handed _ _ _ t) _ (accepted (c .before .before .before .before .before .before .before .before .before .before))
-    (fill-is q (good-accepted q (passed _ _ _ t) (mask-word (a .p) _ (c .before .before .before .before .before .before .before .before .before .before .before .before .before .before .before .before .before .before .before .good .1 .0))) (a .rows .now) (a .image .now) _ _ _
+    (fill-is q (good-accepted q (passed _ _ _ t)) (a .rows .now) (a .image .now) _ _ _
     (c .before .before .before .before .before .before .before .before .usize-of-u64 .ensures ∙ size-is _ _ _ t) (fills _ _ _ (accepted (c .before .before .before .before .before .before .before .before .before .before)) .1) (c .before .before .before .before .before .before .before .fill-u8 .ensures) (c .before .before .write-rows .ensures))
 
 check-layout-requires : tie.Need-check-layout-requires
