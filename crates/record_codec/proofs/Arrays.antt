@@ -58,7 +58,7 @@ module _ (bytes : List ℕ) where
   unfolding decodeImage bitPairs knownBits valueBits
   image-arrays = refl
 
-  module _ (e : badHead bytes ≡ false) where
+  module _ (e : badHead bytes (length bytes) ≡ false) where
     pub whole : length bytes ≡ 12 + 2 * arrayBytes count
     unfolding badHead recordBytes
     whole = eqb-true _ _ (not-false _ (or-false (not (eqb (wordAt bytes 0) recordMark)) _ (or-false (ltb (length bytes) headBytes) _ e .1) .1))

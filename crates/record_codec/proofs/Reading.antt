@@ -10,32 +10,35 @@ use Rattle.lists.proofs.Choice.{if-zero, else-first, else-rest, else-zero, hit,
 use Rattle.rules.specs.Record.{sizeTrits, headSizes}
 use Rattle.rules.specs.Conditions.{badHead, badSizes, badBits, noRoom}
 use Rattle.rules.specs.Refusals.{recordRefusal, readRecordRefusal, headerRefusal}
-use Rattle.rules.proofs.Headers.{head-whole, record-head}
 
 module _ (bytes : List ℕ) where
   -- a head that no number refuses
-  pub head-good : headerRefusal bytes (length bytes) ≡ 0 → (badHead bytes ≡ false) × (badSizes (headSizes bytes) ≡ false)
+  pub head-good : headerRefusal bytes (length bytes) ≡ 0 → (badHead bytes (length bytes) ≡ false) × (badSizes (headSizes bytes) ≡ false)
   unfolding headerRefusal
   head-good e =
       let a = if-zero (badHead bytes (length bytes)) 15 _ e in
-      (sym (head-whole bytes) ∙ a .0, if-zero (badSizes (headSizes bytes)) 16 0 (a .1) .0)
+      (a .0, if-zero (badSizes (headSizes bytes)) 16 0 (a .1) .0)
 
-  pub record-good : recordRefusal bytes ≡ 0 → (badHead bytes ≡ false) × (badSizes (headSizes bytes) ≡ false) × (badBits bytes ≡ false)
+  pub record-good : recordRefusal bytes ≡ 0 → (badHead bytes (length bytes) ≡ false) × (badSizes (headSizes bytes) ≡ false) × (badBits bytes ≡ false)
+  unfolding recordRefusal
   record-good e =
-      let z = else-zero (headerRefusal bytes (length bytes)) _ (sym (record-head bytes) ∙ e) in
+      let z = else-zero (headerRefusal bytes (length bytes)) _ e in
       let h = head-good (z .0) in
       (h .0, h .1, if-zero (badBits bytes) 17 0 (z .1) .0)
 
   -- ---- 16, 17, 18
   pub by-head : (n : ℕ) → n ≡ headerRefusal bytes (length bytes) → n ≢ 0 → n ≡ recordRefusal bytes
-  by-head n e h = e ∙ sym (record-head bytes ∙ else-first (headerRefusal bytes (length bytes)) _ (λ z. h (e ∙ z)))
+  unfolding recordRefusal
+  by-head n e h = e ∙ sym (else-first (headerRefusal bytes (length bytes)) _ (λ z. h (e ∙ z)))
 
   module _ (e : headerRefusal bytes (length bytes) ≡ 0) where
     pub record-18 : badBits bytes ≡ true → 18 ≡ recordRefusal bytes
-    record-18 b = hit 18 0 b ∙ sym (record-head bytes ∙ else-rest (headerRefusal bytes (length bytes)) _ e)
+    unfolding recordRefusal
+    record-18 b = hit 18 0 b ∙ sym (else-rest (headerRefusal bytes (length bytes)) _ e)
 
     pub record-0 : badBits bytes ≡ false → 0 ≡ recordRefusal bytes
-    record-0 b = miss 18 0 0 b refl ∙ sym (record-head bytes ∙ else-rest (headerRefusal bytes (length bytes)) _ e)
+    unfolding recordRefusal
+    record-0 b = miss 18 0 0 b refl ∙ sym (else-rest (headerRefusal bytes (length bytes)) _ e)
 
   -- ---- and 20
   module _ (room : ℕ) where

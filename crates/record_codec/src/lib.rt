@@ -201,7 +201,7 @@ pub fn value_array(bytes: &[u8]) -> &[u8]
 
 // Number 18, of a record whose head is good.
 fn bad_bits(bytes: &[u8]) -> bool
-    requires { ⌜ badHead (now bytes) ≡ false ⌝ }
+    requires { ⌜ badHead (now bytes) (length (now bytes)) ≡ false ⌝ }
     ensures { λ r. ⌜ r ≡ badBits (now (bytes .entry)) ⌝ }
 {
     let count = record_reader::head_trits(bytes) as usize;
@@ -252,7 +252,7 @@ fn put_trits(image: &mut [u8], count: usize, ks: &[u8], vs: &[u8])
 
 // Stores the image of a record whose head is good.
 fn put_image(bytes: &[u8], image: &mut [u8])
-    requires { ⌜ badHead (now bytes) ≡ false ⌝ }
+    requires { ⌜ badHead (now bytes) (length (now bytes)) ≡ false ⌝ }
     ensures { λ _. ⌜ now (image .exit) ≡ sets (now (image .entry)) 0 (decodeImage (now (bytes .entry))) ⌝ }
 {
     let count = record_reader::head_trits(bytes) as usize;

@@ -8,14 +8,14 @@ use lib.ListN.{length, take}
 use lib.Seq.{take-all, length-take-le, getD-take}
 use borrow.Author.Tests.{le-ltb}
 use Rattle.lists.specs.Choice.{_orElse_}
-use Rattle.lists.proofs.Choice.{cases-le, else-first}
-use Rattle.rules.specs.Limits.{headBytes}
+use Rattle.lists.proofs.Choice.{cases-le, else-first, else-zero}
+use Rattle.rules.specs.Limits.{headBytes, maxRecord}
 use Rattle.rules.specs.Numbers.{ceilDiv}
 use Rattle.rules.specs.Record.{arrayBytes, wordAt, headSizes}
 use Rattle.rules.specs.Refusals.{recordRefusal, headerRefusal}
 use Rattle.rules.specs.Lister.{lister}
-use Rattle.rules.specs.Beside.Stored.{maxRecord, listerStored}
-use Rattle.rules.proofs.Headers.{record-head, kept}
+use Rattle.rules.specs.Beside.Stored.{listerStored}
+use Rattle.rules.proofs.Headers.{kept}
 use Rattle.record_codec.proofs.Arrays.{whole}
 use Rattle.record_codec.proofs.Reading.{head-good}
 use Rattle.rules.specs.Conditions.{badHead}
@@ -62,13 +62,15 @@ module _ (bytes : List ℕ) where
         omega (arith, whole bytes (g .0), kept (headSizes bytes) (g .1) .trits-max)
 
     number-is : (headerRefusal first (length bytes) orElse 16) ≡ recordRefusal bytes
+    unfolding recordRefusal
     number-is =
         else-first (headerRefusal first (length bytes)) 16 (λ z. too-long (sym (refusal-same (length bytes)) ∙ z))
         ∙ refusal-same (length bytes)
-        ∙ sym (record-head bytes ∙ else-first (headerRefusal bytes (length bytes)) _ too-long)
+        ∙ sym (else-first (headerRefusal bytes (length bytes)) _ too-long)
 
     not-zero : recordRefusal bytes ≢ 0
-    not-zero e = too-long (sym (else-first (headerRefusal bytes (length bytes)) _ too-long) ∙ sym (record-head bytes) ∙ e)
+    unfolding recordRefusal
+    not-zero e = too-long (else-zero (headerRefusal bytes (length bytes)) _ e .0)
 
     long-listed : listerStored first (length bytes) ≡ lister bytes
     long-listed =

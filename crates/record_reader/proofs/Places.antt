@@ -80,7 +80,7 @@ module _ (bytes : List ℕ) (i count : ℕ) (e : count ≡ sizeTrits (headSizes 
         sym (there ∙ ap Code (trit-at bytes i (omega arith) (omega (arith, place)) ∙ sym (r ∙ ap (λ (x : ℕ). tritBy x v) p ∙ ap (tritBy (getD (fromUint 8 (getD bytes (12 + i / 8) 0)) (i % 8) 0)) u)))
 
 -- ---- the trits of an accepted head's record, taken one by one, are its image
-module _ (bytes : List ℕ) (e : badHead bytes ≡ false) where
+module _ (bytes : List ℕ) (e : badHead bytes (length bytes) ≡ false) where
   whole : length bytes ≡ 12 + 2 * arrayBytes (sizeTrits (headSizes bytes))
   unfolding badHead recordBytes
   whole = eqb-true _ _ (not-false _ (or-false (not (eqb (wordAt bytes 0) recordMark)) _ (or-false (ltb (length bytes) headBytes) _ e .1) .1))
