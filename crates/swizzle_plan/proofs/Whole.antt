@@ -14,7 +14,7 @@ use Rattle.rules.specs.Limits.{maxDepth, maxWidth, maxBits, maxRow, maxUnit, ma
 use Rattle.rules.specs.Numbers.{topBits}
 use Rattle.rules.specs.Cell.{Plan}
 use Rattle.rules.specs.Geometry.{layoutOf, rowLen}
-use Rattle.rules.specs.Conditions.{tooLarge, planTooLarge, badEntries, badSoftMask, indivisible, badWrites, badReads, allReads, badLayoutSizes, resultTooLarge, badOutputLen, badValue}
+use Rattle.rules.specs.Conditions.{tooLarge, planTooLarge, badEntries, badSoftMask, indivisible, badWrites, badReads, allReads, badLayoutSizes, resultTooLarge, imageTooLarge, badOutputLen, badValue}
 use Rattle.rules.specs.Refusals.{planNumber, wideNumber, imageNumber, wholePlan, drivingNumber, swizzlePlanNumber}
 use Rattle.rules.specs.Beside.Shape.{entriesNumber, softMaskNumber, resultNumber}
 use Rattle.net_memory.specs.declared.Memory.{Memory}
@@ -93,7 +93,7 @@ module _ (m : Memory) (nets trits : List ℕ) (s : MemorySwizzle) (es ws rs : Li
   large = resultTooLarge (layoutBy (paramsBy m s) es)
 
   form : wholeOf names mask logs (eqb (m .width) 0) large ≡ wholePlan (memoryOf m nets trits) p
-  unfolding wholePlan wideNumber imageNumber planNumber badSoftMask memoryOf layoutOf
+  unfolding wholePlan wideNumber imageNumber imageTooLarge planNumber badSoftMask memoryOf layoutOf
   form = refl
 
   module _ (k : ℕ) (e : k ≡ entriesNumber (m .width) es) where

@@ -4,6 +4,7 @@ use Prim.Native.Nat.{_-_}
 use borrow.Author.Tests.{lt-ltb, le-ltb, eq-eqb, ne-eqb}
 use Rattle.rules.specs.Conditions.{planTooLarge}
 use Rattle.net_check.proofs.Tests.{found, passed}
+use Rattle.swizzle_plan.proofs.Fields.{mask-small, or-none}
 use borrow.Author.Needs.{needs}
 use Rattle.swizzle_plan.proofs.plan_too_large.Statement.{statement}
 use Rattle.swizzle_plan.proofs.plan_too_large.Tie as tie
@@ -36,7 +37,7 @@ any-wide-requires-2 c κs = search needs
 
 returns-6 : tie.Need-returns-6
 unfolding planTooLarge
-returns-6 c = passed (le-ltb _ _ (c .before .before .before .before .before .before .before .before .before .if1 .left)) (passed (ne-eqb _ _ (c .before .before .before .before .before .before .before .if2 .left)) (passed (le-ltb _ _ (c .before .before .before .before .before .if3 .left)) (passed (le-ltb _ _ (c .before .before .before .if4 .left)) (passed (sym (c .before .before .any-wide .ensures) ∙ c .before .if5 .left) (c .any-wide2 .ensures)))))
+returns-6 c = passed (le-ltb _ _ (c .before .before .before .before .before .before .before .before .before .if1 .left)) (passed (ne-eqb _ _ (c .before .before .before .before .before .before .before .if2 .left)) (passed (le-ltb _ _ (c .before .before .before .before .before .if3 .left)) (passed (le-ltb _ _ (c .before .before .before .if4 .left)) (passed (sym (c .before .before .any-wide .ensures) ∙ c .before .if5 .left) (or-none (c .any-wide2 .ensures) (mask-small _ _ (c .before .before .before .before .before .before .before .before .before .before .before .before .before .good .0)))))))
 
 pub plan-too-large-spec : {M : Type 1} → statement M
 plan-too-large-spec =
