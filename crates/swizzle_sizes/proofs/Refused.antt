@@ -1,6 +1,7 @@
 -- The numbers of the call.
 use mathlib.Core.Path.{_≡_, refl, sym, ap, _∙_}
 use mathlib.Core.Logic.{_≢_}
+use native.Mathlib.Omega.{arith}
 use Prim.Native.Nat.{ℕ, _+_, _-_, _<_, _≤_, min}
 use mathlib.Core.Bool.{Bool, true, false, not, _||_}
 use lib.Dec.{eqb, ltb}
@@ -12,7 +13,7 @@ use Rattle.rules.specs.Limits.{maxWide, maxRow, maxUnit, maxHard, addrBits}
 use Rattle.rules.specs.Numbers.{bitsFor}
 use Rattle.rules.specs.Geometry.{Layout, layoutOf, chunkMuxBits, soft, softBits, muxBits, writeMuxBits, readMuxBits}
 use Rattle.rules.specs.Conditions.{planTooLarge, longList, badWide, badWrites, badReads, badPort}
-use Rattle.rules.specs.Cell.{Plan, WritePort, wideLog2, writeWideLog2, readWideLog2, readAt}
+use Rattle.rules.specs.Cell.{Mem, Plan, WritePort, wideLog2, writeWideLog2, readWideLog2, readAt}
 use Rattle.rules.proofs.Walks.{tops-le, softs-le}
 use Rattle.net_check.proofs.Accept.{Valid}
 use Rattle.image_geometry.specs.View.{layoutBy}
@@ -26,12 +27,15 @@ use lib.ListN.{length, getD, length-map, replicate}
 use lib.Seq.{sets}
 use Rattle.net_memory.specs.declared.Memory.{Memory}
 use Rattle.net_memory.specs.View.{memoryOf, writesOf, writeBy, writePort, writeStart, writeSize}
-use Rattle.rules.specs.Refusals.{plannedNumber, swizzleMuxBitsRefusal}
+use Rattle.rules.specs.Refusals.{plannedNumber, wideNumber, swizzleMuxBitsRefusal}
 use Rattle.net_memory.specs.Given.{givenOf}
 use Rattle.net_memory.proofs.Ports.{noWrite, writes-at}
 
 -- ---- the number of the call
 module _ (m : Memory) (nets trits ports : List ℕ) (p : Plan) where
+  abbrev v : Mem
+  v = memoryOf m nets trits
+
   abbrev first : ℕ
   first = plannedNumber (longList ports) (givenOf m nets trits) p
 
@@ -41,17 +45,17 @@ module _ (m : Memory) (nets trits ports : List ℕ) (p : Plan) where
 
   module _ (z : first ≡ 0) where
     pub by-nine : badWrites (memoryOf m nets trits) p || badReads (memoryOf m nets trits) ports p ≡ true → 9 ≡ swizzleMuxBitsRefusal (givenOf m nets trits) ports p
-    unfolding swizzleMuxBitsRefusal
-    by-nine e = hit 9 _ e ∙ sym (else-rest first _ z)
+    unfolding swizzleMuxBitsRefusal wideNumber
+    by-nine e = sym (else-rest first _ z ∙ else-first (wideNumber v ports p) _ (λ q. absurd (omega (arith, hit 9 0 e, q))) ∙ sym (hit 9 0 e))
 
     module _ (e : badWrites (memoryOf m nets trits) p || badReads (memoryOf m nets trits) ports p ≡ false) where
       pub by-port : any (badPort (memoryOf m nets trits)) ports ≡ true → 15 ≡ swizzleMuxBitsRefusal (givenOf m nets trits) ports p
-      unfolding swizzleMuxBitsRefusal
-      by-port f = miss 9 _ 15 e (hit 15 _ f) ∙ sym (else-rest first _ z)
+      unfolding swizzleMuxBitsRefusal wideNumber
+      by-port f = hit 15 0 f ∙ sym (else-rest first _ z ∙ else-rest (wideNumber v ports p) _ (sym (miss 9 0 0 e refl)))
 
       pub by-none : any (badPort (memoryOf m nets trits)) ports ≡ false → 0 ≡ swizzleMuxBitsRefusal (givenOf m nets trits) ports p
-      unfolding swizzleMuxBitsRefusal
-      by-none f = miss 9 _ 0 e (miss 15 _ 0 f refl) ∙ sym (else-rest first _ z)
+      unfolding swizzleMuxBitsRefusal wideNumber
+      by-none f = miss 15 0 0 f refl ∙ sym (else-rest first _ z ∙ else-rest (wideNumber v ports p) _ (sym (miss 9 0 0 e refl)))
 
   pub mux-planned : swizzleMuxBitsRefusal (givenOf m nets trits) ports p ≡ 0 → first ≡ 0
   unfolding swizzleMuxBitsRefusal
@@ -81,7 +85,8 @@ module _ (m : Memory) (nets trits ports : List ℕ) (s : MemorySwizzle) (es ws r
       let g = or-false (eqb (s .«data_width_unit») 0) _ (f .1) in
       let h = or-false (ltb maxUnit (s .«data_width_unit»)) _ (g .1) in
       let i = or-false (ltb maxHard (s .«hard_addr_bits»)) _ (h .1) in
-      or-false (any (ltb maxWide) ws) (any (ltb maxWide) rs) (i .1)
+      let w = or-false (any (ltb maxWide) ws) _ (i .1) in
+      (w .0, or-false (any (ltb maxWide) rs) _ (w .1) .0)
 
   pub writes-small : (j : ℕ) → j < length ws → getD ws j 0 ≤ 4
   writes-small j h = ltb-false 4 (getD ws j 0) (any-at (ltb maxWide) ws (wide-not .0) j 0 h)

@@ -10,26 +10,26 @@ ghost use Rattle.image_geometry.specs.View.{layoutBy, filledWith};
 ghost use Rattle.net_memory.specs.View.{memoryOf};
 ghost use Rattle.swizzle_plan.specs.Calls.{planOf, paramsBy};
 ghost use Rattle.swizzle_plan.specs.Numbers.{inEight, writeLogs, readLogs};
-ghost use Rattle.rules.specs.Answers.{swizzleDepthsCall};
+ghost use Rattle.rules.specs.Answers.{swizzleDepthsCall, swizzleMuxBitsCall};
 ghost use Rattle.rules.specs.Refusals.{swizzleMuxBitsRefusal};
 ghost use Rattle.net_memory.specs.Given.{givenOf};
-ghost use Rattle.swizzle_sizes.specs.Calls.{MuxBitsCall, Countable, Small};
+ghost use Rattle.swizzle_sizes.specs.Calls.{muxBitsBy, Countable, Small};
 use net_memory::Memory;
 use swizzle_plan::MemorySwizzle;
 
 // The number that refuses `swizzle_mux_bits`, or 0, and the mux bits of the write ports and of the listed read ports.
 pub struct MuxBits {
     pub refusal: u32,
-    pub writes: [u32; 8],
-    pub reads: [u32; 8],
+    pub writes: [u32; rules::MAX_PORTS],
+    pub reads: [u32; rules::MAX_PORTS],
 }
 
 // The old wide logs of the listed read ports.
-fn read_logs(m: Memory, ports: &[u32]) -> [u32; 8]
+fn read_logs(m: Memory, ports: &[u32]) -> [u32; rules::MAX_PORTS]
     requires { ⌜ length (now ports) ≤ 8 ⌝ }
     ensures { λ r. ⌜ ((nets trits : List ℕ) → r ≡ inEight (readLogs (memoryOf m nets trits) (now (ports .entry)))) ⌝ }
 {
-    let mut logs = [0u32; 8];
+    let mut logs = [0u32; rules::MAX_PORTS];
     let mut j = 0;
     while j < ports.len() {
         logs[j] = net_memory::wide::wide_log(
@@ -69,11 +69,11 @@ fn mux_refusal(
 }
 
 // The mux bits of ports with these old and new wide logs, over the bits that all ports have.
-fn bits_of(base: u32, olds: &[u32], news: &[u32]) -> [u32; 8]
+fn bits_of(base: u32, olds: &[u32], news: &[u32]) -> [u32; rules::MAX_PORTS]
     requires { ⌜ Countable base (now olds) (now news) ⌝ }
     ensures { λ r. ⌜ r ≡ inEight (map (λ x. base + x .1 - x .0) (pairs (now (olds .entry)) (now (news .entry)))) ⌝ }
 {
-    let mut bits = [0u32; 8];
+    let mut bits = [0u32; rules::MAX_PORTS];
     let end = lists::smaller(olds.len(), news.len());
     let mut i = 0;
     while i < end {
@@ -84,7 +84,7 @@ fn bits_of(base: u32, olds: &[u32], news: &[u32]) -> [u32; 8]
 }
 
 // The mux bits of the write ports.
-fn write_bits(m: Memory, nets: &[u32], base: u32, news: &[u32]) -> [u32; 8]
+fn write_bits(m: Memory, nets: &[u32], base: u32, news: &[u32]) -> [u32; rules::MAX_PORTS]
     requires { ⌜ Small base (now news) ⌝ }
     ensures { λ r. ⌜ ((trits : List ℕ) → r ≡ inEight (map (λ x. base + x .1 - x .0) (pairs (writeLogs (memoryOf m (now (nets .entry)) trits)) (now (news .entry))))) ⌝ }
 {
@@ -94,7 +94,7 @@ fn write_bits(m: Memory, nets: &[u32], base: u32, news: &[u32]) -> [u32; 8]
 }
 
 // The mux bits of the listed read ports.
-fn read_bits(m: Memory, ports: &[u32], base: u32, news: &[u32]) -> [u32; 8]
+fn read_bits(m: Memory, ports: &[u32], base: u32, news: &[u32]) -> [u32; rules::MAX_PORTS]
     requires { ⌜ (length (now ports) ≤ 8) × Small base (now news) ⌝ }
     ensures { λ r. ⌜ ((nets trits : List ℕ) → r ≡ inEight (map (λ x. base + x .1 - x .0) (pairs (readLogs (memoryOf m nets trits) (now (ports .entry))) (now (news .entry))))) ⌝ }
 {
@@ -123,14 +123,14 @@ pub fn swizzle_mux_bits(
     writes: &[u32],
     reads: &[u32],
 ) -> MuxBits
-    ensures { λ r. ⌜ MuxBitsCall m (now (nets .entry)) (now (trits .entry)) (now (ports .entry)) (planOf s (now (entries .entry)) (now (writes .entry)) (now (reads .entry))) r ⌝ }
+    ensures { λ r. ⌜ r ≡ muxBitsBy (swizzleMuxBitsCall (givenOf m (now (nets .entry)) (now (trits .entry))) (now (ports .entry)) (planOf s (now (entries .entry)) (now (writes .entry)) (now (reads .entry)))) ⌝ }
 {
     let n = mux_refusal(m, nets, trits, ports, s, entries, writes, reads);
     if n != 0 {
         return MuxBits {
             refusal: n,
-            writes: [0u32; 8],
-            reads: [0u32; 8],
+            writes: [0u32; rules::MAX_PORTS],
+            reads: [0u32; rules::MAX_PORTS],
         };
     }
     let base = shared_bits(m, s);
@@ -145,6 +145,7 @@ pub fn swizzle_mux_bits(
 
 // The depths of the memories that a swizzle would give, into lent room.
 pub fn swizzle_depths(
+    out: &mut [u32],
     m: Memory,
     nets: &[u32],
     trits: &[u8],
@@ -152,7 +153,6 @@ pub fn swizzle_depths(
     entries: &[u32],
     writes: &[u32],
     reads: &[u32],
-    out: &mut [u32],
 ) -> u32
     ensures { λ r. ⌜ filledWith r (now (out .exit)) ≡ swizzleDepthsCall (now (out .entry)) (givenOf m (now (nets .entry)) (now (trits .entry))) (planOf s (now (entries .entry)) (now (writes .entry)) (now (reads .entry))) ⌝ }
 {
