@@ -146,6 +146,7 @@ fn depths(given: &[u32], nets: &[u32], trits: &[u8], out: &mut [u32]) -> u32 {
     let at = memory_pieces::after_memory(given, 3);
     let n = pieces::lent(pieces::word(given, 2), ROOM_DEPTHS);
     swizzle_sizes::swizzle_depths(
+        pieces::part_mut(out, 0, n),
         m,
         nets,
         trits,
@@ -153,7 +154,6 @@ fn depths(given: &[u32], nets: &[u32], trits: &[u8], out: &mut [u32]) -> u32 {
         pieces::list(given, at),
         memory_pieces::plan_writes(given, at),
         memory_pieces::plan_reads(given, at),
-        pieces::part_mut(out, 0, n),
     )
 }
 

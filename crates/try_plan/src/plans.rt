@@ -64,6 +64,7 @@ fn call(
     let trits = [1u8; TRITS];
     let n = room::at_most(lent, out.len());
     swizzle_sizes::swizzle_depths(
+        &mut out[0..n],
         m,
         lists::part_u32(&nets, 0, net_memory::nets_total(m)),
         lists::part_u8(&trits, 0, net_memory::trits_total(m)),
@@ -71,7 +72,6 @@ fn call(
         entries,
         writes,
         reads,
-        &mut out[0..n],
     )
 }
 
