@@ -9,7 +9,7 @@ use pieces::Reply;
 fn merged(words: &mut [u32], room: usize, used: usize, r: Answer, nets: &[u32]) -> Reply {
     match r {
         Answer::Refused(n) => pieces::refused(n),
-        Answer::Done(after) => logged(words, room, used, after, nets),
+        Answer::Accepted(after) => logged(words, room, used, after, nets),
     }
 }
 

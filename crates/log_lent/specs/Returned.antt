@@ -41,24 +41,24 @@ module _ {A : Type 0} where
 -- new nets, from the first one on
 abbrev pub netsOf : nets.NewNets → Answer Value
 netsOf (nets.the-variants.Refused n) = Refused n
-netsOf (nets.the-variants.Done first width) = Accepted (upFrom first width)
+netsOf (nets.the-variants.Accepted first width) = Accepted (upFrom first width)
 
 -- one net: as a net, and as a value
 abbrev pub netOf : net.OneNet → Answer ℕ
 netOf (net.the-variants.Refused n) = Refused n
-netOf (net.the-variants.Done n) = Accepted (n .0)
+netOf (net.the-variants.Accepted n) = Accepted (n .0)
 
 abbrev pub posOf : net.OneNet → Answer Value
 posOf (net.the-variants.Refused n) = Refused n
-posOf (net.the-variants.Done n) = Accepted (n .0 ∷ [])
+posOf (net.the-variants.Accepted n) = Accepted (n .0 ∷ [])
 
 abbrev pub noNets : Value
 noNets = []
 
 abbrev pub noneOf : none.NoValue → Answer Value
 noneOf (none.the-variants.Refused n) = Refused n
-noneOf none.the-variants.Done = Accepted noNets
+noneOf none.the-variants.Accepted = Accepted noNets
 
 abbrev pub newControlsOf : controls.NewControls → Answer cell.Controls
 newControlsOf (controls.the-variants.Refused n) = Refused n
-newControlsOf (controls.the-variants.Done c) = Accepted (controlsOf c)
+newControlsOf (controls.the-variants.Accepted c) = Accepted (controlsOf c)

@@ -8,7 +8,7 @@ ghost use Rattle.rules.specs.Answers.{addVoidCall, addNotCall, addPairCall, add
 ghost use Rattle.net_value.specs.View.{controlOf};
 ghost use Rattle.net_flip_flop.specs.View.{controlsOf, flipFlop};
 ghost use Rattle.log_entries.specs.View.{stateOf};
-ghost use Rattle.log_requests.specs.Answers.{answerOf, netAnswerOf, controlsAnswerOf};
+ghost use Rattle.log_requests.specs.Answers.{requestOf, netAnswerOf, controlsAnswerOf};
 ghost use Rattle.log_lent.specs.Returned.{returned, valueOf, stateLeft, lentCall, netsOf, netOf, posOf, noNets, noneOf, newControlsOf};
 use log_entries::LogState;
 use log_requests::Answer;
@@ -21,25 +21,25 @@ use net_value::Net;
 // The number of the refusal, or the first net that the request made and how many it made.
 pub enum NewNets {
     Refused(u32),
-    Done(u32, usize),
+    Accepted(u32, usize),
 }
 
 // The number of the refusal, or the one net.
 pub enum OneNet {
     Refused(u32),
-    Done(Net),
+    Accepted(Net),
 }
 
 // The number of the refusal, or nothing.
 pub enum NoValue {
     Refused(u32),
-    Done,
+    Accepted,
 }
 
 // The number of the refusal, or the controls.
 pub enum NewControls {
     Refused(u32),
-    Done(Controls),
+    Accepted(Controls),
 }
 
 // An answer, with the state to store.
@@ -65,48 +65,48 @@ struct TookControls {
 
 // The answer of a request that makes so many nets, from the state st.
 fn took_nets(r: Answer, st: LogState, width: usize) -> TookNets
-    ensures { λ t. ⌜ (netsOf (t .answer) ≡ valueOf (answerOf (upFrom (st .next) width) r)) × (stateOf (t .state) ≡ stateLeft (stateOf st) (answerOf (upFrom (st .next) width) r)) ⌝ }
+    ensures { λ t. ⌜ (netsOf (t .answer) ≡ valueOf (requestOf (upFrom (st .next) width) r)) × (stateOf (t .state) ≡ stateLeft (stateOf st) (requestOf (upFrom (st .next) width) r)) ⌝ }
 {
     match r {
         Answer::Refused(n) => TookNets {
             state: st,
             answer: NewNets::Refused(n),
         },
-        Answer::Done(state) => TookNets {
+        Answer::Accepted(state) => TookNets {
             state,
-            answer: NewNets::Done(st.next, width),
+            answer: NewNets::Accepted(st.next, width),
         },
     }
 }
 
 // The answer of a request that makes one net.
 fn took_net(r: Answer, st: LogState) -> TookNet
-    ensures { λ t. ⌜ (netOf (t .answer) ≡ valueOf (answerOf (st .next) r)) × (stateOf (t .state) ≡ stateLeft (stateOf st) (answerOf (st .next) r)) ⌝ }
+    ensures { λ t. ⌜ (netOf (t .answer) ≡ valueOf (requestOf (st .next) r)) × (stateOf (t .state) ≡ stateLeft (stateOf st) (requestOf (st .next) r)) ⌝ }
 {
     match r {
         Answer::Refused(n) => TookNet {
             state: st,
             answer: OneNet::Refused(n),
         },
-        Answer::Done(state) => TookNet {
+        Answer::Accepted(state) => TookNet {
             state,
-            answer: OneNet::Done(Net(st.next)),
+            answer: OneNet::Accepted(Net(st.next)),
         },
     }
 }
 
 // The answer of a request that makes no nets.
 fn took_none(r: Answer, st: LogState) -> TookNone
-    ensures { λ t. ⌜ (noneOf (t .answer) ≡ valueOf (answerOf noNets r)) × (stateOf (t .state) ≡ stateLeft (stateOf st) (answerOf noNets r)) ⌝ }
+    ensures { λ t. ⌜ (noneOf (t .answer) ≡ valueOf (requestOf noNets r)) × (stateOf (t .state) ≡ stateLeft (stateOf st) (requestOf noNets r)) ⌝ }
 {
     match r {
         Answer::Refused(n) => TookNone {
             state: st,
             answer: NoValue::Refused(n),
         },
-        Answer::Done(state) => TookNone {
+        Answer::Accepted(state) => TookNone {
             state,
-            answer: NoValue::Done,
+            answer: NoValue::Accepted,
         },
     }
 }
@@ -120,9 +120,9 @@ fn took_pos(r: NetAnswer, st: LogState) -> TookNet
             state: st,
             answer: OneNet::Refused(n),
         },
-        NetAnswer::Done(net, state) => TookNet {
+        NetAnswer::Accepted(net, state) => TookNet {
             state,
-            answer: OneNet::Done(net),
+            answer: OneNet::Accepted(net),
         },
     }
 }
@@ -136,9 +136,9 @@ fn took_controls(r: ControlsAnswer, st: LogState) -> TookControls
             state: st,
             answer: NewControls::Refused(n),
         },
-        ControlsAnswer::Done(c, state) => TookControls {
+        ControlsAnswer::Accepted(c, state) => TookControls {
             state,
-            answer: NewControls::Done(c),
+            answer: NewControls::Accepted(c),
         },
     }
 }

@@ -351,7 +351,7 @@ fn answered(c: Case, n: u32, r: Answer) -> bool {
             }
             k == n
         }
-        Answer::Done(s) => {
+        Answer::Accepted(s) => {
             if n != 0 {
                 return false;
             }

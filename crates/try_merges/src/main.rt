@@ -363,7 +363,7 @@ fn answered(n: u32, wanted: LogState, r: Answer) -> bool {
             }
             k == n
         }
-        Answer::Done(state) => {
+        Answer::Accepted(state) => {
             if n != 0 {
                 return false;
             }

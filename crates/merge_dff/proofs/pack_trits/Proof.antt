@@ -11,10 +11,10 @@ use Rattle.merge_dff.proofs.pack_trits.Statement.{statement}
 use Rattle.merge_dff.proofs.pack_trits.Tie as tie
 
 abbrev Inv-loop : tie.InvT-loop
-Inv-loop reset clear init to₀ n i₀ to i = (i ≤ n) × (length to ≡ length to₀) × (to ≡ sets to₀ 0 (take i (packs reset clear init)))
+Inv-loop to₀ reset clear init n i₀ to i = (i ≤ n) × (length to ≡ length to₀) × (to ≡ sets to₀ 0 (take i (packs reset clear init)))
 
 abbrev μ-loop : tie.MeasureT-loop
-μ-loop reset clear init to₀ n i₀ to i = n - i
+μ-loop to₀ reset clear init n i₀ to i = n - i
 
 smaller-requires : tie.Need-smaller-requires Inv-loop μ-loop
 smaller-requires c κs = search needs
