@@ -19,11 +19,8 @@ slice-aggregate-pack-trits c = search needs
 pack-trits-requires : tie.Need-pack-trits-requires
 pack-trits-requires c κs = search needs
 
-array-share-prefix-column : tie.Need-array-share-prefix-column
-array-share-prefix-column c = search needs
-
 slice-aggregate-merge-packed : tie.Need-slice-aggregate-merge-packed
-slice-aggregate-merge-packed c = sym (length-take-le _ _ (omega (arith, c .before .before .before .pack-trits .kept .0, c .before .before .before .pack-trits .ensures .0)))
+slice-aggregate-merge-packed c = search needs
 
 slice-aggregate-merge-packed-2 : tie.Need-slice-aggregate-merge-packed-2
 slice-aggregate-merge-packed-2 c = search needs
@@ -31,8 +28,11 @@ slice-aggregate-merge-packed-2 c = search needs
 slice-aggregate-merge-packed-3 : tie.Need-slice-aggregate-merge-packed-3
 slice-aggregate-merge-packed-3 c = search needs
 
+array-share-prefix-column : tie.Need-array-share-prefix-column
+array-share-prefix-column c = search needs
+
 slice-aggregate-merge-packed-4 : tie.Need-slice-aggregate-merge-packed-4
-slice-aggregate-merge-packed-4 c = search needs
+slice-aggregate-merge-packed-4 c = sym (length-take-le _ _ (omega (arith, c .before .before .before .before .before .before .before .pack-trits .kept .0, c .before .before .before .before .before .before .before .pack-trits .ensures .0)))
 
 merge-packed-requires : tie.Need-merge-packed-requires
 merge-packed-requires c κs = search needs
@@ -59,10 +59,10 @@ emit-dedup-dff-spec =
     (tie.spec
     slice-aggregate-pack-trits
     pack-trits-requires
-    array-share-prefix-column
     slice-aggregate-merge-packed
     slice-aggregate-merge-packed-2
     slice-aggregate-merge-packed-3
+    array-share-prefix-column
     slice-aggregate-merge-packed-4
     merge-packed-requires
     same-length

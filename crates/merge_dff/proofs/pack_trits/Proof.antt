@@ -67,15 +67,15 @@ same-length c = c .before .loop .inv .1
 returns : tie.Need-returns Inv-loop μ-loop
 returns c =
     let h = c .before in
-    let b = h .before .before .before .before .before .before .before in
-    let v = b .before .args in (
+    let b = h .before .before .before .before .before .before in
+    let v = b .before .before .args in (
       omega (arith, packs-size (v .reset .now) (v .clear .now) (v .init .now)),
       (
         pack-done (v .reset .now) (v .clear .now) (v .init .now) (v .to .now) (h .loop .to) (h .loop .i) (h .loop .inv .2) (omega arith),
         record {
           resets = λ k. omega (arith, b .shared-slice-known .given k);
-          clears = λ k. omega (arith, h .before .before .before .before .before .before .shared-slice-known2 .given k);
-          inits = λ k. omega (arith, h .before .before .before .before .before .shared-slice-known3 .given k);
+          clears = λ k. omega (arith, h .before .before .before .before .before .shared-slice-known2 .given k);
+          inits = λ k. omega (arith, h .before .before .before .before .shared-slice-known3 .given k);
         },
       ),
     )
