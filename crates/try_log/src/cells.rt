@@ -40,9 +40,9 @@ fn length_at(k: u32) -> usize {
     match k {
         0 => 0,
         1 => 1,
-        2 => 4095,
-        3 => 4096,
-        _ => 4097,
+        2 => MAX_MERGE - 1,
+        3 => MAX_MERGE,
+        _ => MAX_MERGE + 1,
     }
 }
 
