@@ -24,7 +24,7 @@ fn remap(given: &[u32], words: &mut [u32]) -> Reply {
     let r = log_requests::remap_reset_over_enable(pieces::part_mut(words, 0, room), st, c);
     match r {
         ControlsAnswer::Refused(n) => pieces::refused(n),
-        ControlsAnswer::Done(d, after) => remapped(words, room, st.used, d, after),
+        ControlsAnswer::Accepted(d, after) => remapped(words, room, st.used, d, after),
     }
 }
 

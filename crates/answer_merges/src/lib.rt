@@ -9,7 +9,7 @@ use pieces::Reply;
 fn merged(words: &mut [u32], room: usize, used: usize, r: Answer, nets: &[u32]) -> Reply {
     match r {
         Answer::Refused(n) => pieces::refused(n),
-        Answer::Done(after) => logged(words, room, used, after, nets),
+        Answer::Accepted(after) => logged(words, room, used, after, nets),
     }
 }
 
@@ -29,10 +29,10 @@ fn dedup_mux(given: &[u32], words: &mut [u32], room: usize) -> Reply {
     let r = merge_mux::add_dedup_mux(
         pieces::part_mut(words, 0, room),
         st,
+        pieces::part_mut(&mut out, 0, n),
         pieces::control(given, 5),
         a,
         b,
-        pieces::part_mut(&mut out, 0, n),
     );
     merged(words, room, st.used, r, pieces::part(&out, 0, n))
 }
@@ -48,10 +48,10 @@ fn bitwise_mux(given: &[u32], words: &mut [u32], room: usize) -> Reply {
     let r = merge_mux::add_bitwise_mux(
         pieces::part_mut(words, 0, room),
         st,
+        pieces::part_mut(&mut out, 0, n),
         pieces::list(given, 5),
         a,
         b,
-        pieces::part_mut(&mut out, 0, n),
     );
     merged(words, room, st.used, r, pieces::part(&out, 0, n))
 }
@@ -125,12 +125,12 @@ fn loaded_dff(
     let r = merge_dff::add_dedup_dff(
         pieces::part_mut(words, 0, room),
         st,
+        pieces::part_mut(&mut out, 0, n),
         controls(given, pieces::after(given, 5)),
         data,
         pieces::part_u8(trits, 0, clear),
         pieces::part_u8(rest, 0, reset),
         pieces::part_u8(rest, reset, init),
-        pieces::part_mut(&mut out, 0, n),
     );
     merged(words, room, st.used, r, pieces::part(&out, 0, n))
 }

@@ -1,2 +1,2 @@
--- What a request leaves in a lent log state and a lent log, with its answer.
+-- What a request or a merge leaves in a lent log state, a lent log and lent room for results, with its answer.
 pub mod Returned

@@ -1,11 +1,11 @@
--- A request on a lent log state: its answer, and the state and the log that it leaves. A refused one leaves both as they were.
+-- A request or a merge on a lent log state: its answer, and the state, the log and the room for results that it leaves. A refused one leaves all as it was.
 use Prim.Native.Nat.{ℕ}
 use mathlib.Core.List.{List, [], _∷_}
 use Rattle.lists.specs.Lists.{upFrom}
 use Rattle.rules.specs.Value.{Value}
 use Rattle.rules.specs.Cell as cell
 use Rattle.rules.specs.Log.{LogState}
-use Rattle.rules.specs.Answers.{Answer, Refused, Accepted, After, Logged}
+use Rattle.rules.specs.Answers.{Answer, Refused, Accepted, After, Logged, Merged}
 use Rattle.net_flip_flop.specs.View.{controlsOf}
 use Rattle.log_entries.specs.declared.LogState as machine
 use Rattle.log_entries.specs.View.{stateOf}
@@ -37,28 +37,40 @@ module _ {A : Type 0} where
   abbrev pub lentCall : LogState → Logged A → Returned A
   lentCall s l = record { answer = valueOf (l .answer); state = stateLeft s (l .answer); log = l .log }
 
+-- a merge leaves its result nets in lent room
+pub record ReturnedMerge : Type 0 where
+  pub returned : Returned Value
+  pub out : List ℕ
+
+abbrev pub returnedMerge : Answer Value → machine.LogState → List ℕ → List ℕ → ReturnedMerge
+returnedMerge a s log out = record { returned = returned a s log; out = out }
+
+abbrev pub lentMerge : LogState → Merged → ReturnedMerge
+lentMerge s m = record { returned = lentCall s (m .logged); out = m .out }
+
 -- ---- the machine's answers
 -- new nets, from the first one on
 abbrev pub netsOf : nets.NewNets → Answer Value
 netsOf (nets.the-variants.Refused n) = Refused n
-netsOf (nets.the-variants.Done first width) = Accepted (upFrom first width)
+netsOf (nets.the-variants.Accepted first width) = Accepted (upFrom first width)
 
 -- one net: as a net, and as a value
 abbrev pub netOf : net.OneNet → Answer ℕ
 netOf (net.the-variants.Refused n) = Refused n
-netOf (net.the-variants.Done n) = Accepted (n .0)
+netOf (net.the-variants.Accepted n) = Accepted (n .0)
 
 abbrev pub posOf : net.OneNet → Answer Value
 posOf (net.the-variants.Refused n) = Refused n
-posOf (net.the-variants.Done n) = Accepted (n .0 ∷ [])
+posOf (net.the-variants.Accepted n) = Accepted (n .0 ∷ [])
 
 abbrev pub noNets : Value
 noNets = []
 
-abbrev pub noneOf : none.NoValue → Answer Value
-noneOf (none.the-variants.Refused n) = Refused n
-noneOf none.the-variants.Done = Accepted noNets
+-- no value: v is that of an accepted call, noNets or the nets that it stored in the room for results
+abbrev pub noneOf : Value → none.NoValue → Answer Value
+noneOf v (none.the-variants.Refused n) = Refused n
+noneOf v none.the-variants.Accepted = Accepted v
 
 abbrev pub newControlsOf : controls.NewControls → Answer cell.Controls
 newControlsOf (controls.the-variants.Refused n) = Refused n
-newControlsOf (controls.the-variants.Done c) = Accepted (controlsOf c)
+newControlsOf (controls.the-variants.Accepted c) = Accepted (controlsOf c)

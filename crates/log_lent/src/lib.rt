@@ -1,15 +1,17 @@
-// The requests of a design on a lent log and a lent log state: each takes the state by `&mut`, calls the core by value and stores the state after it.
-// A refused request leaves the log and the state as they were.
+// The requests and merges of a design on a lent log and a lent log state: each takes the state by `&mut`, calls the core by value and stores the state
+// after it. A refused one leaves the log, the state and the room for results as they were.
 ghost use mathlib.Core.Path.{_≡_};
 ghost use lib.ListN.{length};
 ghost use Rattle.lists.specs.Lists.{upFrom};
 ghost use Rattle.rules.specs.Log.{addAnd, addOr, addEq, addShl, addUshr, replaceValue};
-ghost use Rattle.rules.specs.Answers.{addVoidCall, addNotCall, addPairCall, addShiftCall, addMuxCall, addDffCall, intoPosCall, remapCall};
+ghost use Rattle.rules.specs.Value.{Value};
+ghost use Rattle.rules.specs.Merge.{addDedupMux, addDedupDff, addBitwiseMux};
+ghost use Rattle.rules.specs.Answers.{addVoidCall, addNotCall, addPairCall, addShiftCall, addMuxCall, addDffCall, intoPosCall, remapCall, addDedupMuxCall, addDedupDffCall, addBitwiseMuxCall};
 ghost use Rattle.net_value.specs.View.{controlOf};
 ghost use Rattle.net_flip_flop.specs.View.{controlsOf, flipFlop};
 ghost use Rattle.log_entries.specs.View.{stateOf};
-ghost use Rattle.log_requests.specs.Answers.{answerOf, netAnswerOf, controlsAnswerOf};
-ghost use Rattle.log_lent.specs.Returned.{returned, valueOf, stateLeft, lentCall, netsOf, netOf, posOf, noNets, noneOf, newControlsOf};
+ghost use Rattle.log_requests.specs.Answers.{requestOf, netAnswerOf, controlsAnswerOf};
+ghost use Rattle.log_lent.specs.Returned.{returned, valueOf, stateLeft, lentCall, returnedMerge, lentMerge, netsOf, netOf, posOf, noNets, noneOf, newControlsOf};
 use log_entries::LogState;
 use log_requests::Answer;
 use log_requests::ControlsAnswer;
@@ -21,25 +23,25 @@ use net_value::Net;
 // The number of the refusal, or the first net that the request made and how many it made.
 pub enum NewNets {
     Refused(u32),
-    Done(u32, usize),
+    Accepted(u32, usize),
 }
 
 // The number of the refusal, or the one net.
 pub enum OneNet {
     Refused(u32),
-    Done(Net),
+    Accepted(Net),
 }
 
 // The number of the refusal, or nothing.
 pub enum NoValue {
     Refused(u32),
-    Done,
+    Accepted,
 }
 
 // The number of the refusal, or the controls.
 pub enum NewControls {
     Refused(u32),
-    Done(Controls),
+    Accepted(Controls),
 }
 
 // An answer, with the state to store.
@@ -65,48 +67,48 @@ struct TookControls {
 
 // The answer of a request that makes so many nets, from the state st.
 fn took_nets(r: Answer, st: LogState, width: usize) -> TookNets
-    ensures { λ t. ⌜ (netsOf (t .answer) ≡ valueOf (answerOf (upFrom (st .next) width) r)) × (stateOf (t .state) ≡ stateLeft (stateOf st) (answerOf (upFrom (st .next) width) r)) ⌝ }
+    ensures { λ t. ⌜ (netsOf (t .answer) ≡ valueOf (requestOf (upFrom (st .next) width) r)) × (stateOf (t .state) ≡ stateLeft (stateOf st) (requestOf (upFrom (st .next) width) r)) ⌝ }
 {
     match r {
         Answer::Refused(n) => TookNets {
             state: st,
             answer: NewNets::Refused(n),
         },
-        Answer::Done(state) => TookNets {
+        Answer::Accepted(state) => TookNets {
             state,
-            answer: NewNets::Done(st.next, width),
+            answer: NewNets::Accepted(st.next, width),
         },
     }
 }
 
 // The answer of a request that makes one net.
 fn took_net(r: Answer, st: LogState) -> TookNet
-    ensures { λ t. ⌜ (netOf (t .answer) ≡ valueOf (answerOf (st .next) r)) × (stateOf (t .state) ≡ stateLeft (stateOf st) (answerOf (st .next) r)) ⌝ }
+    ensures { λ t. ⌜ (netOf (t .answer) ≡ valueOf (requestOf (st .next) r)) × (stateOf (t .state) ≡ stateLeft (stateOf st) (requestOf (st .next) r)) ⌝ }
 {
     match r {
         Answer::Refused(n) => TookNet {
             state: st,
             answer: OneNet::Refused(n),
         },
-        Answer::Done(state) => TookNet {
+        Answer::Accepted(state) => TookNet {
             state,
-            answer: OneNet::Done(Net(st.next)),
+            answer: OneNet::Accepted(Net(st.next)),
         },
     }
 }
 
-// The answer of a request that makes no nets.
+// The answer of a request that gives no nets, or that stored them: v is their value.
 fn took_none(r: Answer, st: LogState) -> TookNone
-    ensures { λ t. ⌜ (noneOf (t .answer) ≡ valueOf (answerOf noNets r)) × (stateOf (t .state) ≡ stateLeft (stateOf st) (answerOf noNets r)) ⌝ }
+    ensures { λ t. ⌜ ((v : Value) → (noneOf v (t .answer) ≡ valueOf (requestOf v r)) × (stateOf (t .state) ≡ stateLeft (stateOf st) (requestOf v r))) ⌝ }
 {
     match r {
         Answer::Refused(n) => TookNone {
             state: st,
             answer: NoValue::Refused(n),
         },
-        Answer::Done(state) => TookNone {
+        Answer::Accepted(state) => TookNone {
             state,
-            answer: NoValue::Done,
+            answer: NoValue::Accepted,
         },
     }
 }
@@ -120,9 +122,9 @@ fn took_pos(r: NetAnswer, st: LogState) -> TookNet
             state: st,
             answer: OneNet::Refused(n),
         },
-        NetAnswer::Done(net, state) => TookNet {
+        NetAnswer::Accepted(net, state) => TookNet {
             state,
-            answer: OneNet::Done(net),
+            answer: OneNet::Accepted(net),
         },
     }
 }
@@ -136,9 +138,9 @@ fn took_controls(r: ControlsAnswer, st: LogState) -> TookControls
             state: st,
             answer: NewControls::Refused(n),
         },
-        ControlsAnswer::Done(c, state) => TookControls {
+        ControlsAnswer::Accepted(c, state) => TookControls {
             state,
-            answer: NewControls::Done(c),
+            answer: NewControls::Accepted(c),
         },
     }
 }
@@ -323,7 +325,7 @@ pub fn add_dff(
 }
 
 fn take_replace(log: &mut [u32], st: LogState, from: &[u32], to: &[u32]) -> TookNone
-    ensures { λ t. ⌜ returned (noneOf (t .answer)) (t .state) (now (log .exit)) ≡ lentCall (stateOf st) (addPairCall replaceValue (now (log .entry)) (stateOf st) (now (from .entry)) (now (to .entry))) ⌝ }
+    ensures { λ t. ⌜ returned (noneOf noNets (t .answer)) (t .state) (now (log .exit)) ≡ lentCall (stateOf st) (addPairCall replaceValue (now (log .entry)) (stateOf st) (now (from .entry)) (now (to .entry))) ⌝ }
 {
     let r = log_requests::replace_value(log, st, from, to);
     took_none(r, st)
@@ -331,7 +333,7 @@ fn take_replace(log: &mut [u32], st: LogState, from: &[u32], to: &[u32]) -> Took
 
 // Kind 10: each net of a value replaced by another's.
 pub fn replace_value(log: &mut [u32], st: &mut LogState, from: &[u32], to: &[u32]) -> NoValue
-    ensures { λ r. ⌜ returned (noneOf r) (now (st .exit)) (now (log .exit)) ≡ lentCall (stateOf (now (st .entry))) (addPairCall replaceValue (now (log .entry)) (stateOf (now (st .entry))) (now (from .entry)) (now (to .entry))) ⌝ }
+    ensures { λ r. ⌜ returned (noneOf noNets r) (now (st .exit)) (now (log .exit)) ≡ lentCall (stateOf (now (st .entry))) (addPairCall replaceValue (now (log .entry)) (stateOf (now (st .entry))) (now (from .entry)) (now (to .entry))) ⌝ }
 {
     let t = take_replace(log, *st, from, to);
     *st = t.state;
@@ -366,6 +368,100 @@ pub fn remap_reset_over_enable(log: &mut [u32], st: &mut LogState, c: Controls) 
     ensures { λ r. ⌜ returned (newControlsOf r) (now (st .exit)) (now (log .exit)) ≡ lentCall (stateOf (now (st .entry))) (remapCall (now (log .entry)) (stateOf (now (st .entry))) (controlsOf c)) ⌝ }
 {
     let t = take_remap(log, *st, c);
+    *st = t.state;
+    t.answer
+}
+
+fn take_dedup_mux(
+    log: &mut [u32],
+    st: LogState,
+    out: &mut [u32],
+    select: ControlNet,
+    a: &[u32],
+    b: &[u32],
+) -> TookNone
+    ensures { λ t. ⌜ returnedMerge (noneOf (addDedupMux (controlOf select) (now (a .entry)) (now (b .entry)) (st .next) .value) (t .answer)) (t .state) (now (log .exit)) (now (out .exit)) ≡ lentMerge (stateOf st) (addDedupMuxCall (now (out .entry)) (now (log .entry)) (stateOf st) (controlOf select) (now (a .entry)) (now (b .entry))) ⌝ }
+{
+    let r = merge_mux::add_dedup_mux(log, st, out, select, a, b);
+    took_none(r, st)
+}
+
+// A mux in which equal bits are kept once; the result net of each bit goes to `out`.
+pub fn add_dedup_mux(
+    log: &mut [u32],
+    st: &mut LogState,
+    out: &mut [u32],
+    select: ControlNet,
+    a: &[u32],
+    b: &[u32],
+) -> NoValue
+    ensures { λ r. ⌜ returnedMerge (noneOf (addDedupMux (controlOf select) (now (a .entry)) (now (b .entry)) (now (st .entry) .next) .value) r) (now (st .exit)) (now (log .exit)) (now (out .exit)) ≡ lentMerge (stateOf (now (st .entry))) (addDedupMuxCall (now (out .entry)) (now (log .entry)) (stateOf (now (st .entry))) (controlOf select) (now (a .entry)) (now (b .entry))) ⌝ }
+{
+    let t = take_dedup_mux(log, *st, out, select, a, b);
+    *st = t.state;
+    t.answer
+}
+
+fn take_dedup_dff(
+    log: &mut [u32],
+    st: LogState,
+    out: &mut [u32],
+    c: Controls,
+    bits: &[u32],
+    clear: &[u8],
+    reset: &[u8],
+    init: &[u8],
+) -> TookNone
+    ensures { λ t. ⌜ returnedMerge (noneOf (addDedupDff (flipFlop (controlsOf c) (now (bits .entry)) (now (clear .entry)) (now (reset .entry)) (now (init .entry))) (st .next) .value) (t .answer)) (t .state) (now (log .exit)) (now (out .exit)) ≡ lentMerge (stateOf st) (addDedupDffCall (now (out .entry)) (now (log .entry)) (stateOf st) (flipFlop (controlsOf c) (now (bits .entry)) (now (clear .entry)) (now (reset .entry)) (now (init .entry)))) ⌝ }
+{
+    let r = merge_dff::add_dedup_dff(log, st, out, c, bits, clear, reset, init);
+    took_none(r, st)
+}
+
+// A flip-flop in which equal bits are kept once; the result net of each bit goes to `out`.
+pub fn add_dedup_dff(
+    log: &mut [u32],
+    st: &mut LogState,
+    out: &mut [u32],
+    c: Controls,
+    bits: &[u32],
+    clear: &[u8],
+    reset: &[u8],
+    init: &[u8],
+) -> NoValue
+    ensures { λ r. ⌜ returnedMerge (noneOf (addDedupDff (flipFlop (controlsOf c) (now (bits .entry)) (now (clear .entry)) (now (reset .entry)) (now (init .entry))) (now (st .entry) .next) .value) r) (now (st .exit)) (now (log .exit)) (now (out .exit)) ≡ lentMerge (stateOf (now (st .entry))) (addDedupDffCall (now (out .entry)) (now (log .entry)) (stateOf (now (st .entry))) (flipFlop (controlsOf c) (now (bits .entry)) (now (clear .entry)) (now (reset .entry)) (now (init .entry)))) ⌝ }
+{
+    let t = take_dedup_dff(log, *st, out, c, bits, clear, reset, init);
+    *st = t.state;
+    t.answer
+}
+
+fn take_bitwise_mux(
+    log: &mut [u32],
+    st: LogState,
+    out: &mut [u32],
+    s: &[u32],
+    a: &[u32],
+    b: &[u32],
+) -> TookNone
+    ensures { λ t. ⌜ returnedMerge (noneOf (addBitwiseMux (now (s .entry)) (now (a .entry)) (now (b .entry)) (st .next) .value) (t .answer)) (t .state) (now (log .exit)) (now (out .exit)) ≡ lentMerge (stateOf st) (addBitwiseMuxCall (now (out .entry)) (now (log .entry)) (stateOf st) (now (s .entry)) (now (a .entry)) (now (b .entry))) ⌝ }
+{
+    let r = merge_mux::add_bitwise_mux(log, st, out, s, a, b);
+    took_none(r, st)
+}
+
+// A merging mux for each run of equal neighbouring selects; the result net of each bit goes to `out`.
+pub fn add_bitwise_mux(
+    log: &mut [u32],
+    st: &mut LogState,
+    out: &mut [u32],
+    s: &[u32],
+    a: &[u32],
+    b: &[u32],
+) -> NoValue
+    ensures { λ r. ⌜ returnedMerge (noneOf (addBitwiseMux (now (s .entry)) (now (a .entry)) (now (b .entry)) (now (st .entry) .next) .value) r) (now (st .exit)) (now (log .exit)) (now (out .exit)) ≡ lentMerge (stateOf (now (st .entry))) (addBitwiseMuxCall (now (out .entry)) (now (log .entry)) (stateOf (now (st .entry))) (now (s .entry)) (now (a .entry)) (now (b .entry))) ⌝ }
+{
+    let t = take_bitwise_mux(log, *st, out, s, a, b);
     *st = t.state;
     t.answer
 }

@@ -22,8 +22,8 @@ use Rattle.log_entries.specs.View.{stateOf, lent}
 use Rattle.log_entries.specs.declared.LogState as machine
 use Rattle.log_entries.proofs.Rooms.{Fits, room-fits}
 use Rattle.log_entries.proofs.Emission.{ran, run-fits, accepted-run, accepted-held}
-use Rattle.log_requests.specs.Answers.{answerOf, loggedOf}
-use Rattle.log_requests.specs.declared.Answer.the-variants.{Refused, Done}
+use Rattle.log_requests.specs.Answers.{requestOf, loggedOf}
+use Rattle.log_requests.specs.declared.Answer.the-variants.{Refused, Accepted}
 
 module _ {A : Type 0} (v : A) (N : ℕ) (log : List ℕ) (s : LogState) (t : Trace A) where
   -- a refused call
@@ -33,7 +33,7 @@ module _ {A : Type 0} (v : A) (N : ℕ) (log : List ℕ) (s : LogState) (t : Tra
 
   -- an accepted one
   pub accepted : (after : List ℕ) (r : machine.LogState) → N ≡ 0 → v ≡ t (s .next) .value → stateOf r ≡ stateAfter s (t (s .next)) → after ≡ logAfter log s (t (s .next))
-      → loggedOf v (Done r) after ≡ rules.logged N log s t
+      → loggedOf v (Accepted r) after ≡ rules.logged N log s t
   unfolding rules.logged rules.answerOf rules.after leaves
   accepted after r z e f g = rw z (λ i. record { answer = rules.Accepted (record { value = e i; state = f i }); log = g i })
 
@@ -56,9 +56,9 @@ module _ {A : Type 0} (v : A) (t : Trace A) (w k number n : ℕ) (c : number ≡
       below : Counted t w k → Fits (length log) s w k → t (s .next) .next < X
       below d f = let x = d .nets (s .next) in let y = f .high in omega arith
 
-  pub request-done : (after : List ℕ) (r : machine.LogState) → n ≡ 0 → (number ≡ 0 → v ≡ t (s .next) .value) → lent r after ≡ run t (record { log = log; state = s })
-      → loggedOf v (Done r) after ≡ rules.logged (number orElse logRefusal (length log) s t) log s t
-  request-done after r z g h =
+  pub request-accepted : (after : List ℕ) (r : machine.LogState) → n ≡ 0 → (number ≡ 0 → v ≡ t (s .next) .value) → lent r after ≡ run t (record { log = log; state = s })
+      → loggedOf v (Accepted r) after ≡ rules.logged (number orElse logRefusal (length log) s t) log s t
+  request-accepted after r z g h =
       let q = h ∙ request-fits z in
       accepted v _ log s t after r (sym whole ∙ z) (g (else-zero number _ (sym e ∙ z) .0)) (ap (λ (x : Lent). x .state) q) (ap (λ (x : Lent). x .log) q)
 
@@ -99,9 +99,9 @@ module _ {A : Type 0} (v : A) (t : Trace A) (c : Chains t) (number n : ℕ) (z :
   pub dry-refused : n ≡ logRefusal (length log) s t → n ≢ 0 → loggedOf v (Refused n) log ≡ rules.logged (number orElse logRefusal (length log) s t) log s t
   dry-refused e h = refused v _ log s t n (dry-whole e) h
 
-  pub dry-done : (after : List ℕ) (r : machine.LogState) → n ≡ logRefusal (length log) s t → n ≡ 0 → (isOver (stateOf r) ≡ false → v ≡ t (s .next) .value)
-      → lent r after ≡ run t (record { log = log; state = s }) → loggedOf v (Done r) after ≡ rules.logged (number orElse logRefusal (length log) s t) log s t
-  dry-done after r e y g h =
+  pub dry-accepted : (after : List ℕ) (r : machine.LogState) → n ≡ logRefusal (length log) s t → n ≡ 0 → (isOver (stateOf r) ≡ false → v ≡ t (s .next) .value)
+      → lent r after ≡ run t (record { log = log; state = s }) → loggedOf v (Accepted r) after ≡ rules.logged (number orElse logRefusal (length log) s t) log s t
+  dry-accepted after r e y g h =
       let x = sym e ∙ y in
       let q = h ∙ accepted-run t (length log) s log c x in
       let o = ap (λ (m : Lent). isOver (m .state)) h ∙ accepted-held t (length log) s log c x in

@@ -22,8 +22,8 @@ use Rattle.log_entries.specs.declared.LogState as machine
 use Rattle.log_entries.proofs.Emission.{accepted-held}
 use Rattle.log_requests.specs.Answers.{loggedOf}
 use Rattle.log_requests.specs.Merged.{mergedOf}
-use Rattle.log_requests.specs.declared.Answer.the-variants.{Refused, Done}
-use Rattle.log_requests.proofs.Answers.{refused, dry-done}
+use Rattle.log_requests.specs.declared.Answer.the-variants.{Refused, Accepted}
+use Rattle.log_requests.proofs.Answers.{refused, dry-accepted}
 
 else-assoc : (a b c : ℕ) → ((a orElse b) orElse c) ≡ (a orElse (b orElse c))
 else-assoc zero b c = ap (λ (n : ℕ). n orElse c) (else-rest 0 b refl) ∙ sym (else-rest 0 (b orElse c) refl)
@@ -54,15 +54,15 @@ module _ (v : Value) (log out : List ℕ) (s : LogState) (t : Trace Value) where
       pub log-refused : n ≢ 0 → mergedOf v (Refused n) log out ≡ rules.merged (input orElse result orElse logRefusal (length log) s t) out log s t
       log-refused h = merge-refused (input orElse result orElse logRefusal (length log) s t) n whole h
 
-      pub merge-done : (log′ out′ : List ℕ) (r : machine.LogState) → Chains t → n ≡ 0 → v ≡ t (s .next) .value
+      pub merge-accepted : (log′ out′ : List ℕ) (r : machine.LogState) → Chains t → n ≡ 0 → v ≡ t (s .next) .value
           → lent r log′ ≡ run t (record { log = log; state = s }) → (isOver (stateOf r) ≡ false → out′ ≡ sets out 0 v)
-          → mergedOf v (Done r) log′ out′ ≡ rules.merged (input orElse result orElse logRefusal (length log) s t) out log s t
+          → mergedOf v (Accepted r) log′ out′ ≡ rules.merged (input orElse result orElse logRefusal (length log) s t) out log s t
       unfolding rules.merged
-      merge-done log′ out′ r c y q h g =
+      merge-accepted log′ out′ r c y q h g =
           let o : isOver (stateOf r) ≡ false = ap (λ (m : Lent). isOver (m .state)) h ∙ accepted-held t (length log) s log c (sym e ∙ y) in
           let a = else-assoc input result (logRefusal (length log) s t) in
-          let b : loggedOf v (Done r) log′ ≡ rules.logged (input orElse result orElse logRefusal (length log) s t) log s t =
-          dry-done v t c (input orElse result) n z log s log′ r e y (λ x. q) h ∙ ap (λ (k : ℕ). rules.logged k log s t) a in
+          let b : loggedOf v (Accepted r) log′ ≡ rules.logged (input orElse result orElse logRefusal (length log) s t) log s t =
+          dry-accepted v t c (input orElse result) n z log s log′ r e y (λ x. q) h ∙ ap (λ (k : ℕ). rules.logged k log s t) a in
           let w : out′ ≡ leaves (input orElse result orElse logRefusal (length log) s t) out (sets out 0 (t (s .next) .value)) =
           g o ∙ ap (sets out 0) q ∙ sym (leaves-accepted (input orElse result orElse logRefusal (length log) s t) out (sets out 0 (t (s .next) .value)) (sym whole ∙ y)) in
           λ i. record { logged = b i; out = w i }

@@ -24,17 +24,17 @@ use net_value::Net;
 // The number of the refusal, or the state after the request.
 pub enum Answer {
     Refused(u32),
-    Done(LogState),
+    Accepted(LogState),
 }
 
 pub enum NetAnswer {
     Refused(u32),
-    Done(Net, LogState),
+    Accepted(Net, LogState),
 }
 
 pub enum ControlsAnswer {
     Refused(u32),
-    Done(Controls, LogState),
+    Accepted(Controls, LogState),
 }
 
 // 4, 20 and 21 of a request of one value.
@@ -96,7 +96,7 @@ pub fn add_void(log: &mut [u32], st: LogState, width: u32) -> Answer
         return Answer::Refused(n);
     }
     let after = log_entries::emit_void(log, st, width);
-    Answer::Done(after)
+    Answer::Accepted(after)
 }
 
 // Kind 2: the inverse of each net.
@@ -108,7 +108,7 @@ pub fn add_not(log: &mut [u32], st: LogState, a: &[u32]) -> Answer
         return Answer::Refused(n);
     }
     let after = log_entries::emit_not(log, st, a);
-    Answer::Done(after)
+    Answer::Accepted(after)
 }
 
 // Kind 3: net by net.
@@ -120,7 +120,7 @@ pub fn add_and(log: &mut [u32], st: LogState, a: &[u32], b: &[u32]) -> Answer
         return Answer::Refused(n);
     }
     let after = log_entries::emit_and(log, st, a, b);
-    Answer::Done(after)
+    Answer::Accepted(after)
 }
 
 // Kind 4: net by net.
@@ -132,7 +132,7 @@ pub fn add_or(log: &mut [u32], st: LogState, a: &[u32], b: &[u32]) -> Answer
         return Answer::Refused(n);
     }
     let after = log_entries::emit_or(log, st, a, b);
-    Answer::Done(after)
+    Answer::Accepted(after)
 }
 
 // Kind 6: whether two values are equal, in one net.
@@ -144,7 +144,7 @@ pub fn add_eq(log: &mut [u32], st: LogState, a: &[u32], b: &[u32]) -> Answer
         return Answer::Refused(n);
     }
     let after = log_entries::emit_eq(log, st, a, b);
-    Answer::Done(after)
+    Answer::Accepted(after)
 }
 
 // Kind 10: each net of a value replaced by another's.
@@ -156,7 +156,7 @@ pub fn replace_value(log: &mut [u32], st: LogState, from: &[u32], to: &[u32]) ->
         return Answer::Refused(n);
     }
     let after = log_entries::emit_replace(log, st, from, to);
-    Answer::Done(after)
+    Answer::Accepted(after)
 }
 
 // Kind 7: a value moved up by select times stride.
@@ -168,7 +168,7 @@ pub fn add_shl(log: &mut [u32], st: LogState, stride: u32, select: &[u32], a: &[
         return Answer::Refused(n);
     }
     let after = log_entries::emit_shl(log, st, stride, select, a);
-    Answer::Done(after)
+    Answer::Accepted(after)
 }
 
 // Kind 8: down.
@@ -180,7 +180,7 @@ pub fn add_ushr(log: &mut [u32], st: LogState, stride: u32, select: &[u32], a: &
         return Answer::Refused(n);
     }
     let after = log_entries::emit_ushr(log, st, stride, select, a);
-    Answer::Done(after)
+    Answer::Accepted(after)
 }
 
 // 1, 2 and 4 of a mux, or of a merging one.
@@ -228,7 +228,7 @@ pub fn add_mux(log: &mut [u32], st: LogState, select: ControlNet, a: &[u32], b: 
         return Answer::Refused(n);
     }
     let after = log_entries::emit_mux(log, st, select, a, b);
-    Answer::Done(after)
+    Answer::Accepted(after)
 }
 
 // Whether some trits of a flip-flop are not one to each bit.
@@ -319,7 +319,7 @@ pub fn add_dff(
         return Answer::Refused(n);
     }
     let after = log_entries::emit_dff(log, st, c, bits, clear, reset, init);
-    Answer::Done(after)
+    Answer::Accepted(after)
 }
 
 // The nots that into_pos logs: 1 where the control is Neg.
@@ -378,7 +378,7 @@ pub fn into_pos(log: &mut [u32], st: LogState, c: ControlNet) -> NetAnswer
     let done = emit_into_pos(log, st, c);
     let net = done.net;
     let state = done.state;
-    NetAnswer::Done(net, state)
+    NetAnswer::Accepted(net, state)
 }
 
 // Controls, and the state after.
@@ -487,11 +487,11 @@ pub fn remap_reset_over_enable(log: &mut [u32], st: LogState, c: Controls) -> Co
     let done = emit_remap(log, st, c);
     let controls = done.controls;
     let state = done.state;
-    ControlsAnswer::Done(controls, state)
+    ControlsAnswer::Accepted(controls, state)
 }
 
 // 20 where the result nets of a merge, one per bit, do not fit the room for them.
-pub fn result_number(room: usize, bits: &[u32]) -> u32
+pub fn result_refusal(room: usize, bits: &[u32]) -> u32
     ensures { λ r. ⌜ r ≡ resultRefusal room (now (bits .entry)) ⌝ }
 {
     if room < bits.len() {

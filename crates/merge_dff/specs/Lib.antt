@@ -1,2 +1,2 @@
--- The definitions that the contracts of dedup_dff cite.
+-- The definitions that the contracts of merge_dff cite.
 pub mod Packs

@@ -29,7 +29,7 @@ fn pack(reset: u8, clear: u8, init: u8) -> u32
 }
 
 // Packs the trits of each bit into `to`, as far as it reaches, and returns how many.
-fn pack_trits(reset: &[u8], clear: &[u8], init: &[u8], to: &mut [u32]) -> usize
+fn pack_trits(to: &mut [u32], reset: &[u8], clear: &[u8], init: &[u8]) -> usize
     ensures { λ r. ⌜ r ≡ min (length (now (to .entry))) (length (packs (now (reset .entry)) (now (clear .entry)) (now (init .entry)))) ⌝ }
     ensures { λ _. ⌜ now (to .exit) ≡ sets (now (to .entry)) 0 (packs (now (reset .entry)) (now (clear .entry)) (now (init .entry))) ⌝ }
     ensures { λ _. ⌜ Bytes (now (reset .entry)) (now (clear .entry)) (now (init .entry)) ⌝ }
@@ -47,7 +47,7 @@ fn pack_trits(reset: &[u8], clear: &[u8], init: &[u8], to: &mut [u32]) -> usize
 }
 
 // Stores the byte of weight `by` of each word in `to`, as far as it reaches.
-fn unpack_part(ps: &[u32], by: u32, to: &mut [u8])
+fn unpack_part(to: &mut [u8], ps: &[u32], by: u32)
     requires { ⌜ 0 < by ⌝ }
     ensures { λ _. ⌜ now (to .exit) ≡ sets (now (to .entry)) 0 (map (byteOf by) (now (ps .entry))) ⌝ }
 {
@@ -63,11 +63,11 @@ fn unpack_part(ps: &[u32], by: u32, to: &mut [u8])
 fn emit_kept_dff(
     log: &mut [u32],
     st: LogState,
+    out: &mut [u32],
     c: Controls,
     bits: &[u32],
     ps: &[u32],
     at: &[u32],
-    out: &mut [u32],
 ) -> LogState
     requires { ⌜ length (now ps) ≤ maxMerge ⌝ }
     ensures { λ r. ⌜ lent r (now (log .exit)) ≡ run (addDff (unpacked (controlsOf c) (now (bits .entry)) (now (ps .entry)))) (lent st (now (log .entry))) ⌝ }
@@ -76,12 +76,12 @@ fn emit_kept_dff(
     let mut clear = [0u8; rules::MAX_MERGE];
     let mut reset = [0u8; rules::MAX_MERGE];
     let mut init = [0u8; rules::MAX_MERGE];
-    unpack_part(ps, 256, &mut clear);
-    unpack_part(ps, 1, &mut reset);
-    unpack_part(ps, 65536, &mut init);
+    unpack_part(&mut clear, ps, 256);
+    unpack_part(&mut reset, ps, 1);
+    unpack_part(&mut init, ps, 65536);
     let n = ps.len();
     let after = log_entries::emit_dff(log, st, c, bits, &clear[..n], &reset[..n], &init[..n]);
-    merge_mux::emit::spread_results(st, after, at, out, 0);
+    merge_mux::emit::spread_results(out, 0, st, after, at);
     after
 }
 
@@ -89,33 +89,33 @@ fn emit_kept_dff(
 fn merge_packed(
     log: &mut [u32],
     st: LogState,
-    c: Controls,
-    bits: &[u32],
-    ps: &[u32],
     out: &mut [u32],
     kx: &mut [u32],
     ky: &mut [u32],
     at: &mut [u32],
+    c: Controls,
+    bits: &[u32],
+    ps: &[u32],
 ) -> LogState
     requires { ⌜ Scratch (now kx) (now ky) (now at) ⌝ }
     ensures { λ r. ⌜ lent r (now (log .exit)) ≡ run (mergePacked (controlsOf c) (limited (now (bits .entry))) (limited (now (ps .entry)))) (lent st (now (log .entry))) ⌝ }
     ensures { λ r. ⌜ now (out .exit) ≡ results (isOver (stateOf r)) (now (out .entry)) 0 (mergePacked (controlsOf c) (limited (now (bits .entry))) (limited (now (ps .entry))) (st .next) .value) ⌝ }
 {
     let n = lists::smaller(rules::MAX_MERGE, lists::smaller(bits.len(), ps.len()));
-    let k = merge_keys::merge(bits, ps, kx, ky, at);
-    emit_kept_dff(log, st, c, &kx[..k], &ky[..k], &at[..n], out)
+    let k = merge_keys::merge(kx, ky, at, bits, ps);
+    emit_kept_dff(log, st, out, c, &kx[..k], &ky[..k], &at[..n])
 }
 
 // add_dedup_dff without its numbers: a flip-flop in which equal bits are kept once.
 pub fn emit_dedup_dff(
     log: &mut [u32],
     st: LogState,
+    out: &mut [u32],
     c: Controls,
     bits: &[u32],
     clear: &[u8],
     reset: &[u8],
     init: &[u8],
-    out: &mut [u32],
 ) -> LogState
     ensures { λ r. ⌜ lent r (now (log .exit)) ≡ run (addDedupDff (flipFlop (controlsOf c) (limited (now (bits .entry))) (now (clear .entry)) (now (reset .entry)) (now (init .entry)))) (lent st (now (log .entry))) ⌝ }
     ensures { λ r. ⌜ now (out .exit) ≡ results (isOver (stateOf r)) (now (out .entry)) 0 (addDedupDff (flipFlop (controlsOf c) (limited (now (bits .entry))) (now (clear .entry)) (now (reset .entry)) (now (init .entry))) (st .next) .value) ⌝ }
@@ -124,17 +124,17 @@ pub fn emit_dedup_dff(
     let mut kx = [0u32; rules::MAX_MERGE];
     let mut ky = [0u32; rules::MAX_MERGE];
     let mut at = [0u32; rules::MAX_MERGE];
-    let n = pack_trits(reset, clear, init, &mut column);
+    let n = pack_trits(&mut column, reset, clear, init);
     merge_packed(
         log,
         st,
-        c,
-        bits,
-        &column[..n],
         out,
         &mut kx,
         &mut ky,
         &mut at,
+        c,
+        bits,
+        &column[..n],
     )
 }
 
@@ -156,7 +156,7 @@ fn merge_number(
 }
 
 // The same, and 20 where the result nets do not fit the room for them.
-fn input_number(
+fn input_refusal(
     room: usize,
     next: u32,
     c: Controls,
@@ -171,11 +171,11 @@ fn input_number(
     if n != 0 {
         return n;
     }
-    log_requests::result_number(room, bits)
+    log_requests::result_refusal(room, bits)
 }
 
 // 20 and 21 of the log, by a dry run.
-fn dry_number(
+fn log_refusal(
     room: usize,
     st: LogState,
     c: Controls,
@@ -189,7 +189,7 @@ fn dry_number(
     let mut no_log = [0u32; 0];
     let mut no_out = [0u32; 0];
     let start = log_entries::dry_start(st);
-    let dry = emit_dedup_dff(&mut no_log, start, c, bits, clear, reset, init, &mut no_out);
+    let dry = emit_dedup_dff(&mut no_log, start, &mut no_out, c, bits, clear, reset, init);
     log_entries::dry_refusal(room, st, dry)
 }
 
@@ -197,23 +197,23 @@ fn dry_number(
 pub fn add_dedup_dff(
     log: &mut [u32],
     st: LogState,
+    out: &mut [u32],
     c: Controls,
     bits: &[u32],
     clear: &[u8],
     reset: &[u8],
     init: &[u8],
-    out: &mut [u32],
 ) -> Answer
     ensures { λ r. ⌜ mergedOf (addDedupDff (flipFlop (controlsOf c) (now (bits .entry)) (now (clear .entry)) (now (reset .entry)) (now (init .entry))) (st .next) .value) r (now (log .exit)) (now (out .exit)) ≡ addDedupDffCall (now (out .entry)) (now (log .entry)) (stateOf st) (flipFlop (controlsOf c) (now (bits .entry)) (now (clear .entry)) (now (reset .entry)) (now (init .entry))) ⌝ }
 {
-    let n = input_number(out.len(), st.next, c, bits, clear, reset, init);
+    let n = input_refusal(out.len(), st.next, c, bits, clear, reset, init);
     if n != 0 {
         return Answer::Refused(n);
     }
-    let k = dry_number(log.len(), st, c, bits, clear, reset, init);
+    let k = log_refusal(log.len(), st, c, bits, clear, reset, init);
     if k != 0 {
         return Answer::Refused(k);
     }
-    let after = emit_dedup_dff(log, st, c, bits, clear, reset, init, out);
-    Answer::Done(after)
+    let after = emit_dedup_dff(log, st, out, c, bits, clear, reset, init);
+    Answer::Accepted(after)
 }

@@ -1,2 +1,2 @@
--- The definitions that the contracts of distinct cite.
+-- The definitions that the contracts of merge_keys cite.
 pub mod Keys

@@ -69,11 +69,11 @@ fn keep(kx: &mut [u32], ky: &mut [u32], count: usize, place: usize, x: u32, y: u
 
 // Keeps the first n keys of columns x and y in kx and ky, stores each key's place among them in `at`, and returns how many are kept.
 fn merge_first(
-    x: &[u32],
-    y: &[u32],
     kx: &mut [u32],
     ky: &mut [u32],
     at: &mut [u32],
+    x: &[u32],
+    y: &[u32],
     n: usize,
 ) -> usize
     requires { ⌜ Roomy (now x) (now y) (now kx) (now ky) (now at) n ⌝ }
@@ -96,7 +96,7 @@ fn merge_first(
 
 // Keeps the keys of columns x and y in kx and ky, stores each key's place among them in `at`, and returns how many are kept. Keys past the limit of
 // a merge, and past the end of kx, ky or `at`, are left out.
-pub fn merge(x: &[u32], y: &[u32], kx: &mut [u32], ky: &mut [u32], at: &mut [u32]) -> usize
+pub fn merge(kx: &mut [u32], ky: &mut [u32], at: &mut [u32], x: &[u32], y: &[u32]) -> usize
     ensures { λ r. ⌜ r ≡ length (kept same2 (merging (now (x .entry)) (now (y .entry)) (now (kx .entry)) (now (ky .entry)) (now (at .entry)))) ⌝ }
     ensures { λ _. ⌜ now (kx .exit) ≡ sets (now (kx .entry)) 0 (firsts (kept same2 (merging (now (x .entry)) (now (y .entry)) (now (kx .entry)) (now (ky .entry)) (now (at .entry))))) ⌝ }
     ensures { λ _. ⌜ now (ky .exit) ≡ sets (now (ky .entry)) 0 (seconds (kept same2 (merging (now (x .entry)) (now (y .entry)) (now (kx .entry)) (now (ky .entry)) (now (at .entry))))) ⌝ }
@@ -107,5 +107,5 @@ pub fn merge(x: &[u32], y: &[u32], kx: &mut [u32], ky: &mut [u32], at: &mut [u32
         lists::smaller(rules::MAX_MERGE, lent),
         lists::smaller(x.len(), y.len()),
     );
-    merge_first(x, y, kx, ky, at, n)
+    merge_first(kx, ky, at, x, y, n)
 }

@@ -1,4 +1,4 @@
--- The definitions that the contracts of dedup cite.
+-- The definitions that the contracts of merge_mux cite.
 pub mod Results
 pub mod Runs
 pub mod Lens

@@ -30,7 +30,7 @@ fn net_at(first: u32, width: u32, place: u32) -> u32
 }
 
 // Stores the net of each bit from `to` on, by its place among the kept bits. What lies past the end of `out` is not stored.
-fn spread_nets(first: u32, width: u32, at: &[u32], out: &mut [u32], to: usize)
+fn spread_nets(out: &mut [u32], to: usize, first: u32, width: u32, at: &[u32])
     requires { ⌜ first + width ≤ X ⌝ }
     ensures { λ _. ⌜ now (out .exit) ≡ sets (now (out .entry)) to (spread (now (at .entry)) (upFrom first width)) ⌝ }
 {
@@ -49,7 +49,7 @@ fn spread_nets(first: u32, width: u32, at: &[u32], out: &mut [u32], to: usize)
 }
 
 // The nets between two states, given to each bit by its place; nothing where the emission between them overflowed.
-pub fn spread_results(st: LogState, after: LogState, at: &[u32], out: &mut [u32], to: usize)
+pub fn spread_results(out: &mut [u32], to: usize, st: LogState, after: LogState, at: &[u32])
     ensures { λ _. ⌜ now (out .exit) ≡ results (isOver (stateOf after)) (now (out .entry)) to (spread (now (at .entry)) (upFrom (st .next) (after .next - st .next))) ⌝ }
 {
     if log_entries::is_over(after) {
@@ -58,28 +58,28 @@ pub fn spread_results(st: LogState, after: LogState, at: &[u32], out: &mut [u32]
     let first = st.next;
     let last = after.next;
     if last < first {
-        spread_nets(first, 0, at, out, to);
+        spread_nets(out, to, first, 0, at);
         return;
     }
-    spread_nets(first, last - first, at, out, to);
+    spread_nets(out, to, first, last - first, at);
 }
 
 // A mux of kept bits, whose result nets go to each bit by its place, from `to` on.
 pub fn emit_kept_mux(
     log: &mut [u32],
     st: LogState,
+    out: &mut [u32],
+    to: usize,
     select: ControlNet,
     a: &[u32],
     b: &[u32],
     at: &[u32],
-    out: &mut [u32],
-    to: usize,
 ) -> LogState
     ensures { λ r. ⌜ lent r (now (log .exit)) ≡ run (addMux (controlOf select) (now (a .entry)) (now (b .entry))) (lent st (now (log .entry))) ⌝ }
     ensures { λ r. ⌜ now (out .exit) ≡ results (isOver (stateOf r)) (now (out .entry)) to (spread (now (at .entry)) (addMux (controlOf select) (now (a .entry)) (now (b .entry)) (st .next) .value)) ⌝ }
 {
     let after = log_entries::emit_mux(log, st, select, a, b);
-    spread_results(st, after, at, out, to);
+    spread_results(out, to, st, after, at);
     after
 }
 
@@ -87,32 +87,32 @@ pub fn emit_kept_mux(
 fn dedup_mux_in(
     log: &mut [u32],
     st: LogState,
-    select: ControlNet,
-    a: &[u32],
-    b: &[u32],
     out: &mut [u32],
     to: usize,
     kx: &mut [u32],
     ky: &mut [u32],
     at: &mut [u32],
+    select: ControlNet,
+    a: &[u32],
+    b: &[u32],
 ) -> LogState
     requires { ⌜ Scratch (now kx) (now ky) (now at) ⌝ }
     ensures { λ r. ⌜ lent r (now (log .exit)) ≡ run (addDedupMux (controlOf select) (limited (now (a .entry))) (limited (now (b .entry)))) (lent st (now (log .entry))) ⌝ }
     ensures { λ r. ⌜ now (out .exit) ≡ results (isOver (stateOf r)) (now (out .entry)) to (addDedupMux (controlOf select) (limited (now (a .entry))) (limited (now (b .entry))) (st .next) .value) ⌝ }
 {
     let n = lists::smaller(rules::MAX_MERGE, lists::smaller(a.len(), b.len()));
-    let k = merge_keys::merge(a, b, kx, ky, at);
-    emit_kept_mux(log, st, select, &kx[..k], &ky[..k], &at[..n], out, to)
+    let k = merge_keys::merge(kx, ky, at, a, b);
+    emit_kept_mux(log, st, out, to, select, &kx[..k], &ky[..k], &at[..n])
 }
 
 // add_dedup_mux without its numbers: a mux in which equal bits are kept once.
 pub fn emit_dedup_mux(
     log: &mut [u32],
     st: LogState,
+    out: &mut [u32],
     select: ControlNet,
     a: &[u32],
     b: &[u32],
-    out: &mut [u32],
 ) -> LogState
     ensures { λ r. ⌜ lent r (now (log .exit)) ≡ run (addDedupMux (controlOf select) (limited (now (a .entry))) (limited (now (b .entry)))) (lent st (now (log .entry))) ⌝ }
     ensures { λ r. ⌜ now (out .exit) ≡ results (isOver (stateOf r)) (now (out .entry)) 0 (addDedupMux (controlOf select) (limited (now (a .entry))) (limited (now (b .entry))) (st .next) .value) ⌝ }
@@ -120,7 +120,7 @@ pub fn emit_dedup_mux(
     let mut kx = [0u32; rules::MAX_MERGE];
     let mut ky = [0u32; rules::MAX_MERGE];
     let mut at = [0u32; rules::MAX_MERGE];
-    dedup_mux_in(log, st, select, a, b, out, 0, &mut kx, &mut ky, &mut at)
+    dedup_mux_in(log, st, out, 0, &mut kx, &mut ky, &mut at, select, a, b)
 }
 
 // The end of the run of equal neighbours that starts at i.
@@ -144,15 +144,15 @@ fn run_end(s: &[u32], i: usize) -> usize
 fn mux_run(
     log: &mut [u32],
     st: LogState,
+    nets: &mut [u32],
+    kx: &mut [u32],
+    ky: &mut [u32],
+    at: &mut [u32],
     select: u32,
     a: &[u32],
     b: &[u32],
     i: usize,
     e: usize,
-    nets: &mut [u32],
-    kx: &mut [u32],
-    ky: &mut [u32],
-    at: &mut [u32],
 ) -> LogState
     requires { ⌜ Run (now a) (now b) i e × Scratch (now kx) (now ky) (now at) ⌝ }
     ensures { λ r. ⌜ lent r (now (log .exit)) ≡ run (addDedupMux (Pos select) (part i (e - i) (now (a .entry))) (part i (e - i) (now (b .entry)))) (lent st (now (log .entry))) ⌝ }
@@ -161,14 +161,14 @@ fn mux_run(
     dedup_mux_in(
         log,
         st,
-        ControlNet::Pos(Net(select)),
-        &a[i..e],
-        &b[i..e],
         nets,
         i,
         kx,
         ky,
         at,
+        ControlNet::Pos(Net(select)),
+        &a[i..e],
+        &b[i..e],
     )
 }
 
@@ -176,13 +176,13 @@ fn mux_run(
 fn bitwise_in(
     log: &mut [u32],
     st: LogState,
-    s: &[u32],
-    a: &[u32],
-    b: &[u32],
     nets: &mut [u32],
     kx: &mut [u32],
     ky: &mut [u32],
     at: &mut [u32],
+    s: &[u32],
+    a: &[u32],
+    b: &[u32],
 ) -> LogState
     requires { ⌜ Bits (now s) (now a) (now b) × Scratch (now kx) (now ky) (now at) ⌝ }
     ensures { λ r. ⌜ lent r (now (log .exit)) ≡ run (addBitwiseMux (now (s .entry)) (now (a .entry)) (now (b .entry))) (lent st (now (log .entry))) ⌝ }
@@ -192,7 +192,7 @@ fn bitwise_in(
     let mut i = 0;
     while i < s.len() {
         let e = run_end(s, i);
-        state = mux_run(log, state, s[i], a, b, i, e, nets, kx, ky, at);
+        state = mux_run(log, state, nets, kx, ky, at, s[i], a, b, i, e);
         i = e;
     }
     state
@@ -213,10 +213,10 @@ fn bits_of(s: &[u32], a: &[u32], b: &[u32]) -> usize
 pub fn emit_bitwise_mux(
     log: &mut [u32],
     st: LogState,
+    out: &mut [u32],
     s: &[u32],
     a: &[u32],
     b: &[u32],
-    out: &mut [u32],
 ) -> LogState
     ensures { λ r. ⌜ lent r (now (log .exit)) ≡ run (bitwiseOf (now (s .entry)) (now (a .entry)) (now (b .entry))) (lent st (now (log .entry))) ⌝ }
     ensures { λ r. ⌜ now (out .exit) ≡ results (isOver (stateOf r)) (now (out .entry)) 0 (bitwiseOf (now (s .entry)) (now (a .entry)) (now (b .entry)) (st .next) .value) ⌝ }
@@ -229,13 +229,13 @@ pub fn emit_bitwise_mux(
     let after = bitwise_in(
         log,
         st,
-        &s[..n],
-        &a[..n],
-        &b[..n],
         &mut nets,
         &mut kx,
         &mut ky,
         &mut at,
+        &s[..n],
+        &a[..n],
+        &b[..n],
     );
     if log_entries::is_over(after) {
         return after;

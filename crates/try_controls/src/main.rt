@@ -175,7 +175,7 @@ fn net_answered(n: u32, w: Wire, next: u32, r: NetAnswer) -> bool {
             }
             k == n
         }
-        NetAnswer::Done(net, s) => {
+        NetAnswer::Accepted(net, s) => {
             if n != 0 {
                 return false;
             }
@@ -388,7 +388,7 @@ fn remap_answered(n: u32, c: Remap, r: ControlsAnswer) -> bool {
             }
             k == n
         }
-        ControlsAnswer::Done(d, s) => {
+        ControlsAnswer::Accepted(d, s) => {
             if n != 0 {
                 return false;
             }

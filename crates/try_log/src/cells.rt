@@ -40,9 +40,9 @@ fn length_at(k: u32) -> usize {
     match k {
         0 => 0,
         1 => 1,
-        2 => 4095,
-        3 => 4096,
-        _ => 4097,
+        2 => MAX_MERGE - 1,
+        3 => MAX_MERGE,
+        _ => MAX_MERGE + 1,
     }
 }
 
@@ -351,7 +351,7 @@ fn answered(c: Case, n: u32, r: Answer) -> bool {
             }
             k == n
         }
-        Answer::Done(s) => {
+        Answer::Accepted(s) => {
             if n != 0 {
                 return false;
             }

@@ -62,7 +62,7 @@ fn keep_pair(kx: &mut [u32], ky: &mut [u32], place: usize, kept: usize, x: u32, 
 }
 
 // The distinct pairs and each bit's place among them; how many there are.
-fn keep(a: &[u32], b: &[u32], kx: &mut [u32], ky: &mut [u32], at: &mut [u32]) -> usize {
+fn keep(kx: &mut [u32], ky: &mut [u32], at: &mut [u32], a: &[u32], b: &[u32]) -> usize {
     let mut kept: usize = 0;
     let mut i: usize = 0;
     while i < a.len() {
@@ -115,20 +115,20 @@ fn put_nets(out: &mut [u32], to: usize, next: u32, at: &[u32], n: usize) {
 fn expect_run(
     want: &mut [u32],
     st: LogState,
+    nets: &mut [u32],
     neg: bool,
     net: u32,
     a: &[u32],
     b: &[u32],
     i: usize,
     e: usize,
-    nets: &mut [u32],
 ) -> LogState {
     let mut kx = [0u32; NETS];
     let mut ky = [0u32; NETS];
     let mut at = [0u32; NETS];
     let x = net_value::value_slice(a, i, e);
     let y = net_value::value_slice(b, i, e);
-    let kept = keep(x, y, &mut kx, &mut ky, &mut at);
+    let kept = keep(&mut kx, &mut ky, &mut at, x, y);
     put_mux(want, st.used, st.next, neg, net, kept, &kx, &ky);
     put_nets(nets, i, st.next, &at, x.len());
     LogState {
@@ -161,32 +161,32 @@ fn run_end(s: &[u32], i: usize) -> usize {
 fn expect_bit(
     want: &mut [u32],
     st: LogState,
+    nets: &mut [u32],
     s: &[u32],
     a: &[u32],
     b: &[u32],
     i: usize,
-    nets: &mut [u32],
 ) -> LogState {
     if !starts_run(s, i) {
         return st;
     }
     let e = run_end(s, i);
-    expect_run(want, st, false, word_at(s, i), a, b, i, e, nets)
+    expect_run(want, st, nets, false, word_at(s, i), a, b, i, e)
 }
 
 // What a bitwise mux leaves.
 fn expect_runs(
     want: &mut [u32],
     st: LogState,
+    nets: &mut [u32],
     s: &[u32],
     a: &[u32],
     b: &[u32],
-    nets: &mut [u32],
 ) -> LogState {
     let mut state = st;
     let mut i: usize = 0;
     while i < s.len() {
-        state = expect_bit(want, state, s, a, b, i, nets);
+        state = expect_bit(want, state, nets, s, a, b, i);
         i += 1;
     }
     state
@@ -206,9 +206,9 @@ fn length_at(k: u32) -> usize {
     match k {
         0 => 0,
         1 => 1,
-        2 => 4095,
-        3 => 4096,
-        _ => 4097,
+        2 => MAX_MERGE - 1,
+        3 => MAX_MERGE,
+        _ => MAX_MERGE + 1,
     }
 }
 
@@ -217,8 +217,8 @@ fn next_at(k: u32) -> u32 {
         0 => 1,
         1 => 2,
         2 => 100,
-        3 => 16777215,
-        _ => 16777216,
+        3 => MAX_NETS - 1,
+        _ => MAX_NETS,
     }
 }
 
@@ -293,35 +293,35 @@ fn number(c: Case, room: usize, wanted: LogState) -> u32 {
 }
 
 fn expect(
-    c: Case,
     want: &mut [u32],
+    nets: &mut [u32],
+    c: Case,
     s: &[u32],
     a: &[u32],
     b: &[u32],
-    nets: &mut [u32],
 ) -> LogState {
     let st = LogState {
         used: 3,
         next: c.next,
     };
     if c.bitwise {
-        return expect_runs(want, st, s, a, b, nets);
+        return expect_runs(want, st, nets, s, a, b);
     }
     let net = if c.neg { 2 } else { 1 };
-    expect_run(want, st, c.neg, net, a, b, 0, a.len(), nets)
+    expect_run(want, st, nets, c.neg, net, a, b, 0, a.len())
 }
 
 fn paint_and_expect(
-    c: Case,
     want: &mut [u32],
+    nets: &mut [u32],
+    c: Case,
     s: &[u32],
     a: &[u32],
     b: &[u32],
-    nets: &mut [u32],
 ) -> LogState {
     paint(want);
     paint(nets);
-    expect(c, want, s, a, b, nets)
+    expect(want, nets, c, s, a, b)
 }
 
 fn select_of(neg: bool) -> ControlNet {
@@ -333,13 +333,13 @@ fn select_of(neg: bool) -> ControlNet {
 
 // The call, in the room lent.
 fn call(
+    log: &mut [u32],
+    out: &mut [u32],
     c: Case,
     room: usize,
-    log: &mut [u32],
     s: &[u32],
     a: &[u32],
     b: &[u32],
-    out: &mut [u32],
 ) -> Answer {
     let st = LogState {
         used: 3,
@@ -349,9 +349,9 @@ fn call(
         return Answer::Refused(99);
     }
     if c.bitwise {
-        return merge_mux::add_bitwise_mux(&mut log[..room], st, s, a, b, out);
+        return merge_mux::add_bitwise_mux(&mut log[..room], st, out, s, a, b);
     }
-    merge_mux::add_dedup_mux(&mut log[..room], st, select_of(c.neg), a, b, out)
+    merge_mux::add_dedup_mux(&mut log[..room], st, out, select_of(c.neg), a, b)
 }
 
 // Whether an answer is the one expected.
@@ -363,7 +363,7 @@ fn answered(n: u32, wanted: LogState, r: Answer) -> bool {
             }
             k == n
         }
-        Answer::Done(state) => {
+        Answer::Accepted(state) => {
             if n != 0 {
                 return false;
             }
@@ -381,6 +381,8 @@ fn same_state(a: LogState, b: LogState) -> bool {
 
 // The call and its comparison: every word of the log and of the result nets.
 fn compare(
+    log: &mut [u32],
+    out: &mut [u32],
     c: Case,
     n: u32,
     wanted: LogState,
@@ -388,14 +390,12 @@ fn compare(
     s: &[u32],
     a: &[u32],
     b: &[u32],
-    log: &mut [u32],
-    out: &mut [u32],
     want: &[u32],
     nets: &[u32],
 ) -> bool {
     paint(log);
     paint(out);
-    let r = call(c, room, log, s, a, b, out);
+    let r = call(log, out, c, room, s, a, b);
     if !answered(n, wanted, r) {
         return false;
     }
@@ -406,7 +406,7 @@ fn compare(
 }
 
 // A refused call leaves all as it was.
-fn unset(n: u32, want: &mut [u32], nets: &mut [u32]) {
+fn unset(want: &mut [u32], nets: &mut [u32], n: u32) {
     if n == 0 {
         return;
     }
@@ -417,21 +417,21 @@ fn unset(n: u32, want: &mut [u32], nets: &mut [u32]) {
 // A case: the words and nets expected are set first.
 fn try_case(
     t: Tally,
+    log: &mut [u32],
+    want: &mut [u32],
     c: Case,
     mode: u32,
     s: &[u32],
     a: &[u32],
     b: &[u32],
-    log: &mut [u32],
-    want: &mut [u32],
 ) -> Tally {
     let mut out = [0u32; NETS];
     let mut nets = [0u32; NETS];
-    let wanted = paint_and_expect(c, want, s, a, b, &mut nets);
+    let wanted = paint_and_expect(want, &mut nets, c, s, a, b);
     let room = room_at(mode, wanted.used);
     let n = number(c, room, wanted);
-    unset(n, want, &mut nets);
-    let ok = compare(c, n, wanted, room, s, a, b, log, &mut out, want, &nets);
+    unset(want, &mut nets, n);
+    let ok = compare(log, &mut out, c, n, wanted, room, s, a, b, want, &nets);
     tally::add(t, n, ok)
 }
 
@@ -444,7 +444,7 @@ fn fill_selects(s: &mut [u32], next: u32) {
     }
 }
 
-fn set_nets(next: u32, s: &mut [u32], a: &mut [u32], b: &mut [u32]) {
+fn set_nets(s: &mut [u32], a: &mut [u32], b: &mut [u32], next: u32) {
     fill(a, next, 0);
     fill(b, next, 2);
     fill_selects(s, next);
@@ -459,7 +459,7 @@ fn bad_net(next: u32) -> u32 {
 }
 
 // Where a case is bad, the last net of a is.
-fn spoil(c: Case, a: &mut [u32]) {
+fn spoil(a: &mut [u32], c: Case) {
     if c.bad {
         if 0 < c.n {
             put(a, minus(c.n, 1), bad_net(c.next));
@@ -467,31 +467,31 @@ fn spoil(c: Case, a: &mut [u32]) {
     }
 }
 
-fn set_and_try(t: Tally, bitwise: bool, k: u32, log: &mut [u32], want: &mut [u32]) -> Tally {
+fn set_and_try(t: Tally, log: &mut [u32], want: &mut [u32], bitwise: bool, k: u32) -> Tally {
     let mut s = [0u32; NETS];
     let mut a = [0u32; NETS];
     let mut b = [0u32; NETS];
     let c = case_at(bitwise, k);
-    set_nets(c.next, &mut s, &mut a, &mut b);
-    spoil(c, &mut a);
+    set_nets(&mut s, &mut a, &mut b, c.next);
+    spoil(&mut a, c);
     try_case(
         t,
+        log,
+        want,
         c,
         k / 25 % 3,
         net_value::value_slice(&s, 0, c.n),
         net_value::value_slice(&a, 0, c.n),
         net_value::value_slice(&b, 0, c.m),
-        log,
-        want,
     )
 }
 
 // All the cases of one of the two merges.
-fn cases(bitwise: bool, log: &mut [u32], want: &mut [u32]) -> Tally {
+fn cases(log: &mut [u32], want: &mut [u32], bitwise: bool) -> Tally {
     let mut t = tally::start();
     let mut k: u32 = 0;
     while k < 225 {
-        t = set_and_try(t, bitwise, k, log, want);
+        t = set_and_try(t, log, want, bitwise, k);
         k += 1;
     }
     t
@@ -500,10 +500,10 @@ fn cases(bitwise: bool, log: &mut [u32], want: &mut [u32]) -> Tally {
 fn main() {
     let mut log = [0u32; LOG_WORDS];
     let mut want = [0u32; LOG_WORDS];
-    let t = cases(false, &mut log, &mut want);
+    let t = cases(&mut log, &mut want, false);
     io::write_all(libc::STDOUT_FILENO, b"add_dedup_mux:");
     tally::report(t);
-    let u = cases(true, &mut log, &mut want);
+    let u = cases(&mut log, &mut want, true);
     io::write_all(libc::STDOUT_FILENO, b"add_bitwise_mux:");
     tally::report(u);
 }

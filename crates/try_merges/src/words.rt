@@ -1,5 +1,6 @@
 // Patterns of words and nets, comparisons, and plain stores and sums that ask nothing.
 ghost use Prim.Native.Nat.{_<_, _≤_};
+ghost use Rattle.rules.specs.Limits.{maxNets};
 use rules::FIRST_CELL;
 use rules::MAX_NETS;
 use rules::NET_X;
@@ -70,7 +71,7 @@ pub(crate) fn same(a: &[u32], b: &[u32]) -> bool {
 
 // The number that cell nets lie below.
 fn top_of(next: u32) -> u32
-    ensures { λ r. ⌜ (2 < r) × (r ≤ 16777216) ⌝ }
+    ensures { λ r. ⌜ (2 < r) × (r ≤ maxNets) ⌝ }
 {
     if next <= FIRST_CELL {
         return 3;

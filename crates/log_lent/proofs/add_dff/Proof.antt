@@ -58,9 +58,9 @@ use Rattle.log_lent.proofs.NewNets as N
 use Rattle.log_lent.proofs.NewNets.Laws as N′
 use Rattle.log_lent.proofs.take_dff as core
 use Rattle.log_lent.proofs.take_dff.Symbol as core-def
-use Rattle.log_lent.proofs.take_dff.Symbol.{name as #lent-requests·take-dff}
+use Rattle.log_lent.proofs.take_dff.Symbol.{name as #log-lent·take-dff}
 use Rattle.log_lent.proofs.take_dff.Met as core-thm
-use Rattle.log_lent.proofs.add_dff.Key.{name as #lent-requests·add-dff}
+use Rattle.log_lent.proofs.add_dff.Key.{name as #log-lent·add-dff}
 use Rattle.log_lent.proofs.add_dff as thin
 use Rattle.log_lent.proofs.add_dff.Statement as stated
 use Rattle.log_lent.proofs.add_dff.Code as code
@@ -123,7 +123,7 @@ module _ {M : Type 1} (𝓤 : URA M) (H : Heap 𝓤) (A : Atoms 𝓤) (W : Given
       feqI ! (List Val) (vptr b o ∷ []) (vptr b o ∷ []) refl $ fjoin3 ! $ nothing ! $ nothing ! $ fjoin ! $ nothing ! $ fjoin ! $ nothing ! $ fjoin ! $ nothing ! $ fjoin ! $ nothing ! $ fjoin ! $ move ! (1 ∷ 0 ∷ []) $ fjoin ! $ move ! (1 ∷ 0 ∷ []) $ fjoin ! $
       owned ! N.the-row (Is N.the-row) ((EL.makes N.the-type N′.the-plain) 𝓤 H A) (r .answer) _ is $ move ! (1 ∷ 0 ∷ []) $ done !
 
-  module _ (C : Calls 𝓤 H) (Λ : Loops 𝓤 H) (fm : FmC 𝓤 H (W .laws) C) (known : Triple 𝓤 (C #lent-requests·take-dff) (Core 𝓤 H A at-mem run)) where
+  module _ (C : Calls 𝓤 H) (Λ : Loops 𝓤 H) (fm : FmC 𝓤 H (W .laws) C) (known : Triple 𝓤 (C #log-lent·take-dff) (Core 𝓤 H A at-mem run)) where
     walk : Room u32 (length (x .now)) → Is (CT.the-row) p0 (LL.val CT.the-type CT′.the-laws p0 ∷ []) → Is (ShrSlice (named 2) ρ0 u32) p1 (sliceVal (p1 .ptr) (length (p1 .now)) ∷ []) → Is (ShrSlice (named 3) ρ1 u8) p2 (sliceVal (p2 .ptr) (length (p2 .now)) ∷ []) → Is (ShrSlice (named 4) ρ2 u8) p3 (sliceVal (p3 .ptr) (length (p3 .now)) ∷ []) → Is (ShrSlice (named 5) ρ3 u8) p4 (sliceVal (p4 .ptr) (length (p4 .now)) ∷ []) → ent 𝓤 (onEntry 𝓤 H A thin.signature (κ, (κ′, (ρ0, (ρ1, (ρ2, (ρ3, tt)))))) (q, (q′, (π0, (π1, (π2, (π3, tt)))))) a vals) (WpFn 𝓤 H C Λ code.function (s ∷ vptr b o ∷ LL.val CT.the-type CT′.the-laws p0 ∷ sliceVal (p1 .ptr) (length (p1 .now)) ∷ sliceVal (p2 .ptr) (length (p2 .now)) ∷ sliceVal (p3 .ptr) (length (p3 .now)) ∷ sliceVal (p4 .ptr) (length (p4 .now)) ∷ []) Post)
     walk room i0 i1 i2 i3 i4 =
         qed W ((‵ (flft κ q) ⊛ ‵ (flft κ′ q′) ⊛ ‵ (flft ρ0 π0) ⊛ ‵ (flft ρ1 π1) ⊛ ‵ (flft ρ2 π2) ⊛ ‵ (flft ρ3 π3) ⊛ ‵ ftrue) ∷ ‵ (owns (MutSlice (named 0) κ u32 ∷ MutRef (named 1) κ′ R ∷ CT.the-row ∷ ShrSlice (named 2) ρ0 u32 ∷ ShrSlice (named 3) ρ1 u8 ∷ ShrSlice (named 4) ρ2 u8 ∷ ShrSlice (named 5) ρ3 u8 ∷ []) a vals) ∷ []) ∵ enter ! C Λ code.function (s ∷ vptr b o ∷ LL.val CT.the-type CT′.the-laws p0 ∷ sliceVal (p1 .ptr) (length (p1 .now)) ∷ sliceVal (p2 .ptr) (length (p2 .now)) ∷ sliceVal (p3 .ptr) (length (p3 .now)) ∷ sliceVal (p4 .ptr) (length (p4 .now)) ∷ []) _ $
@@ -160,13 +160,13 @@ module _ {M : Type 1} (𝓤 : URA M) (H : Heap 𝓤) (A : Atoms 𝓤) (W : Given
         keep ! (0 ∷ 1 ∷ 2 ∷ 4 ∷ 5 ∷ []) $ by ! (exits r (zs .0) e l (LL.owed K.the-type K′.the-laws r _ is .1 .0))))))))))))))))))))))
 
 module _ {M : Type 1} (𝓤 : URA M) (H : Heap 𝓤) (A : Atoms 𝓤) (W : Given 𝓤 H A) (mem : Memory → SProp 𝓤) (run : Routine → Fun 𝓤) where
-  walks : (C : Calls 𝓤 H) (Λ : Loops 𝓤 H) → FmC 𝓤 H (W .laws) C → Triple 𝓤 (C #lent-requests·take-dff) (Core 𝓤 H A mem run) → Walks 𝓤 H A thin.ended stayed (WpFn 𝓤 H C Λ code.function) (thin.clauses 𝓤 H A mem run)
+  walks : (C : Calls 𝓤 H) (Λ : Loops 𝓤 H) → FmC 𝓤 H (W .laws) C → Triple 𝓤 (C #log-lent·take-dff) (Core 𝓤 H A mem run) → Walks 𝓤 H A thin.ended stayed (WpFn 𝓤 H C Λ code.function) (thin.clauses 𝓤 H A mem run)
   walks C Λ fm known = walked 𝓤 H A thin.ended stayed (thin.clauses 𝓤 H A mem run) (WpFn 𝓤 H C Λ code.function)
       (λ κs. (slice-vals, (ptr-vals, (LL.vals CT.the-type CT′.the-laws, (slice-vals, (slice-vals, (slice-vals, (slice-vals, tt)))))))) (λ κs. (mut-slice-tells (named 0) (κs .0) u32, (mut-tells (named 1) (κs .1 .0) R, (LL.tells CT.the-type CT′.the-laws, (shr-slice-tells (named 2) (κs .1 .1 .0) u32, (shr-slice-tells (named 3) (κs .1 .1 .1 .0) u8, (shr-slice-tells (named 4) (κs .1 .1 .1 .1 .0) u8, (shr-slice-tells (named 5) (κs .1 .1 .1 .1 .1 .0) u8, tt))))))))
       (λ κs qs bounds a g are. via 𝓤 _ (fst∗ 𝓤 _ (emp 𝓤))
       (walk 𝓤 H A W mem run (κs .0) (κs .1 .0) (κs .1 .1 .0) (κs .1 .1 .1 .0) (κs .1 .1 .1 .1 .0) (κs .1 .1 .1 .1 .1 .0) bounds (qs .0) (qs .1 .0) (qs .1 .1 .0) (qs .1 .1 .1 .0) (qs .1 .1 .1 .1 .0) (qs .1 .1 .1 .1 .1 .0) (a .0) (a .1 .0 .ptr .0) (a .1 .0 .ptr .1) (a .1 .0 .name) (a .1 .0 .now) (a .1 .1 .0) (a .1 .1 .1 .0) (a .1 .1 .1 .1 .0) (a .1 .1 .1 .1 .1 .0) (a .1 .1 .1 .1 .1 .1 .0) C Λ fm known (are .0 .0 .1) (are .1 .1 .0) (are .1 .1 .1 .0) (are .1 .1 .1 .1 .0) (are .1 .1 .1 .1 .1 .0) (are .1 .1 .1 .1 .1 .1 .0)))
 
-meets : {M : Type 1} (𝓤 : URA M) (H : Heap 𝓤) (A : Atoms 𝓤) → Given 𝓤 H A → (mem : Memory → SProp 𝓤) (run : Routine → Fun 𝓤) (𝓣 : Tables 𝓤 H) → Triple 𝓤 (𝓣 .C #lent-requests·take-dff) (Core 𝓤 H A mem run)
+meets : {M : Type 1} (𝓤 : URA M) (H : Heap 𝓤) (A : Atoms 𝓤) → Given 𝓤 H A → (mem : Memory → SProp 𝓤) (run : Routine → Fun 𝓤) (𝓣 : Tables 𝓤 H) → Triple 𝓤 (𝓣 .C #log-lent·take-dff) (Core 𝓤 H A mem run)
     → Meets 𝓤 H A thin.signature (WpFn 𝓤 H (𝓣 .C) (𝓣 .Λ) code.function) (thin.spec 𝓤 H A mem run)
 meets 𝓤 H A W mem run 𝓣 known =
     walk-meets 𝓤 H A thin.ended stayed W (goes-gave-slice 𝓤 H A W 6 0 tt (plain (λ _. u32)), (goes-ref 𝓤 H A W 6 1 tt (plain (λ _. R)), (goes-dropped 𝓤 H A W 6 (plain (λ _. CT.the-row)) yes (λ κs x f. refl), (goes-dropped 𝓤 H A W 6 (shrSliceOf (2 ∷ []) tt (plain (λ _. u32))) yes (λ κs x f. refl), (goes-dropped 𝓤 H A W 6 (shrSliceOf (3 ∷ []) tt (plain (λ _. u8))) yes (λ κs x f. refl), (goes-dropped 𝓤 H A W 6 (shrSliceOf (4 ∷ []) tt (plain (λ _. u8))) yes (λ κs x f. refl), (goes-dropped 𝓤 H A W 6 (shrSliceOf (5 ∷ []) tt (plain (λ _. u8))) yes (λ κs x f. refl), tt))))))) (thin.clauses 𝓤 H A mem run)
@@ -176,6 +176,6 @@ pub add-dff-spec : {M : Type 1} → stated.statement M
 unfolding code.routine tablesOf
 add-dff-spec 𝓤 H 𝓜 𝓖 𝓡 =
     entered 𝓤 H (tripleOf 𝓤 H (𝓖 .A) thin.signature (thin.spec 𝓤 H (𝓖 .A) (𝓜 .mem) (𝓡 .run)))
-    (tables 𝓤 H 𝓜 𝓡 code.env .C) (tables 𝓤 H 𝓜 𝓡 code.env .Λ) #lent-requests·add-dff code.function (code.unfolded 𝓤 H 𝓜 𝓡)
+    (tables 𝓤 H 𝓜 𝓡 code.env .C) (tables 𝓤 H 𝓜 𝓡 code.env .Λ) #log-lent·add-dff code.function (code.unfolded 𝓤 H 𝓜 𝓡)
     (meets 𝓤 H (𝓖 .A) (givenOf 𝓤 H 𝓜 𝓖) (𝓜 .mem) (𝓡 .run) (tablesOf 𝓤 H 𝓜 (tables 𝓤 H 𝓜 𝓡 code.env))
-    (cited 𝓤 H (Core 𝓤 H (𝓖 .A) (𝓜 .mem) (𝓡 .run)) 𝓜 𝓡 code.env #lent-requests·take-dff core-def.routine code.calls-log-lent·take-dff (core-thm.met 𝓤 H 𝓜 𝓖 𝓡)))
+    (cited 𝓤 H (Core 𝓤 H (𝓖 .A) (𝓜 .mem) (𝓡 .run)) 𝓜 𝓡 code.env #log-lent·take-dff core-def.routine code.calls-log-lent·take-dff (core-thm.met 𝓤 H 𝓜 𝓖 𝓡)))

@@ -58,9 +58,9 @@ use Rattle.log_lent.proofs.OneNet as N
 use Rattle.log_lent.proofs.OneNet.Laws as N′
 use Rattle.log_lent.proofs.take_pos as core
 use Rattle.log_lent.proofs.take_pos.Symbol as core-def
-use Rattle.log_lent.proofs.take_pos.Symbol.{name as #lent-requests·take-pos}
+use Rattle.log_lent.proofs.take_pos.Symbol.{name as #log-lent·take-pos}
 use Rattle.log_lent.proofs.take_pos.Met as core-thm
-use Rattle.log_lent.proofs.into_pos.Key.{name as #lent-requests·into-pos}
+use Rattle.log_lent.proofs.into_pos.Key.{name as #log-lent·into-pos}
 use Rattle.log_lent.proofs.into_pos as thin
 use Rattle.log_lent.proofs.into_pos.Statement as stated
 use Rattle.log_lent.proofs.into_pos.Code as code
@@ -123,7 +123,7 @@ module _ {M : Type 1} (𝓤 : URA M) (H : Heap 𝓤) (A : Atoms 𝓤) (W : Given
       feqI ! (List Val) (vptr b o ∷ []) (vptr b o ∷ []) refl $ fjoin3 ! $ nothing ! $ nothing ! $ fjoin ! $ move ! (1 ∷ 0 ∷ []) $ fjoin ! $ move ! (1 ∷ 0 ∷ []) $ fjoin ! $
       owned ! N.the-row (Is N.the-row) ((EL.makes N.the-type N′.the-plain) 𝓤 H A) (r .answer) _ is $ move ! (1 ∷ 0 ∷ []) $ done !
 
-  module _ (C : Calls 𝓤 H) (Λ : Loops 𝓤 H) (fm : FmC 𝓤 H (W .laws) C) (known : Triple 𝓤 (C #lent-requests·take-pos) (Core 𝓤 H A at-mem run)) where
+  module _ (C : Calls 𝓤 H) (Λ : Loops 𝓤 H) (fm : FmC 𝓤 H (W .laws) C) (known : Triple 𝓤 (C #log-lent·take-pos) (Core 𝓤 H A at-mem run)) where
     walk : Room u32 (length (x .now)) → Is (CN.the-row) p0 (EL.val CN.the-type CN′.the-laws p0 ∷ []) → ent 𝓤 (onEntry 𝓤 H A thin.signature (κ, (κ′, tt)) (q, (q′, tt)) a vals) (WpFn 𝓤 H C Λ code.function (s ∷ vptr b o ∷ EL.val CN.the-type CN′.the-laws p0 ∷ []) Post)
     walk room i0 =
         qed W ((‵ (flft κ q) ⊛ ‵ (flft κ′ q′) ⊛ ‵ ftrue) ∷ ‵ (owns (MutSlice (named 0) κ u32 ∷ MutRef (named 1) κ′ R ∷ CN.the-row ∷ []) a vals) ∷ []) ∵ enter ! C Λ code.function (s ∷ vptr b o ∷ EL.val CN.the-type CN′.the-laws p0 ∷ []) _ $
@@ -160,13 +160,13 @@ module _ {M : Type 1} (𝓤 : URA M) (H : Heap 𝓤) (A : Atoms 𝓤) (W : Given
         keep ! (0 ∷ 1 ∷ 2 ∷ 4 ∷ 5 ∷ []) $ by ! (exits r (zs .0) e l (LL.owed K.the-type K′.the-laws r _ is .1 .0))))))))))))))))))
 
 module _ {M : Type 1} (𝓤 : URA M) (H : Heap 𝓤) (A : Atoms 𝓤) (W : Given 𝓤 H A) (mem : Memory → SProp 𝓤) (run : Routine → Fun 𝓤) where
-  walks : (C : Calls 𝓤 H) (Λ : Loops 𝓤 H) → FmC 𝓤 H (W .laws) C → Triple 𝓤 (C #lent-requests·take-pos) (Core 𝓤 H A mem run) → Walks 𝓤 H A thin.ended stayed (WpFn 𝓤 H C Λ code.function) (thin.clauses 𝓤 H A mem run)
+  walks : (C : Calls 𝓤 H) (Λ : Loops 𝓤 H) → FmC 𝓤 H (W .laws) C → Triple 𝓤 (C #log-lent·take-pos) (Core 𝓤 H A mem run) → Walks 𝓤 H A thin.ended stayed (WpFn 𝓤 H C Λ code.function) (thin.clauses 𝓤 H A mem run)
   walks C Λ fm known = walked 𝓤 H A thin.ended stayed (thin.clauses 𝓤 H A mem run) (WpFn 𝓤 H C Λ code.function)
       (λ κs. (slice-vals, (ptr-vals, (EL.vals CN.the-type CN′.the-laws, tt)))) (λ κs. (mut-slice-tells (named 0) (κs .0) u32, (mut-tells (named 1) (κs .1 .0) R, (EL.tells CN.the-type CN′.the-laws, tt))))
       (λ κs qs bounds a g are. via 𝓤 _ (fst∗ 𝓤 _ (emp 𝓤))
       (walk 𝓤 H A W mem run (κs .0) (κs .1 .0) bounds (qs .0) (qs .1 .0) (a .0) (a .1 .0 .ptr .0) (a .1 .0 .ptr .1) (a .1 .0 .name) (a .1 .0 .now) (a .1 .1 .0) C Λ fm known (are .0 .0 .1) (are .1 .1 .0)))
 
-meets : {M : Type 1} (𝓤 : URA M) (H : Heap 𝓤) (A : Atoms 𝓤) → Given 𝓤 H A → (mem : Memory → SProp 𝓤) (run : Routine → Fun 𝓤) (𝓣 : Tables 𝓤 H) → Triple 𝓤 (𝓣 .C #lent-requests·take-pos) (Core 𝓤 H A mem run)
+meets : {M : Type 1} (𝓤 : URA M) (H : Heap 𝓤) (A : Atoms 𝓤) → Given 𝓤 H A → (mem : Memory → SProp 𝓤) (run : Routine → Fun 𝓤) (𝓣 : Tables 𝓤 H) → Triple 𝓤 (𝓣 .C #log-lent·take-pos) (Core 𝓤 H A mem run)
     → Meets 𝓤 H A thin.signature (WpFn 𝓤 H (𝓣 .C) (𝓣 .Λ) code.function) (thin.spec 𝓤 H A mem run)
 meets 𝓤 H A W mem run 𝓣 known =
     walk-meets 𝓤 H A thin.ended stayed W (goes-gave-slice 𝓤 H A W 2 0 tt (plain (λ _. u32)), (goes-ref 𝓤 H A W 2 1 tt (plain (λ _. R)), (goes-dropped 𝓤 H A W 2 (plain (λ _. CN.the-row)) yes (λ κs x f. refl), tt))) (thin.clauses 𝓤 H A mem run)
@@ -176,6 +176,6 @@ pub into-pos-spec : {M : Type 1} → stated.statement M
 unfolding code.routine tablesOf
 into-pos-spec 𝓤 H 𝓜 𝓖 𝓡 =
     entered 𝓤 H (tripleOf 𝓤 H (𝓖 .A) thin.signature (thin.spec 𝓤 H (𝓖 .A) (𝓜 .mem) (𝓡 .run)))
-    (tables 𝓤 H 𝓜 𝓡 code.env .C) (tables 𝓤 H 𝓜 𝓡 code.env .Λ) #lent-requests·into-pos code.function (code.unfolded 𝓤 H 𝓜 𝓡)
+    (tables 𝓤 H 𝓜 𝓡 code.env .C) (tables 𝓤 H 𝓜 𝓡 code.env .Λ) #log-lent·into-pos code.function (code.unfolded 𝓤 H 𝓜 𝓡)
     (meets 𝓤 H (𝓖 .A) (givenOf 𝓤 H 𝓜 𝓖) (𝓜 .mem) (𝓡 .run) (tablesOf 𝓤 H 𝓜 (tables 𝓤 H 𝓜 𝓡 code.env))
-    (cited 𝓤 H (Core 𝓤 H (𝓖 .A) (𝓜 .mem) (𝓡 .run)) 𝓜 𝓡 code.env #lent-requests·take-pos core-def.routine code.calls-log-lent·take-pos (core-thm.met 𝓤 H 𝓜 𝓖 𝓡)))
+    (cited 𝓤 H (Core 𝓤 H (𝓖 .A) (𝓜 .mem) (𝓡 .run)) 𝓜 𝓡 code.env #log-lent·take-pos core-def.routine code.calls-log-lent·take-pos (core-thm.met 𝓤 H 𝓜 𝓖 𝓡)))

@@ -3,7 +3,7 @@ use Rattle.lists.specs.Lists.{upFrom}
 use lib.ListN.{length}
 use Rattle.rules.specs.Answers.{addDffCall}
 use Rattle.net_flip_flop.specs.View.{controlsOf, flipFlop}
-use Rattle.log_requests.specs.Answers.{answerOf}
+use Rattle.log_requests.specs.Answers.{requestOf}
 use Rattle.log_lent.specs.Returned.{netsOf}
 use Rattle.log_entries.specs.View.{stateOf}
 use Rattle.log_lent.proofs.Joined.{joined}
@@ -26,7 +26,7 @@ returns c =
     let q = c .before .before .before .add-dff in
     let t = c .took-nets in
     let p = q .result in
-    joined (stateOf (v .st)) (netsOf (t .result .answer)) (t .result .state) (q .last .0) (answerOf (upFrom (v .st .next) (length (v .bits .now))) p) (addDffCall (v .log .now) (stateOf (v .st)) (flipFlop (controlsOf (v .c)) (v .bits .now) (v .clear .now) (v .reset .now) (v .init .now))) (t .ensures) (q .ensures)
+    joined (stateOf (v .st)) (netsOf (t .result .answer)) (t .result .state) (q .last .0) (requestOf (upFrom (v .st .next) (length (v .bits .now))) p) (addDffCall (v .log .now) (stateOf (v .st)) (flipFlop (controlsOf (v .c)) (v .bits .now) (v .clear .now) (v .reset .now) (v .init .now))) (t .ensures) (q .ensures)
 
 pub take-dff-spec : {M : Type 1} → statement M
 take-dff-spec = tie.close (tie.spec add-dff-requires took-nets-requires same-length returns)

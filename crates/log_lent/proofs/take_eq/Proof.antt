@@ -1,7 +1,7 @@
 -- `log_lent::take_eq` meets its contract.
 use Rattle.rules.specs.Log.{addEq}
 use Rattle.rules.specs.Answers.{addPairCall}
-use Rattle.log_requests.specs.Answers.{answerOf}
+use Rattle.log_requests.specs.Answers.{requestOf}
 use Rattle.log_lent.specs.Returned.{netOf}
 use Rattle.log_entries.specs.View.{stateOf}
 use Rattle.log_lent.proofs.Joined.{joined}
@@ -24,7 +24,7 @@ returns c =
     let q = c .before .before .before .add-eq in
     let t = c .took-net in
     let p = q .result in
-    joined (stateOf (v .st)) (netOf (t .result .answer)) (t .result .state) (q .last .0) (answerOf (v .st .next) p) (addPairCall addEq (v .log .now) (stateOf (v .st)) (v .a .now) (v .b .now)) (t .ensures) (q .ensures)
+    joined (stateOf (v .st)) (netOf (t .result .answer)) (t .result .state) (q .last .0) (requestOf (v .st .next) p) (addPairCall addEq (v .log .now) (stateOf (v .st)) (v .a .now) (v .b .now)) (t .ensures) (q .ensures)
 
 pub take-eq-spec : {M : Type 1} → statement M
 take-eq-spec = tie.close (tie.spec add-eq-requires took-net-requires same-length returns)

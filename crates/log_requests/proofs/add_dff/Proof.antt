@@ -5,7 +5,7 @@ use lib.ListN.{length}
 use Rattle.log_requests.proofs.Numbers.{counted-dff-4}
 use Rattle.net_flip_flop.specs.View.{controlsOf, flipFlop}
 use Rattle.log_entries.specs.View.{stateOf}
-use Rattle.log_requests.proofs.Answers.{request-refused, request-done}
+use Rattle.log_requests.proofs.Answers.{request-refused, request-accepted}
 use Rattle.rules.specs.Refusals.{addDffRefusal, dffNumber}
 use Rattle.rules.specs.Answers.{addDffCall}
 use Rattle.rules.specs.Log.{addDff}
@@ -38,7 +38,7 @@ returns-2 c =
     let f = flipFlop (controlsOf (v .c)) (v .bits .now) (v .clear .now) (v .reset .now) (v .init .now) in
     let q = c .before .before .before .before .before .dff-refusal in
     let p = c .before .before .emit-dff in
-    request-done (upFrom (v .st .next) (length (v .bits .now))) (addDff f) (13 + 4 * length (v .bits .now)) (length (v .bits .now)) (dffNumber (v .st .next) f) (q .result) (counted-dff-4 (v .st .next) f) (v .log .now) (stateOf (v .st)) (q .ensures) (p .last .0) (p .result) (c .before .before .before .before .if1 .left) (λ z. sym (value-dff f (v .st .next))) (p .ensures)
+    request-accepted (upFrom (v .st .next) (length (v .bits .now))) (addDff f) (13 + 4 * length (v .bits .now)) (length (v .bits .now)) (dffNumber (v .st .next) f) (q .result) (counted-dff-4 (v .st .next) f) (v .log .now) (stateOf (v .st)) (q .ensures) (p .last .0) (p .result) (c .before .before .before .before .if1 .left) (λ z. sym (value-dff f (v .st .next))) (p .ensures)
 
 pub add-dff-spec : {M : Type 1} → statement M
 add-dff-spec =

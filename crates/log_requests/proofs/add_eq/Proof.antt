@@ -2,7 +2,7 @@
 use Prim.Native.Nat.{_+_}
 use lib.ListN.{length}
 use Rattle.log_entries.specs.View.{stateOf}
-use Rattle.log_requests.proofs.Answers.{request-refused, request-done, value-eq}
+use Rattle.log_requests.proofs.Answers.{request-refused, request-accepted, value-eq}
 use Rattle.rules.specs.Refusals.{pairNumber, addPairRefusal}
 use Rattle.rules.specs.Answers.{addPairCall}
 use Rattle.rules.proofs.Counted.{counted-eq}
@@ -32,7 +32,7 @@ returns-2 c =
     let v = c .before .before .before .before .before .before .before .before .before .args in
     let q = c .before .before .before .before .before .pair-refusal in
     let p = c .before .before .emit-eq in
-    request-done ((v .st .next)) (addEq (v .a .now) (v .b .now)) (4 + (length (v .a .now) + length (v .b .now))) (1) (pairNumber (v .st .next) (v .a .now) (v .b .now)) (q .result) (λ z. counted-eq (v .a .now) (v .b .now)) (v .log .now) (stateOf (v .st)) (q .ensures) (p .last .0) (p .result) (c .before .before .before .before .if1 .left) (λ z. value-eq (v .a .now) (v .b .now) (v .st .next)) (p .ensures)
+    request-accepted ((v .st .next)) (addEq (v .a .now) (v .b .now)) (4 + (length (v .a .now) + length (v .b .now))) (1) (pairNumber (v .st .next) (v .a .now) (v .b .now)) (q .result) (λ z. counted-eq (v .a .now) (v .b .now)) (v .log .now) (stateOf (v .st)) (q .ensures) (p .last .0) (p .result) (c .before .before .before .before .if1 .left) (λ z. value-eq (v .a .now) (v .b .now) (v .st .next)) (p .ensures)
 
 pub add-eq-spec : {M : Type 1} → statement M
 add-eq-spec =

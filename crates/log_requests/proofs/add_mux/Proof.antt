@@ -4,7 +4,7 @@ use Prim.Native.Nat.{_+_}
 use lib.ListN.{length}
 use Rattle.log_entries.specs.View.{stateOf}
 use Rattle.net_value.specs.View.{controlOf}
-use Rattle.log_requests.proofs.Answers.{request-refused, request-done}
+use Rattle.log_requests.proofs.Answers.{request-refused, request-accepted}
 use Rattle.rules.specs.Refusals.{muxNumber, addMuxRefusal}
 use Rattle.rules.specs.Answers.{addMuxCall}
 use Rattle.rules.proofs.Counted.{counted-mux}
@@ -37,7 +37,7 @@ returns-2 c =
     let v = c .before .before .before .before .before .before .before .before .before .args in
     let q = c .before .before .before .before .before .mux-refusal in
     let p = c .before .before .emit-mux in
-    request-done (upFrom (v .st .next) (length (v .a .now))) (addMux (controlOf (v .select)) (v .a .now) (v .b .now)) (5 + (length (v .a .now) + length (v .b .now))) (length (v .a .now)) (muxNumber (v .st .next) (controlOf (v .select)) (v .a .now) (v .b .now)) (q .result) (λ z. counted-mux (controlOf (v .select)) (v .a .now) (v .b .now) (mux-lens (v .st .next) (controlOf (v .select)) (v .a .now) (v .b .now) z .0)) (v .log .now) (stateOf (v .st)) (q .ensures) (p .last .0) (p .result) (c .before .before .before .before .if1 .left) (λ z. sym (value-mux (controlOf (v .select)) (v .a .now) (v .b .now) (v .st .next) (mux-lens (v .st .next) (controlOf (v .select)) (v .a .now) (v .b .now) z .0))) (p .ensures)
+    request-accepted (upFrom (v .st .next) (length (v .a .now))) (addMux (controlOf (v .select)) (v .a .now) (v .b .now)) (5 + (length (v .a .now) + length (v .b .now))) (length (v .a .now)) (muxNumber (v .st .next) (controlOf (v .select)) (v .a .now) (v .b .now)) (q .result) (λ z. counted-mux (controlOf (v .select)) (v .a .now) (v .b .now) (mux-lens (v .st .next) (controlOf (v .select)) (v .a .now) (v .b .now) z .0)) (v .log .now) (stateOf (v .st)) (q .ensures) (p .last .0) (p .result) (c .before .before .before .before .if1 .left) (λ z. sym (value-mux (controlOf (v .select)) (v .a .now) (v .b .now) (v .st .next) (mux-lens (v .st .next) (controlOf (v .select)) (v .a .now) (v .b .now) z .0))) (p .ensures)
 
 pub add-mux-spec : {M : Type 1} → statement M
 add-mux-spec =

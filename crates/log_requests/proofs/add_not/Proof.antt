@@ -2,7 +2,7 @@
 use Prim.Native.Nat.{_+_}
 use lib.ListN.{length}
 use Rattle.log_entries.specs.View.{stateOf}
-use Rattle.log_requests.proofs.Answers.{request-refused, request-done, value-not}
+use Rattle.log_requests.proofs.Answers.{request-refused, request-accepted, value-not}
 use Rattle.rules.specs.Refusals.{valueNumber, addNotRefusal}
 use Rattle.rules.specs.Answers.{addNotCall}
 use Rattle.rules.proofs.Counted.{counted-not}
@@ -33,7 +33,7 @@ returns-2 c =
     let v = c .before .before .before .before .before .before .before .before .args in
     let q = c .before .before .before .before .before .value-refusal in
     let p = c .before .before .emit-not in
-    request-done (upFrom (v .st .next) (length (v .a .now))) (addNot (v .a .now)) (4 + length (v .a .now)) (length (v .a .now)) (valueNumber (v .st .next) (v .a .now)) (q .result) (λ z. counted-not (v .a .now)) (v .log .now) (stateOf (v .st)) (q .ensures) (p .last .0) (p .result) (c .before .before .before .before .if1 .left) (λ z. value-not (v .a .now) (v .st .next)) (p .ensures)
+    request-accepted (upFrom (v .st .next) (length (v .a .now))) (addNot (v .a .now)) (4 + length (v .a .now)) (length (v .a .now)) (valueNumber (v .st .next) (v .a .now)) (q .result) (λ z. counted-not (v .a .now)) (v .log .now) (stateOf (v .st)) (q .ensures) (p .last .0) (p .result) (c .before .before .before .before .if1 .left) (λ z. value-not (v .a .now) (v .st .next)) (p .ensures)
 
 pub add-not-spec : {M : Type 1} → statement M
 add-not-spec =

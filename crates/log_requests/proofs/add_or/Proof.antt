@@ -2,7 +2,7 @@
 use Prim.Native.Nat.{_+_}
 use lib.ListN.{length}
 use Rattle.log_entries.specs.View.{stateOf}
-use Rattle.log_requests.proofs.Answers.{request-refused, request-done, value-or}
+use Rattle.log_requests.proofs.Answers.{request-refused, request-accepted, value-or}
 use Rattle.rules.specs.Refusals.{pairNumber, addPairRefusal}
 use Rattle.rules.specs.Answers.{addPairCall}
 use Rattle.rules.proofs.Counted.{counted-or}
@@ -33,7 +33,7 @@ returns-2 c =
     let v = c .before .before .before .before .before .before .before .before .before .args in
     let q = c .before .before .before .before .before .pair-refusal in
     let p = c .before .before .emit-or in
-    request-done (upFrom (v .st .next) (length (v .a .now))) (addOr (v .a .now) (v .b .now)) (4 + (length (v .a .now) + length (v .b .now))) (length (v .a .now)) (pairNumber (v .st .next) (v .a .now) (v .b .now)) (q .result) (λ z. counted-or (v .a .now) (v .b .now)) (v .log .now) (stateOf (v .st)) (q .ensures) (p .last .0) (p .result) (c .before .before .before .before .if1 .left) (λ z. value-or (v .a .now) (v .b .now) (v .st .next)) (p .ensures)
+    request-accepted (upFrom (v .st .next) (length (v .a .now))) (addOr (v .a .now) (v .b .now)) (4 + (length (v .a .now) + length (v .b .now))) (length (v .a .now)) (pairNumber (v .st .next) (v .a .now) (v .b .now)) (q .result) (λ z. counted-or (v .a .now) (v .b .now)) (v .log .now) (stateOf (v .st)) (q .ensures) (p .last .0) (p .result) (c .before .before .before .before .if1 .left) (λ z. value-or (v .a .now) (v .b .now) (v .st .next)) (p .ensures)
 
 pub add-or-spec : {M : Type 1} → statement M
 add-or-spec =

@@ -2,7 +2,7 @@
 use Prim.Native.Nat.{_+_}
 use lib.ListN.{length}
 use Rattle.log_entries.specs.View.{stateOf}
-use Rattle.log_requests.proofs.Answers.{request-refused, request-done, value-ushr}
+use Rattle.log_requests.proofs.Answers.{request-refused, request-accepted, value-ushr}
 use Rattle.rules.specs.Refusals.{shiftNumber, addShiftRefusal}
 use Rattle.rules.specs.Answers.{addShiftCall}
 use Rattle.rules.proofs.Counted.{counted-ushr}
@@ -33,7 +33,7 @@ returns-2 c =
     let v = c .before .before .before .before .before .before .before .before .before .args in
     let q = c .before .before .before .before .before .shift-refusal in
     let p = c .before .before .emit-ushr in
-    request-done (upFrom (v .st .next) (length (v .a .now))) (addUshr (v .stride) (v .select .now) (v .a .now)) (6 + (length (v .select .now) + length (v .a .now))) (length (v .a .now)) (shiftNumber (v .st .next) (v .select .now) (v .a .now)) (q .result) (λ z. counted-ushr (v .stride) (v .select .now) (v .a .now)) (v .log .now) (stateOf (v .st)) (q .ensures) (p .last .0) (p .result) (c .before .before .before .before .if1 .left) (λ z. value-ushr (v .stride) (v .select .now) (v .a .now) (v .st .next)) (p .ensures)
+    request-accepted (upFrom (v .st .next) (length (v .a .now))) (addUshr (v .stride) (v .select .now) (v .a .now)) (6 + (length (v .select .now) + length (v .a .now))) (length (v .a .now)) (shiftNumber (v .st .next) (v .select .now) (v .a .now)) (q .result) (λ z. counted-ushr (v .stride) (v .select .now) (v .a .now)) (v .log .now) (stateOf (v .st)) (q .ensures) (p .last .0) (p .result) (c .before .before .before .before .if1 .left) (λ z. value-ushr (v .stride) (v .select .now) (v .a .now) (v .st .next)) (p .ensures)
 
 pub add-ushr-spec : {M : Type 1} → statement M
 add-ushr-spec =

@@ -1,7 +1,7 @@
 -- `log_requests::add_void` meets its contract.
 use mathlib.Core.Path.{sym}
 use Rattle.log_entries.specs.View.{stateOf}
-use Rattle.log_requests.proofs.Answers.{request-refused, request-done}
+use Rattle.log_requests.proofs.Answers.{request-refused, request-accepted}
 use Rattle.lists.specs.Choice.{_orElse_}
 use Rattle.rules.specs.Refusals.{addVoidRefusal}
 use Rattle.rules.specs.Answers.{addVoidCall}
@@ -34,7 +34,7 @@ returns-2 c =
     let v = c .before .before .before .before .before .before .before .args in
     let q = c .before .before .before .before .before .room-refusal in
     let p = c .before .before .emit-void in
-    request-done (upFrom (v .st .next) (v .width)) (addVoid (v .width)) 4 (v .width) 0 (q .result) (λ z. counted-void (v .width)) (v .log .now) (stateOf (v .st)) (q .ensures) (p .last .0) (p .result) (c .before .before .before .before .if1 .left) (λ z. sym (value-void (v .width) (v .st .next))) (p .ensures)
+    request-accepted (upFrom (v .st .next) (v .width)) (addVoid (v .width)) 4 (v .width) 0 (q .result) (λ z. counted-void (v .width)) (v .log .now) (stateOf (v .st)) (q .ensures) (p .last .0) (p .result) (c .before .before .before .before .if1 .left) (λ z. sym (value-void (v .width) (v .st .next))) (p .ensures)
 
 pub add-void-spec : {M : Type 1} → statement M
 add-void-spec =

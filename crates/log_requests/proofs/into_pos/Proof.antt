@@ -4,7 +4,7 @@ use mathlib.Core.List.{[], _∷_}
 use Rattle.log_entries.specs.View.{stateOf}
 use Rattle.net_value.specs.View.{controlOf}
 use Rattle.log_requests.proofs.Remap.{counted-into-pos}
-use Rattle.log_requests.proofs.Answers.{request-refused, request-done}
+use Rattle.log_requests.proofs.Answers.{request-refused, request-accepted}
 use Rattle.log_requests.specs.Remap.{notsOf}
 use Rattle.rules.specs.Log.{intoPos}
 use Rattle.rules.specs.Refusals.{controlNumber, intoPosRefusal}
@@ -36,7 +36,7 @@ returns-2 c =
     let k = controlOf (v .c) in
     let q = c .before .before .before .before .before .before .before .into-pos-refusal in
     let p = c .before .before .before .before .emit-into-pos in
-    request-done (p .result .net .0 ∷ []) (intoPos k) (5 * notsOf k) (notsOf k) (controlNumber (v .st .next) k) (q .result) (λ z. counted-into-pos k) (v .log .now) (stateOf (v .st)) (q .ensures) (p .last .0) (p .result .state) (c .before .before .before .before .before .before .if1 .left) (λ z. p .ensures .1) (p .ensures .0)
+    request-accepted (p .result .net .0 ∷ []) (intoPos k) (5 * notsOf k) (notsOf k) (controlNumber (v .st .next) k) (q .result) (λ z. counted-into-pos k) (v .log .now) (stateOf (v .st)) (q .ensures) (p .last .0) (p .result .state) (c .before .before .before .before .before .before .if1 .left) (λ z. p .ensures .1) (p .ensures .0)
 
 pub into-pos-spec : {M : Type 1} → statement M
 into-pos-spec =

@@ -6,7 +6,7 @@ use lib.ListN.{length}
 use lib.Seq.{length-take-le}
 use Rattle.log_entries.specs.View.{stateOf, lent}
 use Rattle.net_flip_flop.specs.View.{controlsOf}
-use Rattle.log_requests.proofs.Answers.{refused, dry-refused, dry-done}
+use Rattle.log_requests.proofs.Answers.{refused, dry-refused, dry-accepted}
 use Rattle.log_requests.proofs.Numbers.{first}
 use Rattle.lists.proofs.Parts.{none-front}
 use Rattle.rules.specs.Log.{remapResetOverEnable}
@@ -85,7 +85,7 @@ returns-3 c =
     (q .ensures ∙ ap (λ (l : List ℕ). dryRefusal (length l) s (stateOf (d .result .state))) back) in
     let p = c .before .before .before .before .emit-remap2 in
     let r : lent (p .result .state) (p .last .0) ≡ run (remapResetOverEnable k) (lent (v .st) (v .log .now)) = p .ensures .0 ∙ ap (λ (l : List ℕ). run (remapResetOverEnable k) (lent (v .st) l)) back in
-    dry-done (controlsOf (p .result .controls)) (remapResetOverEnable k) (chains-remap k) (remapNumber (v .st .next) k) (q .result) z (v .log .now) s (p .last .0) (p .result .state) e (c .before .before .before .before .before .before .if2 .left)
+    dry-accepted (controlsOf (p .result .controls)) (remapResetOverEnable k) (chains-remap k) (remapNumber (v .st .next) k) (q .result) z (v .log .now) s (p .last .0) (p .result .state) e (c .before .before .before .before .before .before .if2 .left)
     (p .ensures .1) r
 
 pub remap-reset-over-enable-spec : {M : Type 1} → statement M

@@ -3,7 +3,7 @@ use Prim.Native.Nat.{_+_}
 use mathlib.Core.List.{[]}
 use lib.ListN.{length}
 use Rattle.log_entries.specs.View.{stateOf}
-use Rattle.log_requests.proofs.Answers.{request-refused, request-done, value-replace}
+use Rattle.log_requests.proofs.Answers.{request-refused, request-accepted, value-replace}
 use Rattle.rules.specs.Refusals.{pairNumber, addPairRefusal}
 use Rattle.rules.specs.Answers.{addPairCall}
 use Rattle.rules.proofs.Counted.{counted-replace}
@@ -33,7 +33,7 @@ returns-2 c =
     let v = c .before .before .before .before .before .before .before .before .before .args in
     let q = c .before .before .before .before .before .pair-refusal in
     let p = c .before .before .emit-replace in
-    request-done ([]) (replaceValue (v .from .now) (v .to .now)) (4 + (length (v .from .now) + length (v .to .now))) (0) (pairNumber (v .st .next) (v .from .now) (v .to .now)) (q .result) (λ z. counted-replace (v .from .now) (v .to .now)) (v .log .now) (stateOf (v .st)) (q .ensures) (p .last .0) (p .result) (c .before .before .before .before .if1 .left) (λ z. value-replace (v .from .now) (v .to .now) (v .st .next)) (p .ensures)
+    request-accepted ([]) (replaceValue (v .from .now) (v .to .now)) (4 + (length (v .from .now) + length (v .to .now))) (0) (pairNumber (v .st .next) (v .from .now) (v .to .now)) (q .result) (λ z. counted-replace (v .from .now) (v .to .now)) (v .log .now) (stateOf (v .st)) (q .ensures) (p .last .0) (p .result) (c .before .before .before .before .if1 .left) (λ z. value-replace (v .from .now) (v .to .now) (v .st .next)) (p .ensures)
 
 pub replace-value-spec : {M : Type 1} → statement M
 replace-value-spec =

@@ -11,15 +11,15 @@ use Rattle.rules.proofs.Chain.{chains-dedup-dff}
 use Rattle.log_entries.specs.Emission.{run}
 use Rattle.log_entries.specs.View.{stateOf, lent}
 use Rattle.net_flip_flop.specs.View.{controlsOf, flipFlop}
-use Rattle.log_requests.proofs.Merged.{input-refused, log-refused, merge-done}
+use Rattle.log_requests.proofs.Merged.{input-refused, log-refused, merge-accepted}
 use Rattle.merge_mux.proofs.Spread.{results-are}
 use Rattle.merge_dff.proofs.Call.{all-bits}
 use borrow.Author.Needs.{needs}
 use Rattle.merge_dff.proofs.add_dedup_dff.Statement.{statement}
 use Rattle.merge_dff.proofs.add_dedup_dff.Tie as tie
 
-input-number-requires : tie.Need-input-number-requires
-input-number-requires c κs = search needs
+input-refusal-requires : tie.Need-input-refusal-requires
+input-refusal-requires c κs = search needs
 
 returns : tie.Need-returns
 unfolding addDedupDffCall addDedupDffRefusal
@@ -29,11 +29,11 @@ returns c =
     let f = flipFlop (controlsOf (v .c)) (v .bits .now) (v .clear .now) (v .reset .now) (v .init .now) in
     let number = mergeDffNumber (v .st .next) f in
     let result = resultRefusal (length (v .out .now)) (v .bits .now) in
-    let i = c .before .input-number in
+    let i = c .before .input-refusal in
     input-refused (addDedupDff f (v .st .next) .value) (v .log .now) (v .out .now) s (addDedupDff f) number result (i .result) (i .ensures) (c .if1 .taken)
 
-dry-number-requires : tie.Need-dry-number-requires
-dry-number-requires c κs = search needs
+log-refusal-requires : tie.Need-log-refusal-requires
+log-refusal-requires c κs = search needs
 
 returns-2 : tie.Need-returns-2
 unfolding addDedupDffCall addDedupDffRefusal
@@ -43,10 +43,10 @@ returns-2 c =
     let f = flipFlop (controlsOf (v .c)) (v .bits .now) (v .clear .now) (v .reset .now) (v .init .now) in
     let number = mergeDffNumber (v .st .next) f in
     let result = resultRefusal (length (v .out .now)) (v .bits .now) in
-    let i = c .before .before .before .input-number in
+    let i = c .before .before .before .input-refusal in
     let z = sym (i .ensures) ∙ c .before .before .if1 .left in
     let a = all-bits (v .st .next) (length (v .out .now)) (controlsOf (v .c)) (v .bits .now) (v .clear .now) (v .reset .now) (v .init .now) z in
-    let q = c .before .dry-number in
+    let q = c .before .log-refusal in
     let e = q .ensures ∙ ap (λ (b : List ℕ). logRefusal (length (v .log .now)) s (addDedupDff (flipFlop (controlsOf (v .c)) b (v .clear .now) (v .reset .now) (v .init .now)))) a in
     log-refused (addDedupDff f (v .st .next) .value) (v .log .now) (v .out .now) s (addDedupDff f) number result (q .result) z e (c .if2 .taken)
 
@@ -67,13 +67,13 @@ returns-3 c =
     let f = flipFlop (controlsOf (v .c)) (v .bits .now) (v .clear .now) (v .reset .now) (v .init .now) in
     let number = mergeDffNumber (v .st .next) f in
     let result = resultRefusal (length (v .out .now)) (v .bits .now) in
-    let i = c .before .before .before .before .before .before .before .before .before .before .input-number in
+    let i = c .before .before .before .before .before .before .before .before .before .before .input-refusal in
     let z = sym (i .ensures) ∙ c .before .before .before .before .before .before .before .before .before .if1 .left in
     let a = all-bits (v .st .next) (length (v .out .now)) (controlsOf (v .c)) (v .bits .now) (v .clear .now) (v .reset .now) (v .init .now) z in
-    let q = c .before .before .before .before .before .before .before .before .dry-number in
+    let q = c .before .before .before .before .before .before .before .before .log-refusal in
     let e = q .ensures ∙ ap (λ (b : List ℕ). logRefusal (length (v .log .now)) s (addDedupDff (flipFlop (controlsOf (v .c)) b (v .clear .now) (v .reset .now) (v .init .now)))) a in
     let p = c .before .before .before .before .emit-dedup-dff in
-    merge-done (addDedupDff f (v .st .next) .value) (v .log .now) (v .out .now) s (addDedupDff f) number result (q .result) z e (p .last .0) _ (p .result) (chains-dedup-dff f) (c .before .before .before .before .before .before .before .if2 .left) refl
+    merge-accepted (addDedupDff f (v .st .next) .value) (v .log .now) (v .out .now) s (addDedupDff f) number result (q .result) z e (p .last .0) _ (p .result) (chains-dedup-dff f) (c .before .before .before .before .before .before .before .if2 .left) refl
     (p .ensures .0 ∙ ap (λ (b : List ℕ). run (addDedupDff (flipFlop (controlsOf (v .c)) b (v .clear .now) (v .reset .now) (v .init .now))) (lent (v .st) (v .log .now))) a)
     (λ o. p .ensures .1 ∙ results-are _ (v .out .now) 0 _ o ∙ ap (λ (b : List ℕ). sets (v .out .now) 0 (addDedupDff (flipFlop (controlsOf (v .c)) b (v .clear .now) (v .reset .now) (v .init .now)) (v .st .next) .value)) a)
 
@@ -81,9 +81,9 @@ pub add-dedup-dff-spec : {M : Type 1} → statement M
 add-dedup-dff-spec =
     tie.close
     (tie.spec
-    input-number-requires
+    input-refusal-requires
     returns
-    dry-number-requires
+    log-refusal-requires
     returns-2
     emit-dedup-dff-requires
     same-length

@@ -19,11 +19,8 @@ slice-aggregate-pack-trits c = search needs
 pack-trits-requires : tie.Need-pack-trits-requires
 pack-trits-requires c κs = search needs
 
-array-share-prefix-column : tie.Need-array-share-prefix-column
-array-share-prefix-column c = search needs
-
 slice-aggregate-merge-packed : tie.Need-slice-aggregate-merge-packed
-slice-aggregate-merge-packed c = sym (length-take-le _ _ (omega (arith, c .before .before .before .pack-trits .kept .1 .1 .1 .0, c .before .before .before .pack-trits .ensures .0)))
+slice-aggregate-merge-packed c = search needs
 
 slice-aggregate-merge-packed-2 : tie.Need-slice-aggregate-merge-packed-2
 slice-aggregate-merge-packed-2 c = search needs
@@ -31,8 +28,11 @@ slice-aggregate-merge-packed-2 c = search needs
 slice-aggregate-merge-packed-3 : tie.Need-slice-aggregate-merge-packed-3
 slice-aggregate-merge-packed-3 c = search needs
 
+array-share-prefix-column : tie.Need-array-share-prefix-column
+array-share-prefix-column c = search needs
+
 slice-aggregate-merge-packed-4 : tie.Need-slice-aggregate-merge-packed-4
-slice-aggregate-merge-packed-4 c = search needs
+slice-aggregate-merge-packed-4 c = sym (length-take-le _ _ (omega (arith, c .before .before .before .before .before .before .before .pack-trits .kept .0, c .before .before .before .before .before .before .before .pack-trits .ensures .0)))
 
 merge-packed-requires : tie.Need-merge-packed-requires
 merge-packed-requires c κs = search needs
@@ -48,7 +48,7 @@ returns c =
     let v = c .before .before .before .before .before .before .before .before .before .before .before .before .before .before .before .before .before .before .before .before .before .before .before .args in
     let q = c .before .before .before .before .before .before .before .before .before .before .before .before .before .before .before .pack-trits in
     let p = c .before .before .before .before .before .before .before .merge-packed in
-    let e = rules-merge (controlsOf (v .c)) (v .bits .now) (v .clear .now) (v .reset .now) (v .init .now) _ (q .ensures .1 .1) (column _ (q .last .1 .1 .1 .0) _ (q .result) (q .ensures .1 .0) refl (q .ensures .0)) in (
+    let e = rules-merge (controlsOf (v .c)) (v .bits .now) (v .clear .now) (v .reset .now) (v .init .now) _ (q .ensures .1 .1) (column _ (q .last .0) _ (q .result) (q .ensures .1 .0) refl (q .ensures .0)) in (
       p .ensures .0 ∙ ap (λ (t : Trace Value). run t (lent (v .st) (v .log .now))) e,
       p .ensures .1 ∙ ap (λ (t : Trace Value). results (isOver (stateOf (p .result))) (v .out .now) 0 (t (v .st .next) .value)) e,
     )
@@ -59,10 +59,10 @@ emit-dedup-dff-spec =
     (tie.spec
     slice-aggregate-pack-trits
     pack-trits-requires
-    array-share-prefix-column
     slice-aggregate-merge-packed
     slice-aggregate-merge-packed-2
     slice-aggregate-merge-packed-3
+    array-share-prefix-column
     slice-aggregate-merge-packed-4
     merge-packed-requires
     same-length

@@ -34,19 +34,19 @@ array-share-prefix-clear : tie.Need-array-share-prefix-clear
 array-share-prefix-clear c = search needs
 
 slice-aggregate-emit-dff : tie.Need-slice-aggregate-emit-dff
-slice-aggregate-emit-dff c = sym (length-take-le _ _ (omega (arith, c .before .before .before .before .before .before .before .before .before .unpack-part .kept .1 .1 .0, c .before .before .before .before .before .before .before .before .before .before .before .before .before .before .before .before .pre)))
+slice-aggregate-emit-dff c = sym (length-take-le _ _ (omega (arith, c .before .before .before .before .before .before .before .before .before .unpack-part .kept .0, c .before .before .before .before .before .before .before .before .before .before .before .before .before .before .before .before .pre)))
 
 array-share-prefix-reset : tie.Need-array-share-prefix-reset
 array-share-prefix-reset c = search needs
 
 slice-aggregate-emit-dff-2 : tie.Need-slice-aggregate-emit-dff-2
-slice-aggregate-emit-dff-2 c = sym (length-take-le _ _ (omega (arith, c .before .before .before .before .before .before .before .unpack-part2 .kept .1 .1 .0, c .before .before .before .before .before .before .before .before .before .before .before .before .before .before .before .before .before .pre)))
+slice-aggregate-emit-dff-2 c = sym (length-take-le _ _ (omega (arith, c .before .before .before .before .before .before .before .unpack-part2 .kept .0, c .before .before .before .before .before .before .before .before .before .before .before .before .before .before .before .before .before .pre)))
 
 array-share-prefix-init : tie.Need-array-share-prefix-init
 array-share-prefix-init c = search needs
 
 slice-aggregate-emit-dff-3 : tie.Need-slice-aggregate-emit-dff-3
-slice-aggregate-emit-dff-3 c = sym (length-take-le _ _ (omega (arith, c .before .before .before .before .before .unpack-part3 .kept .1 .1 .0, c .before .before .before .before .before .before .before .before .before .before .before .before .before .before .before .before .before .before .pre)))
+slice-aggregate-emit-dff-3 c = sym (length-take-le _ _ (omega (arith, c .before .before .before .before .before .unpack-part3 .kept .0, c .before .before .before .before .before .before .before .before .before .before .before .before .before .before .before .before .before .before .pre)))
 
 emit-dff-requires : tie.Need-emit-dff-requires
 emit-dff-requires c κs = search needs
@@ -70,9 +70,9 @@ returns c =
     let z = c .before .before .before .before .before .before .before .before .before .before .before .before .unpack-part3 in
     let p = c .before .before .before .before .before .before .emit-dff in
     let n = length ps in
-    let ec : take n (u .last .1 .1 .0) ≡ map (byteOf 256) ps = part-kept _ (u .last .1 .1 .0) ps 256 n (u .ensures) refl (omega (arith, k .pre)) in
-    let er : take n (w .last .1 .1 .0) ≡ map (byteOf 1) ps = part-kept _ (w .last .1 .1 .0) ps 1 n (w .ensures) refl (omega (arith, k .pre)) in
-    let ei : take n (z .last .1 .1 .0) ≡ map (byteOf 65536) ps = part-kept _ (z .last .1 .1 .0) ps 65536 n (z .ensures) refl (omega (arith, k .pre)) in
+    let ec : take n (u .last .0) ≡ map (byteOf 256) ps = part-kept _ (u .last .0) ps 256 n (u .ensures) refl (omega (arith, k .pre)) in
+    let er : take n (w .last .0) ≡ map (byteOf 1) ps = part-kept _ (w .last .0) ps 1 n (w .ensures) refl (omega (arith, k .pre)) in
+    let ei : take n (z .last .0) ≡ map (byteOf 65536) ps = part-kept _ (z .last .0) ps 65536 n (z .ensures) refl (omega (arith, k .pre)) in
     let l = lent (v .st) (v .log .now) in
     let l1 = lent (p .result) (p .last .0) in (
       kept-run (controlsOf (v .c)) (v .bits .now) ps (v .at .now) (v .out .now) _ _ _ l l1 ec er ei (p .ensures),

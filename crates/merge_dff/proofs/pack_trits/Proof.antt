@@ -11,10 +11,10 @@ use Rattle.merge_dff.proofs.pack_trits.Statement.{statement}
 use Rattle.merge_dff.proofs.pack_trits.Tie as tie
 
 abbrev Inv-loop : tie.InvT-loop
-Inv-loop reset clear init to₀ n i₀ to i = (i ≤ n) × (length to ≡ length to₀) × (to ≡ sets to₀ 0 (take i (packs reset clear init)))
+Inv-loop to₀ reset clear init n i₀ to i = (i ≤ n) × (length to ≡ length to₀) × (to ≡ sets to₀ 0 (take i (packs reset clear init)))
 
 abbrev μ-loop : tie.MeasureT-loop
-μ-loop reset clear init to₀ n i₀ to i = n - i
+μ-loop to₀ reset clear init n i₀ to i = n - i
 
 smaller-requires : tie.Need-smaller-requires Inv-loop μ-loop
 smaller-requires c κs = search needs
@@ -67,15 +67,15 @@ same-length c = c .before .loop .inv .1
 returns : tie.Need-returns Inv-loop μ-loop
 returns c =
     let h = c .before in
-    let b = h .before .before .before .before .before .before .before in
-    let v = b .before .args in (
+    let b = h .before .before .before .before .before .before in
+    let v = b .before .before .args in (
       omega (arith, packs-size (v .reset .now) (v .clear .now) (v .init .now)),
       (
         pack-done (v .reset .now) (v .clear .now) (v .init .now) (v .to .now) (h .loop .to) (h .loop .i) (h .loop .inv .2) (omega arith),
         record {
           resets = λ k. omega (arith, b .shared-slice-known .given k);
-          clears = λ k. omega (arith, h .before .before .before .before .before .before .shared-slice-known2 .given k);
-          inits = λ k. omega (arith, h .before .before .before .before .before .shared-slice-known3 .given k);
+          clears = λ k. omega (arith, h .before .before .before .before .before .shared-slice-known2 .given k);
+          inits = λ k. omega (arith, h .before .before .before .before .shared-slice-known3 .given k);
         },
       ),
     )

@@ -12,10 +12,10 @@ use Rattle.merge_dff.proofs.unpack_part.Statement.{statement}
 use Rattle.merge_dff.proofs.unpack_part.Tie as tie
 
 abbrev Inv-loop : tie.InvT-loop
-Inv-loop ps by to₀ n i₀ to i = (i ≤ n) × (length to ≡ length to₀) × (to ≡ sets to₀ 0 (take i (map (byteOf by) ps)))
+Inv-loop to₀ ps by n i₀ to i = (i ≤ n) × (length to ≡ length to₀) × (to ≡ sets to₀ 0 (take i (map (byteOf by) ps)))
 
 abbrev μ-loop : tie.MeasureT-loop
-μ-loop ps by to₀ n i₀ to i = n - i
+μ-loop to₀ ps by n i₀ to i = n - i
 
 smaller-requires : tie.Need-smaller-requires Inv-loop μ-loop
 smaller-requires c κs = search needs

@@ -7,10 +7,10 @@ use Rattle.merge_keys.proofs.merge_first.Statement.{statement}
 use Rattle.merge_keys.proofs.merge_first.Tie as tie
 
 abbrev Inv-loop : tie.InvT-loop
-Inv-loop x y kx₀ ky₀ at₀ n count₀ last₀ i₀ kx ky at count last i = Merged x y kx₀ ky₀ at₀ kx ky at n count last i
+Inv-loop kx₀ ky₀ at₀ x y n count₀ last₀ i₀ kx ky at count last i = Merged x y kx₀ ky₀ at₀ kx ky at n count last i
 
 abbrev μ-loop : tie.MeasureT-loop
-μ-loop x y kx₀ ky₀ at₀ n count₀ last₀ i₀ kx ky at count last i = n - i
+μ-loop kx₀ ky₀ at₀ x y n count₀ last₀ i₀ kx ky at count last i = n - i
 
 loop-holds : tie.Need-loop-holds Inv-loop μ-loop
 loop-holds c = record { within = omega arith; counted = refl; in-kx = refl; in-ky = refl; in-at = refl; latest = λ g. absurd (omega arith) }

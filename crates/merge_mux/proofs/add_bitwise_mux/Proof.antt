@@ -6,7 +6,7 @@ use Rattle.rules.specs.Value.{Value}
 use Rattle.rules.specs.Log.{Trace}
 use Rattle.log_entries.specs.Emission.{run}
 use Rattle.log_entries.specs.View.{stateOf, lent}
-use Rattle.log_requests.proofs.Merged.{input-refused, log-refused, merge-done}
+use Rattle.log_requests.proofs.Merged.{input-refused, log-refused, merge-accepted}
 use Rattle.merge_mux.proofs.Spread.{results-are}
 use Rattle.rules.specs.Answers.{addBitwiseMuxCall}
 use Rattle.rules.specs.Merge.{addBitwiseMux}
@@ -17,8 +17,8 @@ use borrow.Author.Needs.{needs}
 use Rattle.merge_mux.proofs.add_bitwise_mux.Statement.{statement}
 use Rattle.merge_mux.proofs.add_bitwise_mux.Tie as tie
 
-bitwise-input-number-requires : tie.Need-bitwise-input-number-requires
-bitwise-input-number-requires c κs = search needs
+bitwise-input-refusal-requires : tie.Need-bitwise-input-refusal-requires
+bitwise-input-refusal-requires c κs = search needs
 
 returns : tie.Need-returns
 unfolding addBitwiseMuxCall addBitwiseMuxRefusal
@@ -28,11 +28,11 @@ returns c =
     let t = addBitwiseMux (v .s .now) (v .a .now) (v .b .now) in
     let number = bitwiseNumber (v .st .next) (v .s .now) (v .a .now) (v .b .now) in
     let result = resultRefusal (length (v .out .now)) (v .a .now) in
-    let i = c .before .bitwise-input-number in
+    let i = c .before .bitwise-input-refusal in
     input-refused (t (v .st .next) .value) (v .log .now) (v .out .now) s t number result (i .result) (i .ensures) (c .if1 .taken)
 
-bitwise-log-number-requires : tie.Need-bitwise-log-number-requires
-bitwise-log-number-requires c κs = search needs
+bitwise-log-refusal-requires : tie.Need-bitwise-log-refusal-requires
+bitwise-log-refusal-requires c κs = search needs
 
 returns-2 : tie.Need-returns-2
 unfolding addBitwiseMuxCall addBitwiseMuxRefusal
@@ -42,10 +42,10 @@ returns-2 c =
     let t = addBitwiseMux (v .s .now) (v .a .now) (v .b .now) in
     let number = bitwiseNumber (v .st .next) (v .s .now) (v .a .now) (v .b .now) in
     let result = resultRefusal (length (v .out .now)) (v .a .now) in
-    let i = c .before .before .before .bitwise-input-number in
+    let i = c .before .before .before .bitwise-input-refusal in
     let z = sym (i .ensures) ∙ c .before .before .if1 .left in
     let a = bitwise-all (v .st .next) (length (v .out .now)) (v .s .now) (v .a .now) (v .b .now) z in
-    let q = c .before .bitwise-log-number in
+    let q = c .before .bitwise-log-refusal in
     let e = q .ensures ∙ ap (λ (u : Trace Value). logRefusal (length (v .log .now)) s u) a in
     log-refused (t (v .st .next) .value) (v .log .now) (v .out .now) s t number result (q .result) z e (c .if2 .taken)
 
@@ -66,13 +66,13 @@ returns-3 c =
     let t = addBitwiseMux (v .s .now) (v .a .now) (v .b .now) in
     let number = bitwiseNumber (v .st .next) (v .s .now) (v .a .now) (v .b .now) in
     let result = resultRefusal (length (v .out .now)) (v .a .now) in
-    let i = c .before .before .before .before .before .before .before .before .before .before .bitwise-input-number in
+    let i = c .before .before .before .before .before .before .before .before .before .before .bitwise-input-refusal in
     let z = sym (i .ensures) ∙ c .before .before .before .before .before .before .before .before .before .if1 .left in
     let a = bitwise-all (v .st .next) (length (v .out .now)) (v .s .now) (v .a .now) (v .b .now) z in
-    let q = c .before .before .before .before .before .before .before .before .bitwise-log-number in
+    let q = c .before .before .before .before .before .before .before .before .bitwise-log-refusal in
     let e = q .ensures ∙ ap (λ (u : Trace Value). logRefusal (length (v .log .now)) s u) a in
     let p = c .before .before .before .before .emit-bitwise-mux in
-    merge-done (t (v .st .next) .value) (v .log .now) (v .out .now) s t number result (q .result) z e (p .last .0) _ (p .result) (chains-bitwise-mux (v .s .now) (v .a .now) (v .b .now)) (c .before .before .before .before .before .before .before .if2 .left) refl
+    merge-accepted (t (v .st .next) .value) (v .log .now) (v .out .now) s t number result (q .result) z e (p .last .0) _ (p .result) (chains-bitwise-mux (v .s .now) (v .a .now) (v .b .now)) (c .before .before .before .before .before .before .before .if2 .left) refl
     (p .ensures .0 ∙ ap (λ (u : Trace Value). run u (lent (v .st) (v .log .now))) a)
     (λ o. p .ensures .1 ∙ results-are _ (v .out .now) 0 _ o ∙ ap (λ (u : Trace Value). sets (v .out .now) 0 (u (v .st .next) .value)) a)
 
@@ -80,9 +80,9 @@ pub add-bitwise-mux-spec : {M : Type 1} → statement M
 add-bitwise-mux-spec =
     tie.close
     (tie.spec
-    bitwise-input-number-requires
+    bitwise-input-refusal-requires
     returns
-    bitwise-log-number-requires
+    bitwise-log-refusal-requires
     returns-2
     emit-bitwise-mux-requires
     same-length

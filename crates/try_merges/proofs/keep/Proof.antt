@@ -8,10 +8,10 @@ use Rattle.try_merges.proofs.keep.Statement.{statement}
 use Rattle.try_merges.proofs.keep.Tie as tie
 
 abbrev Inv-loop : tie.InvT-loop
-Inv-loop a b kx₀ ky₀ at₀ kept₀ i₀ kx ky at kept i = (length kx ≡ length kx₀) × (length ky ≡ length ky₀) × (length at ≡ length at₀)
+Inv-loop kx₀ ky₀ at₀ a b kept₀ i₀ kx ky at kept i = (length kx ≡ length kx₀) × (length ky ≡ length ky₀) × (length at ≡ length at₀)
 
 abbrev μ-loop : tie.MeasureT-loop
-μ-loop a b kx₀ ky₀ at₀ kept₀ i₀ kx ky at kept i = length a - i
+μ-loop kx₀ ky₀ at₀ a b kept₀ i₀ kx ky at kept i = length a - i
 
 loop-holds : tie.Need-loop-holds Inv-loop μ-loop
 loop-holds c = (refl, refl, refl)

@@ -10,10 +10,10 @@ use Rattle.merge_mux.proofs.emit.bitwise_in.Statement.{statement}
 use Rattle.merge_mux.proofs.emit.bitwise_in.Tie as tie
 
 abbrev Inv-loop : tie.InvT-loop
-Inv-loop log₀ s a b nets₀ kx₀ ky₀ at₀ state₀ i₀ log nets kx ky at state i = (length log ≡ length log₀) × (length nets ≡ length nets₀) × (length kx ≡ length kx₀) × (length ky ≡ length ky₀) × (length at ≡ length at₀) × Going s a b nets₀ nets (lent state₀ log₀) (lent state log) i
+Inv-loop log₀ nets₀ kx₀ ky₀ at₀ s a b state₀ i₀ log nets kx ky at state i = (length log ≡ length log₀) × (length nets ≡ length nets₀) × (length kx ≡ length kx₀) × (length ky ≡ length ky₀) × (length at ≡ length at₀) × Going s a b nets₀ nets (lent state₀ log₀) (lent state log) i
 
 abbrev μ-loop : tie.MeasureT-loop
-μ-loop log₀ s a b nets₀ kx₀ ky₀ at₀ state₀ i₀ log nets kx ky at state i = length s - i
+μ-loop log₀ nets₀ kx₀ ky₀ at₀ s a b state₀ i₀ log nets kx ky at state i = length s - i
 
 loop-holds : tie.Need-loop-holds Inv-loop μ-loop
 loop-holds c =
@@ -66,9 +66,9 @@ loop-again c =
     let i = h .loop .i in
     let q : e - i ≡ runAt (drop i (v .s .now)) = omega (arith, r .ensures .0) in
     let z : i + (e - i) ≡ e = omega (arith, r .ensures .1) in
-    let n = turn (v .s .now) (v .a .now) (v .b .now) (v .nets .now) (h .loop .nets) (p .last .1 .1 .1 .1 .1 .1 .1 .0) (lent (v .st) (v .log .now)) (lent (h .loop .state) (h .loop .log)) (lent (p .result) (p .last .0)) i (e - i) (g .5) t q
+    let n = turn (v .s .now) (v .a .now) (v .b .now) (v .nets .now) (h .loop .nets) (p .last .1 .1 .0) (lent (v .st) (v .log .now)) (lent (h .loop .state) (h .loop .log)) (lent (p .result) (p .last .0)) i (e - i) (g .5) t q
     (omega (arith, r .ensures .1)) (omega (arith, r .ensures .1, w .first)) (omega (arith, r .ensures .1, w .second)) (p .ensures .0) (p .ensures .1) in
-    (p .kept .0 ∙ g .0, p .kept .1 .1 .1 .1 .1 .1 .1 .0 ∙ g .1, p .kept .1 .1 .1 .1 .1 .1 .1 .1 .0 ∙ g .2, p .kept .1 .1 .1 .1 .1 .1 .1 .1 .1 .0 ∙ g .3, p .kept .1 .1 .1 .1 .1 .1 .1 .1 .1 .1 .0 ∙ g .4, rw z at n)
+    (p .kept .0 ∙ g .0, p .kept .1 .1 .0 ∙ g .1, p .kept .1 .1 .1 .0 ∙ g .2, p .kept .1 .1 .1 .1 .0 ∙ g .3, p .kept .1 .1 .1 .1 .1 .0 ∙ g .4, rw z at n)
 
 same-length : tie.Need-same-length Inv-loop μ-loop
 same-length c = c .before .loop .inv .0

@@ -16,25 +16,25 @@ bits-of-requires : tie.Need-bits-of-requires
 bits-of-requires c κs = search needs
 
 slice-aggregate-bitwise-in : tie.Need-slice-aggregate-bitwise-in
-slice-aggregate-bitwise-in c = sym (length-take-le _ _ (c .before .before .bits-of .ensures .1 .in-s))
+slice-aggregate-bitwise-in c = search needs
 
 slice-aggregate-bitwise-in-2 : tie.Need-slice-aggregate-bitwise-in-2
-slice-aggregate-bitwise-in-2 c = sym (length-take-le _ _ (c .before .before .before .bits-of .ensures .1 .in-a))
+slice-aggregate-bitwise-in-2 c = search needs
 
 slice-aggregate-bitwise-in-3 : tie.Need-slice-aggregate-bitwise-in-3
-slice-aggregate-bitwise-in-3 c = sym (length-take-le _ _ (c .before .before .before .before .bits-of .ensures .1 .in-b))
+slice-aggregate-bitwise-in-3 c = search needs
 
 slice-aggregate-bitwise-in-4 : tie.Need-slice-aggregate-bitwise-in-4
 slice-aggregate-bitwise-in-4 c = search needs
 
 slice-aggregate-bitwise-in-5 : tie.Need-slice-aggregate-bitwise-in-5
-slice-aggregate-bitwise-in-5 c = search needs
+slice-aggregate-bitwise-in-5 c = sym (length-take-le _ _ (c .before .before .before .before .before .before .bits-of .ensures .1 .in-s))
 
 slice-aggregate-bitwise-in-6 : tie.Need-slice-aggregate-bitwise-in-6
-slice-aggregate-bitwise-in-6 c = search needs
+slice-aggregate-bitwise-in-6 c = sym (length-take-le _ _ (c .before .before .before .before .before .before .before .bits-of .ensures .1 .in-a))
 
 slice-aggregate-bitwise-in-7 : tie.Need-slice-aggregate-bitwise-in-7
-slice-aggregate-bitwise-in-7 c = search needs
+slice-aggregate-bitwise-in-7 c = sym (length-take-le _ _ (c .before .before .before .before .before .before .before .before .bits-of .ensures .1 .in-b))
 
 bitwise-in-requires : tie.Need-bitwise-in-requires
 bitwise-in-requires c κs =
@@ -59,7 +59,7 @@ array-share-prefix-nets : tie.Need-array-share-prefix-nets
 array-share-prefix-nets c = search needs
 
 slice-aggregate-copy-u32 : tie.Need-slice-aggregate-copy-u32
-slice-aggregate-copy-u32 c = sym (length-take-le _ _ (omega (arith, c .before .before .before .before .before .before .before .before .before .before .bitwise-in .kept .1 .1 .1 .1 .1 .0, c .before .before .before .before .before .before .before .before .before .before .before .before .before .before .before .before .before .before .before .bits-of .ensures .1)))
+slice-aggregate-copy-u32 c = sym (length-take-le _ _ (omega (arith, c .before .before .before .before .before .before .before .before .before .before .bitwise-in .kept .1 .1 .0, c .before .before .before .before .before .before .before .before .before .before .before .before .before .before .before .before .before .before .before .bits-of .ensures .1)))
 
 copy-u32-requires : tie.Need-copy-u32-requires
 copy-u32-requires c κs = search needs

@@ -13,10 +13,10 @@ use Rattle.merge_mux.proofs.emit.spread_nets.Statement.{statement}
 use Rattle.merge_mux.proofs.emit.spread_nets.Tie as tie
 
 abbrev Inv-loop : tie.InvT-loop
-Inv-loop first width at out₀ to room i₀ out i = (i ≤ length at) × (length out ≡ length out₀) × (out ≡ sets out₀ to (take i (spread at (upFrom first width))))
+Inv-loop out₀ to first width at room i₀ out i = (i ≤ length at) × (length out ≡ length out₀) × (out ≡ sets out₀ to (take i (spread at (upFrom first width))))
 
 abbrev μ-loop : tie.MeasureT-loop
-μ-loop first width at out₀ to room i₀ out i = length at - i
+μ-loop out₀ to first width at room i₀ out i = length at - i
 
 returns : tie.Need-returns Inv-loop μ-loop
 returns c = let v = c .before .before .before .args in sym (sets-out (spread (v .at .now) (upFrom (v .first) (v .width))) (v .out .now) (v .to) (c .if1 .taken))

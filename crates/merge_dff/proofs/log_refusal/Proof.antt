@@ -1,4 +1,4 @@
--- `merge_dff::dry_number` meets its contract.
+-- `merge_dff::log_refusal` meets its contract.
 use Rattle.rules.specs.Merge.{addDedupDff}
 use Rattle.rules.proofs.Chain.{chains-dedup-dff}
 use Rattle.log_entries.specs.View.{stateOf}
@@ -7,8 +7,8 @@ use Rattle.net_flip_flop.specs.View.{controlsOf, flipFlop}
 use Rattle.merge_mux.specs.Results.{limited}
 use Rattle.merge_dff.proofs.Call.{dedup-below}
 use borrow.Author.Needs.{needs}
-use Rattle.merge_dff.proofs.dry_number.Statement.{statement}
-use Rattle.merge_dff.proofs.dry_number.Tie as tie
+use Rattle.merge_dff.proofs.log_refusal.Statement.{statement}
+use Rattle.merge_dff.proofs.log_refusal.Tie as tie
 
 dry-start-requires : tie.Need-dry-start-requires
 dry-start-requires c κs = search needs
@@ -34,8 +34,8 @@ returns c =
     dry-called (addDedupDff f) (v .room) (stateOf (v .st)) _ (chains-dedup-dff f) (dedup-below (controlsOf (v .c)) (v .bits .now) (v .clear .now) (v .reset .now) (v .init .now) (stateOf (v .st)))
     (p .last .0) _ (stateOf (p .result)) (q .result) (c .before .before .before .before .before .before .dry-start .ensures) (p .ensures .0) (q .ensures)
 
-pub dry-number-spec : {M : Type 1} → statement M
-dry-number-spec =
+pub log-refusal-spec : {M : Type 1} → statement M
+log-refusal-spec =
     tie.close
     (tie.spec
     dry-start-requires

@@ -1,11 +1,11 @@
--- `merge_mux::bitwise_log_number` meets its contract.
+-- `merge_mux::bitwise_log_refusal` meets its contract.
 use Rattle.log_entries.specs.View.{stateOf}
 use Rattle.log_entries.proofs.Emission.{dry-called}
 use Rattle.merge_mux.specs.Runs.{bitwiseOf}
 use Rattle.merge_mux.proofs.Most.{chains-bitwise, bitwise-below}
 use borrow.Author.Needs.{needs}
-use Rattle.merge_mux.proofs.bitwise_log_number.Statement.{statement}
-use Rattle.merge_mux.proofs.bitwise_log_number.Tie as tie
+use Rattle.merge_mux.proofs.bitwise_log_refusal.Statement.{statement}
+use Rattle.merge_mux.proofs.bitwise_log_refusal.Tie as tie
 
 dry-start-requires : tie.Need-dry-start-requires
 dry-start-requires c κs = search needs
@@ -31,8 +31,8 @@ returns c =
     dry-called t (v .room) (stateOf (v .st)) _ (chains-bitwise (v .s .now) (v .a .now) (v .b .now)) (bitwise-below (v .s .now) (v .a .now) (v .b .now) (stateOf (v .st)))
     (p .last .0) _ (stateOf (p .result)) (q .result) (c .before .before .before .before .before .before .dry-start .ensures) (p .ensures .0) (q .ensures)
 
-pub bitwise-log-number-spec : {M : Type 1} → statement M
-bitwise-log-number-spec =
+pub bitwise-log-refusal-spec : {M : Type 1} → statement M
+bitwise-log-refusal-spec =
     tie.close
     (tie.spec
     dry-start-requires

@@ -1,4 +1,4 @@
--- `merge_mux::mux_log_number` meets its contract.
+-- `merge_mux::mux_log_refusal` meets its contract.
 use Rattle.rules.specs.Merge.{addDedupMux}
 use Rattle.rules.proofs.Chain.{chains-dedup-mux}
 use Rattle.net_value.specs.View.{controlOf}
@@ -7,8 +7,8 @@ use Rattle.log_entries.proofs.Emission.{dry-called}
 use Rattle.merge_mux.specs.Results.{limited}
 use Rattle.merge_mux.proofs.Most.{mux-below}
 use borrow.Author.Needs.{needs}
-use Rattle.merge_mux.proofs.mux_log_number.Statement.{statement}
-use Rattle.merge_mux.proofs.mux_log_number.Tie as tie
+use Rattle.merge_mux.proofs.mux_log_refusal.Statement.{statement}
+use Rattle.merge_mux.proofs.mux_log_refusal.Tie as tie
 
 dry-start-requires : tie.Need-dry-start-requires
 dry-start-requires c κs = search needs
@@ -34,8 +34,8 @@ returns c =
     dry-called t (v .room) (stateOf (v .st)) _ (chains-dedup-mux (controlOf (v .select)) (limited (v .a .now)) (limited (v .b .now))) (mux-below (controlOf (v .select)) (v .a .now) (v .b .now) (stateOf (v .st)))
     (p .last .0) _ (stateOf (p .result)) (q .result) (c .before .before .before .before .before .before .dry-start .ensures) (p .ensures .0) (q .ensures)
 
-pub mux-log-number-spec : {M : Type 1} → statement M
-mux-log-number-spec =
+pub mux-log-refusal-spec : {M : Type 1} → statement M
+mux-log-refusal-spec =
     tie.close
     (tie.spec
     dry-start-requires

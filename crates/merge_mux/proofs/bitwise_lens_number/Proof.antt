@@ -1,7 +1,7 @@
--- `merge_mux::bitwise_lens` meets its contract.
+-- `merge_mux::bitwise_lens_number` meets its contract.
 use Rattle.merge_mux.proofs.Numbers.{lens-1s, lens-1a, lens-1b, lens-2a, lens-2b, lens-0}
-use Rattle.merge_mux.proofs.bitwise_lens.Statement.{statement}
-use Rattle.merge_mux.proofs.bitwise_lens.Tie as tie
+use Rattle.merge_mux.proofs.bitwise_lens_number.Statement.{statement}
+use Rattle.merge_mux.proofs.bitwise_lens_number.Tie as tie
 
 returns : tie.Need-returns
 returns c = let v = c .before .args in lens-1s (v .s .now) (v .a .now) (v .b .now) (c .if1 .taken)
@@ -21,5 +21,5 @@ returns-5 c = let v = c .before .before .before .before .before .args in lens-2b
 returns-6 : tie.Need-returns-6
 returns-6 c = let v = c .before .before .before .before .before .args in lens-0 (v .s .now) (v .a .now) (v .b .now) (c .before .before .before .before .if1 .left) (c .before .before .before .if2 .left) (c .before .before .if3 .left) (c .before .if4 .left) (c .if5 .left)
 
-pub bitwise-lens-spec : {M : Type 1} → statement M
-bitwise-lens-spec = tie.close (tie.spec returns returns-2 returns-3 returns-4 returns-5 returns-6)
+pub bitwise-lens-number-spec : {M : Type 1} → statement M
+bitwise-lens-number-spec = tie.close (tie.spec returns returns-2 returns-3 returns-4 returns-5 returns-6)
