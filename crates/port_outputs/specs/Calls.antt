@@ -20,4 +20,3 @@ sliceOf (slice.Accepted start size) = rules.Accepted (start, size)
 abbrev pub canOf : CanLower → rules.Answer Bool
 canOf (can.Refused n) = rules.Refused n
 canOf (can.Accepted b) = rules.Accepted b
-

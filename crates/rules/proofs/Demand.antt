@@ -18,7 +18,7 @@ use Rattle.rules.specs.Image.{rowsBefore, memStart, trits, imageSize, in
 use Rattle.rules.specs.Conditions.{badTrits, notBelow, noRoom}
 use Rattle.rules.specs.Refusals.{imageRefusal, patchRefusalOf}
 use Rattle.lists.proofs.Choice.{if-zero, or-false}
-use Rattle.rules.specs.Patch.{patchedBy, lentTo, called, calledAll, exchange, amended, laidOut, IsPlace, KeptBy, Kept, Demand}
+use Rattle.rules.specs.Patch.{patchedBy, lentTo, called, calledAll, exchange, amended, laidOut, IsPlace, KeptBy, KeptByEach, Demand}
 use Rattle.rules.proofs.Writes.{Below, rows-comm, rows-twice, row-take, row-drop, row-frame, length-putRow}
 use Rattle.rules.proofs.Places.{Sized, index-inj, index-in}
 use Rattle.rules.proofs.Rows.{length-exchange, row-same, row-below, row-above}
@@ -95,7 +95,7 @@ abbrev pub refused : Layout → ℕ → Patch → ℕ
 refused q size c = patchRefusalOf q (lentTo size c)
 
 pub record Taken (q : Layout) (c : Patch) : Type 0 where
-  pub wide : length (c .trits) ≡ q .width
+  pub as-long : length (c .trits) ≡ q .width
   pub trit : areTrits (c .trits) ≡ true
   pub inside : c .row < q .depth
   pub holds : imageSize q ≤ c .room
@@ -108,7 +108,7 @@ taken q c e =
     let b = if-zero (leb (q .depth) (c .row)) 14 _ (a .1) in
     let d = if-zero (ltb (c .room) (imageSize q)) 19 0 (b .1) in
     record {
-      wide = eqb-true (length (c .trits)) (q .width) (not-false _ (a′ .0));
+      as-long = eqb-true (length (c .trits)) (q .width) (not-false _ (a′ .0));
       trit = not-false _ (a′ .1);
       inside = leb-false (q .depth) (c .row) (b .0);
       holds = ltb-false (c .room) (imageSize q) (d .0);
@@ -168,12 +168,12 @@ module _ (q : Layout) (z : Accepted q) where
       let t = taken q (lentTo size c) e in
       let b = places-below (c .row) (imageSize q) (t .inside) (le-refl (imageSize q)) in
       let w = called-accepted c buffer (subst (λ (n : ℕ). refused q n c ≡ 0) (sym ls) e) in
-      let f : c .row * q .width + q .width ≤ length rows = fits q z (c .row) (c .trits) rows (t .inside) (t .wide) lr in
+      let f : c .row * q .width + q .width ≤ length rows = fits q z (c .row) (c .trits) rows (t .inside) (t .as-long) lr in
       record {
         long = ap length w ∙ length-writeRow q (c .row) (c .trits) buffer ∙ ls;
-        whole = length-exchange (q .width) (c .row) (c .trits) rows (t .wide) f ∙ lr;
+        whole = length-exchange (q .width) (c .row) (c .trits) rows (t .as-long) f ∙ lr;
         image = ap (take (imageSize q)) w ∙ write-take (c .row) (imageSize q) (c .trits) buffer b ∙ ap (writeRow q (c .row) (c .trits)) im
-            ∙ write-layout q z (c .row) (c .trits) rows (t .inside) (t .wide) lr;
+            ∙ write-layout q z (c .row) (c .trits) rows (t .inside) (t .as-long) lr;
         rest = ap (drop (imageSize q)) w ∙ write-drop (c .row) (imageSize q) (c .trits) buffer b;
       }
 
@@ -215,7 +215,7 @@ module _ (q : Layout) (z : Accepted q) where
     if-accepted = λ e k o. ap (λ (l : List ℕ). getD l k tritX) (called-accepted c buffer e) ∙ frame (c .row) (c .trits) buffer k o;
   }
 
-  kept-all : (cs : List Patch) (buffer : List ℕ) → Kept q cs buffer
+  kept-all : (cs : List Patch) (buffer : List ℕ) → KeptByEach q cs buffer
   kept-all [] buffer = tt
   kept-all (c ∷ cs) buffer = (kept c buffer, kept-all cs (called q c buffer))
 

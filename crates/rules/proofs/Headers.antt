@@ -16,7 +16,7 @@ use Rattle.rules.specs.Record.{Sizes, sizeMems, sizeTrits, headSizes}
 use Rattle.rules.specs.Conditions.{badTrits, isPower, badUnit, unlike, badDepths, badSizes}
 
 -- ---- what sizes keep that 17 does not refuse
-pub record Kept (s : Sizes) : Type 0 where
+pub record Limited (s : Sizes) : Type 0 where
   pub unit-pos : 0 < s .unit
   pub unit-max : s .unit ≤ 256
   pub full-max : s .full ≤ 32768
@@ -61,7 +61,7 @@ module _ (s : Sizes) (e : badSizes s ≡ false) where
       let c = columns-good .0 in
       (omega arith, omega arith)
 
-  pub kept : Kept s
+  pub kept : Limited s
   kept = record {
     unit-pos = unit-good .0;
     unit-max = unit-good .1;

@@ -30,3 +30,4 @@ pub mod ReadBack
 pub mod SwizzleSizes
 pub mod Exact
 pub mod Columns
+pub mod Worked

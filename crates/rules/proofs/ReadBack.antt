@@ -117,7 +117,7 @@ module _ (q : Layout) (e : badLayout q ≡ false) where
       let t = taken q (lentTo size c) h in
       rw (eq-eqb (refused q size c) 0 h)
       (length-amended size cs (exchange (q .width) (c .row) (c .trits) rows)
-      (length-exchange (q .width) (c .row) (c .trits) rows (t .wide) (row-fits (q .width) (t .inside) k) ∙ k)))
+      (length-exchange (q .width) (c .row) (c .trits) rows (t .as-long) (row-fits (q .width) (t .inside) k) ∙ k)))
       (λ h. rw (ne-eqb (refused q size c) 0 (λ x. omega arith)) (length-amended size cs rows k))
       (eq-zero-or-pos (refused q size c))
 

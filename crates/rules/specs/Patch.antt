@@ -77,12 +77,12 @@ pub record KeptBy (q : Layout) (c : Patch) (buffer : List ℕ) : Type 0 where
   pub if-accepted : patchRefusalOf q (lentTo (length buffer) c) ≡ 0 → (k : ℕ) → (IsPlace q (c .row) k → ⊥)
       → getD (called q c buffer) k tritX ≡ getD buffer k tritX
 
-abbrev pub Kept : Layout → List Patch → List ℕ → Type 0
-Kept q [] buffer = Unit {0}
-Kept q (c ∷ cs) buffer = KeptBy q c buffer × Kept q cs (called q c buffer)
+abbrev pub KeptByEach : Layout → List Patch → List ℕ → Type 0
+KeptByEach q [] buffer = Unit {0}
+KeptByEach q (c ∷ cs) buffer = KeptBy q c buffer × KeptByEach q cs (called q c buffer)
 
 -- what `after`, the image buffer after the swizzle of a memory with these rows and after the calls, has; `buffer` is the buffer before
 pub record Demand (q : Layout) (rows buffer : List ℕ) (cs : List Patch) (after : List ℕ) : Type 0 where
   pub images : take (imageSize q) after ≡ layout q (amended q (length buffer) cs rows)
   pub beyond : drop (imageSize q) after ≡ drop (imageSize q) buffer
-  pub each : Kept q cs (laidOut q rows buffer)
+  pub each : KeptByEach q cs (laidOut q rows buffer)

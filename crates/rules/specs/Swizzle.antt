@@ -85,18 +85,22 @@ unfoldable pub muxRoles : List Role → List Role
 muxRoles [] = []
 muxRoles (r ∷ rs) = if isRow r then muxRoles rs else r ∷ muxRoles rs
 
--- the chunk and the row of a wide port that the bits of a number select, by their roles
+-- the chunk and the row of a wide port that the bits of a number select, by their roles: for Wide Soft High the number 6, lowest bit first 0 1 1, is
+-- row 0 and chunk 3 (proofs/Worked.antt computes this and the examples below)
 unfoldable pub spotBy : List Role → ℕ → Spot
 spotBy [] x = record { chunk = 0; row = 0 }
 spotBy (r ∷ rs) x = under (isChunk r) (x % 2) (spotBy rs (x / 2))
 
 -- ---- the split of a port with old wide log `old` and new wide log `new`
+-- Mask 2, hard 1, depth 8, address nets 10 11 12: net 10 is the result's address, 11 is soft, 12 lies above the hard bits. So the mux address is 11 12 and
+-- there are four pieces.
 pub record Split : Type 0 where
   pub old : ℕ
   pub new : ℕ
   pub addr : Value
   pub muxAddr : Value
-  -- of each bit that tells pieces apart: the old wide bits, then those of the mux address; what is past its end are chunk bits
+  -- of each bit that tells pieces apart: the old wide bits, then those of the mux address; what is past its end are chunk bits. In the example: Soft High,
+  -- then High for each bit that four pieces take
   pub pieceRoles : List Role
   pub pieces : ℕ
 
@@ -120,7 +124,8 @@ unfoldable pub splitAddr : Layout → ℕ → ℕ → Value → Split
 splitAddr q old new addr =
     splitBy (roles (q .softMask / 2 ^ old) (new - (old - softs old (q .softMask))) (q .hard - new) addr) q old new addr
 
--- where piece x of old row j starts among the columns of the 2^new rows, row after row
+-- where piece x of old row j starts among the columns of the 2^new rows, row after row. With an old and a new wide log of 1, two entries and eight columns
+-- to a row, piece 1 of old row 1 is number 3 by Wide Soft High: row 1, chunk 1, so it starts at 8 + 2
 unfoldable pub pieceStart : Layout → Split → ℕ → ℕ → ℕ
 pieceStart q s x j =
     let p = spotBy (s .pieceRoles) (j + 2 ^ s .old * x) in
@@ -149,14 +154,15 @@ repeating last (e ∷ es) v =
     let n = (if eqb e None then last else getD v e X) in
     n ∷ repeating n es v
 
--- back: each arranged bit to the place that its entry names
+-- back: each arranged bit to the place that its entry names. Entries 1 None 0 bring 20 21 22 to 22 20
 unfoldable pub restore : List ℕ → List ℕ → List ℕ → List ℕ
 restore [] v acc = acc
 restore (e ∷ es) [] acc = acc
 restore (e ∷ es) (a ∷ more) acc = restore es more (if eqb e None then acc else set acc e a)
 
 -- ---- pieces among the columns
--- piece x of these old rows, in arranged bits from entry n on, stored
+-- piece x of these old rows stored: the arranged bits are cut into rows of entries, each goes to where its old row's piece starts. In the example above
+-- piece 1 of bits 20 21 22 23 stores 20 21 from column 2 on and 22 23 from column 10 on
 unfoldable pub storeRows : Layout → Split → ℕ → List ℕ → List ℕ → List ℕ → List ℕ
 storeRows q s x [] v cols = cols
 storeRows q s x (j ∷ js) v cols = storeRows q s x js (drop (rowLen q) v) (sets cols (pieceStart q s x j) (take (rowLen q) v))

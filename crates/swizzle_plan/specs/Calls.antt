@@ -30,4 +30,3 @@ planOf s entries writeWide readWide = record {
 -- the sizes of the memory and the plan
 abbrev pub paramsBy : Memory → MemorySwizzle → Params
 paramsBy m s = record { depth = m .depth; width = m .width; «soft_mask» = s .«soft_addr_bits_mask»; hard = s .«hard_addr_bits»; unit = s .«data_width_unit» }
-

@@ -23,4 +23,3 @@ writeLogs m = map (writeWideLog2 m) (m .writes)
 
 abbrev pub readLogs : Mem → List ℕ → List ℕ
 readLogs m ports = map (λ (i : ℕ). readWideLog2 m (readAt m i)) ports
-
