@@ -4,10 +4,10 @@ use Prim.Native.Nat.{ℕ}
 use mathlib.Core.List.{List}
 use Rattle.rules.specs.Log.{LogState}
 use Rattle.rules.specs.Value.{Value}
-use Rattle.rules.specs.Answers.{Answer, After, Logged, Merged}
+use Rattle.rules.specs.Answers.{Answer, After, Logged, Merged, Returned, valueOf, stateLeft, lentCall, ReturnedMerge, lentMerge}
 use Rattle.log_entries.specs.View.{stateOf}
 use Rattle.log_entries.specs.declared.LogState as machine
-use Rattle.log_lent.specs.Returned.{Returned, returned, valueOf, stateLeft, lentCall, ReturnedMerge, returnedMerge, lentMerge}
+use Rattle.log_lent.specs.Returned.{returned, returnedMerge}
 
 -- an enum that is known
 module _ {A R : Type 0} (s : LogState) (f : R → Answer (After A)) where

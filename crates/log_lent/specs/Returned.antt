@@ -1,11 +1,10 @@
--- A request or a merge on a lent log state: its answer, and the state, the log and the room for results that it leaves. A refused one leaves all as it was.
+-- How the answer of a request or a merge on a lent log state reads, with the state, the log and the room for results after it.
 use Prim.Native.Nat.{ℕ}
 use mathlib.Core.List.{List, [], _∷_}
 use Rattle.lists.specs.Lists.{upFrom}
 use Rattle.rules.specs.Value.{Value}
 use Rattle.rules.specs.Cell as cell
-use Rattle.rules.specs.Log.{LogState}
-use Rattle.rules.specs.Answers.{Answer, Refused, Accepted, After, Logged, Merged}
+use Rattle.rules.specs.Answers.{Answer, Refused, Accepted, Returned, ReturnedMerge}
 use Rattle.net_flip_flop.specs.View.{controlsOf}
 use Rattle.log_entries.specs.declared.LogState as machine
 use Rattle.log_entries.specs.View.{stateOf}
@@ -14,39 +13,14 @@ use Rattle.log_lent.specs.declared.OneNet as net
 use Rattle.log_lent.specs.declared.NoValue as none
 use Rattle.log_lent.specs.declared.NewControls as controls
 
-pub record Returned (A : Type 0) : Type 0 where
-  pub answer : Answer A
-  pub state : LogState
-  pub log : List ℕ
-
 module _ {A : Type 0} where
   -- the machine's state and log, with an answer
   abbrev pub returned : Answer A → machine.LogState → List ℕ → Returned A
   returned a s log = record { answer = a; state = stateOf s; log = log }
 
-  -- an answer's value, and the state after it where s was before
-  abbrev pub valueOf : Answer (After A) → Answer A
-  valueOf (Refused n) = Refused n
-  valueOf (Accepted a) = Accepted (a .value)
-
-  abbrev pub stateLeft : LogState → Answer (After A) → LogState
-  stateLeft s (Refused n) = s
-  stateLeft s (Accepted a) = a .state
-
-  -- a request's answer, from the state s
-  abbrev pub lentCall : LogState → Logged A → Returned A
-  lentCall s l = record { answer = valueOf (l .answer); state = stateLeft s (l .answer); log = l .log }
-
 -- a merge leaves its result nets in lent room
-pub record ReturnedMerge : Type 0 where
-  pub returned : Returned Value
-  pub out : List ℕ
-
 abbrev pub returnedMerge : Answer Value → machine.LogState → List ℕ → List ℕ → ReturnedMerge
 returnedMerge a s log out = record { returned = returned a s log; out = out }
-
-abbrev pub lentMerge : LogState → Merged → ReturnedMerge
-lentMerge s m = record { returned = lentCall s (m .logged); out = m .out }
 
 -- ---- the machine's answers
 -- new nets, from the first one on

@@ -144,6 +144,32 @@ addDedupDffCall out log s f = merged (addDedupDffRefusal (length out) (length lo
 unfoldable pub addBitwiseMuxCall : List ℕ → List ℕ → LogState → Value → Value → Value → Merged
 addBitwiseMuxCall out log s c a b = merged (addBitwiseMuxRefusal (length out) (length log) s c a b) out log s (addBitwiseMux c a b)
 
+-- ---- the same on a lent log state: the value, and what state, log and room hold afterwards
+pub record Returned (A : Type 0) : Type 0 where
+  pub answer : Answer A
+  pub state : LogState
+  pub log : List ℕ
+
+module _ {A : Type 0} where
+  abbrev pub valueOf : Answer (After A) → Answer A
+  valueOf (Refused n) = Refused n
+  valueOf (Accepted a) = Accepted (a .value)
+
+  -- a refused call leaves the state s as it was
+  abbrev pub stateLeft : LogState → Answer (After A) → LogState
+  stateLeft s (Refused n) = s
+  stateLeft s (Accepted a) = a .state
+
+  abbrev pub lentCall : LogState → Logged A → Returned A
+  lentCall s l = record { answer = valueOf (l .answer); state = stateLeft s (l .answer); log = l .log }
+
+pub record ReturnedMerge : Type 0 where
+  pub returned : Returned Value
+  pub out : List ℕ
+
+abbrev pub lentMerge : LogState → Merged → ReturnedMerge
+lentMerge s m = record { returned = lentCall s (m .logged); out = m .out }
+
 -- ---- calls on a memory, as it is given
 unfoldable pub outputLenCall : Given → Answer ℕ
 outputLenCall g = answerOf (memRefusal g) (outputLen (g .mem))

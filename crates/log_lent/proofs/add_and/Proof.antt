@@ -42,12 +42,12 @@ use denote.Triple.Walked.{says, Stays, stay-ref, stay-dropped, gave-slice, walkO
 use denote.Exit.{yes}
 use denote.Signature.{plain, shrSliceOf}
 use Rattle.rules.specs.Log.{addAnd}
-use Rattle.rules.specs.Answers.{addPairCall}
+use Rattle.rules.specs.Answers.{addPairCall, lentCall}
 use Rattle.log_entries.specs.View.{stateOf}
 use Rattle.log_entries.specs.declared.LogState.{LogState}
 use Rattle.log_entries.proofs.LogState as T
 use Rattle.log_entries.proofs.LogState.Laws as T′
-use Rattle.log_lent.specs.Returned.{returned, lentCall, netsOf}
+use Rattle.log_lent.specs.Returned.{returned, netsOf}
 use Rattle.log_lent.specs.declared.TookNets.{TookNets}
 use Rattle.log_lent.proofs.TookNets as K
 use Rattle.log_lent.proofs.TookNets.Laws as K′

@@ -42,12 +42,12 @@ use denote.Triple.Walked.{says, Stays, stay-ref, stay-dropped, gave-slice, walkO
 use denote.Exit.{yes}
 use denote.Signature.{plain, shrSliceOf}
 use Rattle.rules.specs.Merge.{addBitwiseMux}
-use Rattle.rules.specs.Answers.{addBitwiseMuxCall}
+use Rattle.rules.specs.Answers.{addBitwiseMuxCall, lentMerge}
 use Rattle.log_entries.specs.View.{stateOf}
 use Rattle.log_entries.specs.declared.LogState.{LogState}
 use Rattle.log_entries.proofs.LogState as T
 use Rattle.log_entries.proofs.LogState.Laws as T′
-use Rattle.log_lent.specs.Returned.{returnedMerge, lentMerge, noneOf}
+use Rattle.log_lent.specs.Returned.{returnedMerge, noneOf}
 use Rattle.log_lent.specs.declared.TookNone.{TookNone}
 use Rattle.log_lent.proofs.TookNone as K
 use Rattle.log_lent.proofs.TookNone.Laws as K′

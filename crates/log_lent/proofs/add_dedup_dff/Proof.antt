@@ -42,7 +42,7 @@ use denote.Triple.Walked.{says, Stays, stay-ref, stay-dropped, gave-slice, walkO
 use denote.Exit.{yes}
 use denote.Signature.{plain, shrSliceOf}
 use Rattle.rules.specs.Merge.{addDedupDff}
-use Rattle.rules.specs.Answers.{addDedupDffCall}
+use Rattle.rules.specs.Answers.{addDedupDffCall, lentMerge}
 use Rattle.net_flip_flop.specs.View.{controlsOf, flipFlop}
 use Rattle.log_entries.specs.View.{stateOf}
 use Rattle.net_flip_flop.specs.declared.Controls.{Controls}
@@ -51,7 +51,7 @@ use Rattle.net_flip_flop.proofs.Controls.Laws as CT′
 use Rattle.log_entries.specs.declared.LogState.{LogState}
 use Rattle.log_entries.proofs.LogState as T
 use Rattle.log_entries.proofs.LogState.Laws as T′
-use Rattle.log_lent.specs.Returned.{returnedMerge, lentMerge, noneOf}
+use Rattle.log_lent.specs.Returned.{returnedMerge, noneOf}
 use Rattle.log_lent.specs.declared.TookNone.{TookNone}
 use Rattle.log_lent.proofs.TookNone as K
 use Rattle.log_lent.proofs.TookNone.Laws as K′

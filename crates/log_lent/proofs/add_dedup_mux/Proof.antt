@@ -42,7 +42,7 @@ use denote.Triple.Walked.{says, Stays, stay-ref, stay-dropped, gave-slice, walkO
 use denote.Exit.{yes}
 use denote.Signature.{plain, shrSliceOf}
 use Rattle.rules.specs.Merge.{addDedupMux}
-use Rattle.rules.specs.Answers.{addDedupMuxCall}
+use Rattle.rules.specs.Answers.{addDedupMuxCall, lentMerge}
 use Rattle.net_value.specs.View.{controlOf}
 use Rattle.log_entries.specs.View.{stateOf}
 use Rattle.net_value.specs.declared.ControlNet.{ControlNet}
@@ -51,7 +51,7 @@ use Rattle.net_value.proofs.ControlNet.Laws as CN′
 use Rattle.log_entries.specs.declared.LogState.{LogState}
 use Rattle.log_entries.proofs.LogState as T
 use Rattle.log_entries.proofs.LogState.Laws as T′
-use Rattle.log_lent.specs.Returned.{returnedMerge, lentMerge, noneOf}
+use Rattle.log_lent.specs.Returned.{returnedMerge, noneOf}
 use Rattle.log_lent.specs.declared.TookNone.{TookNone}
 use Rattle.log_lent.proofs.TookNone as K
 use Rattle.log_lent.proofs.TookNone.Laws as K′

@@ -41,7 +41,7 @@ use denote.Triple.Table.{entered, cited}
 use denote.Triple.Walked.{says, Stays, stay-ref, stay-dropped, gave-slice, walkOf, goes-ref, goes-dropped, goes-gave-slice, Walks, ends-at, walked, walk-meets}
 use denote.Exit.{yes}
 use denote.Signature.{plain}
-use Rattle.rules.specs.Answers.{intoPosCall}
+use Rattle.rules.specs.Answers.{intoPosCall, lentCall}
 use Rattle.net_value.specs.View.{controlOf}
 use Rattle.log_entries.specs.View.{stateOf}
 use Rattle.net_value.specs.declared.ControlNet.{ControlNet}
@@ -50,7 +50,7 @@ use Rattle.net_value.proofs.ControlNet.Laws as CN′
 use Rattle.log_entries.specs.declared.LogState.{LogState}
 use Rattle.log_entries.proofs.LogState as T
 use Rattle.log_entries.proofs.LogState.Laws as T′
-use Rattle.log_lent.specs.Returned.{returned, lentCall, posOf}
+use Rattle.log_lent.specs.Returned.{returned, posOf}
 use Rattle.log_lent.specs.declared.TookNet.{TookNet}
 use Rattle.log_lent.proofs.TookNet as K
 use Rattle.log_lent.proofs.TookNet.Laws as K′

@@ -42,12 +42,12 @@ use denote.Triple.Walked.{says, Stays, stay-ref, stay-dropped, gave-slice, walkO
 use denote.Exit.{yes}
 use denote.Signature.{plain, shrSliceOf}
 use Rattle.rules.specs.Log.{replaceValue}
-use Rattle.rules.specs.Answers.{addPairCall}
+use Rattle.rules.specs.Answers.{addPairCall, lentCall}
 use Rattle.log_entries.specs.View.{stateOf}
 use Rattle.log_entries.specs.declared.LogState.{LogState}
 use Rattle.log_entries.proofs.LogState as T
 use Rattle.log_entries.proofs.LogState.Laws as T′
-use Rattle.log_lent.specs.Returned.{returned, lentCall, noneOf, noNets}
+use Rattle.log_lent.specs.Returned.{returned, noneOf, noNets}
 use Rattle.log_lent.specs.declared.TookNone.{TookNone}
 use Rattle.log_lent.proofs.TookNone as K
 use Rattle.log_lent.proofs.TookNone.Laws as K′
