@@ -1,5 +1,5 @@
 -- Laws that belong to no one function.
 pub mod Planned
 pub mod Wides
-pub mod Logs
+pub mod PortLogs
 pub mod Whole

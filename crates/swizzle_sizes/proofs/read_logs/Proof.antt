@@ -10,7 +10,7 @@ use Rattle.rules.specs.Cell.{readWideLog2, readAt}
 use Rattle.swizzle_plan.proofs.Wides.{log-turn, log-end}
 use Rattle.net_memory.specs.View.{memoryOf}
 use Rattle.swizzle_plan.specs.Numbers.{readLogs}
-use Rattle.swizzle_plan.proofs.Logs.{read-log-is}
+use Rattle.swizzle_plan.proofs.PortLogs.{read-log-is}
 use Rattle.swizzle_sizes.proofs.read_logs.Statement.{statement}
 use Rattle.swizzle_sizes.proofs.read_logs.Tie as tie
 

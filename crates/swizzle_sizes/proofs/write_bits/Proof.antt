@@ -9,7 +9,7 @@ use Rattle.swizzle_plan.proofs.Wides.{first-part}
 use Rattle.net_memory.specs.View.{memoryOf}
 use Rattle.net_memory.proofs.Sized.{writes-length}
 use Rattle.swizzle_plan.specs.Numbers.{inEight, writeLogs}
-use Rattle.swizzle_plan.proofs.Logs.{logs-length}
+use Rattle.swizzle_plan.proofs.PortLogs.{logs-length}
 use borrow.Author.Needs.{needs}
 use Rattle.swizzle_sizes.proofs.write_bits.Statement.{statement}
 use Rattle.swizzle_sizes.proofs.write_bits.Tie as tie

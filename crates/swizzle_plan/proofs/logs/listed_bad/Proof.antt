@@ -11,7 +11,7 @@ use Rattle.net_memory.specs.View.{memoryOf}
 use Rattle.swizzle_plan.specs.Calls.{planOf}
 use Rattle.swizzle_plan.specs.Numbers.{readLogs}
 use Rattle.swizzle_plan.proofs.Wides.{left, pair-found, pair-pass, pair-end}
-use Rattle.swizzle_plan.proofs.Logs.{log-at, read-logs-length}
+use Rattle.swizzle_plan.proofs.PortLogs.{log-at, read-logs-length}
 use Rattle.swizzle_plan.proofs.logs.listed_bad.Statement.{statement}
 use Rattle.swizzle_plan.proofs.logs.listed_bad.Tie as tie
 
@@ -42,11 +42,11 @@ read-data-len-requires c κs = search needs
 wide-log-requires : tie.Need-wide-log-requires Inv-loop μ-loop
 wide-log-requires c κs = search needs
 
-mul-usize-of-u32-bad : tie.Need-mul-usize-of-u32-bad Inv-loop μ-loop
-mul-usize-of-u32-bad c = omega arith
+mul-wide-bad : tie.Need-mul-wide-bad Inv-loop μ-loop
+mul-wide-bad c = omega arith
 
-shared-slice-read-usize-of-u32-bad : tie.Need-shared-slice-read-usize-of-u32-bad Inv-loop μ-loop
-shared-slice-read-usize-of-u32-bad c = omega arith
+shared-slice-read-wide-bad : tie.Need-shared-slice-read-wide-bad Inv-loop μ-loop
+shared-slice-read-wide-bad c = omega arith
 
 wide-bad-requires : tie.Need-wide-bad-requires Inv-loop μ-loop
 wide-bad-requires c κs = search needs
@@ -97,8 +97,8 @@ listed-bad-spec =
     usize-of-u32-requires
     read-data-len-requires
     wide-log-requires
-    mul-usize-of-u32-bad
-    shared-slice-read-usize-of-u32-bad
+    mul-wide-bad
+    shared-slice-read-wide-bad
     wide-bad-requires
     returns
     add-i

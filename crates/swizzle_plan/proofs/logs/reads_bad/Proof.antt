@@ -1,6 +1,6 @@
 -- `swizzle_plan::logs::reads_bad` meets its contract.
 use borrow.Author.Needs.{needs}
-use Rattle.swizzle_plan.proofs.Logs.{reads-len, reads-by}
+use Rattle.swizzle_plan.proofs.PortLogs.{reads-len, reads-by}
 use Rattle.swizzle_plan.proofs.logs.reads_bad.Statement.{statement}
 use Rattle.swizzle_plan.proofs.logs.reads_bad.Tie as tie
 

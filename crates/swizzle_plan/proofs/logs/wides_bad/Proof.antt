@@ -23,17 +23,17 @@ smaller-requires c κs = search needs
 loop-holds : tie.Need-loop-holds Inv-loop μ-loop
 loop-holds c = (omega arith, λ es ws rs. refl)
 
-mul-usize-of-u32-bad : tie.Need-mul-usize-of-u32-bad Inv-loop μ-loop
-mul-usize-of-u32-bad c = omega arith
+mul-wide-bad : tie.Need-mul-wide-bad Inv-loop μ-loop
+mul-wide-bad c = omega arith
 
-shared-slice-read-usize-of-u32-bad : tie.Need-shared-slice-read-usize-of-u32-bad Inv-loop μ-loop
-shared-slice-read-usize-of-u32-bad c = omega arith
+shared-slice-read-wide-bad : tie.Need-shared-slice-read-wide-bad Inv-loop μ-loop
+shared-slice-read-wide-bad c = omega arith
 
-mul-usize-of-u32-bad-2 : tie.Need-mul-usize-of-u32-bad-2 Inv-loop μ-loop
-mul-usize-of-u32-bad-2 c = omega arith
+mul-wide-bad-2 : tie.Need-mul-wide-bad-2 Inv-loop μ-loop
+mul-wide-bad-2 c = omega arith
 
-shared-slice-read-usize-of-u32-bad-2 : tie.Need-shared-slice-read-usize-of-u32-bad-2 Inv-loop μ-loop
-shared-slice-read-usize-of-u32-bad-2 c = omega arith
+shared-slice-read-wide-bad-2 : tie.Need-shared-slice-read-wide-bad-2 Inv-loop μ-loop
+shared-slice-read-wide-bad-2 c = omega arith
 
 wide-bad-requires : tie.Need-wide-bad-requires Inv-loop μ-loop
 wide-bad-requires c κs = search needs
@@ -70,10 +70,10 @@ wides-bad-spec =
     μ-loop
     smaller-requires
     loop-holds
-    mul-usize-of-u32-bad
-    shared-slice-read-usize-of-u32-bad
-    mul-usize-of-u32-bad-2
-    shared-slice-read-usize-of-u32-bad-2
+    mul-wide-bad
+    shared-slice-read-wide-bad
+    mul-wide-bad-2
+    shared-slice-read-wide-bad-2
     wide-bad-requires
     returns
     add-i

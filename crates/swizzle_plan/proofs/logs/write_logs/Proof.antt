@@ -13,7 +13,7 @@ use Rattle.net_memory.specs.View.{memoryOf, writesOf, writeSize, noWritePort}
 use Rattle.net_memory.proofs.Ports.{noWrite}
 use Rattle.net_memory.proofs.Sized.{writes-length}
 use Rattle.lists.proofs.Sum.{sum-take-more}
-use Rattle.swizzle_plan.proofs.Logs.{log-is, logs-are}
+use Rattle.swizzle_plan.proofs.PortLogs.{log-is, logs-are}
 use Rattle.swizzle_plan.proofs.logs.write_logs.Statement.{statement}
 use Rattle.swizzle_plan.proofs.logs.write_logs.Tie as tie
 

@@ -11,7 +11,7 @@ use Rattle.swizzle_plan.specs.Calls.{planOf}
 use Rattle.net_memory.specs.View.{memoryOf}
 use Rattle.net_memory.proofs.Sized.{writes-length}
 use Rattle.swizzle_plan.specs.Numbers.{writeLogs}
-use Rattle.swizzle_plan.proofs.Logs.{writes-len, writes-by, logs-length}
+use Rattle.swizzle_plan.proofs.PortLogs.{writes-len, writes-by, logs-length}
 use borrow.Author.Needs.{needs}
 use Rattle.swizzle_plan.proofs.logs.writes_bad.Statement.{statement}
 use Rattle.swizzle_plan.proofs.logs.writes_bad.Tie as tie
