@@ -4,9 +4,6 @@ use image_check::Checked;
 use image_geometry::Params;
 use pieces::Reply;
 
-// The trits of an image that this call has room for.
-const IMAGE: usize = 131112;
-
 // What a plan at `at` says of a layout; its wide logs play no part.
 fn params(given: &[u32], depth: u32, width: u32, at: usize) -> Params {
     let mask = pieces::after(given, at);
@@ -34,24 +31,24 @@ fn after_plan(given: &[u32], at: usize) -> usize {
 }
 
 // Call 40.
-fn call(given: &[u32], words: &mut [u32], trits: &mut [u8]) -> Reply {
+fn call(words: &mut [u32], trits: &mut [u8], given: &[u32]) -> Reply {
     let rows = pieces::list(given, 5);
     if !pieces::codes(trits, 0, rows) {
         return pieces::unknown();
     }
-    let mut image = [0; 131112];
-    let n = lay_out(given, &mut image, pieces::part_u8(trits, 0, rows.len()));
+    let mut image = [0; pieces::IMAGE_ROOM];
+    let n = lay_out(&mut image, given, pieces::part_u8(trits, 0, rows.len()));
     if n != 0 {
         return pieces::refused(n);
     }
-    patched(given, &mut image, words, trits)
+    patched(&mut image, words, trits, given)
 }
 
 // The rows laid out in as much of the image as is lent.
-fn lay_out(given: &[u32], image: &mut [u8], rows: &[u8]) -> u32 {
+fn lay_out(image: &mut [u8], given: &[u32], rows: &[u8]) -> u32 {
     let at = pieces::after(given, 5);
     let p = params(given, pieces::word(given, 3), pieces::word(given, 4), at);
-    let m = pieces::lent(pieces::word(given, 2), IMAGE);
+    let m = pieces::lent(pieces::word(given, 2), pieces::IMAGE_ROOM);
     image_rows::fill_rows(
         pieces::part_u8_mut(image, 0, m),
         p,
@@ -61,18 +58,18 @@ fn lay_out(given: &[u32], image: &mut [u8], rows: &[u8]) -> u32 {
 }
 
 // The patches applied, and the image after them.
-fn patched(given: &[u32], image: &mut [u8], words: &mut [u32], trits: &mut [u8]) -> Reply {
+fn patched(image: &mut [u8], words: &mut [u32], trits: &mut [u8], given: &[u32]) -> Reply {
     let at = pieces::after(given, 5);
     let p = params(given, pieces::word(given, 3), pieces::word(given, 4), at);
     let entries = pieces::list(given, at);
     let end = patch_all(
+        image,
+        words,
+        trits,
         given,
         after_plan(given, at),
         p,
         entries,
-        image,
-        words,
-        trits,
     );
     let c = image_check::check_layout(p, entries);
     match c {
@@ -82,7 +79,7 @@ fn patched(given: &[u32], image: &mut [u8], words: &mut [u32], trits: &mut [u8])
 }
 
 fn size(n: u64) -> usize {
-    if n < 131112 { n as usize } else { 131112 }
+    lists::smaller(lists::usize_of_u64(n), pieces::IMAGE_ROOM)
 }
 
 fn laid(words: &mut [u32], at: usize, image: &[u8]) -> Reply {
@@ -92,20 +89,20 @@ fn laid(words: &mut [u32], at: usize, image: &[u8]) -> Reply {
 
 // The patches, whose number stands at `at`: their numbers as a list, and the index after it.
 fn patch_all(
+    image: &mut [u8],
+    words: &mut [u32],
+    trits: &mut [u8],
     given: &[u32],
     at: usize,
     p: Params,
     entries: &[u32],
-    image: &mut [u8],
-    words: &mut [u32],
-    trits: &mut [u8],
 ) -> usize {
     let n = pieces::word(given, at);
     let mut from = pieces::next(given, at);
     let mut to = pieces::put_next(words, 0, n);
     let mut i: u32 = 0;
     while i < n {
-        let number = patch_at(given, from, p, entries, image, trits);
+        let number = patch_at(image, trits, given, from, p, entries);
         to = pieces::put_next(words, to, number);
         from = after_patch(given, from);
         i += 1;
@@ -121,17 +118,17 @@ fn after_patch(given: &[u32], at: usize) -> usize {
 
 // One patch: its room, its row, its trits.
 fn patch_at(
+    image: &mut [u8],
+    trits: &mut [u8],
     given: &[u32],
     at: usize,
     p: Params,
     entries: &[u32],
-    image: &mut [u8],
-    trits: &mut [u8],
 ) -> u32 {
     let row = pieces::next(given, at);
     let list = pieces::list(given, pieces::next(given, row));
     pieces::codes(trits, 0, list);
-    let m = pieces::lent(pieces::word(given, at), IMAGE);
+    let m = pieces::lent(pieces::word(given, at), pieces::IMAGE_ROOM);
     let r = pieces::word(given, row);
     image_rows::patch_row(
         pieces::part_u8_mut(image, 0, m),
@@ -146,6 +143,6 @@ fn patch_at(
 pub fn answer(given: &[u32], answer: &mut [u32], words: &mut [u32], trits: &mut [u8]) -> usize
     ensures { λ r. ⌜ Answered (now (answer .entry)) (now (answer .exit)) r ⌝ }
 {
-    let r = call(given, words, trits);
+    let r = call(words, trits, given);
     pieces::write_reply(answer, words, r)
 }

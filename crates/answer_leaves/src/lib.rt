@@ -5,25 +5,22 @@ use net_value::ControlAnswer;
 use net_value::ControlNet;
 use pieces::Reply;
 
-// The trits of a result that these calls have room for.
-const ROOM: usize = 131112;
-
-// The trits of a short one.
+// The trits of a short result; pieces::IMAGE_ROOM are the most.
 const SHORT: usize = 1024;
 
-fn call(given: &[u32], words: &mut [u32], trits: &mut [u8]) -> Reply {
+fn call(words: &mut [u32], trits: &mut [u8], given: &[u32]) -> Reply {
     let op = pieces::word(given, 0);
     if op == 1 {
-        return const_not(given, words, trits);
+        return const_not(words, trits, given);
     }
     if op <= 3 {
-        return const_pair(given, op, words, trits);
+        return const_pair(words, trits, given, op);
     }
     if op == 4 {
-        return is_undef(given, words, trits);
+        return is_undef(words, trits, given);
     }
     if op == 5 {
-        return inverse(given, words);
+        return inverse(words, given);
     }
     pieces::unknown()
 }
@@ -36,12 +33,12 @@ fn constant(words: &mut [u32], number: u32, out: &[u8]) -> Reply {
     pieces::given_to(0, end)
 }
 
-fn const_not(given: &[u32], words: &mut [u32], trits: &mut [u8]) -> Reply {
+fn const_not(words: &mut [u32], trits: &mut [u8], given: &[u32]) -> Reply {
     let a = pieces::list(given, 3);
     if !pieces::codes(trits, 0, a) {
         return pieces::unknown();
     }
-    gate(given, 1, words, trits, a.len(), 0)
+    gate(words, given, 1, trits, a.len(), 0)
 }
 
 // Both constants' codes, the second after the first; whether they fit.
@@ -52,76 +49,76 @@ fn load_pair(trits: &mut [u8], a: &[u32], b: &[u32]) -> bool {
     pieces::codes(trits, a.len(), b)
 }
 
-fn const_pair(given: &[u32], op: u32, words: &mut [u32], trits: &mut [u8]) -> Reply {
+fn const_pair(words: &mut [u32], trits: &mut [u8], given: &[u32], op: u32) -> Reply {
     let at = pieces::after(given, 3);
     let a = pieces::list(given, 3);
     let b = pieces::list(given, at);
     if !load_pair(trits, a, b) {
         return pieces::unknown();
     }
-    gate(given, op, words, trits, a.len(), b.len())
+    gate(words, given, op, trits, a.len(), b.len())
 }
 
 // The gate of constants of these lengths: short ones have a small array, which is cleared sooner. The long one is called at two places, so that
 // the compiler keeps its large array out of this function's frame.
-fn gate(given: &[u32], op: u32, words: &mut [u32], trits: &[u8], n: usize, k: usize) -> Reply {
+fn gate(words: &mut [u32], given: &[u32], op: u32, trits: &[u8], n: usize, k: usize) -> Reply {
     if n <= SHORT {
-        return short_gate(given, op, words, trits, n, k);
+        return short_gate(words, given, op, trits, n, k);
     }
     if op == 1 {
-        return long_gate(given, op, words, trits, n, k);
+        return long_gate(words, given, op, trits, n, k);
     }
-    long_gate(given, op, words, trits, n, k)
+    long_gate(words, given, op, trits, n, k)
 }
 
 fn short_gate(
+    words: &mut [u32],
     given: &[u32],
     op: u32,
-    words: &mut [u32],
     trits: &[u8],
     n: usize,
     k: usize,
 ) -> Reply {
     let mut out = [0; SHORT];
-    gate_into(given, op, words, trits, n, k, &mut out)
+    gate_into(words, &mut out, given, op, trits, n, k)
 }
 
-fn long_gate(given: &[u32], op: u32, words: &mut [u32], trits: &[u8], n: usize, k: usize) -> Reply {
-    if ROOM < n {
+fn long_gate(words: &mut [u32], given: &[u32], op: u32, trits: &[u8], n: usize, k: usize) -> Reply {
+    if pieces::IMAGE_ROOM < n {
         return pieces::unknown();
     }
-    let mut out = [0; ROOM];
-    gate_into(given, op, words, trits, n, k, &mut out)
+    let mut out = [0; pieces::IMAGE_ROOM];
+    gate_into(words, &mut out, given, op, trits, n, k)
 }
 
 fn gate_into(
+    words: &mut [u32],
+    out: &mut [u8],
     given: &[u32],
     op: u32,
-    words: &mut [u32],
     trits: &[u8],
     n: usize,
     k: usize,
-    out: &mut [u8],
 ) -> Reply {
     let m = pieces::lent(pieces::word(given, 2), n);
     let room = pieces::part_u8_mut(out, 0, m);
     let x = pieces::part_u8(trits, 0, n);
     let y = pieces::part_u8(trits, n, k);
-    let number = gate_of(op, x, y, room);
+    let number = gate_of(room, op, x, y);
     constant(words, number, pieces::part_u8(out, 0, n))
 }
 
-fn gate_of(op: u32, a: &[u8], b: &[u8], out: &mut [u8]) -> u32 {
+fn gate_of(out: &mut [u8], op: u32, a: &[u8], b: &[u8]) -> u32 {
     if op == 1 {
-        return net_logic::const_not(a, out);
+        return net_logic::const_not(out, a);
     }
     if op == 2 {
-        return net_logic::const_and(a, b, out);
+        return net_logic::const_and(out, a, b);
     }
-    net_logic::const_or(a, b, out)
+    net_logic::const_or(out, a, b)
 }
 
-fn is_undef(given: &[u32], words: &mut [u32], trits: &mut [u8]) -> Reply {
+fn is_undef(words: &mut [u32], trits: &mut [u8], given: &[u32]) -> Reply {
     let a = pieces::list(given, 2);
     if !pieces::codes(trits, 0, a) {
         return pieces::unknown();
@@ -139,7 +136,7 @@ fn flag(words: &mut [u32], b: bool) -> Reply {
     pieces::given(0, 1)
 }
 
-fn inverse(given: &[u32], words: &mut [u32]) -> Reply {
+fn inverse(words: &mut [u32], given: &[u32]) -> Reply {
     let c = pieces::control(given, 2);
     let r = net_value::control_not(c);
     match r {
@@ -157,6 +154,6 @@ fn control(words: &mut [u32], c: ControlNet) -> Reply {
 pub fn answer(given: &[u32], answer: &mut [u32], words: &mut [u32], trits: &mut [u8]) -> usize
     ensures { λ r. ⌜ Answered (now (answer .entry)) (now (answer .exit)) r ⌝ }
 {
-    let r = call(given, words, trits);
+    let r = call(words, trits, given);
     pieces::write_reply(answer, words, r)
 }

@@ -165,7 +165,7 @@ fn depth_count(given: &[u32]) -> usize {
     let r = image_geometry::measure(p, pieces::list(given, at));
     match r {
         Measured::Refused(_) => 0,
-        Measured::Done(s) => size(s.all_mems),
+        Measured::Accepted(s) => size(s.all_mems),
     }
 }
 

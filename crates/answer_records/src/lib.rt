@@ -5,11 +5,6 @@ use record_codec::Head;
 use record_codec::Written;
 use record_sizes::Sizes;
 
-// The bytes of a record, and the trits of an image, that these calls have room for.
-const RECORD: usize = 40040;
-
-const IMAGE: usize = 131112;
-
 fn sizes_at(given: &[u32], at: usize) -> Sizes {
     let a = pieces::next(given, at);
     let b = pieces::next(given, a);
@@ -24,22 +19,22 @@ fn sizes_at(given: &[u32], at: usize) -> Sizes {
     }
 }
 
-fn write(given: &[u32], words: &mut [u32], trits: &mut [u8]) -> Reply {
+fn write(words: &mut [u32], trits: &mut [u8], given: &[u32]) -> Reply {
     let image = pieces::list(given, 8);
     if !pieces::codes(trits, 0, image) {
         return pieces::unknown();
     }
-    written(given, words, pieces::part_u8(trits, 0, image.len()))
+    written(words, given, pieces::part_u8(trits, 0, image.len()))
 }
 
-fn written(given: &[u32], words: &mut [u32], image: &[u8]) -> Reply {
-    let mut out = [0; 40040];
-    let m = pieces::lent(pieces::word(given, 2), RECORD);
+fn written(words: &mut [u32], given: &[u32], image: &[u8]) -> Reply {
+    let mut out = [0; pieces::RECORD_ROOM];
+    let m = pieces::lent(pieces::word(given, 2), pieces::RECORD_ROOM);
     let room = pieces::part_u8_mut(&mut out, 0, m);
-    let r = record_codec::write_record(sizes_at(given, 3), image, room);
+    let r = record_codec::write_record(room, sizes_at(given, 3), image);
     match r {
         Written::Refused(n) => pieces::refused(n),
-        Written::Bytes(n) => bytes(words, pieces::part_u8(&out, 0, n)),
+        Written::Accepted(n) => bytes(words, pieces::part_u8(&out, 0, n)),
     }
 }
 
@@ -48,15 +43,15 @@ fn bytes(words: &mut [u32], out: &[u8]) -> Reply {
     pieces::given_to(0, end)
 }
 
-fn read(given: &[u32], words: &mut [u32], trits: &mut [u8]) -> Reply {
+fn read(words: &mut [u32], trits: &mut [u8], given: &[u32]) -> Reply {
     let list = pieces::list(given, 3);
     if !pieces::codes(trits, 0, list) {
         return pieces::unknown();
     }
-    let mut image = [0; 131112];
-    let m = pieces::lent(pieces::word(given, 2), IMAGE);
+    let mut image = [0; pieces::IMAGE_ROOM];
+    let m = pieces::lent(pieces::word(given, 2), pieces::IMAGE_ROOM);
     let room = pieces::part_u8_mut(&mut image, 0, m);
-    let r = record_codec::read_record(pieces::part_u8(trits, 0, list.len()), room);
+    let r = record_codec::read_record(room, pieces::part_u8(trits, 0, list.len()));
     match r {
         Head::Refused(n) => pieces::refused(n),
         Head::Accepted(s) => decoded(words, s, &image),
@@ -75,33 +70,29 @@ fn decoded(words: &mut [u32], s: Sizes, image: &[u8]) -> Reply {
 }
 
 // The lister's text for its standard input, of which no more is kept than a record may have.
-fn list(given: &[u32], words: &mut [u32], trits: &mut [u8]) -> Reply {
+fn list(words: &mut [u32], trits: &mut [u8], given: &[u32]) -> Reply {
     let input = pieces::list(given, 2);
     let total = input.len();
-    let mut first = [0; 32780];
-    let k = if total < record_listing::MAX_RECORD {
-        total
-    } else {
-        record_listing::MAX_RECORD
-    };
+    let mut first = [0; rules::MAX_RECORD];
+    let k = lists::smaller(total, rules::MAX_RECORD);
     pieces::codes(&mut first, 0, pieces::part(input, 0, k));
-    let n = record_listing::list_input(pieces::part_u8(&first, 0, k), total, trits);
+    let n = record_listing::list_input(trits, pieces::part_u8(&first, 0, k), total);
     if trits.len() < n {
         return pieces::unknown();
     }
     bytes(words, pieces::part_u8(trits, 0, n))
 }
 
-fn call(given: &[u32], words: &mut [u32], trits: &mut [u8]) -> Reply {
+fn call(words: &mut [u32], trits: &mut [u8], given: &[u32]) -> Reply {
     let op = pieces::word(given, 0);
     if op == 31 {
-        return write(given, words, trits);
+        return write(words, trits, given);
     }
     if op == 32 {
-        return read(given, words, trits);
+        return read(words, trits, given);
     }
     if op == 33 {
-        return list(given, words, trits);
+        return list(words, trits, given);
     }
     pieces::unknown()
 }
@@ -110,6 +101,6 @@ fn call(given: &[u32], words: &mut [u32], trits: &mut [u8]) -> Reply {
 pub fn answer(given: &[u32], answer: &mut [u32], words: &mut [u32], trits: &mut [u8]) -> usize
     ensures { λ r. ⌜ Answered (now (answer .entry)) (now (answer .exit)) r ⌝ }
 {
-    let r = call(given, words, trits);
+    let r = call(words, trits, given);
     pieces::write_reply(answer, words, r)
 }

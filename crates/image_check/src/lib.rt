@@ -136,7 +136,7 @@ pub fn entries_refusal(width: u32, entries: &[u32]) -> u32
 pub fn check_layout(p: image_geometry::Params, entries: &[u32]) -> Checked
     ensures { λ r. ⌜ checkedOf r ≡ laidShape (layoutBy p (now (entries .entry))) ⌝ }
 {
-    let image_geometry::Measured::Done(s) = image_geometry::measure(p, entries) else {
+    let image_geometry::Measured::Accepted(s) = image_geometry::measure(p, entries) else {
         return Checked::Bad;
     };
     if entries_bad(p.width, entries) {

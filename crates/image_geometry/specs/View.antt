@@ -15,8 +15,8 @@ use Rattle.image_geometry.specs.declared.Measured.{Measured}
 abbrev pub layoutBy : Params → List ℕ → Layout
 layoutBy p es = record { depth = p .depth; width = p .width; entries = es; softMask = p .«soft_mask»; hard = p .hard; unit = p .unit }
 
-abbrev pub spotOf : Spot → rules.Spot
-spotOf s = record { chunk = s .chunk; row = s .row }
+abbrev pub viewSpot : Spot → rules.Spot
+viewSpot s = record { chunk = s .chunk; row = s .row }
 
 abbrev pub shapeBy : Shape → sizes.Shape
 shapeBy s = record {
@@ -31,7 +31,7 @@ shapeBy s = record {
 
 abbrev pub measuredOf : Measured → Answer sizes.Shape
 measuredOf (measured.the-variants.Refused n) = Refused n
-measuredOf (measured.the-variants.Done s) = Accepted (shapeBy s)
+measuredOf (measured.the-variants.Accepted s) = Accepted (shapeBy s)
 
 -- a number and the lent room after it
 abbrev pub filledWith : ℕ → List ℕ → Filled

@@ -4,13 +4,14 @@ ghost use mathlib.Core.Path.{_≡_};
 ghost use mathlib.Core.Bool.{true};
 ghost use mathlib.Core.List.{List};
 ghost use Prim.Native.Nat.{ℕ, _+_, _*_, _^_, _≤_, _<_};
+ghost use lib.Dec.{ltb};
 ghost use lib.ListN.{length};
-ghost use Rattle.rules.specs.Limits.{addrBits};
+ghost use Rattle.rules.specs.Limits.{addrBits, maxRow};
 ghost use Rattle.rules.specs.Numbers.{ceilDiv, topBits};
 ghost use Rattle.rules.specs.Geometry.{softBits, chunkMuxBits, toChunk, walk};
 ghost use Rattle.rules.specs.Conditions.{badLayoutSizes};
 ghost use Rattle.rules.specs.Beside.Shape.{shapeOf, shapeCall, depthsCall, softMaskNumber, resultNumber};
-ghost use Rattle.image_geometry.specs.View.{spotOf, layoutBy, shapeBy, measuredOf, filledWith};
+ghost use Rattle.image_geometry.specs.View.{viewSpot, layoutBy, shapeBy, measuredOf, filledWith};
 ghost use Rattle.image_geometry.specs.Steps.{Narrow, memsOf, Roomy, stepped};
 
 // A layout's numbers: the memory's depth and width, and the plan's without its entries.
@@ -42,7 +43,7 @@ pub struct Shape {
 
 pub enum Measured {
     Refused(u32),
-    Done(Shape),
+    Accepted(Shape),
 }
 
 // A walk on its way: what the bits so far give, the weights of the next chunk bit and of the next row bit, and the hard bits left.
@@ -91,7 +92,7 @@ pub fn top_bits(word: u32) -> u32
 }
 
 fn pow2(k: u32) -> u64
-    requires { ⌜ k ≤ 32 ⌝ }
+    requires { ⌜ k ≤ addrBits ⌝ }
     ensures { λ r. ⌜ r ≡ 2 ^ k ⌝ }
 {
     let mut power: u64 = 1;
@@ -128,6 +129,13 @@ pub fn chunk_mux_bits(p: Params) -> u32
     top_bits((chunks - 1) as u32)
 }
 
+// A row of so many entries is too long: the one test of a row's length.
+pub fn row_bad(len: usize) -> bool
+    ensures { λ r. ⌜ r ≡ ltb maxRow len ⌝ }
+{
+    rules::MAX_ROW < len
+}
+
 // Number 1, of what a layout holds.
 fn sizes_bad(p: Params, len: usize) -> bool
     ensures { λ r. ⌜ r ≡ badLayoutSizes (p .depth) (p .width) len (p .unit) (p .hard) ⌝ }
@@ -141,7 +149,7 @@ fn sizes_bad(p: Params, len: usize) -> bool
     if rules::MAX_BITS < lists::u64_of_u32(p.depth) * lists::u64_of_u32(p.width) {
         return true;
     }
-    if rules::MAX_ROW < len {
+    if row_bad(len) {
         return true;
     }
     if p.unit == 0 {
@@ -212,14 +220,14 @@ pub fn measure(p: Params, entries: &[u32]) -> Measured
     if sizes_bad(p, entries.len()) {
         return Measured::Refused(1);
     }
-    Measured::Done(shape_of(p, lists::u64_of_usize(entries.len())))
+    Measured::Accepted(shape_of(p, lists::u64_of_usize(entries.len())))
 }
 
 // The depths of a layout's memories, into `out`.
-pub fn depths(p: Params, entries: &[u32], out: &mut [u32]) -> u32
+pub fn depths(out: &mut [u32], p: Params, entries: &[u32]) -> u32
     ensures { λ r. ⌜ filledWith r (now (out .exit)) ≡ depthsCall (now (out .entry)) (layoutBy p (now (entries .entry))) ⌝ }
 {
-    let Measured::Done(s) = measure(p, entries) else {
+    let Measured::Accepted(s) = measure(p, entries) else {
         return 1;
     };
     if lists::u64_of_usize(out.len()) < s.all_mems {
@@ -246,7 +254,7 @@ pub fn soft_mask_refusal(depth: u32, mask: u32) -> u32
 pub fn result_refusal(p: Params, entries: &[u32]) -> u32
     ensures { λ r. ⌜ r ≡ resultNumber (layoutBy p (now (entries .entry))) ⌝ }
 {
-    let Measured::Done(s) = measure(p, entries) else {
+    let Measured::Accepted(s) = measure(p, entries) else {
         return 1;
     };
     if rules::MAX_COLUMNS < s.columns {
@@ -286,7 +294,7 @@ fn step(w: Walk, mask: u32, bit: u64) -> Walk
 
 // Walks the bits of a row number upward. Those above its highest are 0 and add nothing.
 pub fn walk_row(mask: u32, hard: u32, row: u32) -> Spot
-    ensures { λ r. ⌜ spotOf r ≡ walk addrBits mask hard row ⌝ }
+    ensures { λ r. ⌜ viewSpot r ≡ walk addrBits mask hard row ⌝ }
 {
     let mut w = walked(0, 1, 0, 1, hard);
     let mut soft = mask;

@@ -105,8 +105,3 @@ pub calls-end : (q : Laid) (calls trits : List ℕ) (i n : ℕ) (b : List ℕ) �
 calls-end q calls trits i n b l =
     let m : n - i ≡ 0 = omega arith in
     ap (λ (x : ℕ). patched q (callsFrom calls trits i x) b) m ∙ ap (λ (x : List Patch). patched q x b) (calls-nil calls trits i) ∙ patched-nil q b
-
--- without a swizzle nothing is written
-pub patched-unset : (l : Laid) (cs : List Patch) (b : List ℕ) → l ≡ none → b ≡ patched l cs b
-unfolding patched
-patched-unset l cs b e = sym (ap (λ (x : Laid). patched x cs b) e)

@@ -56,10 +56,6 @@ module _ (l : Laid) (rows buffer : List ℕ) (cs : List Patch) where
         out = (a ∙ ap (patched l cs) (left-of n mid e ∙ leaves-accepted _ buffer (filledBy l rows buffer) f) ∙ sym (leaves-accepted _ buffer (patched l cs (filledBy l rows buffer)) f)) i;
       }
 
-  pub both-unset : l ≡ none → _≡_ {A = Filled} (record { number = 23; out = buffer }) (fillAndPatchCall l rows cs buffer)
-  unfolding fillAndPatchCall fillRefusal leaves
-  both-unset e = sym (ap (λ (x : Laid). fillAndPatchCall x rows cs buffer) e)
-
 -- ---- demand 3
 some-out : (q : Layout) (rows buffer after : List ℕ) (cs : List Patch) → _≡_ {A = Filled} (record { number = 0; out = after }) (fillAndPatchCall (some q) rows cs buffer)
     → (fillRefusalOf q (length buffer) (length rows) ≡ 0) × (after ≡ calledAll q cs (laidOut q rows buffer))

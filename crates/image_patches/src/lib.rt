@@ -42,7 +42,7 @@ fn call_at(
     requires { ⌜ 4 * i + 3 < length (now calls) ⌝ }
     ensures { λ _. ⌜ now (buffer .exit) ≡ patched (handedOn (layoutBy p (now (entries .entry)))) (callAt (now (calls .entry)) (now (trits .entry)) i ∷ []) (now (buffer .entry)) ⌝ }
 {
-    let at = 4 * i;
+    let at = CALL * i;
     let at1 = at + 1;
     let at2 = at + 2;
     let at3 = at + 3;
@@ -76,10 +76,7 @@ pub fn patch_each(
 pub fn patch_all(buffer: &mut [u8], laid: image_state::Laid, calls: &[u32], trits: &[u8])
     ensures { λ _. ⌜ now (buffer .exit) ≡ patched (laidOf laid) (callsOf (now (calls .entry)) (now (trits .entry))) (now (buffer .entry)) ⌝ }
 {
-    let len = lists::usize_of_u32(laid.len);
-    if rules::MAX_ROW < len {
-        return;
-    }
+    let len = image_state::used(laid);
     let entries = laid.entries;
     patch_each(
         buffer,
@@ -121,10 +118,7 @@ pub fn fill_and_patch(
     ensures { λ r. ⌜ filledWith r (now (buffer .exit)) ≡ fillAndPatchCall (laidOf laid) (now (rows .entry)) (callsOf (now (calls .entry)) (now (trits .entry))) (now (buffer .entry)) ⌝ }
     ensures { λ r. ⌜ (r ≡ 0 → Demanded (laidOf laid) (now (rows .entry)) (now (buffer .entry)) (callsOf (now (calls .entry)) (now (trits .entry))) (now (buffer .exit))) ⌝ }
 {
-    let len = lists::usize_of_u32(laid.len);
-    if rules::MAX_ROW < len {
-        return 23;
-    }
+    let len = image_state::used(laid);
     let entries = laid.entries;
     fill_then_patch(
         buffer,

@@ -23,7 +23,7 @@ use Rattle.rules.specs.Patch.{laidOut}
 use Rattle.rules.specs.Beside.Layouts.{fillRefusalOf, fillRefusal, filledBy, fillCall}
 use Rattle.rules.specs.Answers.{Filled}
 use Rattle.rules.proofs.Demand.{Accepted, places-below, write-take, write-drop, length-writeRows}
-use Rattle.image_rows.specs.Steps.{fillNumber}
+use Rattle.image_rows.specs.Steps.{fillRefusalBy}
 
 module _ (q : Layout) (z : Accepted q) where
   write-append : (r : ℕ) (v p x : List ℕ) → r < q .depth → imageSize q ≤ length p → writeRow q r v (p ++ x) ≡ writeRow q r v p ++ x
@@ -85,21 +85,21 @@ pub words-product : (a b d w : ℕ) → a ≡ d → b ≡ w → d < 4294967296 �
 words-product a b d w e f h k = mul-le-mul {n₂ = 4294967295} {m₂ = 4294967295} (omega arith) (omega arith)
 
 module _ (depth width size room len : ℕ) where
-  pub fill-2 : len ≢ depth * width → fillNumber depth width size room len ≡ 2
-  unfolding fillNumber
+  pub fill-2 : len ≢ depth * width → fillRefusalBy depth width size room len ≡ 2
+  unfolding fillRefusalBy
   fill-2 n = rw (ne-eqb len (depth * width) n)
 
-  pub fill-20 : len ≡ depth * width → room < size → fillNumber depth width size room len ≡ 20
-  unfolding fillNumber noRoom
+  pub fill-20 : len ≡ depth * width → room < size → fillRefusalBy depth width size room len ≡ 20
+  unfolding fillRefusalBy noRoom
   fill-20 e l = rw (eq-eqb len (depth * width) e, lt-ltb room size l)
 
-  pub fill-0 : len ≡ depth * width → size ≤ room → fillNumber depth width size room len ≡ 0
-  unfolding fillNumber noRoom
+  pub fill-0 : len ≡ depth * width → size ≤ room → fillRefusalBy depth width size room len ≡ 0
+  unfolding fillRefusalBy noRoom
   fill-0 e l = rw (eq-eqb len (depth * width) e, le-ltb room size l)
 
-pub fill-number-is : (q : Layout) (size room len : ℕ) → size ≡ imageSize q → fillNumber (q .depth) (q .width) size room len ≡ fillRefusalOf q room len
-unfolding fillNumber fillRefusalOf
-fill-number-is q size room len e = ap (λ (n : ℕ). if not (eqb len (q .depth * q .width)) then 2 else if noRoom room n then 20 else 0) e
+pub fill-refusal-is : (q : Layout) (size room len : ℕ) → size ≡ imageSize q → fillRefusalBy (q .depth) (q .width) size room len ≡ fillRefusalOf q room len
+unfolding fillRefusalBy fillRefusalOf
+fill-refusal-is q size room len e = ap (λ (n : ℕ). if not (eqb len (q .depth * q .width)) then 2 else if noRoom room n then 20 else 0) e
 
 -- what is known where no number refuses
 pub fills : (q : Layout) (room len : ℕ) → fillRefusalOf q room len ≡ 0 → (len ≡ q .depth * q .width) × (imageSize q ≤ room)

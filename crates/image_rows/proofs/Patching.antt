@@ -16,33 +16,33 @@ use Rattle.rules.specs.Conditions.{badTrits, notBelow, noRoom}
 use Rattle.rules.specs.Refusals.{imageRefusal, patchRefusalOf, patchRefusal}
 use Rattle.rules.specs.Patch.{patchedBy, patchedOne}
 use Rattle.rules.specs.Answers.{Filled, patchCall}
-use Rattle.image_rows.specs.Steps.{patchNumber}
+use Rattle.image_rows.specs.Steps.{patchRefusalBy}
 
 module _ (width depth size row : ℕ) (trits : List ℕ) (room : ℕ) where
-  pub by-4-width : length trits ≢ width → patchNumber width depth size row trits room ≡ 4
-  unfolding patchNumber
+  pub by-4-width : length trits ≢ width → patchRefusalBy width depth size row trits room ≡ 4
+  unfolding patchRefusalBy
   by-4-width b = rw (ne-eqb (length trits) width b)
 
-  pub by-4-trit : length trits ≡ width → areTrits trits ≡ false → patchNumber width depth size row trits room ≡ 4
-  unfolding patchNumber badTrits
+  pub by-4-trit : length trits ≡ width → areTrits trits ≡ false → patchRefusalBy width depth size row trits room ≡ 4
+  unfolding patchRefusalBy badTrits
   by-4-trit b c = rw (eq-eqb (length trits) width b, c)
 
-  pub by-15 : length trits ≡ width → areTrits trits ≡ true → depth ≤ row → patchNumber width depth size row trits room ≡ 15
-  unfolding patchNumber badTrits notBelow
+  pub by-15 : length trits ≡ width → areTrits trits ≡ true → depth ≤ row → patchRefusalBy width depth size row trits room ≡ 15
+  unfolding patchRefusalBy badTrits notBelow
   by-15 b c d = rw (eq-eqb (length trits) width b, c, le-leb depth row d)
 
-  pub by-20 : length trits ≡ width → areTrits trits ≡ true → row < depth → room < size → patchNumber width depth size row trits room ≡ 20
-  unfolding patchNumber badTrits notBelow noRoom
+  pub by-20 : length trits ≡ width → areTrits trits ≡ true → row < depth → room < size → patchRefusalBy width depth size row trits room ≡ 20
+  unfolding patchRefusalBy badTrits notBelow noRoom
   by-20 b c d e = rw (eq-eqb (length trits) width b, c, lt-leb depth row d, lt-ltb room size e)
 
-  pub by-0 : length trits ≡ width → areTrits trits ≡ true → row < depth → size ≤ room → patchNumber width depth size row trits room ≡ 0
-  unfolding patchNumber badTrits notBelow noRoom
+  pub by-0 : length trits ≡ width → areTrits trits ≡ true → row < depth → size ≤ room → patchRefusalBy width depth size row trits room ≡ 0
+  unfolding patchRefusalBy badTrits notBelow noRoom
   by-0 b c d e = rw (eq-eqb (length trits) width b, c, lt-leb depth row d, le-ltb room size e)
 
 -- the rules' own number
 pub number-is : (q : Layout) (size row : ℕ) (trits : List ℕ) (room : ℕ) → size ≡ imageSize q
-    → patchNumber (q .width) (q .depth) size row trits room ≡ patchRefusalOf q (record { row = row; trits = trits; room = room })
-unfolding patchNumber patchRefusalOf imageRefusal
+    → patchRefusalBy (q .width) (q .depth) size row trits room ≡ patchRefusalOf q (record { row = row; trits = trits; room = room })
+unfolding patchRefusalBy patchRefusalOf imageRefusal
 number-is q size row trits room e = ap (λ (n : ℕ). if not (eqb (length trits) (q .width)) || badTrits trits then 4 else if notBelow (q .depth) row then 15 else if noRoom room n then 20 else 0) e
 
 -- ---- what is left of the image

@@ -17,28 +17,28 @@ use Rattle.rules.specs.Conditions.{notBelow, noRoom}
 use Rattle.rules.specs.Beside.Layouts.{readRow, readRowRefusalOf, readRowRefusal, rowRead, readRowCall}
 use Rattle.rules.specs.Answers.{Filled, filled}
 use Rattle.rules.proofs.Answering.{filled-refused, filled-done}
-use Rattle.image_rows.specs.Steps.{readNumber}
+use Rattle.image_rows.specs.Steps.{readRefusalBy}
 
 module _ (depth width size room len row : ℕ) where
-  pub read-15 : depth ≤ row → readNumber depth width size room len row ≡ 15
-  unfolding readNumber notBelow
+  pub read-15 : depth ≤ row → readRefusalBy depth width size room len row ≡ 15
+  unfolding readRefusalBy notBelow
   read-15 a = rw (le-leb depth row a)
 
-  pub read-20-image : row < depth → len < size → readNumber depth width size room len row ≡ 20
-  unfolding readNumber notBelow noRoom
+  pub read-20-image : row < depth → len < size → readRefusalBy depth width size room len row ≡ 20
+  unfolding readRefusalBy notBelow noRoom
   read-20-image a b = rw (lt-leb depth row a, lt-ltb len size b)
 
-  pub read-20-room : row < depth → size ≤ len → room < width → readNumber depth width size room len row ≡ 20
-  unfolding readNumber notBelow noRoom
+  pub read-20-room : row < depth → size ≤ len → room < width → readRefusalBy depth width size room len row ≡ 20
+  unfolding readRefusalBy notBelow noRoom
   read-20-room a b c = rw (lt-leb depth row a, le-ltb len size b, lt-ltb room width c)
 
-  pub read-0 : row < depth → size ≤ len → width ≤ room → readNumber depth width size room len row ≡ 0
-  unfolding readNumber notBelow noRoom
+  pub read-0 : row < depth → size ≤ len → width ≤ room → readRefusalBy depth width size room len row ≡ 0
+  unfolding readRefusalBy notBelow noRoom
   read-0 a b c = rw (lt-leb depth row a, le-ltb len size b, le-ltb room width c)
 
-pub read-number-is : (q : Layout) (size room len row : ℕ) → size ≡ imageSize q → readNumber (q .depth) (q .width) size room len row ≡ readRowRefusalOf q room len row
-unfolding readNumber readRowRefusalOf
-read-number-is q size room len row e = ap (λ (n : ℕ). if notBelow (q .depth) row then 15 else if noRoom len n || noRoom room (q .width) then 20 else 0) e
+pub read-refusal-is : (q : Layout) (size room len row : ℕ) → size ≡ imageSize q → readRefusalBy (q .depth) (q .width) size room len row ≡ readRowRefusalOf q room len row
+unfolding readRefusalBy readRowRefusalOf
+read-refusal-is q size room len row e = ap (λ (n : ℕ). if notBelow (q .depth) row then 15 else if noRoom len n || noRoom room (q .width) then 20 else 0) e
 
 -- what is known where no number refuses
 pub reads : (q : Layout) (room len row : ℕ) → readRowRefusalOf q room len row ≡ 0 → (row < q .depth) × (q .width ≤ room)

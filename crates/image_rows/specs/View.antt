@@ -10,4 +10,4 @@ locatedOf p = record { place = record { memory = p .memory; row = p .row; bit = 
 
 abbrev pub placedOf : Placed → Answer Located
 placedOf (placed.the-variants.Refused n) = Refused n
-placedOf (placed.the-variants.At p) = Accepted (locatedOf p)
+placedOf (placed.the-variants.Accepted p) = Accepted (locatedOf p)

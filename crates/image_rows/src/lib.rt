@@ -9,7 +9,7 @@ ghost use Rattle.rules.specs.Beside.Layouts.{fillCall, readRowCall};
 ghost use Rattle.rules.specs.Answers.{patchCall};
 ghost use Rattle.image_geometry.specs.View.{layoutBy, filledWith};
 ghost use Rattle.image_rows.specs.View.{placedOf};
-ghost use Rattle.image_rows.specs.Steps.{stepsBy, Ready, Low, Lows, nextOf, At, indexFrom, takeRow, patchNumber, fillNumber, readNumber};
+ghost use Rattle.image_rows.specs.Steps.{stepsBy, Ready, Low, Lows, nextOf, At, indexFrom, takeRow, patchRefusalBy, fillRefusalBy, readRefusalBy};
 
 pub mod entry;
 
@@ -23,7 +23,7 @@ pub struct Place {
 
 pub enum Placed {
     Refused(u32),
-    At(Place),
+    Accepted(Place),
 }
 
 // The full memories, the trits of a full one and of another, and the trits of a row in each.
@@ -152,8 +152,8 @@ fn write_row(
 }
 
 // Numbers 4, 15 and 20 of a patch, where the image has `size` trits.
-fn patch_number(p: image_geometry::Params, size: u64, row: u32, trits: &[u8], room: usize) -> u32
-    ensures { λ r. ⌜ r ≡ patchNumber (p .width) (p .depth) size row (now (trits .entry)) room ⌝ }
+fn patch_refusal(room: usize, p: image_geometry::Params, size: u64, row: u32, trits: &[u8]) -> u32
+    ensures { λ r. ⌜ r ≡ patchRefusalBy (p .width) (p .depth) size row (now (trits .entry)) room ⌝ }
 {
     if trits.len() != lists::usize_of_u32(p.width) {
         return 4;
@@ -183,7 +183,7 @@ pub fn patch_row(
     let image_check::Checked::Good(s) = image_check::check_layout(p, entries) else {
         return 23;
     };
-    let refused = patch_number(p, s.image_size, row, trits, image.len());
+    let refused = patch_refusal(image.len(), p, s.image_size, row, trits);
     if refused != 0 {
         return refused;
     }
@@ -209,8 +209,8 @@ fn write_rows(image: &mut [u8], p: image_geometry::Params, g: Steps, entries: &[
 }
 
 // Numbers 2 and 20 of a layout of `len` trits, where the image has `size`.
-fn fill_number(p: image_geometry::Params, size: u64, room: usize, len: usize) -> u32
-    ensures { λ r. ⌜ r ≡ fillNumber (p .depth) (p .width) size room len ⌝ }
+fn fill_refusal(room: usize, p: image_geometry::Params, size: u64, len: usize) -> u32
+    ensures { λ r. ⌜ r ≡ fillRefusalBy (p .depth) (p .width) size room len ⌝ }
 {
     if lists::u64_of_usize(len) != lists::u64_of_u32(p.depth) * lists::u64_of_u32(p.width) {
         return 2;
@@ -228,7 +228,7 @@ pub fn fill_rows(image: &mut [u8], p: image_geometry::Params, entries: &[u32], r
     let image_check::Checked::Good(s) = image_check::check_layout(p, entries) else {
         return 23;
     };
-    let n = fill_number(p, s.image_size, image.len(), rows.len());
+    let n = fill_refusal(image.len(), p, s.image_size, rows.len());
     if n != 0 {
         return n;
     }
@@ -255,8 +255,8 @@ fn take_row(
 }
 
 // Numbers 15 and 20 of a row read back, where the image has `size` trits.
-fn read_number(p: image_geometry::Params, size: u64, room: usize, len: usize, row: u32) -> u32
-    ensures { λ r. ⌜ r ≡ readNumber (p .depth) (p .width) size room len row ⌝ }
+fn read_refusal(room: usize, p: image_geometry::Params, size: u64, len: usize, row: u32) -> u32
+    ensures { λ r. ⌜ r ≡ readRefusalBy (p .depth) (p .width) size room len row ⌝ }
 {
     if p.depth <= row {
         return 15;
@@ -283,7 +283,7 @@ pub fn read_row(
     let image_check::Checked::Good(s) = image_check::check_layout(p, entries) else {
         return 23;
     };
-    let n = read_number(p, s.image_size, room.len(), image.len(), row);
+    let n = read_refusal(room.len(), p, s.image_size, image.len(), row);
     if n != 0 {
         return n;
     }
@@ -295,7 +295,7 @@ pub fn read_row(
 pub fn place_of(p: image_geometry::Params, entries: &[u32], row: u32, entry: usize) -> Placed
     ensures { λ r. ⌜ placedOf r ≡ placeCall (layoutBy p (now (entries .entry))) row entry ⌝ }
 {
-    let image_geometry::Measured::Done(s) = image_geometry::measure(p, entries) else {
+    let image_geometry::Measured::Accepted(s) = image_geometry::measure(p, entries) else {
         return Placed::Refused(1);
     };
     if p.depth <= row {
@@ -306,7 +306,7 @@ pub fn place_of(p: image_geometry::Params, entries: &[u32], row: u32, entry: usi
     }
     let c = cursor_at(p, steps_of(s, p.unit), entries, row, entry);
     let spot = image_geometry::walk_row(p.soft_mask, p.hard, row);
-    Placed::At(Place {
+    Placed::Accepted(Place {
         memory: c.memory,
         row: lists::u64_of_u32(spot.row),
         bit: c.bit,

@@ -21,6 +21,13 @@ paramsOf l = record { depth = l .depth; width = l .width; «soft_mask» = l .«s
 abbrev pub viewOf : Laid → Layout
 viewOf l = layoutBy (paramsOf l) (take (l .len) (l .entries))
 
+-- the numbers that the calls go by: where the length passes the array the unit is 0, which no layout has
+abbrev pub lentUnit : Laid → ℕ
+lentUnit l = if ltb maxRow (l .len) then 0 else l .unit
+
+abbrev pub lentParams : Laid → Params
+lentParams l = record { depth = l .depth; width = l .width; «soft_mask» = l .«soft_mask»; hard = l .hard; unit = lentUnit l }
+
 -- a length past the array, and a layout that no accepted swizzle has, are no state
 unfoldable pub laidOf : Laid → rules.Laid
 laidOf l = if ltb maxRow (l .len) then none else handedOn (viewOf l)

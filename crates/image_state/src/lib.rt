@@ -1,13 +1,14 @@
 // Images: the state that a swizzle hands on, and by it an image laid out from rows, a row patched and a row read back.
 ghost use mathlib.Core.Path.{_≡_};
 ghost use mathlib.Core.Option.{none};
-ghost use Prim.Native.Nat.{_<_};
+ghost use Prim.Native.Nat.{_<_, _≤_, min};
 ghost use lib.ListN.{length};
+ghost use Rattle.rules.specs.Limits.{maxRow};
 ghost use Rattle.rules.specs.Beside.Shape.{handedOn};
 ghost use Rattle.rules.specs.Beside.Layouts.{fillCall, readRowCall};
 ghost use Rattle.rules.specs.Answers.{patchCall};
 ghost use Rattle.image_geometry.specs.View.{layoutBy, filledWith};
-ghost use Rattle.image_state.specs.View.{paramsOf, laidOf, unsetLaid, laidBy};
+ghost use Rattle.image_state.specs.View.{lentUnit, lentParams, laidOf, unsetLaid, laidBy};
 
 // What a swizzle hands on for patches: the layout's numbers, and the entries of a row, of which the first `len` are in use. The unit is 0 where
 // no swizzle was accepted yet.
@@ -37,12 +38,13 @@ pub fn unset() -> Laid
     }
 }
 
-// The state of a layout: unset where no accepted swizzle has it.
+// The state of a layout: its numbers and entries as they are given, or `unset()` where the row is longer than MAX_ROW. The calls by a layout
+// that no accepted swizzle has are refused by 23.
 pub fn laid_out(p: image_geometry::Params, entries: &[u32]) -> Laid
     ensures { λ r. ⌜ r ≡ laidBy p (now (entries .entry)) ⌝ }
     ensures { λ r. ⌜ laidOf r ≡ handedOn (layoutBy p (now (entries .entry))) ⌝ }
 {
-    if rules::MAX_ROW < entries.len() {
+    if image_geometry::row_bad(entries.len()) {
         return unset();
     }
     let mut kept = [0u32; rules::MAX_ROW];
@@ -58,16 +60,33 @@ pub fn laid_out(p: image_geometry::Params, entries: &[u32]) -> Laid
     }
 }
 
-// The state's numbers.
+// How many entries are in use, of those that there is place for.
+pub fn used(laid: Laid) -> usize
+    ensures { λ r. ⌜ (r ≡ min maxRow (laid .len)) × (r ≤ maxRow) ⌝ }
+{
+    lists::smaller(rules::MAX_ROW, lists::usize_of_u32(laid.len))
+}
+
+// The unit, or 0, as before any swizzle, where the length passes the place for the entries: the calls by such a state are refused by 23.
+fn unit(laid: Laid) -> u32
+    ensures { λ r. ⌜ r ≡ lentUnit laid ⌝ }
+{
+    if image_geometry::row_bad(lists::usize_of_u32(laid.len)) {
+        return 0;
+    }
+    laid.unit
+}
+
+// The numbers by which the calls go.
 pub fn params(laid: Laid) -> image_geometry::Params
-    ensures { λ r. ⌜ r ≡ paramsOf laid ⌝ }
+    ensures { λ r. ⌜ r ≡ lentParams laid ⌝ }
 {
     image_geometry::Params {
         depth: laid.depth,
         width: laid.width,
         soft_mask: laid.soft_mask,
         hard: laid.hard,
-        unit: laid.unit,
+        unit: unit(laid),
     }
 }
 
@@ -75,10 +94,7 @@ pub fn params(laid: Laid) -> image_geometry::Params
 pub fn patch(image: &mut [u8], laid: Laid, row: u32, trits: &[u8]) -> u32
     ensures { λ r. ⌜ filledWith r (now (image .exit)) ≡ patchCall (laidOf laid) (record { row = row; trits = now (trits .entry); room = length (now (image .entry)) }) (now (image .entry)) ⌝ }
 {
-    let len = lists::usize_of_u32(laid.len);
-    if rules::MAX_ROW < len {
-        return 23;
-    }
+    let len = used(laid);
     let entries = laid.entries;
     image_rows::patch_row(image, params(laid), &entries[..len], row, trits)
 }
@@ -87,10 +103,7 @@ pub fn patch(image: &mut [u8], laid: Laid, row: u32, trits: &[u8]) -> u32
 pub fn fill(image: &mut [u8], laid: Laid, rows: &[u8]) -> u32
     ensures { λ r. ⌜ filledWith r (now (image .exit)) ≡ fillCall (laidOf laid) (now (rows .entry)) (now (image .entry)) ⌝ }
 {
-    let len = lists::usize_of_u32(laid.len);
-    if rules::MAX_ROW < len {
-        return 23;
-    }
+    let len = used(laid);
     let entries = laid.entries;
     image_rows::fill_rows(image, params(laid), &entries[..len], rows)
 }
@@ -99,10 +112,7 @@ pub fn fill(image: &mut [u8], laid: Laid, rows: &[u8]) -> u32
 pub fn read_row(room: &mut [u8], laid: Laid, image: &[u8], row: u32) -> u32
     ensures { λ r. ⌜ filledWith r (now (room .exit)) ≡ readRowCall (laidOf laid) (now (room .entry)) (now (image .entry)) row ⌝ }
 {
-    let len = lists::usize_of_u32(laid.len);
-    if rules::MAX_ROW < len {
-        return 23;
-    }
+    let len = used(laid);
     let entries = laid.entries;
     image_rows::read_row(room, params(laid), &entries[..len], image, row)
 }

@@ -1,6 +1,7 @@
 // Lists the memories of the record that standard input holds, or the number that refuses it.
 ghost use Prim.Native.Nat.{_≤_};
 ghost use lib.ListN.{length};
+ghost use Rattle.record_listing.specs.Put.{maxRecord};
 use libc::STDIN_FILENO;
 use libc::STDOUT_FILENO;
 
@@ -34,16 +35,16 @@ fn rest() -> usize
 
 // The length of an input of which n bytes were read first.
 fn total_of(n: usize) -> usize
-    requires { ⌜ n ≤ 32780 ⌝ }
+    requires { ⌜ n ≤ maxRecord ⌝ }
 {
-    if n < record_listing::MAX_RECORD {
+    if n < rules::MAX_RECORD {
         return n;
     }
     n + rest()
 }
 
-fn record_room() -> [u8; record_listing::MAX_RECORD] {
-    [0u8; record_listing::MAX_RECORD]
+fn record_room() -> [u8; rules::MAX_RECORD] {
+    [0u8; rules::MAX_RECORD]
 }
 
 fn text_room() -> [u8; record_listing::MAX_TEXT] {
@@ -62,6 +63,6 @@ fn main() {
     let mut out = text_room();
     let n = io::read_full(STDIN_FILENO, &mut bytes);
     let total = total_of(n);
-    let size = record_listing::list_input(&bytes[..n], total, &mut out);
+    let size = record_listing::list_input(&mut out, &bytes[..n], total);
     write_front(&out, size);
 }

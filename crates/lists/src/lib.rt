@@ -129,6 +129,18 @@ pub fn usize_of_u32(x: u32) -> usize
     x as usize
 }
 
+pub fn u32_of_u16(x: u16) -> u32
+    ensures { λ r. ⌜ r ≡ x ⌝ }
+{
+    x as u32
+}
+
+pub fn u32_of_u8(x: u8) -> u32
+    ensures { λ r. ⌜ r ≡ x ⌝ }
+{
+    x as u32
+}
+
 pub fn u64_of_u32(x: u32) -> u64
     ensures { λ r. ⌜ r ≡ x ⌝ }
 {

@@ -436,14 +436,14 @@ fn emit_remap(log: &mut [u32], st: LogState, c: Controls) -> Remapped
             state: st,
         };
     }
-    if net_flip_flop::is_always(0, reset) {
+    if net_value::is_always(reset, false) {
         let controls = with_reset(c, reset);
         return Remapped {
             controls,
             state: st,
         };
     }
-    if net_flip_flop::is_always(1, enable) {
+    if net_value::is_always(enable, true) {
         let controls = with_reset(c, reset);
         return Remapped {
             controls,

@@ -1,6 +1,6 @@
 // cell/flip_flop.rs: the controls that a flip-flop and a clocked read port share, and the tests and words of a flip-flop's parts.
 ghost use mathlib.Core.Path.{_≡_};
-ghost use Rattle.rules.specs.Value.{isAlways, controlWords};
+ghost use Rattle.rules.specs.Value.{controlWords};
 ghost use Rattle.rules.specs.Log.{flag};
 ghost use Rattle.rules.specs.Conditions.{badControls};
 ghost use Rattle.net_value.specs.View.{controlOf};
@@ -15,16 +15,6 @@ pub struct Controls {
     pub reset: ControlNet,
     pub enable: ControlNet,
     pub reset_over_enable: bool,
-}
-
-// Whether a control is a constant for ever: Pos of it.
-pub fn is_always(v: u32, c: ControlNet) -> bool
-    ensures { λ r. ⌜ r ≡ isAlways v (controlOf c) ⌝ }
-{
-    match c {
-        ControlNet::Pos(n) => n.0 == v,
-        ControlNet::Neg(_) => false,
-    }
 }
 
 // Whether some control is bad below the next free net.

@@ -192,7 +192,7 @@ fn code_not(x: u8) -> u8
     trit_code(trit_not(trit_at(x)))
 }
 
-fn const_not_refusal(a: &[u8], room: usize) -> u32
+fn const_not_refusal(room: usize, a: &[u8]) -> u32
     ensures { λ r. ⌜ r ≡ constNotRefusal room (now (a .entry)) ⌝ }
 {
     if !trits_good(a) {
@@ -204,7 +204,7 @@ fn const_not_refusal(a: &[u8], room: usize) -> u32
     0
 }
 
-fn write_not(a: &[u8], out: &mut [u8])
+fn write_not(out: &mut [u8], a: &[u8])
     requires { ⌜ length (now a) ≤ length (now out) ⌝ }
     ensures { λ _. ⌜ now (out .exit) ≡ sets (now (out .entry)) 0 (constNot (now (a .entry))) ⌝ }
 {
@@ -216,14 +216,14 @@ fn write_not(a: &[u8], out: &mut [u8])
 }
 
 // The constant trit by trit, or number 4 or 20.
-pub fn const_not(a: &[u8], out: &mut [u8]) -> u32
+pub fn const_not(out: &mut [u8], a: &[u8]) -> u32
     ensures { λ r. ⌜ filledWith r (now (out .exit)) ≡ constNotCall (now (out .entry)) (now (a .entry)) ⌝ }
 {
-    let n = const_not_refusal(a, out.len());
+    let n = const_not_refusal(out.len(), a);
     if n != 0 {
         return n;
     }
-    write_not(a, out);
+    write_not(out, a);
     0
 }
 
@@ -238,7 +238,7 @@ fn code_gate(g: Gate, x: u8, y: u8) -> u8
     }
 }
 
-fn const_pair_refusal(a: &[u8], b: &[u8], room: usize) -> u32
+fn const_pair_refusal(room: usize, a: &[u8], b: &[u8]) -> u32
     ensures { λ r. ⌜ r ≡ constPairRefusal room (now (a .entry)) (now (b .entry)) ⌝ }
 {
     if a.len() != b.len() {
@@ -256,7 +256,7 @@ fn const_pair_refusal(a: &[u8], b: &[u8], room: usize) -> u32
     0
 }
 
-fn write_gate(g: Gate, a: &[u8], b: &[u8], out: &mut [u8])
+fn write_gate(out: &mut [u8], g: Gate, a: &[u8], b: &[u8])
     requires { ⌜ (length (now a) ≡ length (now b)) × (length (now a) ≤ length (now out)) ⌝ }
     ensures { λ _. ⌜ now (out .exit) ≡ sets (now (out .entry)) 0 (tritwise (gateOf g) (now (a .entry)) (now (b .entry))) ⌝ }
 {
@@ -267,26 +267,26 @@ fn write_gate(g: Gate, a: &[u8], b: &[u8], out: &mut [u8])
     }
 }
 
-fn const_gate(g: Gate, a: &[u8], b: &[u8], out: &mut [u8]) -> u32
+fn const_gate(out: &mut [u8], g: Gate, a: &[u8], b: &[u8]) -> u32
     ensures { λ r. ⌜ filledWith r (now (out .exit)) ≡ filled (constPairRefusal (length (now (out .entry))) (now (a .entry)) (now (b .entry))) (now (out .entry)) (tritwise (gateOf g) (now (a .entry)) (now (b .entry))) ⌝ }
 {
-    let n = const_pair_refusal(a, b, out.len());
+    let n = const_pair_refusal(out.len(), a, b);
     if n != 0 {
         return n;
     }
-    write_gate(g, a, b, out);
+    write_gate(out, g, a, b);
     0
 }
 
 // Two constants trit by trit, or number 2, 4 or 20.
-pub fn const_and(a: &[u8], b: &[u8], out: &mut [u8]) -> u32
+pub fn const_and(out: &mut [u8], a: &[u8], b: &[u8]) -> u32
     ensures { λ r. ⌜ filledWith r (now (out .exit)) ≡ constAndCall (now (out .entry)) (now (a .entry)) (now (b .entry)) ⌝ }
 {
-    const_gate(Gate::And, a, b, out)
+    const_gate(out, Gate::And, a, b)
 }
 
-pub fn const_or(a: &[u8], b: &[u8], out: &mut [u8]) -> u32
+pub fn const_or(out: &mut [u8], a: &[u8], b: &[u8]) -> u32
     ensures { λ r. ⌜ filledWith r (now (out .exit)) ≡ constOrCall (now (out .entry)) (now (a .entry)) (now (b .entry)) ⌝ }
 {
-    const_gate(Gate::Or, a, b, out)
+    const_gate(out, Gate::Or, a, b)
 }

@@ -34,7 +34,7 @@ pub struct MemoryReadPort {
     pub reset_len: u32,
     pub init_len: u32,
     pub relations_len: u32,
-    pub relations: [u8; 8],
+    pub relations: [u8; rules::MAX_PORTS],
     pub flip_flop: MemoryReadFlipFlop,
 }
 
@@ -44,18 +44,15 @@ pub struct Memory {
     pub init_len: u32,
     pub write_count: u32,
     pub read_count: u32,
-    pub write_ports: [MemoryWritePort; 8],
-    pub read_ports: [MemoryReadPort; 8],
+    pub write_ports: [MemoryWritePort; rules::MAX_PORTS],
+    pub read_ports: [MemoryReadPort; rules::MAX_PORTS],
 }
 
-// The ports in use: at most the eight that there is place for.
+// The ports in use: at most as many as there is place for.
 pub fn ports_used(count: u32) -> usize
-    ensures { λ r. ⌜ (r ≡ min maxPorts count) × (r ≤ 8) ⌝ }
+    ensures { λ r. ⌜ (r ≡ min maxPorts count) × (r ≤ maxPorts) ⌝ }
 {
-    if count < 8 {
-        return lists::usize_of_u32(count);
-    }
-    rules::MAX_PORTS
+    lists::smaller(rules::MAX_PORTS, lists::usize_of_u32(count))
 }
 
 // How many nets a write port has.
@@ -155,7 +152,7 @@ pub fn init_of(p: MemoryReadPort, trits: &[u8]) -> &[u8]
 
 // Where the nets of write port i start.
 fn write_start(m: Memory, i: usize) -> usize
-    requires { ⌜ i ≤ 8 ⌝ }
+    requires { ⌜ i ≤ maxPorts ⌝ }
     ensures { λ r. ⌜ (r ≡ writeStart m i) × (r ≤ i * 0x300000000) ⌝ }
 {
     let mut at: usize = 0;
@@ -178,7 +175,7 @@ pub fn reads_start(m: Memory) -> usize
 
 // Where the nets of read port i start.
 fn read_start(m: Memory, i: usize) -> usize
-    requires { ⌜ i ≤ 8 ⌝ }
+    requires { ⌜ i ≤ maxPorts ⌝ }
     ensures { λ r. ⌜ (r ≡ readStart m i) × (r ≤ 0x1800000000 + i * 0x100000000) ⌝ }
 {
     let mut at = reads_start(m);
@@ -193,7 +190,7 @@ fn read_start(m: Memory, i: usize) -> usize
 
 // Where the trits of read port i start.
 fn trit_start(m: Memory, i: usize) -> usize
-    requires { ⌜ i ≤ 8 ⌝ }
+    requires { ⌜ i ≤ maxPorts ⌝ }
     ensures { λ r. ⌜ (r ≡ tritStart m i) × (r ≤ 0x100000000 + i * 0x300000000) ⌝ }
 {
     let mut at = lists::usize_of_u32(m.init_len);

@@ -11,12 +11,12 @@ ghost use Rattle.net_memory.specs.Wide.{wideOf};
 // The answer of `wide_log2`.
 pub enum WideLog2 {
     Refused(u32),
-    Log(u32),
+    Accepted(u32),
 }
 
 // One more than the highest bit that is set among the lowest 32, or 0.
 fn top_bits(word: usize) -> u32
-    ensures { λ r. ⌜ (r ≡ topBits addrBits word) × (r ≤ 32) ⌝ }
+    ensures { λ r. ⌜ (r ≡ topBits addrBits word) × (r ≤ addrBits) ⌝ }
 {
     let mut rest = word;
     let mut count: u32 = 0;
@@ -32,7 +32,7 @@ fn top_bits(word: usize) -> u32
 
 // 2^k.
 fn two_to(k: u32) -> usize
-    requires { ⌜ k ≤ 32 ⌝ }
+    requires { ⌜ k ≤ addrBits ⌝ }
     ensures { λ r. ⌜ (r ≡ 2 ^ k) × (0 < r) × (r ≤ 4294967296) ⌝ }
 {
     let mut power: usize = 1;
@@ -58,7 +58,7 @@ pub fn wide_log(width: u32, size: usize) -> u32
     bits - 1
 }
 
-// Data of this size is not width × 2^k with k to 4.
+// Data of this size is not width × 2^k with k to MAX_WIDE.
 pub fn data_len_bad(width: u32, size: usize) -> bool
     ensures { λ r. ⌜ r ≡ badDataLen width size ⌝ }
 {
@@ -86,5 +86,5 @@ pub fn wide_log2(width: u32, size: usize) -> WideLog2
     if data_len_bad(width, size) {
         return WideLog2::Refused(2);
     }
-    WideLog2::Log(wide_log(width, size))
+    WideLog2::Accepted(wide_log(width, size))
 }

@@ -245,7 +245,7 @@ pub fn value_slice(v: &[u32], start: usize, end: usize) -> &[u32]
 }
 
 // Stores the value and then net 0 up to n nets. What lies past the end of the lent array is not stored.
-pub fn store_zext(v: &[u32], n: usize, out: &mut [u32])
+pub fn store_zext(out: &mut [u32], v: &[u32], n: usize)
     ensures { λ _. ⌜ now (out .exit) ≡ sets (now (out .entry)) 0 (zext (now (v .entry)) n) ⌝ }
 {
     lists::copy_u32(out, 0, v);
@@ -254,7 +254,7 @@ pub fn store_zext(v: &[u32], n: usize, out: &mut [u32])
     }
 }
 
-fn zext_refusal(v: &[u32], n: usize, room: usize) -> u32
+fn zext_refusal(room: usize, v: &[u32], n: usize) -> u32
     ensures { λ r. ⌜ r ≡ zextRefusal room (now (v .entry)) n ⌝ }
 {
     if n < v.len() {
@@ -270,14 +270,14 @@ fn zext_refusal(v: &[u32], n: usize, room: usize) -> u32
 }
 
 // The value filled up with net 0 to n nets, or number 2, 4 or 20.
-pub fn zext(v: &[u32], n: usize, out: &mut [u32]) -> u32
+pub fn zext(out: &mut [u32], v: &[u32], n: usize) -> u32
     ensures { λ r. ⌜ filledWith r (now (out .exit)) ≡ zextCall (now (out .entry)) (now (v .entry)) n ⌝ }
 {
-    let number = zext_refusal(v, n, out.len());
+    let number = zext_refusal(out.len(), v, n);
     if number != 0 {
         return number;
     }
-    store_zext(v, n, out);
+    store_zext(out, v, n);
     0
 }
 

@@ -13,6 +13,11 @@ use log_entries::LogState;
 use net_value::ControlNet;
 use net_value::Net;
 
+// The rooms of the call format: at most the trits of the largest image and 40 more, and the bytes of the longest record and 7,260 more.
+pub const IMAGE_ROOM: usize = rules::MAX_IMAGE as usize + 40;
+
+pub const RECORD_ROOM: usize = rules::MAX_RECORD + 7260;
+
 // What a call gave: its number and, where that is 0, where its payload stands in `words`. Not done: no such call, or no room.
 pub struct Reply {
     pub done: bool,

@@ -6,7 +6,7 @@ use Rattle.record_sizes.specs.View.{viewSizes}
 use Rattle.record_codec.specs.declared.Head.{Head}
 use Rattle.record_codec.specs.declared.Head.the-variants.{Refused as NoHead, Accepted as IsHead}
 use Rattle.record_codec.specs.declared.Written.{Written}
-use Rattle.record_codec.specs.declared.Written.the-variants.{Refused as NotWritten, Bytes}
+use Rattle.record_codec.specs.declared.Written.the-variants.{Refused as NotWritten, Accepted as IsWritten}
 
 -- of a head, and of a record that is read
 abbrev pub viewHead : Head → Answer rules.Sizes
@@ -16,4 +16,4 @@ viewHead (IsHead s) = Accepted (viewSizes s)
 -- the bytes of the record
 abbrev pub viewWritten : Written → Answer ℕ
 viewWritten (NotWritten n) = Refused n
-viewWritten (Bytes n) = Accepted n
+viewWritten (IsWritten n) = Accepted n

@@ -74,11 +74,11 @@ pub fn record_header(first: &[u8], total: usize) -> Head
 // The bytes of the record, or the number that refuses it.
 pub enum Written {
     Refused(u32),
-    Bytes(usize),
+    Accepted(usize),
 }
 
 // 4, 17, 20.
-fn write_refusal(s: Sizes, image: &[u8], room: usize) -> u32
+fn write_refusal(room: usize, s: Sizes, image: &[u8]) -> u32
     ensures { λ r. ⌜ r ≡ writeRecordRefusal room (viewSizes s) (now (image .entry)) ⌝ }
 {
     if !net_logic::trits_good(record_sizes::image_of(s, image)) {
@@ -120,7 +120,7 @@ fn put_head(out: &mut [u8], s: Sizes)
 }
 
 // Stores the record of an image that no number refuses.
-fn put_record(s: Sizes, image: &[u8], out: &mut [u8]) -> usize
+fn put_record(out: &mut [u8], s: Sizes, image: &[u8]) -> usize
     requires { ⌜ writeRecordRefusal (length (now out)) (viewSizes s) (now image) ≡ 0 ⌝ }
     ensures { λ r. ⌜ (r ≡ recordBytes (viewSizes s)) × (now (out .exit) ≡ sets (now (out .entry)) 0 (encodeRecord (viewSizes s) (recordImage (viewSizes s) (now (image .entry))))) ⌝ }
 {
@@ -131,14 +131,14 @@ fn put_record(s: Sizes, image: &[u8], out: &mut [u8]) -> usize
 }
 
 // Writes the record of an image; the rest of the room is kept.
-pub fn write_record(s: Sizes, image: &[u8], out: &mut [u8]) -> Written
+pub fn write_record(out: &mut [u8], s: Sizes, image: &[u8]) -> Written
     ensures { λ r. ⌜ (viewWritten r ≡ answerOf (writeRecordRefusal (length (now (out .entry))) (viewSizes s) (now (image .entry))) (recordBytes (viewSizes s))) × (now (out .exit) ≡ writeRecordCall (now (out .entry)) (viewSizes s) (now (image .entry)) .out) ⌝ }
 {
-    let n = write_refusal(s, image, out.len());
+    let n = write_refusal(out.len(), s, image);
     if n != 0 {
         return Written::Refused(n);
     }
-    Written::Bytes(put_record(s, image, out))
+    Written::Accepted(put_record(out, s, image))
 }
 
 // ---- reading
@@ -177,25 +177,19 @@ fn middle_of(bytes: &[u8]) -> usize
     rules::HEAD_BYTES + (record_reader::head_trits(bytes) as usize + 7) / 8
 }
 
-fn least(a: usize, b: usize) -> usize
-    ensures { λ r. ⌜ r ≡ min a b ⌝ }
-{
-    if b < a { b } else { a }
-}
-
 // The bytes of a record's known bits, and those of its value bits; of other bytes, what stands there.
 pub fn known_array(bytes: &[u8]) -> &[u8]
     ensures { λ r. ⌜ (now r ≡ part headBytes (arrayBytes (sizeTrits (headSizes (now (bytes .entry))))) (now (bytes .entry))) × (length (now r) < manyTrits) ⌝ }
 {
-    let end = least(middle_of(bytes), bytes.len());
-    let start = least(rules::HEAD_BYTES, end);
+    let end = lists::smaller(middle_of(bytes), bytes.len());
+    let start = lists::smaller(rules::HEAD_BYTES, end);
     &bytes[start..end]
 }
 
 pub fn value_array(bytes: &[u8]) -> &[u8]
     ensures { λ r. ⌜ now r ≡ drop (headBytes + arrayBytes (sizeTrits (headSizes (now (bytes .entry))))) (now (bytes .entry)) ⌝ }
 {
-    let start = least(middle_of(bytes), bytes.len());
+    let start = lists::smaller(middle_of(bytes), bytes.len());
     &bytes[start..]
 }
 
@@ -223,7 +217,7 @@ pub fn record_refusal(bytes: &[u8]) -> u32
 }
 
 // 16, 17, 18, 20.
-fn read_refusal(bytes: &[u8], room: usize) -> u32
+fn read_refusal(room: usize, bytes: &[u8]) -> u32
     ensures { λ r. ⌜ r ≡ readRecordRefusal room (now (bytes .entry)) ⌝ }
 {
     let n = record_refusal(bytes);
@@ -251,7 +245,7 @@ fn put_trits(image: &mut [u8], count: usize, ks: &[u8], vs: &[u8])
 }
 
 // Stores the image of a record whose head is good.
-fn put_image(bytes: &[u8], image: &mut [u8])
+fn put_image(image: &mut [u8], bytes: &[u8])
     requires { ⌜ badHead (now bytes) (length (now bytes)) ≡ false ⌝ }
     ensures { λ _. ⌜ now (image .exit) ≡ sets (now (image .entry)) 0 (decodeImage (now (bytes .entry))) ⌝ }
 {
@@ -260,13 +254,13 @@ fn put_image(bytes: &[u8], image: &mut [u8])
 }
 
 // Reads a record: its sizes, and its image into the lent array, whose rest is kept.
-pub fn read_record(bytes: &[u8], image: &mut [u8]) -> Head
+pub fn read_record(image: &mut [u8], bytes: &[u8]) -> Head
     ensures { λ r. ⌜ (viewHead r ≡ readRecordCall (now (image .entry)) (now (bytes .entry)) .answer) × (now (image .exit) ≡ readRecordCall (now (image .entry)) (now (bytes .entry)) .image) ⌝ }
 {
-    let n = read_refusal(bytes, image.len());
+    let n = read_refusal(image.len(), bytes);
     if n != 0 {
         return Head::Refused(n);
     }
-    put_image(bytes, image);
+    put_image(image, bytes);
     Head::Accepted(record_reader::head_sizes(bytes))
 }

@@ -5,6 +5,7 @@ ghost use Prim.Native.Nat.{_+_, _*_, _<_, _≤_};
 ghost use lib.ListN.{length, drop};
 ghost use Rattle.lists.specs.Lists.{sumBy, part, concatMap};
 ghost use Rattle.lists.specs.Choice.{if_then_else_, _orElse_};
+ghost use Rattle.rules.specs.Limits.{maxImage};
 ghost use Rattle.rules.specs.Record.{sizeMems, sizeTrits, bitsOf, headSizes, decodeImage};
 ghost use Rattle.rules.specs.Refusals.{recordRefusal, headerRefusal};
 ghost use Rattle.rules.specs.Lister.{decimal, space, blankText, loadText, headLine, memoryLine, refusedLine, summaryOf, summaries, listed, lister};
@@ -18,9 +19,7 @@ use summary::Summary;
 
 pub mod summary;
 
-// The bytes of the longest record that is accepted, and of the longest text: no line is longer than 50 bytes.
-pub const MAX_RECORD: usize = 32780;
-
+// The bytes of the longest text: no line is longer than 50 bytes.
 pub const MAX_TEXT: usize = 1638437;
 
 // ---- text
@@ -34,7 +33,7 @@ fn put_text(out: &mut [u8], at: usize, text: &[u8]) -> usize
 }
 
 // The decimal digits of a number, at the end of an array; where they start.
-fn digits_of(n: usize, digits: &mut [u8]) -> usize
+fn digits_of(digits: &mut [u8], n: usize) -> usize
     requires { ⌜ length (now digits) ≡ 10 ⌝ }
     ensures { λ r. ⌜ (drop r (now (digits .exit)) ≡ decimal n) × (r ≤ 10) ⌝ }
 {
@@ -56,7 +55,7 @@ fn put_number(out: &mut [u8], at: usize, n: usize) -> usize
     ensures { λ r. ⌜ Put (now (out .entry)) at (decimal n) (now (out .exit)) r × (r ≤ at + 10) ⌝ }
 {
     let mut digits = [0u8; 10];
-    let from = digits_of(n, &mut digits);
+    let from = digits_of(&mut digits, n);
     put_text(out, at, &digits[from..10])
 }
 
@@ -117,7 +116,7 @@ fn put_refused(out: &mut [u8], n: u32) -> usize
 
 // How many ones stand among so many bits of an array.
 fn ones_in(array: &[u8], from: usize, count: usize) -> usize
-    requires { ⌜ (from + count ≤ 8 * length (now array)) × (from + count ≤ 131072) ⌝ }
+    requires { ⌜ (from + count ≤ 8 * length (now array)) × (from + count ≤ maxImage) ⌝ }
     ensures { λ r. ⌜ r ≡ sumBy (λ b. b) (part from count (bitsOf (now (array .entry)))) ⌝ }
 {
     let mut sum: usize = 0;
@@ -146,7 +145,7 @@ fn summary_in(bytes: &[u8], s: Sizes, index: usize, from: usize) -> Summary
 }
 
 // The lines of all memories of a record that no number refuses.
-fn put_memories(bytes: &[u8], s: Sizes, count: usize, out: &mut [u8], at: usize) -> usize
+fn put_memories(out: &mut [u8], at: usize, bytes: &[u8], s: Sizes, count: usize) -> usize
     requires { ⌜ Accepted (now bytes) s × (count ≡ sizeMems (viewSizes s)) × (at ≤ 37) ⌝ }
     ensures { λ r. ⌜ Put (now (out .entry)) at (concatMap memoryLine (summaries (headSizes (now (bytes .entry))) (decodeImage (now (bytes .entry))))) (now (out .exit)) r × (r ≤ at + 50 * count) ⌝ }
 {
@@ -165,25 +164,25 @@ fn put_memories(bytes: &[u8], s: Sizes, count: usize, out: &mut [u8], at: usize)
 // ---- the whole text
 
 // Of a record that no number refuses.
-fn put_listed(bytes: &[u8], out: &mut [u8]) -> usize
+fn put_listed(out: &mut [u8], bytes: &[u8]) -> usize
     requires { ⌜ recordRefusal (now bytes) ≡ 0 ⌝ }
     ensures { λ r. ⌜ Put (now (out .entry)) 0 (listed (now (bytes .entry))) (now (out .exit)) r × (r ≤ maxText) ⌝ }
 {
     let s = record_reader::head_sizes(bytes);
     let count = record_sizes::memories(s) as usize;
     let at = put_head(out, s, count, record_reader::head_trits(bytes) as usize);
-    put_memories(bytes, s, count, out, at)
+    put_memories(out, at, bytes, s, count)
 }
 
 // Stores the lister's output for a record on its standard input, as far as the room goes; its length.
-pub fn list_record(bytes: &[u8], out: &mut [u8]) -> usize
+pub fn list_record(out: &mut [u8], bytes: &[u8]) -> usize
     ensures { λ r. ⌜ Put (now (out .entry)) 0 (lister (now (bytes .entry))) (now (out .exit)) r × (r ≤ maxText) ⌝ }
 {
     let n = record_codec::record_refusal(bytes);
     if n != 0 {
         return put_refused(out, n);
     }
-    put_listed(bytes, out)
+    put_listed(out, bytes)
 }
 
 // The number that refuses an input of which not all is stored.
@@ -198,11 +197,11 @@ fn stored_refusal(first: &[u8], total: usize) -> u32
 }
 
 // The same for an input of `total` bytes, of which the first are stored.
-pub fn list_input(first: &[u8], total: usize, out: &mut [u8]) -> usize
+pub fn list_input(out: &mut [u8], first: &[u8], total: usize) -> usize
     ensures { λ r. ⌜ Put (now (out .entry)) 0 (listerStored (now (first .entry)) total) (now (out .exit)) r × (r ≤ maxText) ⌝ }
 {
     if first.len() == total {
-        return list_record(first, out);
+        return list_record(out, first);
     }
     let n = stored_refusal(first, total);
     put_refused(out, n)

@@ -22,7 +22,7 @@ pub struct Summary {
 
 pub enum Summarized {
     Refused(u32),
-    Memory(Summary),
+    Accepted(Summary),
 }
 
 // A memory is blank, else to be loaded.
@@ -120,5 +120,5 @@ pub fn memory_summary(s: Sizes, image: &[u8], index: usize) -> Summarized
     if n != 0 {
         return Summarized::Refused(n);
     }
-    Summarized::Memory(summary_at(s, image, index))
+    Summarized::Accepted(summary_at(s, image, index))
 }

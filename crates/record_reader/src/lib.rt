@@ -110,22 +110,16 @@ fn byte_at(bytes: &[u8], at: usize) -> u16
 
 // ---- the sizes in a record's head
 
-fn wide(w: u16) -> u32
-    ensures { λ r. ⌜ r ≡ w ⌝ }
-{
-    w as u32
-}
-
 // The sizes that the words after the first give.
 pub fn head_sizes(bytes: &[u8]) -> Sizes
     ensures { λ r. ⌜ (viewSizes r ≡ headSizes (now (bytes .entry))) × Words r ⌝ }
 {
     Sizes {
-        unit: wide(word_at(bytes, 2)),
-        full: wide(word_at(bytes, 4)),
-        full_depth: wide(word_at(bytes, 6)),
-        partial: wide(word_at(bytes, 8)),
-        partial_depth: wide(word_at(bytes, 10)),
+        unit: lists::u32_of_u16(word_at(bytes, 2)),
+        full: lists::u32_of_u16(word_at(bytes, 4)),
+        full_depth: lists::u32_of_u16(word_at(bytes, 6)),
+        partial: lists::u32_of_u16(word_at(bytes, 8)),
+        partial_depth: lists::u32_of_u16(word_at(bytes, 10)),
     }
 }
 

@@ -34,18 +34,12 @@ fn word_at(bytes: &[u8], at: usize) -> u32 {
         + 256 * (byte(bytes, at, 1) + 256 * (byte(bytes, at, 2) + 256 * byte(bytes, at, 3)))
 }
 
-fn wide(x: u8) -> u32
-    ensures { λ r. ⌜ r ≤ 255 ⌝ }
-{
-    x as u32
-}
-
 fn byte(bytes: &[u8], at: usize, i: usize) -> u32
     ensures { λ r. ⌜ r ≤ 255 ⌝ }
 {
     if at < bytes.len() {
         if i < bytes.len() - at {
-            return wide(bytes[at + i]);
+            return lists::u32_of_u8(bytes[at + i]);
         }
     }
     0
@@ -73,18 +67,12 @@ fn front_words(s: &[u32], n: usize) -> &[u32] {
     &s[0..n]
 }
 
-fn put(to: &mut [u32], at: usize, w: u32) {
-    if at < to.len() {
-        to[at] = w;
-    }
-}
-
 // The words of `bytes` into `to` from index 2 on.
 fn load(to: &mut [u32], bytes: &[u8]) {
     let n = bytes.len() / 4;
     let mut i = 0;
     while i < n {
-        put(to, i + 2, word_at(bytes, 4 * i));
+        lists::put_u32(to, i + 2, word_at(bytes, 4 * i));
         i += 1;
     }
 }
@@ -94,7 +82,7 @@ fn read_payload(given: &mut [u32], n: usize) -> Input {
     if MAX_PAYLOAD < n {
         return Input::Bad;
     }
-    let mut bytes = [0u8; 81920];
+    let mut bytes = [0u8; 4 * MAX_PAYLOAD];
     let size = 4 * n;
     let got = io::read_full(STDIN_FILENO, front_mut(&mut bytes, size));
     if got != size {
@@ -114,8 +102,8 @@ fn read_case(given: &mut [u32]) -> Input {
         return Input::Bad;
     }
     let n = word_at(&head, 4);
-    put(given, 0, word_at(&head, 0));
-    put(given, 1, n);
+    lists::put_u32(given, 0, word_at(&head, 0));
+    lists::put_u32(given, 1, n);
     read_payload(given, n as usize)
 }
 
@@ -123,20 +111,14 @@ fn low(w: u32) -> u8 {
     (w % 256) as u8
 }
 
-fn put_byte(to: &mut [u8], at: usize, b: u8) {
-    if at < to.len() {
-        to[at] = b;
-    }
-}
-
 // The four bytes of a word, the lowest first.
 fn put_word(to: &mut [u8], at: usize, w: u32)
     requires { ⌜ at ≤ 262144 ⌝ }
 {
-    put_byte(to, at, low(w));
-    put_byte(to, at + 1, low(w / 256));
-    put_byte(to, at + 2, low(w / 65536));
-    put_byte(to, at + 3, low(w / 16777216));
+    lists::put_u8(to, at, low(w));
+    lists::put_u8(to, at + 1, low(w / 256));
+    lists::put_u8(to, at + 2, low(w / 65536));
+    lists::put_u8(to, at + 3, low(w / 16777216));
 }
 
 fn word(s: &[u32], at: usize) -> u32 {
@@ -146,16 +128,10 @@ fn word(s: &[u32], at: usize) -> u32 {
     0
 }
 
-fn least(a: usize, b: usize) -> usize
-    ensures { λ r. ⌜ (r ≤ a) × (r ≤ b) ⌝ }
-{
-    if a < b { a } else { b }
-}
-
 // Writes the first words of an answer.
 fn write_words(answer: &[u32], n: usize) {
-    let mut bytes = [0u8; 262144];
-    let size = least(least(n, answer.len()), MAX_ANSWER);
+    let mut bytes = [0u8; 4 * MAX_ANSWER];
+    let size = lists::smaller(lists::smaller(n, answer.len()), MAX_ANSWER);
     let mut i = 0;
     while i < size {
         put_word(&mut bytes, 4 * i, word(answer, i));
@@ -170,7 +146,7 @@ fn write_none() {
 }
 
 // Answers the case that stands in the first words of `given`.
-fn answer_case(given: &[u32], answer: &mut [u32], words: &mut [u32], trits: &mut [u8]) {
+fn answer_case(answer: &mut [u32], words: &mut [u32], trits: &mut [u8], given: &[u32]) {
     let n = wire::tablegoose_answer(given, answer, words, trits);
     if n == 0 {
         write_none();
@@ -185,7 +161,7 @@ fn answer_next(given: &mut [u32], answer: &mut [u32], words: &mut [u32], trits: 
         Input::End => false,
         Input::Bad => stop(),
         Input::Case(n) => {
-            answer_case(front_words(given, n), answer, words, trits);
+            answer_case(answer, words, trits, front_words(given, n));
             true
         }
     }
@@ -207,7 +183,7 @@ fn run(given: &mut [u32], answer: &mut [u32], words: &mut [u32], trits: &mut [u8
 }
 
 fn main() {
-    let mut given = [0u32; 20482];
+    let mut given = [0u32; MAX_PAYLOAD + 2];
     let mut answer = [0u32; MAX_ANSWER];
     let mut words = [0u32; MAX_WORDS];
     let mut trits = [0u8; MAX_TRITS];

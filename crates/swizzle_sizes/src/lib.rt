@@ -165,5 +165,5 @@ pub fn swizzle_depths(
     if k != 0 {
         return k;
     }
-    image_geometry::depths(p, entries, out)
+    image_geometry::depths(out, p, entries)
 }

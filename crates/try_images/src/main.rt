@@ -59,7 +59,7 @@ fn sizes(p: image_geometry::Params, entries: &[u32]) {
             text(b"sizes refused");
             number(n as u64);
         }
-        image_geometry::Measured::Done(s) => {
+        image_geometry::Measured::Accepted(s) => {
             text(b"sizes");
             number(s.full_mems);
             number(s.all_mems);
@@ -88,7 +88,7 @@ fn tests(p: image_geometry::Params, entries: &[u32]) {
 fn depths(p: image_geometry::Params, entries: &[u32]) {
     let mut out = [77u32; 6];
     text(b"depths");
-    number(image_geometry::depths(p, entries, &mut out) as u64);
+    number(image_geometry::depths(&mut out, p, entries) as u64);
     text(b" |");
     words(&out);
 }
@@ -103,7 +103,7 @@ fn place(p: image_geometry::Params, entries: &[u32], row: u32, entry: usize) {
             text(b" refused");
             number(n as u64);
         }
-        image_rows::Placed::At(q) => {
+        image_rows::Placed::Accepted(q) => {
             text(b" at");
             number(q.memory);
             number(q.row);
@@ -144,7 +144,7 @@ fn read_whole(laid: image_state::Laid, image: &[u8; 40], row: u32) {
 }
 
 // A patch of a copy of the image: its number, how many bytes it changed, and how many of them past the image's trits.
-fn patch(laid: image_state::Laid, image: &mut [u8; 40], size: usize, row: u32, with: &[u8]) {
+fn patch(image: &mut [u8; 40], laid: image_state::Laid, size: usize, row: u32, with: &[u8]) {
     let before = *image;
     let n = image_state::patch(image, laid, row, with);
     text(b"patch");
@@ -215,10 +215,10 @@ fn two_wide() {
     show(p, &entries);
     let laid = image_state::laid_out(p, &entries);
     let mut image = lay(laid, &[1u8, 0, 2, 1, 0, 0]);
-    patch(laid, &mut image, 6, 1, &[0u8, 2]);
-    patch(laid, &mut image, 6, 3, &[1u8, 1]);
-    patch(laid, &mut image, 6, 0, &[1u8, 3]);
-    patch(laid, &mut image, 6, 0, &[1u8]);
+    patch(&mut image, laid, 6, 1, &[0u8, 2]);
+    patch(&mut image, laid, 6, 3, &[1u8, 1]);
+    patch(&mut image, laid, 6, 0, &[1u8, 3]);
+    patch(&mut image, laid, 6, 0, &[1u8]);
     all_trits(&image);
     read_rows(laid, &image, 4);
     read_short(laid, 0);
@@ -231,8 +231,8 @@ fn three_wide() {
     show(p, &entries);
     let laid = image_state::laid_out(p, &entries);
     let mut image = lay(laid, &[0u8, 1, 2, 1, 2, 0, 2, 0, 1]);
-    patch(laid, &mut image, 10, 2, &[1u8, 1, 1]);
-    patch(laid, &mut image, 10, 2, &[2u8, 0, 2]);
+    patch(&mut image, laid, 10, 2, &[1u8, 1, 1]);
+    patch(&mut image, laid, 10, 2, &[2u8, 0, 2]);
     all_trits(&image);
     read_rows(laid, &image, 3);
 }
@@ -257,8 +257,8 @@ fn mixed() {
         laid,
         &[0u8, 1, 2, 1, 0, 2, 2, 2, 0, 1, 1, 0, 0, 0, 1, 2, 1, 1],
     );
-    patch(laid, &mut image, 27, 5, &[0u8, 0, 0]);
-    patch(laid, &mut image, 27, 4, &[2u8, 2, 2]);
+    patch(&mut image, laid, 27, 5, &[0u8, 0, 0]);
+    patch(&mut image, laid, 27, 4, &[2u8, 2, 2]);
     all_trits(&image);
     read_rows(laid, &image, 6);
 }
@@ -315,8 +315,21 @@ fn list() {
 fn unset() {
     let laid = image_state::unset();
     let mut image = lay(laid, &[0u8]);
-    patch(laid, &mut image, 0, 0, &[0u8]);
+    patch(&mut image, laid, 0, 0, &[0u8]);
     read_whole(laid, &image, 0);
+}
+
+// The longest row, and a state that says one entry more.
+fn long_row() {
+    let entries = [rules::NO_BIT; rules::MAX_ROW];
+    let mut laid = image_state::laid_out(params(2, 0, 0, 1, 1), &entries);
+    let mut image = lay(laid, &[]);
+    patch(&mut image, laid, 0, 1, &[]);
+    read_whole(laid, &image, 1);
+    laid.len = 257;
+    let mut image = lay(laid, &[]);
+    patch(&mut image, laid, 0, 1, &[]);
+    read_whole(laid, &image, 1);
 }
 
 // Numbers 7, 8 and 10, each with its neighbour that passes.
@@ -355,8 +368,8 @@ fn others() {
     let p = params(2, 0, 0, 1, 1);
     let laid = image_state::laid_out(p, &[]);
     let mut image = lay(laid, &[]);
-    patch(laid, &mut image, 0, 1, &[]);
-    patch(laid, &mut image, 0, 2, &[]);
+    patch(&mut image, laid, 0, 1, &[]);
+    patch(&mut image, laid, 0, 2, &[]);
     read_whole(laid, &image, 1);
 }
 
@@ -367,6 +380,7 @@ fn main() {
     mixed();
     list();
     unset();
+    long_row();
     numbers();
     others();
 }

@@ -98,7 +98,7 @@ fn holds(room: &[u8; 10], want: &[u8]) -> bool {
 
 fn not_case(t: Tally, a: &[u8], number: u32, want: &[u8]) -> Tally {
     let mut room = [201u8, 202, 203, 204, 205, 206, 207, 208, 209, 210];
-    let n = net_logic::const_not(a, &mut room);
+    let n = net_logic::const_not(&mut room, a);
     let t = add(t, n == number);
     add(t, holds(&room, want))
 }
@@ -132,14 +132,14 @@ pub(crate) fn nots(t: Tally) -> Tally {
 
 fn and_case(t: Tally, a: &[u8], b: &[u8], number: u32, want: &[u8]) -> Tally {
     let mut room = [201u8, 202, 203, 204, 205, 206, 207, 208, 209, 210];
-    let n = net_logic::const_and(a, b, &mut room);
+    let n = net_logic::const_and(&mut room, a, b);
     let t = add(t, n == number);
     add(t, holds(&room, want))
 }
 
 fn or_case(t: Tally, a: &[u8], b: &[u8], number: u32, want: &[u8]) -> Tally {
     let mut room = [201u8, 202, 203, 204, 205, 206, 207, 208, 209, 210];
-    let n = net_logic::const_or(a, b, &mut room);
+    let n = net_logic::const_or(&mut room, a, b);
     let t = add(t, n == number);
     add(t, holds(&room, want))
 }
@@ -180,10 +180,10 @@ pub(crate) fn pairs_refused(t: Tally) -> Tally {
 // Room of no bytes.
 pub(crate) fn no_room(t: Tally) -> Tally {
     let mut room: [u8; 0] = [];
-    let t = add(t, net_logic::const_not(b"", &mut room) == 0);
-    let t = add(t, net_logic::const_not(b"\x00", &mut room) == 20);
-    let t = add(t, net_logic::const_and(b"", b"", &mut room) == 0);
-    let t = add(t, net_logic::const_and(b"\x00", b"\x00", &mut room) == 20);
-    let t = add(t, net_logic::const_or(b"", b"", &mut room) == 0);
-    add(t, net_logic::const_or(b"\x00", b"\x00", &mut room) == 20)
+    let t = add(t, net_logic::const_not(&mut room, b"") == 0);
+    let t = add(t, net_logic::const_not(&mut room, b"\x00") == 20);
+    let t = add(t, net_logic::const_and(&mut room, b"", b"") == 0);
+    let t = add(t, net_logic::const_and(&mut room, b"\x00", b"\x00") == 20);
+    let t = add(t, net_logic::const_or(&mut room, b"", b"") == 0);
+    add(t, net_logic::const_or(&mut room, b"\x00", b"\x00") == 20)
 }

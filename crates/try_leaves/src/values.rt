@@ -52,7 +52,7 @@ fn holds(room: &[u32; 4], want: &[u32]) -> bool {
 
 fn zext_case(t: Tally, v: &[u32], n: usize, number: u32, want: &[u32]) -> Tally {
     let mut room = [201u32, 202, 203, 204];
-    let r = net_value::zext(v, n, &mut room);
+    let r = net_value::zext(&mut room, v, n);
     let t = add(t, r == number);
     add(t, holds(&room, want))
 }
@@ -87,7 +87,7 @@ pub(crate) fn zexts_refused(t: Tally) -> Tally {
 
 fn store_case(t: Tally, v: &[u32], n: usize, want: &[u32]) -> Tally {
     let mut room = [201u32, 202, 203, 204];
-    net_value::store_zext(v, n, &mut room);
+    net_value::store_zext(&mut room, v, n);
     add(t, holds(&room, want))
 }
 
@@ -110,8 +110,8 @@ pub(crate) fn no_room(t: Tally) -> Tally {
     let v = [5u32];
     let none: [u32; 0] = [];
     let mut room: [u32; 0] = [];
-    let t = add(t, net_value::zext(&v, 1, &mut room) == 20);
-    add(t, net_value::zext(&none, 0, &mut room) == 0)
+    let t = add(t, net_value::zext(&mut room, &v, 1) == 20);
+    add(t, net_value::zext(&mut room, &none, 0) == 0)
 }
 
 // Of the write address 10 11 12 and the read address 20 21.

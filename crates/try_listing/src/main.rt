@@ -14,9 +14,9 @@ fn say_if(test: bool, yes: &[u8], no: &[u8]) {
     }
 }
 
-fn list(name: &[u8], bytes: &[u8], out: &mut [u8], want: &[u8]) {
+fn list(out: &mut [u8], name: &[u8], bytes: &[u8], want: &[u8]) {
     try_kit::paint::paint(out);
-    let n = record_listing::list_record(bytes, out);
+    let n = record_listing::list_record(out, bytes);
     say(name);
     io::print_decimal(STDOUT_FILENO, n as u64);
     say_if(try_kit::paint::starts(out, want), b" same", b" DIFFERENT");
@@ -24,9 +24,9 @@ fn list(name: &[u8], bytes: &[u8], out: &mut [u8], want: &[u8]) {
 }
 
 // An input of which only the first bytes are stored.
-fn list_long(name: &[u8], first: &[u8], total: usize, out: &mut [u8], want: &[u8]) {
+fn list_long(out: &mut [u8], name: &[u8], first: &[u8], total: usize, want: &[u8]) {
     try_kit::paint::paint(out);
-    let n = record_listing::list_input(first, total, out);
+    let n = record_listing::list_input(out, first, total);
     say(name);
     io::print_decimal(STDOUT_FILENO, n as u64);
     say_if(try_kit::paint::starts(out, want), b" same", b" DIFFERENT");
@@ -36,46 +36,46 @@ fn list_long(name: &[u8], first: &[u8], total: usize, out: &mut [u8], want: &[u8
 fn list_cases(out: &mut [u8]) {
     let text = b"memories 2 trits 6\n0 2 3 2 load\n1 1 2 0 blank\n";
     list(
+        out,
         b"the first ",
         b"\x05\x00\x02\x00\x01\x00\x02\x00\x01\x00\x01\x00\x3B\x09",
-        out,
         text,
     );
-    list(b"nothing ", b"", out, b"refused 16\n");
+    list(out, b"nothing ", b"", b"refused 16\n");
 }
 
 fn list_refused(out: &mut [u8]) {
     list(
+        out,
         b"sizes ",
         b"\x05\x00\x00\x00\x01\x00\x02\x00\x01\x00\x01\x00",
-        out,
         b"refused 17\n",
     );
     list(
+        out,
         b"a spare bit ",
         b"\x05\x00\x02\x00\x01\x00\x02\x00\x01\x00\x01\x00\x3B\x49",
-        out,
         b"refused 18\n",
     );
 }
 
 fn list_none(out: &mut [u8]) {
     list(
+        out,
         b"no memories ",
         b"\x05\x00\x01\x00\x00\x00\x00\x00\x00\x00\x00\x00",
-        out,
         b"memories 0 trits 0\n",
     );
 }
 
 fn list_short(out: &mut [u8]) {
-    list(b"into a short room ", b"", out, b"refused 1");
+    list(out, b"into a short room ", b"", b"refused 1");
 }
 
 fn list_inputs(out: &mut [u8]) {
     let first = b"\x05\x00\x00\x01\x80\x00\x08\x00\x00\x00\x00\x00";
-    list_long(b"too many trits ", first, 65548, out, b"refused 17\n");
-    list_long(b"another length ", first, 65549, out, b"refused 16\n");
+    list_long(out, b"too many trits ", first, 65548, b"refused 17\n");
+    list_long(out, b"another length ", first, 65549, b"refused 16\n");
 }
 
 fn small_cases() {
@@ -92,6 +92,8 @@ fn short_case() {
 }
 
 // ---- the largest image
+
+const IMAGE_ROOM: usize = rules::MAX_IMAGE as usize;
 
 // One memory of the largest depth, and the most memories.
 fn deep_sizes() -> Sizes {
@@ -123,20 +125,20 @@ fn fill_trits(image: &mut [u8]) {
 }
 
 // Lists the record of an image of the largest size.
-fn list_largest(name: &[u8], s: Sizes, out: &mut [u8], want: &[u8]) {
+fn list_largest(out: &mut [u8], name: &[u8], s: Sizes, want: &[u8]) {
     let mut image = image_room();
     let mut bytes = bytes_room();
     fill_trits(&mut image);
-    record_codec::write_record(s, &image, &mut bytes);
-    list(name, &bytes, out, want);
+    record_codec::write_record(&mut bytes, s, &image);
+    list(out, name, &bytes, want);
 }
 
-fn image_room() -> [u8; 131072] {
-    [0u8; 131072]
+fn image_room() -> [u8; IMAGE_ROOM] {
+    [0u8; IMAGE_ROOM]
 }
 
-fn bytes_room() -> [u8; 32780] {
-    [0u8; 32780]
+fn bytes_room() -> [u8; rules::MAX_RECORD] {
+    [0u8; rules::MAX_RECORD]
 }
 
 fn text_room() -> [u8; 700000] {
@@ -145,15 +147,15 @@ fn text_room() -> [u8; 700000] {
 
 fn largest_cases(out: &mut [u8]) {
     list_largest(
+        out,
         b"the deepest ",
         deep_sizes(),
-        out,
         b"memories 1 trits 131072\n0 32768 87382 43691 load\n",
     );
     list_largest(
+        out,
         b"the most ",
         many_sizes(),
-        out,
         b"memories 32768 trits 131072\n0 4 3 1 load\n1 4 3 2 load\n2 4 2 1 load\n",
     );
 }

@@ -51,12 +51,12 @@ fn same_sizes(a: Sizes, b: Sizes) -> bool {
 
 // ---- the calls
 
-fn write(name: &[u8], s: Sizes, image: &[u8], out: &mut [u8], want: &[u8]) {
+fn write(out: &mut [u8], name: &[u8], s: Sizes, image: &[u8], want: &[u8]) {
     say(name);
     try_kit::paint::paint(out);
-    match record_codec::write_record(s, image, out) {
+    match record_codec::write_record(out, s, image) {
         Written::Refused(n) => refused(n, try_kit::paint::painted(out, 0)),
-        Written::Bytes(n) => done(
+        Written::Accepted(n) => done(
             n,
             try_kit::paint::starts(out, want),
             try_kit::paint::painted(out, n),
@@ -64,10 +64,10 @@ fn write(name: &[u8], s: Sizes, image: &[u8], out: &mut [u8], want: &[u8]) {
     }
 }
 
-fn read(name: &[u8], bytes: &[u8], image: &mut [u8], s: Sizes, want: &[u8]) {
+fn read(image: &mut [u8], name: &[u8], bytes: &[u8], s: Sizes, want: &[u8]) {
     say(name);
     try_kit::paint::paint(image);
-    match record_codec::read_record(bytes, image) {
+    match record_codec::read_record(image, bytes) {
         Head::Refused(n) => refused(n, try_kit::paint::painted(image, 0)),
         Head::Accepted(z) => read_done(same_sizes(z, s), image, want),
     }
@@ -97,7 +97,7 @@ fn summarize(name: &[u8], s: Sizes, image: &[u8], index: usize) {
     say(name);
     match record_listing::summary::memory_summary(s, image, index) {
         Summarized::Refused(n) => refused(n, true),
-        Summarized::Memory(y) => show(y),
+        Summarized::Accepted(y) => show(y),
     }
 }
 
@@ -160,42 +160,42 @@ fn huge_sizes() -> Sizes {
 fn write_cases(out: &mut [u8]) {
     let image = b"\x01\x00\x02\x01\x00\x00\x01\x00\x07";
     let record = b"\x05\x00\x02\x00\x01\x00\x02\x00\x01\x00\x01\x00\x3B\x09";
-    write(b"write the first", first_sizes(), image, out, record);
-    write(b"write sizes", bad_sizes(), image, out, record);
+    write(out, b"write the first", first_sizes(), image, record);
+    write(out, b"write sizes", bad_sizes(), image, record);
 }
 
 fn write_bad(out: &mut [u8]) {
     let bad = b"\x01\x00\x02\x01\x03\x00\x01\x00";
-    write(b"write a bad trit", first_sizes(), bad, out, bad);
-    write(b"write a bad trit, sizes", bad_sizes(), bad, out, bad);
+    write(out, b"write a bad trit", first_sizes(), bad, bad);
+    write(out, b"write a bad trit, sizes", bad_sizes(), bad, bad);
 }
 
 fn write_more(out: &mut [u8]) {
     let image = b"\x01\x00\x02\x01\x00";
-    write(b"write huge sizes", huge_sizes(), image, out, image);
-    write(b"write a short image", first_sizes(), image, out, image);
+    write(out, b"write huge sizes", huge_sizes(), image, image);
+    write(out, b"write a short image", first_sizes(), image, image);
 }
 
 fn write_none(out: &mut [u8]) {
     write(
+        out,
         b"write no memories",
         no_sizes(),
         b"\x09",
-        out,
         b"\x05\x00\x01\x00\x00\x00\x00\x00\x00\x00\x00\x00",
     );
 }
 
 fn write_short(out: &mut [u8]) {
     let image = b"\x01\x00\x02\x01\x00\x00";
-    write(b"write a short room", first_sizes(), image, out, image);
+    write(out, b"write a short room", first_sizes(), image, image);
 }
 
-fn read_first(name: &[u8], bytes: &[u8], image: &mut [u8]) {
+fn read_first(image: &mut [u8], name: &[u8], bytes: &[u8]) {
     read(
+        image,
         name,
         bytes,
-        image,
         first_sizes(),
         b"\x01\x00\x02\x01\x00\x00",
     );
@@ -203,70 +203,70 @@ fn read_first(name: &[u8], bytes: &[u8], image: &mut [u8]) {
 
 fn read_cases(image: &mut [u8]) {
     read_first(
+        image,
         b"read the first",
         b"\x05\x00\x02\x00\x01\x00\x02\x00\x01\x00\x01\x00\x3B\x09",
-        image,
     );
-    read_first(b"read nothing", b"", image);
+    read_first(image, b"read nothing", b"");
 }
 
 fn read_lengths(image: &mut [u8]) {
     read_first(
+        image,
         b"read a short one",
         b"\x05\x00\x02\x00\x01\x00\x02\x00\x01\x00\x01\x00\x3B",
-        image,
     );
     read_first(
+        image,
         b"read a long one",
         b"\x05\x00\x02\x00\x01\x00\x02\x00\x01\x00\x01\x00\x3B\x09\x00",
-        image,
     );
 }
 
 fn read_words(image: &mut [u8]) {
     read_first(
+        image,
         b"read another first word",
         b"\x04\x00\x02\x00\x01\x00\x02\x00\x01\x00\x01\x00\x3B\x09",
-        image,
     );
     read_first(
+        image,
         b"read sizes",
         b"\x05\x00\x00\x00\x01\x00\x02\x00\x01\x00\x01\x00",
-        image,
     );
 }
 
 fn read_bits(image: &mut [u8]) {
     read_first(
+        image,
         b"read a value bit alone",
         b"\x05\x00\x02\x00\x01\x00\x02\x00\x01\x00\x01\x00\x3A\x09",
-        image,
     );
     read_first(
+        image,
         b"read a spare known bit",
         b"\x05\x00\x02\x00\x01\x00\x02\x00\x01\x00\x01\x00\x7B\x09",
-        image,
     );
 }
 
 fn read_spare(image: &mut [u8]) {
     read_first(
+        image,
         b"read a spare value bit",
         b"\x05\x00\x02\x00\x01\x00\x02\x00\x01\x00\x01\x00\x3B\x49",
-        image,
     );
     read_first(
+        image,
         b"read two spare bits",
         b"\x05\x00\x02\x00\x01\x00\x02\x00\x01\x00\x01\x00\xBB\x89",
-        image,
     );
 }
 
 fn read_none(image: &mut [u8]) {
     read(
+        image,
         b"read no memories",
         b"\x05\x00\x01\x00\x00\x00\x00\x00\x00\x00\x00\x00",
-        image,
         no_sizes(),
         b"",
     );
@@ -274,14 +274,14 @@ fn read_none(image: &mut [u8]) {
 
 fn read_short(image: &mut [u8]) {
     read_first(
+        image,
         b"read into a short room",
         b"\x05\x00\x02\x00\x01\x00\x02\x00\x01\x00\x01\x00\x3B\x09",
-        image,
     );
     read_first(
+        image,
         b"read a value bit alone, room",
         b"\x05\x00\x02\x00\x01\x00\x02\x00\x01\x00\x01\x00\x3A\x09",
-        image,
     );
 }
 
@@ -357,6 +357,11 @@ fn short_rooms() {
 
 // ---- the largest image
 
+// Its trits and its record's bytes, and some more that are kept.
+const IMAGE_ROOM: usize = rules::MAX_IMAGE as usize + 8;
+
+const RECORD_ROOM: usize = rules::MAX_RECORD + 10;
+
 // One memory of the largest depth.
 fn deep_sizes() -> Sizes {
     Sizes {
@@ -383,31 +388,31 @@ fn front(bytes: &[u8], n: usize) -> &[u8] {
     &bytes[..n]
 }
 
-fn largest(s: Sizes, image: &mut [u8], bytes: &mut [u8], back: &mut [u8]) {
+fn largest(image: &mut [u8], bytes: &mut [u8], back: &mut [u8], s: Sizes) {
     fill_trits(image);
-    write(b"write the largest", s, image, bytes, b"\x05\x00");
+    write(bytes, b"write the largest", s, image, b"\x05\x00");
     read(
-        b"read the largest",
-        front(bytes, 32780),
         back,
+        b"read the largest",
+        front(bytes, rules::MAX_RECORD),
         s,
-        front(image, 131072),
+        front(image, rules::MAX_IMAGE as usize),
     );
 }
 
-fn image_room() -> [u8; 131080] {
-    [0u8; 131080]
+fn image_room() -> [u8; IMAGE_ROOM] {
+    [0u8; IMAGE_ROOM]
 }
 
-fn bytes_room() -> [u8; 32790] {
-    [0u8; 32790]
+fn bytes_room() -> [u8; RECORD_ROOM] {
+    [0u8; RECORD_ROOM]
 }
 
 fn largest_case() {
     let mut image = image_room();
     let mut back = image_room();
     let mut bytes = bytes_room();
-    largest(deep_sizes(), &mut image, &mut bytes, &mut back);
+    largest(&mut image, &mut bytes, &mut back, deep_sizes());
 }
 
 fn main() {

@@ -8,10 +8,10 @@ use Rattle.answer_layouts.proofs.patch_all.Statement.{statement}
 use Rattle.answer_layouts.proofs.patch_all.Tie as tie
 
 abbrev Inv-loop : tie.InvT-loop
-Inv-loop given at p entries image₀ words₀ trits₀ n from₀ to₀ i₀ image words trits from to i = (i ≤ n) × (length image ≡ length image₀) × (length words ≡ length words₀) × (length trits ≡ length trits₀)
+Inv-loop image₀ words₀ trits₀ given at p entries n from₀ to₀ i₀ image words trits from to i = (i ≤ n) × (length image ≡ length image₀) × (length words ≡ length words₀) × (length trits ≡ length trits₀)
 
 abbrev μ-loop : tie.MeasureT-loop
-μ-loop given at p entries image₀ words₀ trits₀ n from₀ to₀ i₀ image words trits from to i = n - i
+μ-loop image₀ words₀ trits₀ given at p entries n from₀ to₀ i₀ image words trits from to i = n - i
 
 word-requires : tie.Need-word-requires Inv-loop μ-loop
 word-requires c κs = search needs

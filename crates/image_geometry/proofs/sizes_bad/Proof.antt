@@ -42,36 +42,39 @@ returns-3 c =
 returns-4 : tie.Need-returns-4
 unfolding badLayoutSizes
 returns-4 c =
-    sym (or-right (le-ltb _ _ (c .before .before .before .before .before .before .if1 .left)) (or-right (le-ltb _ _ (c .before .before .before .before .if2 .left))
-    (or-right (within _ _ _ _ (c .before .before .before .u64-of-u32 .ensures) (c .before .before .u64-of-u322 .ensures) (c .before .if3 .left))
-    (or-left _ (lt-ltb _ _ (c .if4 .taken))))))
+    sym (or-right (le-ltb _ _ (c .before .before .before .before .before .before .before .if1 .left)) (or-right (le-ltb _ _ (c .before .before .before .before .before .if2 .left))
+    (or-right (within _ _ _ _ (c .before .before .before .before .u64-of-u32 .ensures) (c .before .before .before .u64-of-u322 .ensures) (c .before .before .if3 .left))
+    (or-left _ (sym (c .before .row-bad .ensures) ∙ c .if4 .taken)))))
 
 returns-5 : tie.Need-returns-5
 unfolding badLayoutSizes
 returns-5 c =
-    sym (or-right (le-ltb _ _ (c .before .before .before .before .before .before .before .before .if1 .left)) (or-right (le-ltb _ _ (c .before .before .before .before .before .before .if2 .left))
-    (or-right (within _ _ _ _ (c .before .before .before .before .before .u64-of-u32 .ensures) (c .before .before .before .before .u64-of-u322 .ensures) (c .before .before .before .if3 .left))
-    (or-right (le-ltb _ _ (c .before .before .if4 .left)) (or-left _ (eq-eqb _ _ (c .if5 .taken)))))))
+    sym (or-right (le-ltb _ _ (c .before .before .before .before .before .before .before .before .before .if1 .left)) (or-right (le-ltb _ _ (c .before .before .before .before .before .before .before .if2 .left))
+    (or-right (within _ _ _ _ (c .before .before .before .before .before .before .u64-of-u32 .ensures) (c .before .before .before .before .before .u64-of-u322 .ensures) (c .before .before .before .before .if3 .left))
+    (or-right (sym (c .before .before .before .row-bad .ensures) ∙ c .before .before .if4 .left) (or-left _ (eq-eqb _ _ (c .if5 .taken)))))))
 
 returns-6 : tie.Need-returns-6
 unfolding badLayoutSizes
 returns-6 c =
-    sym (or-right (le-ltb _ _ (c .before .before .before .before .before .before .before .before .before .before .if1 .left)) (or-right (le-ltb _ _ (c .before .before .before .before .before .before .before .before .if2 .left))
-    (or-right (within _ _ _ _ (c .before .before .before .before .before .before .before .u64-of-u32 .ensures) (c .before .before .before .before .before .before .u64-of-u322 .ensures) (c .before .before .before .before .before .if3 .left))
-    (or-right (le-ltb _ _ (c .before .before .before .before .if4 .left)) (or-right (ne-eqb _ _ (c .before .before .if5 .left)) (or-left _ (lt-ltb _ _ (c .if6 .taken))))))))
+    sym (or-right (le-ltb _ _ (c .before .before .before .before .before .before .before .before .before .before .before .if1 .left)) (or-right (le-ltb _ _ (c .before .before .before .before .before .before .before .before .before .if2 .left))
+    (or-right (within _ _ _ _ (c .before .before .before .before .before .before .before .before .u64-of-u32 .ensures) (c .before .before .before .before .before .before .before .u64-of-u322 .ensures) (c .before .before .before .before .before .before .if3 .left))
+    (or-right (sym (c .before .before .before .before .before .row-bad .ensures) ∙ c .before .before .before .before .if4 .left) (or-right (ne-eqb _ _ (c .before .before .if5 .left)) (or-left _ (lt-ltb _ _ (c .if6 .taken))))))))
 
 returns-7 : tie.Need-returns-7
 unfolding badLayoutSizes
 returns-7 c =
-    sym (or-rest (le-ltb _ _ (c .before .before .before .before .before .before .before .before .before .before .before .if1 .left)) ∙ or-rest (le-ltb _ _ (c .before .before .before .before .before .before .before .before .before .if2 .left))
-    ∙ or-rest (within _ _ _ _ (c .before .before .before .before .before .before .before .before .u64-of-u32 .ensures) (c .before .before .before .before .before .before .before .u64-of-u322 .ensures) (c .before .before .before .before .before .before .if3 .left))
-    ∙ or-rest (le-ltb _ _ (c .before .before .before .before .before .if4 .left)) ∙ or-rest (ne-eqb _ _ (c .before .before .before .if5 .left)) ∙ or-rest (le-ltb _ _ (c .before .if6 .left)))
+    sym (or-rest (le-ltb _ _ (c .before .before .before .before .before .before .before .before .before .before .before .before .if1 .left)) ∙ or-rest (le-ltb _ _ (c .before .before .before .before .before .before .before .before .before .before .if2 .left))
+    ∙ or-rest (within _ _ _ _ (c .before .before .before .before .before .before .before .before .before .u64-of-u32 .ensures) (c .before .before .before .before .before .before .before .before .u64-of-u322 .ensures) (c .before .before .before .before .before .before .before .if3 .left))
+    ∙ or-rest (sym (c .before .before .before .before .before .before .row-bad .ensures) ∙ c .before .before .before .before .before .if4 .left) ∙ or-rest (ne-eqb _ _ (c .before .before .before .if5 .left)) ∙ or-rest (le-ltb _ _ (c .before .if6 .left)))
 
 u64-of-u32-requires : tie.Need-u64-of-u32-requires
 u64-of-u32-requires c κs = search needs
 
 u64-of-u32-requires-2 : tie.Need-u64-of-u32-requires-2
 u64-of-u32-requires-2 c κs = search needs
+
+row-bad-requires : tie.Need-row-bad-requires
+row-bad-requires c κs = search needs
 
 pub sizes-bad-spec : {M : Type 1} → statement M
 sizes-bad-spec =
@@ -83,6 +86,7 @@ sizes-bad-spec =
     u64-of-u32-requires-2
     mul-if3
     returns-3
+    row-bad-requires
     returns-4
     returns-5
     returns-6

@@ -1,38 +1,32 @@
 -- `image_patches::fill_and_patch` meets its contract.
-use Prim.Native.Nat.{ℕ, _<_}
 use mathlib.Core.Path.{ap, _∙_, subst}
 use lib.ListN.{length-take}
-use Rattle.rules.specs.Limits.{maxRow}
 use Rattle.rules.specs.Image as rules
 use Rattle.rules.specs.Beside.Layouts.{fillAndPatchCall}
 use Rattle.image_state.proofs.Fields.{entries-long}
-use Rattle.image_state.proofs.Laying.{laid-long, laid-lent}
+use Rattle.image_state.proofs.Laying.{laid-lent}
 use Rattle.image_patches.specs.Calls.{callsOf, Demanded}
-use Rattle.image_patches.proofs.Demanding.{both-unset}
 use borrow.Author.Needs.{needs}
 use native.Mathlib.Omega.{arith}
 use Rattle.image_patches.proofs.fill_and_patch.Statement.{statement}
 use Rattle.image_patches.proofs.fill_and_patch.Tie as tie
 
-returns : tie.Need-returns
-returns c = (both-unset _ _ _ _ (laid-long (c .before .before .before .before .before .before .args .laid) (subst (λ (n : ℕ). maxRow < n) (c .before .usize-of-u32 .ensures .0) (c .if1 .taken))), λ z. absurd (omega arith))
-
 array-share-prefix-entries : tie.Need-array-share-prefix-entries
-array-share-prefix-entries c = omega (arith, c .before .before .before .if1 .left, entries-long (c .before .before .before .before .before .before .before .before .before .args .laid) _ (c .before .before .before .before .before .before .before .before .before .good .1 .0))
+array-share-prefix-entries c = omega (arith, c .before .before .before .used .ensures .1, entries-long (c .before .before .before .before .before .before .before .before .args .laid) _ (c .before .before .before .before .before .before .before .before .good .1 .0))
 
 slice-aggregate-fill-then-patch : tie.Need-slice-aggregate-fill-then-patch
-slice-aggregate-fill-then-patch c = omega (arith, length-take (c .before .before .before .before .before .usize-of-u32 .result) (c .before .before .before .before .before .before .before .before .before .before .args .laid .entries), array-share-prefix-entries (c .before))
+slice-aggregate-fill-then-patch c = omega (arith, length-take (c .before .before .before .before .used .result) (c .before .before .before .before .before .before .before .before .before .args .laid .entries), array-share-prefix-entries (c .before))
 
-returns-2 : tie.Need-returns-2
-returns-2 c =
-    let a = c .before .before .before .before .before .before .before .before .before .before .before .before .before .args in
-    let e = laid-lent (a .laid) _ _ (c .before .before .before .before .params .ensures) (c .before .before .before .before .before .before .before .before .usize-of-u32 .ensures .0) (c .before .before .before .before .before .before .before .if1 .left) in (
+returns : tie.Need-returns
+returns c =
+    let a = c .before .before .before .before .before .before .before .before .before .before .before .before .args in
+    let e = laid-lent (a .laid) _ _ (c .before .before .before .before .params .ensures) (c .before .before .before .before .before .before .before .used .ensures .0) in (
       c .before .before .fill-then-patch .ensures .0 ∙ ap (λ (l : rules.Laid). fillAndPatchCall l (a .rows .now) (callsOf (a .calls .now) (a .trits .now)) (a .buffer .now)) e,
       λ z. subst (λ (l : rules.Laid). Demanded l (a .rows .now) (a .buffer .now) (callsOf (a .calls .now) (a .trits .now)) (c .before .before .fill-then-patch .last .0)) e (c .before .before .fill-then-patch .ensures .1 z),
     )
 
-usize-of-u32-requires : tie.Need-usize-of-u32-requires
-usize-of-u32-requires c κs = search needs
+used-requires : tie.Need-used-requires
+used-requires c κs = search needs
 
 params-requires : tie.Need-params-requires
 params-requires c κs = search needs
@@ -47,11 +41,10 @@ pub fill-and-patch-spec : {M : Type 1} → statement M
 fill-and-patch-spec =
     tie.close
     (tie.spec
-    usize-of-u32-requires
-    returns
+    used-requires
     params-requires
     array-share-prefix-entries
     slice-aggregate-fill-then-patch
     fill-then-patch-requires
     same-length
-    returns-2)
+    returns)

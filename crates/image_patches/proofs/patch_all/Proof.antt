@@ -1,36 +1,30 @@
 -- `image_patches::patch_all` meets its contract.
-use Prim.Native.Nat.{ℕ, _<_}
-use mathlib.Core.Path.{ap, _∙_, subst}
+use mathlib.Core.Path.{ap, _∙_}
 use lib.ListN.{length-take}
-use Rattle.rules.specs.Limits.{maxRow}
 use Rattle.rules.specs.Image as rules
 use Rattle.rules.specs.Patch.{patched}
 use Rattle.image_state.proofs.Fields.{entries-long}
-use Rattle.image_state.proofs.Laying.{laid-long, laid-lent}
+use Rattle.image_state.proofs.Laying.{laid-lent}
 use Rattle.image_patches.specs.Calls.{callsOf}
-use Rattle.image_patches.proofs.Calling.{patched-unset}
 use borrow.Author.Needs.{needs}
 use native.Mathlib.Omega.{arith}
 use Rattle.image_patches.proofs.patch_all.Statement.{statement}
 use Rattle.image_patches.proofs.patch_all.Tie as tie
 
-returns : tie.Need-returns
-returns c = patched-unset _ _ _ (laid-long (c .before .before .before .before .before .args .laid) (subst (λ (n : ℕ). maxRow < n) (c .before .usize-of-u32 .ensures .0) (c .if1 .taken)))
-
 array-share-prefix-entries : tie.Need-array-share-prefix-entries
-array-share-prefix-entries c = omega (arith, c .before .before .before .if1 .left, entries-long (c .before .before .before .before .before .before .before .before .args .laid) _ (c .before .before .before .before .before .before .before .before .good .1 .0))
+array-share-prefix-entries c = omega (arith, c .before .before .before .used .ensures .1, entries-long (c .before .before .before .before .before .before .before .args .laid) _ (c .before .before .before .before .before .before .before .good .1 .0))
 
 slice-aggregate-patch-each : tie.Need-slice-aggregate-patch-each
-slice-aggregate-patch-each c = omega (arith, length-take (c .before .before .before .before .before .usize-of-u32 .result) (c .before .before .before .before .before .before .before .before .before .args .laid .entries), array-share-prefix-entries (c .before))
+slice-aggregate-patch-each c = omega (arith, length-take (c .before .before .before .before .used .result) (c .before .before .before .before .before .before .before .before .args .laid .entries), array-share-prefix-entries (c .before))
 
-returns-2 : tie.Need-returns-2
-returns-2 c =
-    let a = c .before .before .before .before .before .before .before .before .before .before .before .before .args in
+returns : tie.Need-returns
+returns c =
+    let a = c .before .before .before .before .before .before .before .before .before .before .before .args in
     c .before .before .patch-each .ensures
-    ∙ ap (λ (l : rules.Laid). patched l (callsOf (a .calls .now) (a .trits .now)) (a .buffer .now)) (laid-lent (a .laid) _ _ (c .before .before .before .before .params .ensures) (c .before .before .before .before .before .before .before .before .usize-of-u32 .ensures .0) (c .before .before .before .before .before .before .before .if1 .left))
+    ∙ ap (λ (l : rules.Laid). patched l (callsOf (a .calls .now) (a .trits .now)) (a .buffer .now)) (laid-lent (a .laid) _ _ (c .before .before .before .before .params .ensures) (c .before .before .before .before .before .before .before .used .ensures .0))
 
-usize-of-u32-requires : tie.Need-usize-of-u32-requires
-usize-of-u32-requires c κs = search needs
+used-requires : tie.Need-used-requires
+used-requires c κs = search needs
 
 params-requires : tie.Need-params-requires
 params-requires c κs = search needs
@@ -45,11 +39,10 @@ pub patch-all-spec : {M : Type 1} → statement M
 patch-all-spec =
     tie.close
     (tie.spec
-    usize-of-u32-requires
-    returns
+    used-requires
     params-requires
     array-share-prefix-entries
     slice-aggregate-patch-each
     patch-each-requires
     same-length
-    returns-2)
+    returns)

@@ -8,7 +8,7 @@ use Rattle.rules.proofs.GoodLayouts.{good-accepted}
 use Rattle.image_geometry.specs.View.{layoutBy, shapeBy}
 use Rattle.image_check.specs.View.{checkedOf}
 use Rattle.image_rows.proofs.Sizing.{passed, handed, size-is, shallow, ready, not-passed}
-use Rattle.image_rows.proofs.Filling.{fill-is, fill-number-is, fills, fill-unset, fill-refused, fill-done}
+use Rattle.image_rows.proofs.Filling.{fill-is, fill-refusal-is, fills, fill-unset, fill-refused, fill-done}
 use borrow.Author.Needs.{needs}
 use Rattle.image_rows.proofs.fill_rows.Statement.{statement}
 use Rattle.image_rows.proofs.fill_rows.Tie as tie
@@ -17,8 +17,8 @@ use Rattle.image_rows.proofs.fill_rows.Tie as tie
 told : (c : tie.After-s) → some (shapeBy (c .s .given .0 .0)) ≡ laidShape (layoutBy (c .before .before .before .before .before .before .args .p) (c .before .before .before .before .before .before .args .entries .now))
 told c = sym (ap checkedOf (c .s .given .1)) ∙ c .before .before .check-layout .ensures
 
-number : (c : tie.After-fill-number) → c .fill-number .result ≡ fillRefusalOf (layoutBy (c .before .before .before .before .before .before .before .before .args .p) (c .before .before .before .before .before .before .before .before .args .entries .now)) (length (c .before .before .before .before .before .before .before .before .args .image .now)) (length (c .before .before .before .before .before .before .before .before .args .rows .now))
-number c = c .fill-number .ensures ∙ fill-number-is (layoutBy (c .before .before .before .before .before .before .before .before .args .p) (c .before .before .before .before .before .before .before .before .args .entries .now)) _ _ _ (size-is _ _ _ (told (c .before .before)))
+number : (c : tie.After-fill-refusal) → c .fill-refusal .result ≡ fillRefusalOf (layoutBy (c .before .before .before .before .before .before .before .before .args .p) (c .before .before .before .before .before .before .before .before .args .entries .now)) (length (c .before .before .before .before .before .before .before .before .args .image .now)) (length (c .before .before .before .before .before .before .before .before .args .rows .now))
+number c = c .fill-refusal .ensures ∙ fill-refusal-is (layoutBy (c .before .before .before .before .before .before .before .before .args .p) (c .before .before .before .before .before .before .before .before .args .entries .now)) _ _ _ (size-is _ _ _ (told (c .before .before)))
 
 returns : tie.Need-returns
 returns c =
@@ -58,8 +58,8 @@ enum-known-s c = search needs
 enum-told : tie.Need-enum-told
 enum-told c = search needs
 
-fill-number-requires : tie.Need-fill-number-requires
-fill-number-requires c κs = search needs
+fill-refusal-requires : tie.Need-fill-refusal-requires
+fill-refusal-requires c κs = search needs
 
 usize-of-u64-requires : tie.Need-usize-of-u64-requires
 usize-of-u64-requires c κs = search needs
@@ -78,7 +78,7 @@ fill-rows-spec =
     enum-known-s
     enum-told
     returns
-    fill-number-requires
+    fill-refusal-requires
     returns-2
     usize-of-u64-requires
     fill-u8-requires

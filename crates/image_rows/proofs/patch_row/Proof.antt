@@ -17,8 +17,8 @@ use Rattle.image_rows.proofs.patch_row.Tie as tie
 told : (c : tie.After-s) → some (shapeBy (c .s .given .0 .0)) ≡ laidShape (layoutBy (c .before .before .before .before .before .before .args .p) (c .before .before .before .before .before .before .args .entries .now))
 told c = sym (ap checkedOf (c .s .given .1)) ∙ c .before .before .check-layout .ensures
 
-number : (c : tie.After-patch-number) → c .patch-number .result ≡ patchRefusalOf (layoutBy (c .before .before .before .before .before .before .before .before .args .p) (c .before .before .before .before .before .before .before .before .args .entries .now)) (record { row = c .before .before .before .before .before .before .before .before .args .row; trits = c .before .before .before .before .before .before .before .before .args .trits .now; room = length (c .before .before .before .before .before .before .before .before .args .image .now) })
-number c = c .patch-number .ensures ∙ number-is (layoutBy (c .before .before .before .before .before .before .before .before .args .p) (c .before .before .before .before .before .before .before .before .args .entries .now)) _ _ _ _ (size-is _ _ _ (told (c .before .before)))
+number : (c : tie.After-patch-refusal) → c .patch-refusal .result ≡ patchRefusalOf (layoutBy (c .before .before .before .before .before .before .before .before .args .p) (c .before .before .before .before .before .before .before .before .args .entries .now)) (record { row = c .before .before .before .before .before .before .before .before .args .row; trits = c .before .before .before .before .before .before .before .before .args .trits .now; room = length (c .before .before .before .before .before .before .before .before .args .image .now) })
+number c = c .patch-refusal .ensures ∙ number-is (layoutBy (c .before .before .before .before .before .before .before .before .args .p) (c .before .before .before .before .before .before .before .before .args .entries .now)) _ _ _ _ (size-is _ _ _ (told (c .before .before)))
 
 returns : tie.Need-returns
 returns c =
@@ -54,8 +54,8 @@ enum-known-s c = search needs
 enum-told : tie.Need-enum-told
 enum-told c = search needs
 
-patch-number-requires : tie.Need-patch-number-requires
-patch-number-requires c κs = search needs
+patch-refusal-requires : tie.Need-patch-refusal-requires
+patch-refusal-requires c κs = search needs
 
 same-length : tie.Need-same-length
 same-length c = search needs
@@ -68,7 +68,7 @@ patch-row-spec =
     enum-known-s
     enum-told
     returns
-    patch-number-requires
+    patch-refusal-requires
     returns-2
     steps-of-requires
     write-row-requires

@@ -7,7 +7,7 @@ use Rattle.rules.specs.Beside.Layouts.{readRowRefusalOf}
 use Rattle.image_geometry.specs.View.{layoutBy, shapeBy}
 use Rattle.image_check.specs.View.{checkedOf}
 use Rattle.image_rows.proofs.Sizing.{passed, handed, size-is, shallow, ready, not-passed}
-use Rattle.image_rows.proofs.Reading.{read-number-is, reads, read-unset, read-refused, read-done}
+use Rattle.image_rows.proofs.Reading.{read-refusal-is, reads, read-unset, read-refused, read-done}
 use Rattle.image_rows.proofs.Taking.{taken-is}
 use borrow.Author.Needs.{needs}
 use Rattle.image_rows.proofs.read_row.Statement.{statement}
@@ -17,8 +17,8 @@ use Rattle.image_rows.proofs.read_row.Tie as tie
 told : (c : tie.After-s) → some (shapeBy (c .s .given .0 .0)) ≡ laidShape (layoutBy (c .before .before .before .before .before .before .args .p) (c .before .before .before .before .before .before .args .entries .now))
 told c = sym (ap checkedOf (c .s .given .1)) ∙ c .before .before .check-layout .ensures
 
-number : (c : tie.After-read-number) → c .read-number .result ≡ readRowRefusalOf (layoutBy (c .before .before .before .before .before .before .before .before .args .p) (c .before .before .before .before .before .before .before .before .args .entries .now)) (length (c .before .before .before .before .before .before .before .before .args .room .now)) (length (c .before .before .before .before .before .before .before .before .args .image .now)) (c .before .before .before .before .before .before .before .before .args .row)
-number c = c .read-number .ensures ∙ read-number-is (layoutBy (c .before .before .before .before .before .before .before .before .args .p) (c .before .before .before .before .before .before .before .before .args .entries .now)) _ _ _ _ (size-is _ _ _ (told (c .before .before)))
+number : (c : tie.After-read-refusal) → c .read-refusal .result ≡ readRowRefusalOf (layoutBy (c .before .before .before .before .before .before .before .before .args .p) (c .before .before .before .before .before .before .before .before .args .entries .now)) (length (c .before .before .before .before .before .before .before .before .args .room .now)) (length (c .before .before .before .before .before .before .before .before .args .image .now)) (c .before .before .before .before .before .before .before .before .args .row)
+number c = c .read-refusal .ensures ∙ read-refusal-is (layoutBy (c .before .before .before .before .before .before .before .before .args .p) (c .before .before .before .before .before .before .before .before .args .entries .now)) _ _ _ _ (size-is _ _ _ (told (c .before .before)))
 
 returns : tie.Need-returns
 returns c =
@@ -56,8 +56,8 @@ enum-known-s c = search needs
 enum-told : tie.Need-enum-told
 enum-told c = search needs
 
-read-number-requires : tie.Need-read-number-requires
-read-number-requires c κs = search needs
+read-refusal-requires : tie.Need-read-refusal-requires
+read-refusal-requires c κs = search needs
 
 same-length : tie.Need-same-length
 same-length c = search needs
@@ -70,7 +70,7 @@ read-row-spec =
     enum-known-s
     enum-told
     returns
-    read-number-requires
+    read-refusal-requires
     returns-2
     steps-of-requires
     take-row-requires

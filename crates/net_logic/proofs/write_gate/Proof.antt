@@ -12,10 +12,10 @@ use Rattle.net_logic.proofs.write_gate.Statement.{statement}
 use Rattle.net_logic.proofs.write_gate.Tie as tie
 
 abbrev Inv-loop : tie.InvT-loop
-Inv-loop g a b out₀ i₀ out i = (i ≤ length a) × (length out ≡ length out₀) × (out ≡ sets out₀ 0 (take i (tritwise (gateOf g) a b)))
+Inv-loop out₀ g a b i₀ out i = (i ≤ length a) × (length out ≡ length out₀) × (out ≡ sets out₀ 0 (take i (tritwise (gateOf g) a b)))
 
 abbrev μ-loop : tie.MeasureT-loop
-μ-loop g a b out₀ i₀ out i = length a - i
+μ-loop out₀ g a b i₀ out i = length a - i
 
 loop-holds : tie.Need-loop-holds Inv-loop μ-loop
 loop-holds c = (omega arith, refl, refl)

@@ -11,10 +11,10 @@ use Rattle.net_logic.proofs.write_not.Statement.{statement}
 use Rattle.net_logic.proofs.write_not.Tie as tie
 
 abbrev Inv-loop : tie.InvT-loop
-Inv-loop a out₀ i₀ out i = (i ≤ length a) × (length out ≡ length out₀) × (out ≡ sets out₀ 0 (take i (constNot a)))
+Inv-loop out₀ a i₀ out i = (i ≤ length a) × (length out ≡ length out₀) × (out ≡ sets out₀ 0 (take i (constNot a)))
 
 abbrev μ-loop : tie.MeasureT-loop
-μ-loop a out₀ i₀ out i = length a - i
+μ-loop out₀ a i₀ out i = length a - i
 
 loop-holds : tie.Need-loop-holds Inv-loop μ-loop
 loop-holds c = (omega arith, refl, refl)

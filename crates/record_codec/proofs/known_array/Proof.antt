@@ -12,11 +12,11 @@ use Rattle.record_codec.proofs.known_array.Tie as tie
 middle-of-requires : tie.Need-middle-of-requires
 middle-of-requires c κs = search needs
 
-least-requires : tie.Need-least-requires
-least-requires c κs = search needs
+smaller-requires : tie.Need-smaller-requires
+smaller-requires c κs = search needs
 
-least-requires-2 : tie.Need-least-requires-2
-least-requires-2 c κs = search needs
+smaller-requires-2 : tie.Need-smaller-requires-2
+smaller-requires-2 c κs = search needs
 
 sub-result : tie.Need-sub-result
 sub-result c = search needs
@@ -29,8 +29,8 @@ part-result-end c = search needs
 
 returns : tie.Need-returns
 returns c =
-    let s = c .before .least2 in
-    let e = c .before .before .least in
+    let s = c .before .smaller2 in
+    let e = c .before .before .smaller in
     let m = c .before .before .before in
     let b = m .before .before .args .bytes .now in
     let n = arrayBytes (sizeTrits (headSizes b)) in
@@ -42,8 +42,8 @@ known-array-spec =
     tie.close
     (tie.spec
     middle-of-requires
-    least-requires
-    least-requires-2
+    smaller-requires
+    smaller-requires-2
     sub-result
     part-result-start
     part-result-end

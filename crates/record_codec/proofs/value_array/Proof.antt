@@ -13,8 +13,8 @@ use Rattle.record_codec.proofs.value_array.Tie as tie
 middle-of-requires : tie.Need-middle-of-requires
 middle-of-requires c κs = search needs
 
-least-requires : tie.Need-least-requires
-least-requires c κs = search needs
+smaller-requires : tie.Need-smaller-requires
+smaller-requires c κs = search needs
 
 sub-result : tie.Need-sub-result
 sub-result c = search needs
@@ -27,7 +27,7 @@ part-result-end c = search needs
 
 returns : tie.Need-returns
 returns c =
-    let s = c .before .least in
+    let s = c .before .smaller in
     let m = c .before .before in
     let b = m .before .before .args .bytes .now in
     let n = arrayBytes (sizeTrits (headSizes b)) in
@@ -39,7 +39,7 @@ value-array-spec =
     tie.close
     (tie.spec
     middle-of-requires
-    least-requires
+    smaller-requires
     sub-result
     part-result-start
     part-result-end

@@ -9,10 +9,10 @@ use Rattle.record_listing.proofs.digits_of.Statement.{statement}
 use Rattle.record_listing.proofs.digits_of.Tie as tie
 
 abbrev Inv-loop : tie.InvT-loop
-Inv-loop n digits₀ left₀ i₀ digits left i = (i ≤ 10) × (length digits ≡ 10) × (digitsFrom i left (drop i digits) ≡ decimal n)
+Inv-loop digits₀ n left₀ i₀ digits left i = (i ≤ 10) × (length digits ≡ 10) × (digitsFrom i left (drop i digits) ≡ decimal n)
 
 abbrev μ-loop : tie.MeasureT-loop
-μ-loop n digits₀ left₀ i₀ digits left i = i
+μ-loop digits₀ n left₀ i₀ digits left i = i
 
 loop-holds : tie.Need-loop-holds Inv-loop μ-loop
 loop-holds c = (omega arith, c .pre, ten-digits (c .args .digits .now) (c .args .n) (c .pre))

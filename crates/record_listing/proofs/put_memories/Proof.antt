@@ -15,10 +15,10 @@ use Rattle.record_listing.proofs.put_memories.Statement.{statement}
 use Rattle.record_listing.proofs.put_memories.Tie as tie
 
 abbrev Inv-loop : tie.InvT-loop
-Inv-loop bytes s count out₀ at next₀ from₀ i₀ out next from i = (i ≤ count) × (length out ≡ length out₀) × (next ≤ at + 50 * i) × (from ≡ sizeStart (viewSizes s) i) × (sets out next (rest bytes count i) ≡ sets out₀ at (rest bytes count 0)) × (next + length (rest bytes count i) ≡ at + length (rest bytes count 0))
+Inv-loop out₀ at bytes s count next₀ from₀ i₀ out next from i = (i ≤ count) × (length out ≡ length out₀) × (next ≤ at + 50 * i) × (from ≡ sizeStart (viewSizes s) i) × (sets out next (rest bytes count i) ≡ sets out₀ at (rest bytes count 0)) × (next + length (rest bytes count i) ≡ at + length (rest bytes count 0))
 
 abbrev μ-loop : tie.MeasureT-loop
-μ-loop bytes s count out₀ at next₀ from₀ i₀ out next from i = count - i
+μ-loop out₀ at bytes s count next₀ from₀ i₀ out next from i = count - i
 
 loop-holds : tie.Need-loop-holds Inv-loop μ-loop
 loop-holds c =

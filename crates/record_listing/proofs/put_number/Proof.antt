@@ -34,7 +34,7 @@ returns c =
     let p = c .before .before in
     let d = p .before .before .before .before .before in
     let n = d .before .before .before .args .n in
-    let e = all-from (d .digits-of .last .1 .0) (decimal n) (d .digits-of .result) (d .digits-of .kept .1 .0) (d .digits-of .ensures .0) in
+    let e = all-from (d .digits-of .last .0) (decimal n) (d .digits-of .result) (d .digits-of .kept .0) (d .digits-of .ensures .0) in
     let w = put-as (decimal n) e (p .put-text .ensures) in
     (w, omega (arith, w .place, length-decimal n))
 

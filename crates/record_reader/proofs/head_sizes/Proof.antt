@@ -10,32 +10,32 @@ use Rattle.record_reader.proofs.head_sizes.Tie as tie
 word-at-requires : tie.Need-word-at-requires
 word-at-requires c κs = search needs
 
-wide-requires : tie.Need-wide-requires
-wide-requires c κs = search needs
+u32-of-u16-requires : tie.Need-u32-of-u16-requires
+u32-of-u16-requires c κs = search needs
 
 word-at-requires-2 : tie.Need-word-at-requires-2
 word-at-requires-2 c κs = search needs
 
-wide-requires-2 : tie.Need-wide-requires-2
-wide-requires-2 c κs = search needs
+u32-of-u16-requires-2 : tie.Need-u32-of-u16-requires-2
+u32-of-u16-requires-2 c κs = search needs
 
 word-at-requires-3 : tie.Need-word-at-requires-3
 word-at-requires-3 c κs = search needs
 
-wide-requires-3 : tie.Need-wide-requires-3
-wide-requires-3 c κs = search needs
+u32-of-u16-requires-3 : tie.Need-u32-of-u16-requires-3
+u32-of-u16-requires-3 c κs = search needs
 
 word-at-requires-4 : tie.Need-word-at-requires-4
 word-at-requires-4 c κs = search needs
 
-wide-requires-4 : tie.Need-wide-requires-4
-wide-requires-4 c κs = search needs
+u32-of-u16-requires-4 : tie.Need-u32-of-u16-requires-4
+u32-of-u16-requires-4 c κs = search needs
 
 word-at-requires-5 : tie.Need-word-at-requires-5
 word-at-requires-5 c κs = search needs
 
-wide-requires-5 : tie.Need-wide-requires-5
-wide-requires-5 c κs = search needs
+u32-of-u16-requires-5 : tie.Need-u32-of-u16-requires-5
+u32-of-u16-requires-5 c κs = search needs
 
 returns : tie.Need-returns
 unfolding headSizes
@@ -45,18 +45,18 @@ returns c =
     let q3 = q4 .before .before in
     let q2 = q3 .before .before in
     let q1 = q2 .before .before in
-    let e1 = q2 .before .wide .ensures ∙ q1 .word-at .ensures in
-    let e2 = q3 .before .wide2 .ensures ∙ q2 .word-at2 .ensures in
-    let e3 = q4 .before .wide3 .ensures ∙ q3 .word-at3 .ensures in
-    let e4 = q5 .before .wide4 .ensures ∙ q4 .word-at4 .ensures in
-    let e5 = c .wide5 .ensures ∙ q5 .word-at5 .ensures in (
+    let e1 = q2 .before .u32-of-u16 .ensures ∙ q1 .word-at .ensures in
+    let e2 = q3 .before .u32-of-u162 .ensures ∙ q2 .word-at2 .ensures in
+    let e3 = q4 .before .u32-of-u163 .ensures ∙ q3 .word-at3 .ensures in
+    let e4 = q5 .before .u32-of-u164 .ensures ∙ q4 .word-at4 .ensures in
+    let e5 = c .u32-of-u165 .ensures ∙ q5 .word-at5 .ensures in (
       λ i. record { unit = e1 i; full = e2 i; fullDepth = e3 i; partial = e4 i; partialDepth = e5 i },
       record {
-        unit-word = omega (arith, q2 .before .wide .ensures, q1 .word-at .ok);
-        full-word = omega (arith, q3 .before .wide2 .ensures, q2 .word-at2 .ok);
-        full-depth-word = omega (arith, q4 .before .wide3 .ensures, q3 .word-at3 .ok);
-        partial-word = omega (arith, q5 .before .wide4 .ensures, q4 .word-at4 .ok);
-        partial-depth-word = omega (arith, c .wide5 .ensures, q5 .word-at5 .ok);
+        unit-word = omega (arith, q2 .before .u32-of-u16 .ensures, q1 .word-at .ok);
+        full-word = omega (arith, q3 .before .u32-of-u162 .ensures, q2 .word-at2 .ok);
+        full-depth-word = omega (arith, q4 .before .u32-of-u163 .ensures, q3 .word-at3 .ok);
+        partial-word = omega (arith, q5 .before .u32-of-u164 .ensures, q4 .word-at4 .ok);
+        partial-depth-word = omega (arith, c .u32-of-u165 .ensures, q5 .word-at5 .ok);
       },
     )
 
@@ -65,13 +65,13 @@ head-sizes-spec =
     tie.close
     (tie.spec
     word-at-requires
-    wide-requires
+    u32-of-u16-requires
     word-at-requires-2
-    wide-requires-2
+    u32-of-u16-requires-2
     word-at-requires-3
-    wide-requires-3
+    u32-of-u16-requires-3
     word-at-requires-4
-    wide-requires-4
+    u32-of-u16-requires-4
     word-at-requires-5
-    wide-requires-5
+    u32-of-u16-requires-5
     returns)

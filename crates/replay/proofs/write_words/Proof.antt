@@ -13,11 +13,11 @@ Inv-loop answer n bytes₀ size i₀ bytes i = (i ≤ size) × (length bytes ≡
 abbrev μ-loop : tie.MeasureT-loop
 μ-loop answer n bytes₀ size i₀ bytes i = size - i
 
-least-requires : tie.Need-least-requires Inv-loop μ-loop
-least-requires c κs = search needs
+smaller-requires : tie.Need-smaller-requires Inv-loop μ-loop
+smaller-requires c κs = search needs
 
-least-requires-2 : tie.Need-least-requires-2 Inv-loop μ-loop
-least-requires-2 c κs = search needs
+smaller-requires-2 : tie.Need-smaller-requires-2 Inv-loop μ-loop
+smaller-requires-2 c κs = search needs
 
 loop-holds : tie.Need-loop-holds Inv-loop μ-loop
 loop-holds c = search needs
@@ -64,8 +64,8 @@ write-words-spec =
     (tie.spec
     Inv-loop
     μ-loop
-    least-requires
-    least-requires-2
+    smaller-requires
+    smaller-requires-2
     loop-holds
     slice-aggregate-put-word
     mul-put-word

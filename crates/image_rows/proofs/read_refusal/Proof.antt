@@ -1,10 +1,10 @@
--- `image_rows::read_number` meets its contract.
+-- `image_rows::read_refusal` meets its contract.
 use Prim.Native.Nat.{ℕ, _≤_, _<_}
 use mathlib.Core.Path.{sym, subst}
 use Rattle.image_rows.proofs.Reading.{read-15, read-20-image, read-20-room, read-0}
 use borrow.Author.Needs.{needs}
-use Rattle.image_rows.proofs.read_number.Statement.{statement}
-use Rattle.image_rows.proofs.read_number.Tie as tie
+use Rattle.image_rows.proofs.read_refusal.Statement.{statement}
+use Rattle.image_rows.proofs.read_refusal.Tie as tie
 
 returns : tie.Need-returns
 returns c = sym (read-15 _ _ _ _ _ _ (c .if1 .taken))
@@ -28,6 +28,6 @@ u64-of-usize-requires c κs = search needs
 usize-of-u32-requires : tie.Need-usize-of-u32-requires
 usize-of-u32-requires c κs = search needs
 
-pub read-number-spec : {M : Type 1} → statement M
-read-number-spec =
+pub read-refusal-spec : {M : Type 1} → statement M
+read-refusal-spec =
     tie.close (tie.spec returns u64-of-usize-requires returns-2 usize-of-u32-requires returns-3 returns-4)

@@ -1,11 +1,11 @@
--- `image_rows::patch_number` meets its contract.
+-- `image_rows::patch_refusal` meets its contract.
 use Prim.Native.Nat.{ℕ, _≤_, _<_}
 use mathlib.Core.Path.{sym, _∙_, subst}
 use borrow.Author.Tests.{not-true, not-false}
 use Rattle.image_rows.proofs.Patching.{by-4-width, by-4-trit, by-15, by-20, by-0}
 use borrow.Author.Needs.{needs}
-use Rattle.image_rows.proofs.patch_number.Statement.{statement}
-use Rattle.image_rows.proofs.patch_number.Tie as tie
+use Rattle.image_rows.proofs.patch_refusal.Statement.{statement}
+use Rattle.image_rows.proofs.patch_refusal.Tie as tie
 
 returns : tie.Need-returns
 returns c = sym (by-4-width _ _ _ _ _ _ (λ e. c .if1 .taken (e ∙ sym (c .before .usize-of-u32 .ensures .0))))
@@ -36,8 +36,8 @@ trits-good-requires c κs = search needs
 u64-of-usize-requires : tie.Need-u64-of-usize-requires
 u64-of-usize-requires c κs = search needs
 
-pub patch-number-spec : {M : Type 1} → statement M
-patch-number-spec =
+pub patch-refusal-spec : {M : Type 1} → statement M
+patch-refusal-spec =
     tie.close
     (tie.spec
     usize-of-u32-requires

@@ -1,15 +1,15 @@
--- `image_rows::fill_number` meets its contract.
+-- `image_rows::fill_refusal` meets its contract.
 use Prim.Native.Nat.{ℕ, _*_, _≤_, _<_}
 use mathlib.Core.Path.{_≡_, sym, _∙_, subst}
 use Rattle.image_geometry.proofs.Fields.{depth-word, width-word}
 use Rattle.image_rows.proofs.Filling.{words-product, fill-2, fill-20, fill-0}
 use borrow.Author.Needs.{needs}
 use native.Mathlib.Omega.{arith}
-use Rattle.image_rows.proofs.fill_number.Statement.{statement}
-use Rattle.image_rows.proofs.fill_number.Tie as tie
+use Rattle.image_rows.proofs.fill_refusal.Statement.{statement}
+use Rattle.image_rows.proofs.fill_refusal.Tie as tie
 
 mul-if1 : tie.Need-mul-if1
-mul-if1 c = omega (arith, words-product _ _ (c .before .before .before .args .p .depth) (c .before .before .before .args .p .width) (c .before .u64-of-u32 .ensures) (c .u64-of-u322 .ensures) (depth-word (c .before .before .before .args .p) _ (c .before .before .before .good .0)) (width-word (c .before .before .before .args .p) _ (c .before .before .before .good .0)))
+mul-if1 c = omega (arith, words-product _ _ (c .before .before .before .args .p .depth) (c .before .before .before .args .p .width) (c .before .u64-of-u32 .ensures) (c .u64-of-u322 .ensures) (depth-word (c .before .before .before .args .p) _ (c .before .before .before .good .1 .0)) (width-word (c .before .before .before .args .p) _ (c .before .before .before .good .1 .0)))
 
 product : (c : tie.After-u64-of-u322) → c .before .u64-of-u32 .result * c .u64-of-u322 .result ≡ c .before .before .before .args .p .depth * c .before .before .before .args .p .width
 product c = λ k. c .before .u64-of-u32 .ensures k * c .u64-of-u322 .ensures k
@@ -37,8 +37,8 @@ u64-of-u32-requires-2 c κs = search needs
 u64-of-usize-requires-2 : tie.Need-u64-of-usize-requires-2
 u64-of-usize-requires-2 c κs = search needs
 
-pub fill-number-spec : {M : Type 1} → statement M
-fill-number-spec =
+pub fill-refusal-spec : {M : Type 1} → statement M
+fill-refusal-spec =
     tie.close
     (tie.spec
     u64-of-usize-requires
