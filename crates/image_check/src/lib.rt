@@ -123,7 +123,7 @@ fn entries_bad(width: u32, entries: &[u32]) -> bool
 }
 
 // Number 7.
-pub fn entries_refusal(width: u32, entries: &[u32]) -> u32
+pub fn entries_number(width: u32, entries: &[u32]) -> u32
     ensures { λ r. ⌜ r ≡ entriesNumber width (now (entries .entry)) ⌝ }
 {
     if entries_bad(width, entries) {
@@ -142,7 +142,7 @@ pub fn check_layout(p: image_geometry::Params, entries: &[u32]) -> Checked
     if entries_bad(p.width, entries) {
         return Checked::Bad;
     }
-    if image_geometry::soft_mask_refusal(p.depth, p.soft_mask) != 0 {
+    if image_geometry::soft_mask_number(p.depth, p.soft_mask) != 0 {
         return Checked::Bad;
     }
     if p.width == 0 {

@@ -4,7 +4,7 @@ use mathlib.Core.List.{List}
 use Rattle.rules.specs.Geometry as rules
 use Rattle.rules.specs.Geometry.{Layout}
 use Rattle.rules.specs.Beside.Shape as sizes
-use Rattle.rules.specs.Answers.{Answer, Refused, Accepted, Filled}
+use Rattle.rules.specs.Answers.{Answer, Refused, Accepted}
 use Rattle.image_geometry.specs.declared.Params.{Params}
 use Rattle.image_geometry.specs.declared.Spot.{Spot}
 use Rattle.image_geometry.specs.declared.Shape.{Shape}
@@ -32,7 +32,3 @@ shapeBy s = record {
 abbrev pub measuredOf : Measured → Answer sizes.Shape
 measuredOf (measured.the-variants.Refused n) = Refused n
 measuredOf (measured.the-variants.Accepted s) = Accepted (shapeBy s)
-
--- a number and the lent room after it
-abbrev pub filledWith : ℕ → List ℕ → Filled
-filledWith n out = record { number = n; out = out }

@@ -11,7 +11,8 @@ ghost use Rattle.rules.specs.Numbers.{ceilDiv, topBits};
 ghost use Rattle.rules.specs.Geometry.{softBits, chunkMuxBits, toChunk, walk};
 ghost use Rattle.rules.specs.Conditions.{badLayoutSizes};
 ghost use Rattle.rules.specs.Beside.Shape.{shapeOf, shapeCall, depthsCall, softMaskNumber, resultNumber};
-ghost use Rattle.image_geometry.specs.View.{viewSpot, layoutBy, shapeBy, measuredOf, filledWith};
+ghost use Rattle.rules.specs.Answers.{filledWith};
+ghost use Rattle.image_geometry.specs.View.{viewSpot, layoutBy, shapeBy, measuredOf};
 ghost use Rattle.image_geometry.specs.Steps.{Narrow, memsOf, Roomy, stepped};
 
 // A layout's numbers: the memory's depth and width, and the plan's without its entries.
@@ -241,7 +242,7 @@ pub fn depths(out: &mut [u32], p: Params, entries: &[u32]) -> u32
 }
 
 // Number 8: the depth is no multiple of 2^(top soft bit + 1).
-pub fn soft_mask_refusal(depth: u32, mask: u32) -> u32
+pub fn soft_mask_number(depth: u32, mask: u32) -> u32
     ensures { λ r. ⌜ r ≡ softMaskNumber depth mask ⌝ }
 {
     if lists::u64_of_u32(depth) % pow2(top_bits(mask)) != 0 {
@@ -251,7 +252,7 @@ pub fn soft_mask_refusal(depth: u32, mask: u32) -> u32
 }
 
 // Number 10, or 1 where the sizes pass their limits.
-pub fn result_refusal(p: Params, entries: &[u32]) -> u32
+pub fn result_number(p: Params, entries: &[u32]) -> u32
     ensures { λ r. ⌜ r ≡ resultNumber (layoutBy p (now (entries .entry))) ⌝ }
 {
     let Measured::Accepted(s) = measure(p, entries) else {

@@ -11,8 +11,8 @@ use lib.Seq.{take-all, take-nil, drop-length, length-take-le}
 use Rattle.rules.specs.Image.{Patch, Laid}
 use Rattle.rules.specs.Refusals.{patchRefusal}
 use Rattle.rules.specs.Patch.{patchedBy, patchedOne, lentTo, called, calledAll, patched}
-use Rattle.rules.specs.Answers.{Filled, patchCall}
-use Rattle.image_patches.specs.Calls.{callOn, callAt, callsFrom}
+use Rattle.rules.specs.Answers.{Filled, patchCall, callOn}
+use Rattle.image_patches.specs.Calls.{callAt, callsFrom}
 
 -- ---- a part of the trits
 module _ (s : List ℕ) (start count : ℕ) where

@@ -14,7 +14,7 @@ use Rattle.rules.specs.Log.{LogState}
 use Rattle.rules.specs.Geometry.{Layout, layoutOf}
 use Rattle.rules.specs.Image.{Patch, Laid}
 use Rattle.rules.specs.Conditions.{badLayout}
-use Rattle.rules.specs.Patch.{patched, calledAll, laidOut, Demand}
+use Rattle.rules.specs.Patch.{patched, calledAll, laidOut, Demand, Demanded}
 use Rattle.rules.specs.Beside.Shape.{handedOn}
 use Rattle.rules.specs.Beside.Layouts.{fillRefusalOf, fillRefusal, filledBy, fillCall, fillAndPatchCall}
 use Rattle.rules.specs.Answers.{Accepted, Filled, SwizzleLent, swizzleCall}
@@ -24,7 +24,6 @@ use Rattle.rules.proofs.Accepts.{swizzle-then-patches}
 use Rattle.image_state.specs.declared.Laid as images
 use Rattle.image_state.specs.View.{laidOf}
 use Rattle.image_rows.proofs.Filling.{fills}
-use Rattle.image_patches.specs.Calls.{Demanded}
 
 -- ---- the whole answer
 module _ (l : Laid) (rows buffer : List ℕ) (cs : List Patch) where

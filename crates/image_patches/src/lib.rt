@@ -4,11 +4,12 @@ ghost use mathlib.Core.List.{[], _∷_};
 ghost use Prim.Native.Nat.{_+_, _*_, _<_};
 ghost use lib.ListN.{length, take, drop};
 ghost use Rattle.rules.specs.Beside.Shape.{handedOn};
-ghost use Rattle.rules.specs.Patch.{patched};
+ghost use Rattle.rules.specs.Patch.{patched, Demanded};
 ghost use Rattle.rules.specs.Beside.Layouts.{fillAndPatchCall};
-ghost use Rattle.image_geometry.specs.View.{layoutBy, filledWith};
+ghost use Rattle.rules.specs.Answers.{filledWith, callOn};
+ghost use Rattle.image_geometry.specs.View.{layoutBy};
 ghost use Rattle.image_state.specs.View.{laidOf};
-ghost use Rattle.image_patches.specs.Calls.{callOn, callAt, callsOf, Demanded};
+ghost use Rattle.image_patches.specs.Calls.{callAt, callsOf};
 
 // A list of calls is four numbers for each: its row, where its trits start, how many they are, and how many trits of the buffer it is lent.
 const CALL: usize = 4;

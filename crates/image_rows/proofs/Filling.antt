@@ -20,10 +20,9 @@ use Rattle.rules.specs.Geometry.{Layout}
 use Rattle.rules.specs.Image.{imageSize, writeRow, rowOf, writeRows, layout, Laid}
 use Rattle.rules.specs.Conditions.{noRoom}
 use Rattle.rules.specs.Patch.{laidOut}
-use Rattle.rules.specs.Beside.Layouts.{fillRefusalOf, fillRefusal, filledBy, fillCall}
+use Rattle.rules.specs.Beside.Layouts.{fillRefusalOf, fillRefusal, filledBy, fillCall, fillRefusalBy}
 use Rattle.rules.specs.Answers.{Filled}
 use Rattle.rules.proofs.Demand.{Accepted, places-below, write-take, write-drop, length-writeRows}
-use Rattle.image_rows.specs.Steps.{fillRefusalBy}
 
 module _ (q : Layout) (z : Accepted q) where
   write-append : (r : ℕ) (v p x : List ℕ) → r < q .depth → imageSize q ≤ length p → writeRow q r v (p ++ x) ≡ writeRow q r v p ++ x

@@ -13,10 +13,9 @@ use Rattle.rules.specs.Logic.{areTrits}
 use Rattle.rules.specs.Geometry.{Layout}
 use Rattle.rules.specs.Image.{imageSize, writeRow, Patch, Laid}
 use Rattle.rules.specs.Conditions.{badTrits, notBelow, noRoom}
-use Rattle.rules.specs.Refusals.{imageRefusal, patchRefusalOf, patchRefusal}
+use Rattle.rules.specs.Refusals.{imageRefusal, patchRefusalOf, patchRefusal, patchRefusalBy}
 use Rattle.rules.specs.Patch.{patchedBy, patchedOne}
 use Rattle.rules.specs.Answers.{Filled, patchCall}
-use Rattle.image_rows.specs.Steps.{patchRefusalBy}
 
 module _ (width depth size row : ℕ) (trits : List ℕ) (room : ℕ) where
   pub by-4-width : length trits ≢ width → patchRefusalBy width depth size row trits room ≡ 4

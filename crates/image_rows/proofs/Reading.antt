@@ -14,30 +14,29 @@ use Rattle.lists.proofs.Choice.{if-zero, or-false}
 use Rattle.rules.specs.Geometry.{Layout}
 use Rattle.rules.specs.Image.{imageSize, Laid}
 use Rattle.rules.specs.Conditions.{notBelow, noRoom}
-use Rattle.rules.specs.Beside.Layouts.{readRow, readRowRefusalOf, readRowRefusal, rowRead, readRowCall}
+use Rattle.rules.specs.Beside.Layouts.{readRow, readRowRefusalOf, readRowRefusal, rowRead, readRowCall, readRowRefusalBy}
 use Rattle.rules.specs.Answers.{Filled, filled}
-use Rattle.rules.proofs.Answering.{filled-refused, filled-done}
-use Rattle.image_rows.specs.Steps.{readRefusalBy}
+use Rattle.rules.proofs.Answers.{filled-kept, filled-done}
 
 module _ (depth width size room len row : ℕ) where
-  pub read-15 : depth ≤ row → readRefusalBy depth width size room len row ≡ 15
-  unfolding readRefusalBy notBelow
+  pub read-15 : depth ≤ row → readRowRefusalBy depth width size room len row ≡ 15
+  unfolding readRowRefusalBy notBelow
   read-15 a = rw (le-leb depth row a)
 
-  pub read-20-image : row < depth → len < size → readRefusalBy depth width size room len row ≡ 20
-  unfolding readRefusalBy notBelow noRoom
+  pub read-20-image : row < depth → len < size → readRowRefusalBy depth width size room len row ≡ 20
+  unfolding readRowRefusalBy notBelow noRoom
   read-20-image a b = rw (lt-leb depth row a, lt-ltb len size b)
 
-  pub read-20-room : row < depth → size ≤ len → room < width → readRefusalBy depth width size room len row ≡ 20
-  unfolding readRefusalBy notBelow noRoom
+  pub read-20-room : row < depth → size ≤ len → room < width → readRowRefusalBy depth width size room len row ≡ 20
+  unfolding readRowRefusalBy notBelow noRoom
   read-20-room a b c = rw (lt-leb depth row a, le-ltb len size b, lt-ltb room width c)
 
-  pub read-0 : row < depth → size ≤ len → width ≤ room → readRefusalBy depth width size room len row ≡ 0
-  unfolding readRefusalBy notBelow noRoom
+  pub read-0 : row < depth → size ≤ len → width ≤ room → readRowRefusalBy depth width size room len row ≡ 0
+  unfolding readRowRefusalBy notBelow noRoom
   read-0 a b c = rw (lt-leb depth row a, le-ltb len size b, le-ltb room width c)
 
-pub read-refusal-is : (q : Layout) (size room len row : ℕ) → size ≡ imageSize q → readRefusalBy (q .depth) (q .width) size room len row ≡ readRowRefusalOf q room len row
-unfolding readRefusalBy readRowRefusalOf
+pub read-refusal-is : (q : Layout) (size room len row : ℕ) → size ≡ imageSize q → readRowRefusalBy (q .depth) (q .width) size room len row ≡ readRowRefusalOf q room len row
+unfolding readRowRefusalBy readRowRefusalOf
 read-refusal-is q size room len row e = ap (λ (n : ℕ). if notBelow (q .depth) row then 15 else if noRoom len n || noRoom room (q .width) then 20 else 0) e
 
 -- what is known where no number refuses
@@ -59,7 +58,7 @@ module _ (l : Laid) (room image : List ℕ) (row : ℕ) where
     call-is = ap (λ (x : Laid). readRowCall x room image row) e
 
     pub read-refused : (n : ℕ) → n ≡ readRowRefusalOf q (length room) (length image) row → n ≢ 0 → _≡_ {A = Filled} (record { number = n; out = room }) (readRowCall l room image row)
-    read-refused n f h = filled-refused _ n room _ (sym f) h ∙ sym call-is
+    read-refused n f h = filled-kept _ n room _ (sym f) h ∙ sym call-is
 
     pub read-done : (after : List ℕ) → readRowRefusalOf q (length room) (length image) row ≡ 0 → after ≡ sets room 0 (readRow q image row) → _≡_ {A = Filled} (record { number = 0; out = after }) (readRowCall l room image row)
     read-done after f h = filled-done _ room _ after f h ∙ sym call-is

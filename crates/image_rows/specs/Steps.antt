@@ -64,19 +64,3 @@ pub record Lows (c : Cursor) (g : Steps) (n : ℕ) : Type 0 where
 unfoldable pub takeRow : (ℕ → ℕ) → List ℕ → ℕ → List ℕ → List ℕ → List ℕ
 takeRow at [] i image room = room
 takeRow at (e ∷ es) i image room = takeRow at es (suc i) image (put (eqb e None) e (getD image (at i) tritX) room)
-
--- the numbers of a patch after 23, by the width, the depth and the image's trits
-unfoldable pub patchRefusalBy : ℕ → ℕ → ℕ → ℕ → List ℕ → ℕ → ℕ
-patchRefusalBy width depth size row trits room =
-    if not (eqb (length trits) width) || badTrits trits then 4
-    else if notBelow depth row then 15
-    else if noRoom room size then 20
-    else 0
-
--- those of a layout, and of a row read back
-unfoldable pub fillRefusalBy : ℕ → ℕ → ℕ → ℕ → ℕ → ℕ
-fillRefusalBy depth width size room len = if not (eqb len (depth * width)) then 2 else if noRoom room size then 20 else 0
-
-unfoldable pub readRefusalBy : ℕ → ℕ → ℕ → ℕ → ℕ → ℕ → ℕ
-readRefusalBy depth width size room len row =
-    if notBelow depth row then 15 else if noRoom len size || noRoom room width then 20 else 0

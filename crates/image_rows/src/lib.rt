@@ -5,11 +5,12 @@ ghost use lib.ListN.{length};
 ghost use Rattle.rules.specs.Logic.{areTrits};
 ghost use Rattle.rules.specs.Image.{putRow, writeRow, writeRows, indexOf};
 ghost use Rattle.rules.specs.Beside.Shape.{handedOn, placeCall};
-ghost use Rattle.rules.specs.Beside.Layouts.{fillCall, readRowCall};
-ghost use Rattle.rules.specs.Answers.{patchCall};
-ghost use Rattle.image_geometry.specs.View.{layoutBy, filledWith};
+ghost use Rattle.rules.specs.Beside.Layouts.{fillCall, readRowCall, fillRefusalBy, readRowRefusalBy};
+ghost use Rattle.rules.specs.Answers.{patchCall, filledWith};
+ghost use Rattle.rules.specs.Refusals.{patchRefusalBy};
+ghost use Rattle.image_geometry.specs.View.{layoutBy};
 ghost use Rattle.image_rows.specs.View.{placedOf};
-ghost use Rattle.image_rows.specs.Steps.{stepsBy, Ready, Low, Lows, nextOf, At, indexFrom, takeRow, patchRefusalBy, fillRefusalBy, readRefusalBy};
+ghost use Rattle.image_rows.specs.Steps.{stepsBy, Ready, Low, Lows, nextOf, At, indexFrom, takeRow};
 
 pub mod entry;
 
@@ -256,7 +257,7 @@ fn take_row(
 
 // Numbers 15 and 20 of a row read back, where the image has `size` trits.
 fn read_refusal(room: usize, p: image_geometry::Params, size: u64, len: usize, row: u32) -> u32
-    ensures { λ r. ⌜ r ≡ readRefusalBy (p .depth) (p .width) size room len row ⌝ }
+    ensures { λ r. ⌜ r ≡ readRowRefusalBy (p .depth) (p .width) size room len row ⌝ }
 {
     if p.depth <= row {
         return 15;

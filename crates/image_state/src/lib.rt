@@ -6,8 +6,8 @@ ghost use lib.ListN.{length};
 ghost use Rattle.rules.specs.Limits.{maxRow};
 ghost use Rattle.rules.specs.Beside.Shape.{handedOn};
 ghost use Rattle.rules.specs.Beside.Layouts.{fillCall, readRowCall};
-ghost use Rattle.rules.specs.Answers.{patchCall};
-ghost use Rattle.image_geometry.specs.View.{layoutBy, filledWith};
+ghost use Rattle.rules.specs.Answers.{patchCall, filledWith};
+ghost use Rattle.image_geometry.specs.View.{layoutBy};
 ghost use Rattle.image_state.specs.View.{lentUnit, lentParams, laidOf, unsetLaid, laidBy};
 
 // What a swizzle hands on for patches: the layout's numbers, and the entries of a row, of which the first `len` are in use. The unit is 0 where

@@ -3,7 +3,7 @@ use Prim.Native.Nat.{ℕ}
 use mathlib.Core.Bool.{Bool}
 use mathlib.Core.List.{List, []}
 use Rattle.rules.specs.Logic as rules
-use Rattle.rules.specs.Answers.{Answer, Filled}
+use Rattle.rules.specs.Answers.{Answer}
 use Rattle.rules.specs.Answers as answers
 use Rattle.net_logic.specs.declared.Trit.{Trit}
 use Rattle.net_logic.specs.declared.Trit.the-variants.{Zero, One, Undef}
@@ -26,10 +26,6 @@ tritAnswer (trits.Accepted t) = answers.Accepted (tritView t)
 abbrev pub boolAnswer : BoolAnswer → Answer Bool
 boolAnswer (bools.Refused n) = answers.Refused n
 boolAnswer (bools.Accepted b) = answers.Accepted b
-
--- a call that answers a number, 0 where it is accepted, and what it leaves in the lent room
-abbrev pub filledWith : ℕ → List ℕ → Filled
-filledWith n out = record { number = n; out = out }
 
 -- a returned part: a call that is refused gives the empty part
 abbrev pub givenPart : Answer (List ℕ) → List ℕ

@@ -5,8 +5,8 @@ ghost use lib.ListN.{length};
 ghost use lib.Seq.{sets};
 ghost use Rattle.rules.specs.Logic.{tritOf, codeOf, tritNot, tritAnd, tritOr, constNot, tritwise, areTrits, isUndef};
 ghost use Rattle.rules.specs.Refusals.{constNotRefusal, constPairRefusal, sliceRefusal};
-ghost use Rattle.rules.specs.Answers.{tritFromCode, constIsUndefCall, sliceCall, constNotCall, constAndCall, constOrCall, filled};
-ghost use Rattle.net_logic.specs.View.{tritView, tritAnswer, boolAnswer, filledWith, givenPart, gateOf};
+ghost use Rattle.rules.specs.Answers.{tritFromCode, constIsUndefCall, sliceCall, constNotCall, constAndCall, constOrCall, filled, filledWith};
+ghost use Rattle.net_logic.specs.View.{tritView, tritAnswer, boolAnswer, givenPart, gateOf};
 
 // An extended binary value; Undef is X.
 pub enum Trit {

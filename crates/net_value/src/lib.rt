@@ -6,8 +6,8 @@ ghost use lib.Seq.{sets};
 ghost use Rattle.lists.specs.Lists.{all};
 ghost use Rattle.rules.specs.Value.{isCellNet, goodNet, goodValue, goodControl, goodSelect, driverOf, inverse, isAlways, zext};
 ghost use Rattle.rules.specs.Refusals.{zextRefusal, narrowerSelectRefusal};
-ghost use Rattle.rules.specs.Answers.{netOfCellCall, inverseCall, isAlwaysCall, valueIsUndefCall, sliceCall, zextCall, narrowerSelectCall};
-ghost use Rattle.net_logic.specs.View.{boolAnswer, filledWith, givenPart};
+ghost use Rattle.rules.specs.Answers.{netOfCellCall, inverseCall, isAlwaysCall, valueIsUndefCall, sliceCall, zextCall, narrowerSelectCall, filledWith};
+ghost use Rattle.net_logic.specs.View.{boolAnswer, givenPart};
 ghost use Rattle.net_value.specs.View.{controlOf, netAnswer, controlAnswer, driverView, constView, isConst, asConst, bitOf, isX};
 
 // A net's number: 0, 1, X, or the first-cell offset and a cell's number.

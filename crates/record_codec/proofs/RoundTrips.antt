@@ -13,9 +13,9 @@ use Rattle.lists.proofs.Store.{part-sets}
 use Rattle.rules.specs.Logic.{areTrits}
 use Rattle.rules.specs.Record.{Sizes, sizeTrits, recordImage, encodeRecord, headSizes, recordBytes, decodeImage}
 use Rattle.rules.specs.Conditions.{badTrits, badSizes}
-use Rattle.rules.specs.Refusals.{recordRefusal, writeRecordRefusal, readRecordRefusal, ReadsBack, WritesBack}
+use Rattle.rules.specs.Refusals.{recordNumber, writeRecordRefusal, readRecordRefusal, ReadsBack, WritesBack}
 use Rattle.rules.specs.Answers.{Accepted, answerOf, writeRecordCall, filled, readRecordCall}
-use Rattle.rules.proofs.Calls.{accepted}
+use Rattle.rules.proofs.Answers.{accepted}
 use Rattle.rules.proofs.Records.{reads-back}
 use Rattle.rules.proofs.Written.{areBytes, writes-back, decoded-length, decoded-trits}
 use Rattle.record_codec.proofs.Writing.{fits, image-length, write-0}
@@ -74,7 +74,7 @@ module _ (bytes room out : List ℕ) (b : areBytes bytes ≡ true) (e : readReco
   z : Sizes
   z = headSizes bytes
 
-  good : recordRefusal bytes ≡ 0
+  good : recordNumber bytes ≡ 0
   good = read-good bytes (length room) e
 
   image : List ℕ

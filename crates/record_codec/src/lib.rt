@@ -8,7 +8,7 @@ ghost use Rattle.lists.specs.Lists.{part};
 ghost use Rattle.rules.specs.Limits.{headBytes};
 ghost use Rattle.rules.specs.Record.{sizeTrits, recordImage, word16, arrayBytes, recordHead, encodeRecord, headSizes, recordBytes, bitsOf, decodeImage};
 ghost use Rattle.rules.specs.Conditions.{badHead, badBits};
-ghost use Rattle.rules.specs.Refusals.{recordRefusal, readRecordRefusal, writeRecordRefusal, headerRefusal};
+ghost use Rattle.rules.specs.Refusals.{recordNumber, readRecordRefusal, writeRecordRefusal, headerRefusal};
 ghost use Rattle.rules.specs.Answers.{answerOf, writeRecordCall, readRecordCall, headerCall};
 ghost use Rattle.record_sizes.specs.View.{viewSizes};
 ghost use Rattle.record_bits.specs.Groups.{tritsBy, badBy};
@@ -203,8 +203,8 @@ fn bad_bits(bytes: &[u8]) -> bool
 }
 
 // 16, 17, 18.
-pub fn record_refusal(bytes: &[u8]) -> u32
-    ensures { λ r. ⌜ r ≡ recordRefusal (now (bytes .entry)) ⌝ }
+pub fn record_number(bytes: &[u8]) -> u32
+    ensures { λ r. ⌜ r ≡ recordNumber (now (bytes .entry)) ⌝ }
 {
     let n = header_refusal(bytes, bytes.len());
     if n != 0 {
@@ -220,7 +220,7 @@ pub fn record_refusal(bytes: &[u8]) -> u32
 fn read_refusal(room: usize, bytes: &[u8]) -> u32
     ensures { λ r. ⌜ r ≡ readRecordRefusal room (now (bytes .entry)) ⌝ }
 {
-    let n = record_refusal(bytes);
+    let n = record_number(bytes);
     if n != 0 {
         return n;
     }

@@ -17,7 +17,7 @@ use Rattle.record_bits.proofs.Arrays.{bits-at}
 use Rattle.rules.specs.Record.{Sizes, sizeMems, sizeTrits, bitsOf, arrayBytes, knownBit, valueBit, headSizes, knownBits, valueBits, decodeImage}
 use Rattle.rules.specs.Image.{rowsBefore}
 use Rattle.rules.specs.Conditions.{badSizes}
-use Rattle.rules.specs.Refusals.{recordRefusal}
+use Rattle.rules.specs.Refusals.{recordNumber}
 use Rattle.rules.specs.Lister.{sizeDepth, sizeStart, memTrits, Summary, summaryOf, summaries, memoryLine}
 use Rattle.rules.proofs.Headers.{kept, mems-max}
 use Rattle.rules.proofs.Memories.{start-next, start-fits}
@@ -33,7 +33,7 @@ use Rattle.record_listing.proofs.Puts.{put-as}
 use Rattle.record_codec.proofs.Arrays.{whole}
 use Rattle.record_codec.proofs.Reading.{record-good}
 
-module _ (bytes : List ℕ) (e : recordRefusal bytes ≡ 0) where
+module _ (bytes : List ℕ) (e : recordNumber bytes ≡ 0) where
   abbrev T : ℕ
   T = sizeTrits (headSizes bytes)
 

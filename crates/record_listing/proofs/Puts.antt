@@ -4,7 +4,7 @@ use Prim.Native.Nat.{ℕ, _+_, _-_}
 use mathlib.Core.Logic.{_≢_}
 use borrow.Author.Tests.{eq-eqb, ne-eqb}
 use Rattle.lists.specs.Choice.{_orElse_}
-use Rattle.rules.specs.Refusals.{recordRefusal, headerRefusal}
+use Rattle.rules.specs.Refusals.{recordNumber, headerRefusal}
 use Rattle.rules.specs.Beside.Stored.{listerStored}
 use native.Mathlib.Omega.{arith}
 use mathlib.Core.List.{List, [], _∷_, _++_}
@@ -40,11 +40,11 @@ head-text s m t p q = rw (p, q)
 
 -- ---- the text by the number
 module _ (bytes : List ℕ) where
-  pub lister-refused : (n : ℕ) → n ≡ recordRefusal bytes → n ≢ 0 → refusedLine n ≡ lister bytes
+  pub lister-refused : (n : ℕ) → n ≡ recordNumber bytes → n ≢ 0 → refusedLine n ≡ lister bytes
   unfolding lister
   lister-refused n e h = rw (← e, ne-eqb n 0 h)
 
-  pub lister-listed : recordRefusal bytes ≡ 0 → listed bytes ≡ lister bytes
+  pub lister-listed : recordNumber bytes ≡ 0 → listed bytes ≡ lister bytes
   unfolding lister
   lister-listed e = rw e
 

@@ -12,7 +12,7 @@ use Rattle.lists.proofs.Choice.{cases-le, else-first, else-zero}
 use Rattle.rules.specs.Limits.{headBytes, maxRecord}
 use Rattle.rules.specs.Numbers.{ceilDiv}
 use Rattle.rules.specs.Record.{arrayBytes, wordAt, headSizes}
-use Rattle.rules.specs.Refusals.{recordRefusal, headerRefusal}
+use Rattle.rules.specs.Refusals.{recordNumber, headerRefusal}
 use Rattle.rules.specs.Lister.{lister}
 use Rattle.rules.specs.Beside.Stored.{listerStored}
 use Rattle.rules.proofs.Headers.{kept}
@@ -61,20 +61,20 @@ module _ (bytes : List ℕ) where
         let g = head-good bytes e in
         omega (arith, whole bytes (g .0), kept (headSizes bytes) (g .1) .trits-max)
 
-    number-is : (headerRefusal first (length bytes) orElse 16) ≡ recordRefusal bytes
-    unfolding recordRefusal
+    number-is : (headerRefusal first (length bytes) orElse 16) ≡ recordNumber bytes
+    unfolding recordNumber
     number-is =
         else-first (headerRefusal first (length bytes)) 16 (λ z. too-long (sym (refusal-same (length bytes)) ∙ z))
         ∙ refusal-same (length bytes)
         ∙ sym (else-first (headerRefusal bytes (length bytes)) _ too-long)
 
-    not-zero : recordRefusal bytes ≢ 0
-    unfolding recordRefusal
+    not-zero : recordNumber bytes ≢ 0
+    unfolding recordNumber
     not-zero e = too-long (else-zero (headerRefusal bytes (length bytes)) _ e .0)
 
     long-listed : listerStored first (length bytes) ≡ lister bytes
     long-listed =
-        sym (stored-part first (length bytes) (recordRefusal bytes) (λ e. absurd (omega (arith, length-first))) (sym number-is)) ∙ lister-refused bytes (recordRefusal bytes) refl not-zero
+        sym (stored-part first (length bytes) (recordNumber bytes) (λ e. absurd (omega (arith, length-first))) (sym number-is)) ∙ lister-refused bytes (recordNumber bytes) refl not-zero
 
   short-listed : length bytes ≤ maxRecord → listerStored first (length bytes) ≡ lister bytes
   unfolding first

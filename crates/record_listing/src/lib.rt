@@ -7,7 +7,7 @@ ghost use Rattle.lists.specs.Lists.{sumBy, part, concatMap};
 ghost use Rattle.lists.specs.Choice.{if_then_else_, _orElse_};
 ghost use Rattle.rules.specs.Limits.{maxImage};
 ghost use Rattle.rules.specs.Record.{sizeMems, sizeTrits, bitsOf, headSizes, decodeImage};
-ghost use Rattle.rules.specs.Refusals.{recordRefusal, headerRefusal};
+ghost use Rattle.rules.specs.Refusals.{recordNumber, headerRefusal};
 ghost use Rattle.rules.specs.Lister.{decimal, space, blankText, loadText, headLine, memoryLine, refusedLine, summaryOf, summaries, listed, lister};
 ghost use Rattle.rules.specs.Beside.Stored.{listerStored};
 ghost use Rattle.record_sizes.specs.View.{viewSizes};
@@ -165,7 +165,7 @@ fn put_memories(out: &mut [u8], at: usize, bytes: &[u8], s: Sizes, count: usize)
 
 // Of a record that no number refuses.
 fn put_listed(out: &mut [u8], bytes: &[u8]) -> usize
-    requires { ⌜ recordRefusal (now bytes) ≡ 0 ⌝ }
+    requires { ⌜ recordNumber (now bytes) ≡ 0 ⌝ }
     ensures { λ r. ⌜ Put (now (out .entry)) 0 (listed (now (bytes .entry))) (now (out .exit)) r × (r ≤ maxText) ⌝ }
 {
     let s = record_reader::head_sizes(bytes);
@@ -178,7 +178,7 @@ fn put_listed(out: &mut [u8], bytes: &[u8]) -> usize
 pub fn list_record(out: &mut [u8], bytes: &[u8]) -> usize
     ensures { λ r. ⌜ Put (now (out .entry)) 0 (lister (now (bytes .entry))) (now (out .exit)) r × (r ≤ maxText) ⌝ }
 {
-    let n = record_codec::record_refusal(bytes);
+    let n = record_codec::record_number(bytes);
     if n != 0 {
         return put_refused(out, n);
     }

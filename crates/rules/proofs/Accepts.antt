@@ -23,7 +23,7 @@ use Rattle.rules.specs.Patch.{calledAll, patched, laidOut, Demand}
 use Rattle.lists.proofs.Choice.{if-zero, or-false, or-both, else-zero, leaves-accepted}
 use Rattle.rules.proofs.Demand.{demand-3}
 use Rattle.rules.proofs.GoodLayouts.{good-accepted}
-use Rattle.rules.proofs.Answering.{tells-accepted}
+use Rattle.rules.proofs.Answers.{tells-accepted}
 
 -- ---- what a plan's number of 0 says
 module _ (next : ℕ) (g : Given) (output : Value) (p : Plan) (e : swizzleNumber next g output p ≡ 0) where

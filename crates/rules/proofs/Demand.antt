@@ -16,7 +16,7 @@ use Rattle.rules.specs.Logic.{undef, areTrits}
 use Rattle.rules.specs.Geometry.{Layout, rowLen, fullDepth, partDepth, fullMems, allMems}
 use Rattle.rules.specs.Image.{rowsBefore, memStart, trits, imageSize, indexOf, writeRow, rowOf, writeRows, layout, Patch}
 use Rattle.rules.specs.Conditions.{badTrits, notBelow, noRoom}
-use Rattle.rules.specs.Refusals.{imageRefusal, patchRefusalOf}
+use Rattle.rules.specs.Refusals.{patchRefusalOf, patchRefusalBy}
 use Rattle.lists.proofs.Choice.{if-zero, or-false}
 use Rattle.rules.specs.Patch.{patchedBy, lentTo, called, calledAll, exchange, amended, laidOut, IsPlace, KeptBy, KeptByEach, Demand}
 use Rattle.rules.proofs.Writes.{Below, rows-comm, rows-twice, row-take, row-drop, row-frame, length-putRow}
@@ -101,7 +101,7 @@ pub record Taken (q : Layout) (c : Patch) : Type 0 where
   pub holds : imageSize q ≤ c .room
 
 pub taken : (q : Layout) (c : Patch) → patchRefusalOf q c ≡ 0 → Taken q c
-unfolding patchRefusalOf imageRefusal badTrits notBelow noRoom
+unfolding patchRefusalOf patchRefusalBy badTrits notBelow noRoom
 taken q c e =
     let a = if-zero (not (eqb (length (c .trits)) (q .width)) || not (areTrits (c .trits))) 3 _ e in
     let a′ = or-false (not (eqb (length (c .trits)) (q .width))) (not (areTrits (c .trits))) (a .0) in

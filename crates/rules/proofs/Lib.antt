@@ -15,7 +15,6 @@ pub mod Named
 pub mod Meaning
 pub mod GoodLayouts
 pub mod Extents
-pub mod Answering
 pub mod Shaping
 pub mod Accepts
 pub mod Bits
@@ -23,7 +22,6 @@ pub mod Records
 pub mod Written
 pub mod Answers
 pub mod Leaves
-pub mod Calls
 pub mod Headers
 pub mod Memories
 pub mod ReadBack

@@ -16,7 +16,7 @@ use Rattle.rules.specs.Numbers.{ceilDiv}
 use Rattle.rules.specs.Logic.{areTrits}
 use Rattle.rules.specs.Record.{Sizes, sizeTrits, word16, wordAt, packBits, arrayBytes, knownBit, valueBit, recordHead, encodeRecord, headSizes, recordBytes, knownBits, valueBits, bitPairs, decodeImage}
 use Rattle.rules.specs.Conditions.{badHead, badSizes, badBits, spareBits}
-use Rattle.rules.specs.Refusals.{headerRefusal, recordRefusal, ReadsBack}
+use Rattle.rules.specs.Refusals.{headerRefusal, recordNumber, ReadsBack}
 use Rattle.lists.proofs.Choice.{and-true}
 use Rattle.rules.proofs.Bits.{areBits, length-pack, pack-bits, image-bits}
 
@@ -147,5 +147,5 @@ module _ (s : Sizes) (image : List ℕ) where
       bits-good = rw (pairs-are, pairs-good image codes, spare-are, no-ones-tail)
 
       pub reads-back : ReadsBack s image
-      unfolding ReadsBack recordRefusal headerRefusal _orElse_
+      unfolding ReadsBack recordNumber headerRefusal _orElse_
       reads-back = (rw (head-good, head-sizes, good, bits-good), head-sizes, image-back)

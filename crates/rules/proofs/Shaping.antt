@@ -17,8 +17,8 @@ use Rattle.rules.specs.Numbers.{topBits}
 use Rattle.rules.specs.Image.{trits, placeOf, indexOf}
 use Rattle.rules.specs.Conditions.{noRoom, indivisible, resultTooLarge, notBelow}
 use Rattle.rules.specs.Answers.{Refused, Accepted}
-use Rattle.rules.specs.Beside.Shape.{Shape, Small, shapeOf, shapeNumber, shapeCall, depthsNumber, softMaskNumber, resultNumber, Located, placeNumber, placeCall}
-use Rattle.rules.proofs.Answering.{answer-refused, answer-accepted, tells-accepted, tells-refused}
+use Rattle.rules.specs.Beside.Shape.{Shape, Small, shapeOf, shapeNumber, shapeCall, depthsRefusal, softMaskNumber, resultNumber, Located, placeNumber, placeCall}
+use Rattle.rules.proofs.Answers.{answer-refused, answer-accepted, tells-accepted, tells-refused}
 use Rattle.rules.proofs.GoodLayouts.{layoutTooLarge, small}
 
 module _ (q : Layout) where
@@ -68,16 +68,16 @@ module _ (q : Layout) where
 
 -- ---- the depths into lent room
 module _ (q : Layout) (room : ℕ) where
-  pub depths-1 : layoutTooLarge q ≡ true → depthsNumber room q ≡ 1
-  unfolding depthsNumber
+  pub depths-1 : layoutTooLarge q ≡ true → depthsRefusal room q ≡ 1
+  unfolding depthsRefusal
   depths-1 e = rw e
 
-  pub depths-20 : layoutTooLarge q ≡ false → room < allMems q → depthsNumber room q ≡ 20
-  unfolding depthsNumber noRoom
+  pub depths-20 : layoutTooLarge q ≡ false → room < allMems q → depthsRefusal room q ≡ 20
+  unfolding depthsRefusal noRoom
   depths-20 e l = rw (e, lt-ltb room (allMems q) l)
 
-  pub depths-0 : layoutTooLarge q ≡ false → allMems q ≤ room → depthsNumber room q ≡ 0
-  unfolding depthsNumber noRoom
+  pub depths-0 : layoutTooLarge q ≡ false → allMems q ≤ room → depthsRefusal room q ≡ 0
+  unfolding depthsRefusal noRoom
   depths-0 e l = rw (e, le-ltb room (allMems q) l)
 
 -- the two runs of depths are one list

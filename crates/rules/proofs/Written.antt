@@ -15,7 +15,7 @@ use Rattle.rules.specs.Logic.{areTrits}
 use Rattle.rules.specs.Value.{fromUint}
 use Rattle.rules.specs.Record.{sizeTrits, word16, wordAt, byteOf, packBits, bitsOf, arrayBytes, knownBit, valueBit, tritBy, recordHead, encodeRecord, headSizes, recordBytes, knownBits, valueBits, bitPairs, decodeImage}
 use Rattle.rules.specs.Conditions.{badHead, badSizes, badBits, spareBits}
-use Rattle.rules.specs.Refusals.{headerRefusal, recordRefusal, WritesBack}
+use Rattle.rules.specs.Refusals.{headerRefusal, recordNumber, WritesBack}
 use Rattle.lists.proofs.Choice.{and-true, if-zero, or-false, else-zero}
 use Rattle.lists.proofs.All.{all-take, all-drop}
 use Rattle.rules.proofs.Bits.{areBits}
@@ -197,13 +197,13 @@ byte-at [] e i = omega arith
 byte-at (a ∷ l) e zero = ltb-true a 256 (and-true (ltb a 256) (areBytes l) e .0)
 byte-at (a ∷ l) e (suc i) = byte-at l (and-true (ltb a 256) (areBytes l) e .1) i
 
-module _ (bytes : List ℕ) (good : areBytes bytes ≡ true) (e : recordRefusal bytes ≡ 0) where
+module _ (bytes : List ℕ) (good : areBytes bytes ≡ true) (e : recordNumber bytes ≡ 0) where
   record Read : Type 0 where
     head : badHead bytes (length bytes) ≡ false
     bits : badBits bytes ≡ false
 
   read : Read
-  unfolding recordRefusal headerRefusal
+  unfolding recordNumber headerRefusal
   read =
       let h = else-zero (headerRefusal bytes (length bytes)) _ e in
       let a = if-zero (badHead bytes (length bytes)) 15 _ (h .0) in

@@ -2,7 +2,7 @@
 -- A call's promise cites the definition here; how a machine's enum reads as an answer is said in the crate that has the enum.
 use Prim.Native.Nat.{ℕ, _-_}
 use mathlib.Core.Bool.{Bool}
-use mathlib.Core.List.{List}
+use mathlib.Core.List.{List, [], _∷_}
 use lib.ListN.{length, drop}
 use lib.Seq.{sets}
 use lib.Dec.{eqb}
@@ -21,7 +21,7 @@ use Rattle.rules.specs.Swizzle.{swizzle, swizzleLaid, sharedNets, shared
 use Rattle.rules.specs.Fallback.{canLowerFallback, lowerFallback, fallbackScratch}
 use Rattle.rules.specs.Record.{Sizes, sizesOf, encodeRecord, headSizes, decodeImage, recordImage}
 use Rattle.rules.specs.Refusals.{Rooms, OverlayRooms, SwizzleRooms, alone, tritRefusal, constNotRefusal, constPairRefusal, isUndefRefusal, controlRefusal, wideLog2Refusal, sliceRefusal, valueRefusal, zextRefusal, netOfCellRefusal, narrowerSelectRefusal, addVoidRefusal, addNotRefusal, addPairRefusal, addShiftRefusal, addMuxRefusal, addDffRefusal, addDedupMuxRefusal, addDedupDffRefusal, addBitwiseMuxRefusal, intoPosRefusal, remapResetOverEnableRefusal, memRefusal, outputSliceRefusal, transparencyMuxRefusal, extractReadPortsRefusal, unmapReadDffRefusal, unmapReadInitResetTransparencyRefusal, emulateReadBeforeWriteRefusal, makeDataSwizzleRefusal, swizzleDepthsRefusal, swizzleMuxBitsRefusal, swizzleRefusal, canLowerFallbackRefusal, lowerFallbackRefusal, patchRefusal, writeRecordRefusal, readRecordRefusal, summaryRefusal, headerRefusal}
-use Rattle.rules.specs.Patch.{patchedOne, laidOut}
+use Rattle.rules.specs.Patch.{patchedOne, lentTo, patched, laidOut}
 use Rattle.rules.specs.Lister.{Summary, summaryOf}
 
 pub data Answer (A : Type 0) : Type 0 where
@@ -48,6 +48,10 @@ sliceCall start end l = answerOf (sliceRefusal start end (length l)) (part start
 pub record Filled : Type 0 where
   pub number : ℕ
   pub out : List ℕ
+
+-- a number, 0 where the call is accepted, and the lent room after it
+abbrev pub filledWith : ℕ → List ℕ → Filled
+filledWith n out = record { number = n; out = out }
 
 unfoldable pub filled : ℕ → List ℕ → List ℕ → Filled
 filled n out l = record { number = n; out = leaves n out (sets out 0 l) }
@@ -317,6 +321,10 @@ lowerFallbackCall scratch log s g output =
 -- ---- patches and records
 unfoldable pub patchCall : Laid → Patch → List ℕ → Filled
 patchCall laid c image = record { number = patchRefusal laid c; out = patchedOne laid c image }
+
+-- one call of a list on one buffer, of which it is lent the first trits: its number, and the buffer after it
+unfoldable pub callOn : Laid → Patch → List ℕ → Filled
+callOn laid c buffer = record { number = patchRefusal laid (lentTo (length buffer) c); out = patched laid (c ∷ []) buffer }
 
 unfoldable pub writeRecordCall : List ℕ → Sizes → Const → Filled
 writeRecordCall out z image = filled (writeRecordRefusal (length out) z image) out (encodeRecord z (recordImage z image))

@@ -8,7 +8,7 @@ use Rattle.lists.specs.Lists.{sumBy, part, upFrom, concatMap}
 use Rattle.rules.specs.Logic.{Const, ones}
 use Rattle.rules.specs.Image.{depthAt, rowsBefore}
 use Rattle.rules.specs.Record.{Sizes, sizeMems, sizeTrits, knownBit, valueBit, headSizes, decodeImage}
-use Rattle.rules.specs.Refusals.{recordRefusal}
+use Rattle.rules.specs.Refusals.{recordNumber}
 
 unfoldable pub sizeDepth : Sizes → ℕ → ℕ
 sizeDepth s i = depthAt (s .full) (s .fullDepth) (s .partialDepth) i
@@ -93,4 +93,4 @@ listed bytes = headLine (headSizes bytes) ++ concatMap memoryLine (summaries (he
 
 -- the lister's standard output for its standard input
 unfoldable pub lister : List ℕ → List ℕ
-lister bytes = if eqb (recordRefusal bytes) 0 then listed bytes else refusedLine (recordRefusal bytes)
+lister bytes = if eqb (recordNumber bytes) 0 then listed bytes else refusedLine (recordNumber bytes)

@@ -86,3 +86,8 @@ pub record Demand (q : Layout) (rows buffer : List ℕ) (cs : List Patch) (after
   pub images : take (imageSize q) after ≡ layout q (amended q (length buffer) cs rows)
   pub beyond : drop (imageSize q) after ≡ drop (imageSize q) buffer
   pub each : KeptByEach q cs (laidOut q rows buffer)
+
+-- by the state: without a swizzle there is nothing to demand
+abbrev pub Demanded : Laid → List ℕ → List ℕ → List Patch → List ℕ → Type 0
+Demanded none rows buffer cs after = Unit {0}
+Demanded (some q) rows buffer cs after = Demand q rows buffer cs after

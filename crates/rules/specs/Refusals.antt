@@ -368,11 +368,15 @@ lowerFallbackRefusal scratch room s g output =
     orElse logRefusal room s (lowerFallback (g .mem) output)
 
 -- ---- patches: 23 before all others
+-- by the width, the depth and the image's trits of a layout: of this row, these trits and this room
+unfoldable pub patchRefusalBy : ℕ → ℕ → ℕ → ℕ → Const → ℕ → ℕ
+patchRefusalBy width depth size row trits room =
+    if not (eqb (length trits) width) || badTrits trits then 4
+    else if notBelow depth row then 15
+    else lentRefusal room size
+
 unfoldable pub patchRefusalOf : Layout → Patch → ℕ
-patchRefusalOf q c =
-    if not (eqb (length (c .trits)) (q .width)) || badTrits (c .trits) then 4
-    else if notBelow (q .depth) (c .row) then 15
-    else imageRefusal (c .room) q
+patchRefusalOf q c = patchRefusalBy (q .width) (q .depth) (imageSize q) (c .row) (c .trits) (c .room)
 
 unfoldable pub patchRefusal : Laid → Patch → ℕ
 patchRefusal none c = 23
@@ -384,8 +388,8 @@ unfoldable pub headerRefusal : List ℕ → ℕ → ℕ
 headerRefusal first total = if badHead first total then 16 else if badSizes (headSizes first) then 17 else 0
 
 -- 16, 17 and 18: what a reader refuses whatever its room
-unfoldable pub recordRefusal : List ℕ → ℕ
-recordRefusal bytes = headerRefusal bytes (length bytes) orElse (if badBits bytes then 18 else 0)
+unfoldable pub recordNumber : List ℕ → ℕ
+recordNumber bytes = headerRefusal bytes (length bytes) orElse (if badBits bytes then 18 else 0)
 
 -- the image is the first trits of the lent array, as many as the sizes say
 unfoldable pub writeRecordRefusal : ℕ → Sizes → Const → ℕ
@@ -403,12 +407,12 @@ summaryRefusal z image i =
     else lentRefusal (length image) (sizeTrits z)
 
 unfoldable pub readRecordRefusal : ℕ → List ℕ → ℕ
-readRecordRefusal room bytes = recordRefusal bytes orElse lentRefusal room (sizeTrits (headSizes bytes))
+readRecordRefusal room bytes = recordNumber bytes orElse lentRefusal room (sizeTrits (headSizes bytes))
 
 -- ---- the two round trips of records, as statements
 -- what is written is read back
 unfoldable pub ReadsBack : Sizes → Const → Type 0
-ReadsBack s image = (recordRefusal (encodeRecord s image) ≡ 0) × (headSizes (encodeRecord s image) ≡ s) × (decodeImage (encodeRecord s image) ≡ image)
+ReadsBack s image = (recordNumber (encodeRecord s image) ≡ 0) × (headSizes (encodeRecord s image) ≡ s) × (decodeImage (encodeRecord s image) ≡ image)
 
 -- what is read is written again
 unfoldable pub WritesBack : List ℕ → Type 0

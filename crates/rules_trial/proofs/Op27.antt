@@ -15,7 +15,7 @@ use Rattle.rules.specs.Merge.{spread, addDedupMux, longer, runs, muxRuns, addBi
 use Rattle.rules.specs.Numbers.{ceilDiv, softs, topBits, bitsFor, largest}
 use Rattle.rules.specs.Patch.{patchedBy, lentTo, called, calledAll, patched}
 use Rattle.rules.specs.Ports.{narrowerSelect, seenWider, seenNarrower, seen, overlaidMask, transparencyMux, transparencies, unmapDff, unmapReadDffOf, unmapReadDff, unmapEach, unmapAll, isEmpty}
-use Rattle.rules.specs.Refusals.{roomRefusal, logRefusal, memNumber, drivingNumber, planNumber, wideNumber, imageNumber, wholePlan, swizzlePlanNumber, swizzleNumber, imageRefusal, resultsRefusal, swizzleRefusal, patchRefusalOf, patchRefusal}
+use Rattle.rules.specs.Refusals.{roomRefusal, logRefusal, memNumber, drivingNumber, planNumber, wideNumber, imageNumber, wholePlan, swizzlePlanNumber, swizzleNumber, imageRefusal, resultsRefusal, swizzleRefusal, patchRefusalBy, patchRefusalOf, patchRefusal}
 use Rattle.rules.specs.Swizzle.{roleOf, isChunk, isRow, doubles, wideAfter, rowsAfter, roles, lowRoles, rowNets, muxNets, muxRoles, spotBy, countDoubles, splitBy, splitAddr, pieceStart, oldRows, newRows, sources, arrange, repeating, restore, storeRows, storePiece, storeEach, loadPiece, memPart, blank, pieceMask, maskPieces, swizzleWrite, swizzleWrites, writePart, pairUp, muxTree, addVoids, clockedAddr, constColumns, wideFlipFlop, swizzleRead, swizzleReads, flipFlopPart, readPart, memDepth, resultMem, swizzleRows, swizzleEmpty, swizzle, swizzleImage, swizzleLaid, sharedWrite, sharedNets, sharedRead, sharedTrits, pieceNets, swizzleScratch}
 use Rattle.rules.specs.Value.{fromUint, xNets, zext, isCellNet, goodNet, goodValue, goodControl, controlWords}
 use Rattle.rules_trial.specs.Read.{give, many, word, wordsOf, list, test, control, option, log, controls, flipFlop, writePort, readFlipFlop, readPort, memory, plan, patch}
@@ -120,5 +120,5 @@ cases =
     []
 
 pub agreed : agree op27 cases ≡ true
-unfolding _orElse_ controlsWords plainControls newFlipFlop withEnable flipFlopOf wideLog2 writeWideLog2 readWideLog2 writeAt readAt outputLen outputStart outputSlice withOutput withReads withFlipFlop held isTransparent transparentFrom transparentPorts tooLarge planTooLarge unequal badDataLen badAddrLen badWriteShape badTritLens badFlipFlopShape badReadShape badShape badOutputLen indivisible badDepth badValue badControl badTrits badControls badWriteNets badRelation badFlipFlopNets badReadNets badNets times badEntry badNames badEntries badSoftMask badWide badWrites badReads allReads resultTooLarge imageTooLarge tooFewBits shortPair shortPort shortPorts notBelow logFull noRoom netsFull layoutOf softBits soft rowLen fullDepth fullChunks partDepth allChunks fullMems allMems columns toChunk hardLeft under walk spotOf column placeOf depthAt rowsBefore memStart trits imageSize flatAt flat indexOf put putRow writeRow rowOf writeRows layout imageOf entry flag dffOperands encode words _>>=_ _>>_ done request addVoid addOr muxBy addMux addEq addShl addUshr addDff replaceValue startNet added stateAfter undef areTrits spread addDedupMux longer runs muxRuns addBitwiseMux ceilDiv softs topBits bitsFor largest patchedBy lentTo called calledAll patched narrowerSelect seenWider seenNarrower seen overlaidMask transparencyMux transparencies unmapDff unmapReadDffOf unmapReadDff unmapEach unmapAll isEmpty roomRefusal logRefusal memNumber drivingNumber planNumber wideNumber imageNumber wholePlan swizzlePlanNumber swizzleNumber imageRefusal resultsRefusal swizzleRefusal patchRefusalOf patchRefusal roleOf isChunk isRow doubles wideAfter rowsAfter roles lowRoles rowNets muxNets muxRoles spotBy countDoubles splitBy splitAddr pieceStart oldRows newRows sources arrange repeating restore storeRows storePiece storeEach loadPiece memPart blank pieceMask maskPieces swizzleWrite swizzleWrites writePart pairUp muxTree addVoids clockedAddr constColumns wideFlipFlop swizzleRead swizzleReads flipFlopPart readPart memDepth resultMem swizzleRows swizzleEmpty swizzle swizzleImage swizzleLaid sharedWrite sharedNets sharedRead sharedTrits pieceNets swizzleScratch fromUint xNets zext isCellNet goodNet goodValue goodControl controlWords give many word wordsOf list test control option log controls flipFlop writePort readFlipFlop readPort memory plan patch reply asList logOut writeWords flipFlopWords readWords memWords drivingWords drivings op27 agrees agree Rattle.rules_trial.specs.Read._>>=_
+unfolding _orElse_ controlsWords plainControls newFlipFlop withEnable flipFlopOf wideLog2 writeWideLog2 readWideLog2 writeAt readAt outputLen outputStart outputSlice withOutput withReads withFlipFlop held isTransparent transparentFrom transparentPorts tooLarge planTooLarge unequal badDataLen badAddrLen badWriteShape badTritLens badFlipFlopShape badReadShape badShape badOutputLen indivisible badDepth badValue badControl badTrits badControls badWriteNets badRelation badFlipFlopNets badReadNets badNets times badEntry badNames badEntries badSoftMask badWide badWrites badReads allReads resultTooLarge imageTooLarge tooFewBits shortPair shortPort shortPorts notBelow logFull noRoom netsFull layoutOf softBits soft rowLen fullDepth fullChunks partDepth allChunks fullMems allMems columns toChunk hardLeft under walk spotOf column placeOf depthAt rowsBefore memStart trits imageSize flatAt flat indexOf put putRow writeRow rowOf writeRows layout imageOf entry flag dffOperands encode words _>>=_ _>>_ done request addVoid addOr muxBy addMux addEq addShl addUshr addDff replaceValue startNet added stateAfter undef areTrits spread addDedupMux longer runs muxRuns addBitwiseMux ceilDiv softs topBits bitsFor largest patchedBy lentTo called calledAll patched narrowerSelect seenWider seenNarrower seen overlaidMask transparencyMux transparencies unmapDff unmapReadDffOf unmapReadDff unmapEach unmapAll isEmpty roomRefusal logRefusal memNumber drivingNumber planNumber wideNumber imageNumber wholePlan swizzlePlanNumber swizzleNumber imageRefusal resultsRefusal swizzleRefusal patchRefusalBy patchRefusalOf patchRefusal roleOf isChunk isRow doubles wideAfter rowsAfter roles lowRoles rowNets muxNets muxRoles spotBy countDoubles splitBy splitAddr pieceStart oldRows newRows sources arrange repeating restore storeRows storePiece storeEach loadPiece memPart blank pieceMask maskPieces swizzleWrite swizzleWrites writePart pairUp muxTree addVoids clockedAddr constColumns wideFlipFlop swizzleRead swizzleReads flipFlopPart readPart memDepth resultMem swizzleRows swizzleEmpty swizzle swizzleImage swizzleLaid sharedWrite sharedNets sharedRead sharedTrits pieceNets swizzleScratch fromUint xNets zext isCellNet goodNet goodValue goodControl controlWords give many word wordsOf list test control option log controls flipFlop writePort readFlipFlop readPort memory plan patch reply asList logOut writeWords flipFlopWords readWords memWords drivingWords drivings op27 agrees agree Rattle.rules_trial.specs.Read._>>=_
 agreed = refl

@@ -9,7 +9,7 @@ use Rattle.rules.specs.Geometry.{fullDepth}
 use Rattle.rules.specs.Log.{_>>=_, _>>_}
 use Rattle.rules.specs.Numbers.{ceilDiv}
 use Rattle.rules.specs.Record.{sizeMems, sizeTrits, wordAt, bitsOf, arrayBytes, tritBy, headSizes, recordBytes, knownBits, valueBits, bitPairs, decodeImage}
-use Rattle.rules.specs.Refusals.{headerRefusal, recordRefusal, readRecordRefusal}
+use Rattle.rules.specs.Refusals.{headerRefusal, recordNumber, readRecordRefusal}
 use Rattle.rules.specs.Value.{fromUint}
 use Rattle.rules_trial.specs.Read.{give, word, wordsOf, list}
 use Rattle.rules_trial.specs.Wire.{reply, asList, op32, agrees, agree, Case, case}
@@ -69,5 +69,5 @@ cases =
     []
 
 pub agreed : agree op32 cases ≡ true
-unfolding _orElse_ badHead isPower badUnit unlike badDepths badSizes spareBits badBits noRoom fullDepth _>>=_ _>>_ ceilDiv sizeMems sizeTrits wordAt bitsOf arrayBytes tritBy headSizes recordBytes knownBits valueBits bitPairs decodeImage headerRefusal recordRefusal readRecordRefusal fromUint give word wordsOf list reply asList op32 agrees agree Rattle.rules_trial.specs.Read._>>=_
+unfolding _orElse_ badHead isPower badUnit unlike badDepths badSizes spareBits badBits noRoom fullDepth _>>=_ _>>_ ceilDiv sizeMems sizeTrits wordAt bitsOf arrayBytes tritBy headSizes recordBytes knownBits valueBits bitPairs decodeImage headerRefusal recordNumber readRecordRefusal fromUint give word wordsOf list reply asList op32 agrees agree Rattle.rules_trial.specs.Read._>>=_
 agreed = refl

@@ -13,7 +13,7 @@ use Rattle.rules.specs.Log.{entry, flag, dffOperands, encode, words, _>>=_, _>>
 use Rattle.rules.specs.Logic.{ones}
 use Rattle.rules.specs.Numbers.{ceilDiv}
 use Rattle.rules.specs.Record.{sizeMems, sizeTrits, wordAt, bitsOf, arrayBytes, knownBit, valueBit, tritBy, headSizes, recordBytes, knownBits, valueBits, bitPairs, decodeImage}
-use Rattle.rules.specs.Refusals.{headerRefusal, recordRefusal}
+use Rattle.rules.specs.Refusals.{headerRefusal, recordNumber}
 use Rattle.rules.specs.Value.{fromUint, controlWords}
 use Rattle.rules_trial.specs.Read.{give, word, wordsOf, list, test, control, controls}
 use Rattle.rules_trial.specs.Wire.{reply, asList, op33, agrees, agree, Case, case}
@@ -59,5 +59,5 @@ cases =
     []
 
 pub agreed : agree op33 cases ≡ true
-unfolding _orElse_ after badHead isPower badUnit unlike badDepths badSizes spareBits badBits fullDepth depthAt rowsBefore sizeDepth sizeStart memTrits summaryOf summaries isBlank digitsFrom decimal memoriesText tritsText blankText loadText refusedText headLine memoryLine refusedLine listed lister entry flag dffOperands encode words _>>=_ _>>_ added stateAfter ones ceilDiv sizeMems sizeTrits wordAt bitsOf arrayBytes knownBit valueBit tritBy headSizes recordBytes knownBits valueBits bitPairs decodeImage headerRefusal recordRefusal fromUint controlWords give word wordsOf list test control controls reply asList op33 agrees agree Rattle.rules_trial.specs.Read._>>=_
+unfolding _orElse_ after badHead isPower badUnit unlike badDepths badSizes spareBits badBits fullDepth depthAt rowsBefore sizeDepth sizeStart memTrits summaryOf summaries isBlank digitsFrom decimal memoriesText tritsText blankText loadText refusedText headLine memoryLine refusedLine listed lister entry flag dffOperands encode words _>>=_ _>>_ added stateAfter ones ceilDiv sizeMems sizeTrits wordAt bitsOf arrayBytes knownBit valueBit tritBy headSizes recordBytes knownBits valueBits bitPairs decodeImage headerRefusal recordNumber fromUint controlWords give word wordsOf list test control controls reply asList op33 agrees agree Rattle.rules_trial.specs.Read._>>=_
 agreed = refl

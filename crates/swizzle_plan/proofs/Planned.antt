@@ -17,7 +17,7 @@ use Rattle.rules.specs.Geometry.{Layout, layoutOf, rowLen, allMems}
 use Rattle.rules.specs.Conditions.{tooLarge, planTooLarge, badEntries, badSoftMask, indivisible, badLayoutSizes, resultTooLarge, noRoom}
 use Rattle.rules.specs.Refusals.{planNumber, memNumber, plannedNumber, swizzleDepthsRefusal}
 use Rattle.rules.specs.Answers.{filled}
-use Rattle.rules.specs.Beside.Shape.{entriesNumber, softMaskNumber, resultNumber, depthsNumber}
+use Rattle.rules.specs.Beside.Shape.{entriesNumber, softMaskNumber, resultNumber, depthsRefusal}
 use Rattle.net_memory.specs.declared.Memory.{Memory}
 use Rattle.net_memory.specs.View.{memoryOf}
 use Rattle.net_check.proofs.Accept.{Valid, valid}
@@ -118,8 +118,8 @@ module _ (m : Memory) (nets trits : List ℕ) (s : MemorySwizzle) (es ws rs : Li
           ∙ ap (λ (l : Layout). if resultTooLarge l then 10 else if noRoom room (allMems l) then 20 else 0) same-layout
           ∙ sym (else-rest (plannedNumber false (givenOf m nets trits) p) _ z)
 
-      pub depths-rest : (k : ℕ) → k ≡ resultNumber q → k ≡ 0 → depthsNumber room q ≡ swizzleDepthsRefusal room (givenOf m nets trits) p
-      unfolding swizzleDepthsRefusal resultNumber depthsNumber rowLen
+      pub depths-rest : (k : ℕ) → k ≡ resultNumber q → k ≡ 0 → depthsRefusal room q ≡ swizzleDepthsRefusal room (givenOf m nets trits) p
+      unfolding swizzleDepthsRefusal resultNumber depthsRefusal rowLen
       depths-rest k e h =
           room-left (badLayoutSizes (m .depth) (m .width) (length es) (s .«data_width_unit») (s .«hard_addr_bits»)) (resultTooLarge q) (noRoom room (allMems q)) (planned-sizes false z) (sym e ∙ h)
           ∙ ap (λ (l : Layout). if resultTooLarge l then 10 else if noRoom room (allMems l) then 20 else 0) same-layout

@@ -90,11 +90,11 @@ pub fn planned_number(
     if n != 0 {
         return n;
     }
-    let k = image_check::entries_refusal(m.width, entries);
+    let k = image_check::entries_number(m.width, entries);
     if k != 0 {
         return k;
     }
-    image_geometry::soft_mask_refusal(m.depth, s.soft_addr_bits_mask)
+    image_geometry::soft_mask_number(m.depth, s.soft_addr_bits_mask)
 }
 
 pub fn either(a: bool, b: bool) -> bool
@@ -118,11 +118,11 @@ fn whole_number(
     requires { ⌜ badLayoutSizes (m .depth) (m .width) (length (now entries)) (s .«data_width_unit») (s .«hard_addr_bits») ≡ false ⌝ }
     ensures { λ r. ⌜ ((trits : List ℕ) → r ≡ wholePlan (memoryOf m (now (nets .entry)) trits) (planOf s (now (entries .entry)) (now (writes .entry)) (now (reads .entry)))) ⌝ }
 {
-    let k = image_check::entries_refusal(m.width, entries);
+    let k = image_check::entries_number(m.width, entries);
     if k != 0 {
         return k;
     }
-    let j = image_geometry::soft_mask_refusal(m.depth, s.soft_addr_bits_mask);
+    let j = image_geometry::soft_mask_number(m.depth, s.soft_addr_bits_mask);
     if j != 0 {
         return j;
     }
@@ -132,7 +132,7 @@ fn whole_number(
     if m.width == 0 {
         return 0;
     }
-    image_geometry::result_refusal(params_of(m, s), entries)
+    image_geometry::result_number(params_of(m, s), entries)
 }
 
 // The number that refuses a plan for a memory and the nets that its outputs drive, or 0: 1 to 4, then 7, 8, 9 and 10.

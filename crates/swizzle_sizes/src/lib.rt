@@ -6,11 +6,11 @@ ghost use Prim.Native.Nat.{ℕ, _+_, _-_, _≤_, min};
 ghost use lib.ListN.{length};
 ghost use Rattle.lists.specs.Lists.{pairs};
 ghost use Rattle.rules.specs.Geometry.{chunkMuxBits, softBits};
-ghost use Rattle.image_geometry.specs.View.{layoutBy, filledWith};
+ghost use Rattle.image_geometry.specs.View.{layoutBy};
 ghost use Rattle.net_memory.specs.View.{memoryOf};
 ghost use Rattle.swizzle_plan.specs.Calls.{planOf, paramsBy};
 ghost use Rattle.swizzle_plan.specs.Numbers.{inEight, writeLogs, readLogs};
-ghost use Rattle.rules.specs.Answers.{swizzleDepthsCall, swizzleMuxBitsCall};
+ghost use Rattle.rules.specs.Answers.{swizzleDepthsCall, swizzleMuxBitsCall, filledWith};
 ghost use Rattle.rules.specs.Refusals.{swizzleMuxBitsRefusal};
 ghost use Rattle.net_memory.specs.Given.{givenOf};
 ghost use Rattle.swizzle_sizes.specs.Calls.{muxBitsBy, Countable, Small};
@@ -161,7 +161,7 @@ pub fn swizzle_depths(
         return n;
     }
     let p = swizzle_plan::params_of(m, s);
-    let k = image_geometry::result_refusal(p, entries);
+    let k = image_geometry::result_number(p, entries);
     if k != 0 {
         return k;
     }

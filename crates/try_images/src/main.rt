@@ -78,9 +78,9 @@ fn sizes(p: image_geometry::Params, entries: &[u32]) {
 // The tests of numbers 7, 8 and 10.
 fn tests(p: image_geometry::Params, entries: &[u32]) {
     text(b"tests");
-    number(image_check::entries_refusal(p.width, entries) as u64);
-    number(image_geometry::soft_mask_refusal(p.depth, p.soft_mask) as u64);
-    number(image_geometry::result_refusal(p, entries) as u64);
+    number(image_check::entries_number(p.width, entries) as u64);
+    number(image_geometry::soft_mask_number(p.depth, p.soft_mask) as u64);
+    number(image_geometry::result_number(p, entries) as u64);
     line();
 }
 

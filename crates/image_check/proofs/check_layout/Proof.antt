@@ -28,7 +28,7 @@ returns-2 c =
 returns-3 : tie.Need-returns-3
 returns-3 c =
     let q = layoutBy (c .before .before .before .before .before .before .before .before .before .args .p) (c .before .before .before .before .before .before .before .before .before .args .entries .now) in
-    shape-none q (bad-8 q (told (c .before .before .before .before .before) .0) (sym (c .before .before .before .entries-bad .ensures) ∙ c .before .before .if1 .left) (soft-failed _ _ (λ z. c .if2 .taken (c .before .soft-mask-refusal .ensures ∙ z))))
+    shape-none q (bad-8 q (told (c .before .before .before .before .before) .0) (sym (c .before .before .before .entries-bad .ensures) ∙ c .before .before .if1 .left) (soft-failed _ _ (λ z. c .if2 .taken (c .before .soft-mask-number .ensures ∙ z))))
 
 returns-4 : tie.Need-returns-4
 returns-4 c =
@@ -36,7 +36,7 @@ returns-4 c =
     shape-some q _ (good-back q (record {
       sizes = told (c .before .before .before .before .before .before .before) .0;
       entries = sym (c .before .before .before .before .before .entries-bad .ensures) ∙ c .before .before .before .before .if1 .left;
-      soft = soft-passed _ _ (sym (c .before .before .before .soft-mask-refusal .ensures) ∙ c .before .before .if2 .left);
+      soft = soft-passed _ _ (sym (c .before .before .before .soft-mask-number .ensures) ∙ c .before .before .if2 .left);
       result = no-result q (c .if3 .taken);
       mask = mask-small (c .before .before .before .before .before .before .before .before .before .before .before .args .p) _ (c .before .before .before .before .before .before .before .before .before .before .before .good .0);
     })) (told (c .before .before .before .before .before .before .before) .1)
@@ -45,7 +45,7 @@ returns-4 c =
 large : (c : tie.After-struct-known2) → resultTooLarge (layoutBy (c .before .before .before .before .before .before .before .before .before .before .before .before .args .p) (c .before .before .before .before .before .before .before .before .before .before .before .before .args .entries .now)) ≡ true → badLayout (layoutBy (c .before .before .before .before .before .before .before .before .before .before .before .before .args .p) (c .before .before .before .before .before .before .before .before .before .before .before .before .args .entries .now)) ≡ true
 large c h =
     let q = layoutBy (c .before .before .before .before .before .before .before .before .before .before .before .before .args .p) (c .before .before .before .before .before .before .before .before .before .before .before .before .args .entries .now) in
-    bad-10 q (told (c .before .before .before .before .before .before .before .before) .0) (sym (c .before .before .before .before .before .before .entries-bad .ensures) ∙ c .before .before .before .before .before .if1 .left) (soft-passed _ _ (sym (c .before .before .before .before .soft-mask-refusal .ensures) ∙ c .before .before .before .if2 .left)) (some-result q true (c .before .if3 .left) h)
+    bad-10 q (told (c .before .before .before .before .before .before .before .before) .0) (sym (c .before .before .before .before .before .before .entries-bad .ensures) ∙ c .before .before .before .before .before .if1 .left) (soft-passed _ _ (sym (c .before .before .before .before .soft-mask-number .ensures) ∙ c .before .before .before .if2 .left)) (some-result q true (c .before .if3 .left) h)
 
 returns-5 : tie.Need-returns-5
 returns-5 c =
@@ -63,7 +63,7 @@ returns-7 c =
     shape-some q _ (good-back q (record {
       sizes = told (c .before .before .before .before .before .before .before .before .before .before .before) .0;
       entries = sym (c .before .before .before .before .before .before .before .before .before .entries-bad .ensures) ∙ c .before .before .before .before .before .before .before .before .if1 .left;
-      soft = soft-passed _ _ (sym (c .before .before .before .before .before .before .before .soft-mask-refusal .ensures) ∙ c .before .before .before .before .before .before .if2 .left);
+      soft = soft-passed _ _ (sym (c .before .before .before .before .before .before .before .soft-mask-number .ensures) ∙ c .before .before .before .before .before .before .if2 .left);
       result = some-result q false (c .before .before .before .before .if3 .left) (not-large q _ (told (c .before .before .before .before .before .before .before .before .before .before .before) .1) (c .before .before .if4 .left) (c .if5 .left));
       mask = mask-small (c .before .before .before .before .before .before .before .before .before .before .before .before .before .before .before .args .p) _ (c .before .before .before .before .before .before .before .before .before .before .before .before .before .before .before .good .0);
     })) (told (c .before .before .before .before .before .before .before .before .before .before .before) .1)
@@ -80,8 +80,8 @@ enum-told c = search needs
 entries-bad-requires : tie.Need-entries-bad-requires
 entries-bad-requires c κs = search needs
 
-soft-mask-refusal-requires : tie.Need-soft-mask-refusal-requires
-soft-mask-refusal-requires c κs = search needs
+soft-mask-number-requires : tie.Need-soft-mask-number-requires
+soft-mask-number-requires c κs = search needs
 
 pub check-layout-spec : {M : Type 1} → statement M
 check-layout-spec =
@@ -93,7 +93,7 @@ check-layout-spec =
     returns
     entries-bad-requires
     returns-2
-    soft-mask-refusal-requires
+    soft-mask-number-requires
     returns-3
     returns-4
     returns-5

@@ -5,9 +5,9 @@ use mathlib.Core.Bool.{false}
 use lib.ListN.{length}
 use Rattle.rules.specs.Geometry.{fullMems, allMems, fullDepth, partDepth}
 use Rattle.rules.specs.Beside.Shape as rules
-use Rattle.rules.specs.Beside.Shape.{shapeOf, depthsCall, depthsNumber}
+use Rattle.rules.specs.Beside.Shape.{shapeOf, depthsCall, depthsRefusal}
 use Rattle.rules.proofs.GoodLayouts.{layoutTooLarge}
-use Rattle.rules.proofs.Answering.{filled-refused, filled-done}
+use Rattle.rules.proofs.Answers.{filled-kept, filled-done}
 use Rattle.rules.proofs.Shaping.{shape-told, shape-not-told, shape-small, depths-1, depths-20, depths-0, depths-stored}
 use Rattle.rules.proofs.Extents.{deep-max, part-max}
 use Rattle.rules.proofs.Places.{full-all}
@@ -42,7 +42,7 @@ unfolding depthsCall
 returns c =
     let a = c .before .before .before .before .before .args in
     let q = layoutBy (a .p) (a .entries .now) in
-    filled-refused (depthsNumber (length (a .out .now)) q) 1 _ _
+    filled-kept (depthsRefusal (length (a .out .now)) q) 1 _ _
     (depths-1 q _ (shape-not-told q _ (sym (ap measuredOf (c .enum-told .given .1)) ∙ c .before .before .measure .ensures) .1)) (λ z. omega arith)
 
 fewer : {a b r n : ℕ} → a < b → a ≡ r → b ≡ n → r < n
@@ -56,7 +56,7 @@ unfolding depthsCall
 returns-2 c =
     let a = c .before .before .before .before .before .before .before .before .before .args in
     let q = layoutBy (a .p) (a .entries .now) in
-    filled-refused (depthsNumber (length (a .out .now)) q) 20 _ _
+    filled-kept (depthsRefusal (length (a .out .now)) q) 20 _ _
     (depths-20 q _ (told (c .before .before .before .before) .0) (fewer (c .if1 .taken) (c .before .before .u64-of-usize .ensures) (all-is (c .before .before .before .before)))) (λ z. omega arith)
 
 cast-fill-u32 : tie.Need-cast-fill-u32
@@ -74,7 +74,7 @@ returns-3 c =
     let a = c .before .before .before .before .before .before .before .before .before .before .before .before .before .before .before .before .before .before .before .args in
     let q = layoutBy (a .p) (a .entries .now) in
     let s = c .before .before .before .before .before .before .before .before .before .before .before .before .before .before in
-    filled-done (depthsNumber (length (a .out .now)) q) (a .out .now) _ _
+    filled-done (depthsRefusal (length (a .out .now)) q) (a .out .now) _ _
     (depths-0 q _ (told s .0) (enough (c .before .before .before .before .before .before .before .before .before .before .if1 .left) (c .before .before .before .before .before .before .before .before .before .before .before .before .u64-of-usize .ensures) (all-is s)))
     (depths-stored q (a .out .now) _ _ _ _ _ _ (full-is s) (all-is s) (deep-is s) (part-is s) (c .before .before .before .before .before .before .before .fill-u32 .ensures) (c .before .before .fill-u322 .ensures))
 

@@ -3,9 +3,10 @@ use mathlib.Core.Path.{ap, _∙_, subst}
 use lib.ListN.{length-take}
 use Rattle.rules.specs.Image as rules
 use Rattle.rules.specs.Beside.Layouts.{fillAndPatchCall}
+use Rattle.rules.specs.Patch.{Demanded}
 use Rattle.image_state.proofs.Fields.{entries-long}
 use Rattle.image_state.proofs.Laying.{laid-lent}
-use Rattle.image_patches.specs.Calls.{callsOf, Demanded}
+use Rattle.image_patches.specs.Calls.{callsOf}
 use borrow.Author.Needs.{needs}
 use native.Mathlib.Omega.{arith}
 use Rattle.image_patches.proofs.fill_and_patch.Statement.{statement}

@@ -1,6 +1,6 @@
 -- `record_codec::read_record` meets its contract.
 use Rattle.rules.specs.Answers.{readRecordCall}
-use Rattle.rules.proofs.Calls.{refused, accepted}
+use Rattle.rules.proofs.Answers.{refused, accepted}
 use Rattle.record_codec.proofs.Reading.{read-good, record-good}
 use Rattle.lists.proofs.Choice.{leaves-refused, leaves-accepted}
 use mathlib.Core.Path.{sym, _∙_}

@@ -7,11 +7,11 @@ use borrow.Author.Needs.{needs}
 use Rattle.record_codec.proofs.read_refusal.Statement.{statement}
 use Rattle.record_codec.proofs.read_refusal.Tie as tie
 
-record-refusal-requires : tie.Need-record-refusal-requires
-record-refusal-requires c κs = search needs
+record-number-requires : tie.Need-record-number-requires
+record-number-requires c κs = search needs
 
 returns : tie.Need-returns
-returns c = by-record _ _ _ (c .before .record-refusal .ensures) (c .if1 .taken)
+returns c = by-record _ _ _ (c .before .record-number .ensures) (c .if1 .taken)
 
 head-trits-requires : tie.Need-head-trits-requires
 head-trits-requires c κs = search needs
@@ -19,13 +19,13 @@ head-trits-requires c κs = search needs
 returns-2 : tie.Need-returns-2
 returns-2 c =
     let h = c .before .before in
-    read-20 _ _ (sym (h .before .record-refusal .ensures) ∙ h .if1 .left) (omega (arith, c .before .head-trits .ensures .0))
+    read-20 _ _ (sym (h .before .record-number .ensures) ∙ h .if1 .left) (omega (arith, c .before .head-trits .ensures .0))
 
 returns-3 : tie.Need-returns-3
 returns-3 c =
     let h = c .before .before in
-    read-0 _ _ (sym (h .before .record-refusal .ensures) ∙ h .if1 .left) (omega (arith, c .before .head-trits .ensures .0))
+    read-0 _ _ (sym (h .before .record-number .ensures) ∙ h .if1 .left) (omega (arith, c .before .head-trits .ensures .0))
 
 pub read-refusal-spec : {M : Type 1} → statement M
 read-refusal-spec =
-    tie.close (tie.spec record-refusal-requires returns head-trits-requires returns-2 returns-3)
+    tie.close (tie.spec record-number-requires returns head-trits-requires returns-2 returns-3)

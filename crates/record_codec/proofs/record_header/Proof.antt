@@ -1,5 +1,5 @@
 -- `record_codec::record_header` meets its contract.
-use Rattle.rules.proofs.Calls.{refused, accepted}
+use Rattle.rules.proofs.Answers.{refused, accepted}
 use mathlib.Core.Path.{sym, _∙_}
 use Prim.Native.Nat.{_-_}
 use borrow.Author.Needs.{needs}

@@ -1,6 +1,6 @@
 -- `record_codec::write_record` meets its contract.
 use Rattle.rules.specs.Answers.{writeRecordCall, filled}
-use Rattle.rules.proofs.Calls.{refused, accepted}
+use Rattle.rules.proofs.Answers.{refused, accepted}
 use Rattle.lists.proofs.Choice.{leaves-refused, leaves-accepted}
 use mathlib.Core.Path.{sym, _∙_}
 use Prim.Native.Nat.{_-_}

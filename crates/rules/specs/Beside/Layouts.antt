@@ -17,8 +17,12 @@ use Rattle.rules.specs.Patch.{patched, laidOut}
 use Rattle.rules.specs.Answers.{Filled, filled}
 
 -- ---- an image laid out: the rows are the memory's initial trits, which the swizzle's own numbers have tried
+-- by the depth, the width and the image's trits of a layout: of this room and so many trits
+unfoldable pub fillRefusalBy : ℕ → ℕ → ℕ → ℕ → ℕ → ℕ
+fillRefusalBy depth width size room len = if not (eqb len (depth * width)) then 2 else if noRoom room size then 20 else 0
+
 unfoldable pub fillRefusalOf : Layout → ℕ → ℕ → ℕ
-fillRefusalOf q room size = if not (eqb size (q .depth * q .width)) then 2 else if noRoom room (imageSize q) then 20 else 0
+fillRefusalOf q room len = fillRefusalBy (q .depth) (q .width) (imageSize q) room len
 
 unfoldable pub fillRefusal : Laid → ℕ → ℕ → ℕ
 fillRefusal none room size = 23
@@ -49,9 +53,12 @@ unfoldable pub readRow : Layout → List ℕ → ℕ → Const
 readRow q image row = map (bitOf q image row) (upFrom 0 (q .width))
 
 -- 15, then 20 for the image or the room for the row
+unfoldable pub readRowRefusalBy : ℕ → ℕ → ℕ → ℕ → ℕ → ℕ → ℕ
+readRowRefusalBy depth width size room len row =
+    if notBelow depth row then 15 else if noRoom len size || noRoom room width then 20 else 0
+
 unfoldable pub readRowRefusalOf : Layout → ℕ → ℕ → ℕ → ℕ
-readRowRefusalOf q room size row =
-    if notBelow (q .depth) row then 15 else if noRoom size (imageSize q) || noRoom room (q .width) then 20 else 0
+readRowRefusalOf q room len row = readRowRefusalBy (q .depth) (q .width) (imageSize q) room len row
 
 unfoldable pub readRowRefusal : Laid → ℕ → ℕ → ℕ → ℕ
 readRowRefusal none room size row = 23

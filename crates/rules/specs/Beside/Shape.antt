@@ -51,12 +51,12 @@ unfoldable pub shapeCall : Layout → Answer Shape
 shapeCall q = answerOf (shapeNumber q) (shapeOf q)
 
 -- the depths into lent room
-unfoldable pub depthsNumber : ℕ → Layout → ℕ
-depthsNumber room q =
+unfoldable pub depthsRefusal : ℕ → Layout → ℕ
+depthsRefusal room q =
     if badLayoutSizes (q .depth) (q .width) (rowLen q) (q .unit) (q .hard) then 1 else if noRoom room (allMems q) then 20 else 0
 
 unfoldable pub depthsCall : List ℕ → Layout → Filled
-depthsCall out q = filled (depthsNumber (length out) q) out (swizzleDepths q)
+depthsCall out q = filled (depthsRefusal (length out) q) out (swizzleDepths q)
 
 -- ---- the tests of a plan
 unfoldable pub entriesNumber : ℕ → List ℕ → ℕ

@@ -24,21 +24,21 @@ returns c =
     let v = c .before .before .before .before .before .before .before .before .before .args in
     by-memory (v .m) (v .nets .now) (v .trits .now) (v .s) (v .entries .now) (v .writes .now) (v .reads .now) (v .long) _ (c .before .memory-number .ensures ∙ ap (λ (t : Bool). memNumber t false false maxNets (givenOf (v .m) (v .nets .now) (v .trits .now))) (c .before .before .either .ensures ∙ ap (λ (t : Bool). t || v .long) (c .before .before .before .plan-too-large .ensures))) (c .if1 .taken)
 
-entries-refusal-requires : tie.Need-entries-refusal-requires
-entries-refusal-requires c κs = search needs
+entries-number-requires : tie.Need-entries-number-requires
+entries-number-requires c κs = search needs
 
 returns-2 : tie.Need-returns-2
 returns-2 c =
     let v = c .before .before .before .before .before .before .before .before .before .before .before .args in
-    by-seven (v .m) (v .nets .now) (v .trits .now) (v .s) (v .entries .now) (v .writes .now) (v .reads .now) (v .long) (sym (c .before .before .before .memory-number .ensures ∙ ap (λ (t : Bool). memNumber t false false maxNets (givenOf (v .m) (v .nets .now) (v .trits .now))) (c .before .before .before .before .either .ensures ∙ ap (λ (t : Bool). t || v .long) (c .before .before .before .before .before .plan-too-large .ensures))) ∙ c .before .before .if1 .left) _ (c .before .entries-refusal .ensures) (c .if2 .taken)
+    by-seven (v .m) (v .nets .now) (v .trits .now) (v .s) (v .entries .now) (v .writes .now) (v .reads .now) (v .long) (sym (c .before .before .before .memory-number .ensures ∙ ap (λ (t : Bool). memNumber t false false maxNets (givenOf (v .m) (v .nets .now) (v .trits .now))) (c .before .before .before .before .either .ensures ∙ ap (λ (t : Bool). t || v .long) (c .before .before .before .before .before .plan-too-large .ensures))) ∙ c .before .before .if1 .left) _ (c .before .entries-number .ensures) (c .if2 .taken)
 
-soft-mask-refusal-requires : tie.Need-soft-mask-refusal-requires
-soft-mask-refusal-requires c κs = search needs
+soft-mask-number-requires : tie.Need-soft-mask-number-requires
+soft-mask-number-requires c κs = search needs
 
 returns-3 : tie.Need-returns-3
 returns-3 c =
     let v = c .before .before .before .before .before .before .before .before .before .before .before .before .args in
-    by-eight (v .m) (v .nets .now) (v .trits .now) (v .s) (v .entries .now) (v .writes .now) (v .reads .now) (v .long) (sym (c .before .before .before .before .memory-number .ensures ∙ ap (λ (t : Bool). memNumber t false false maxNets (givenOf (v .m) (v .nets .now) (v .trits .now))) (c .before .before .before .before .before .either .ensures ∙ ap (λ (t : Bool). t || v .long) (c .before .before .before .before .before .before .plan-too-large .ensures))) ∙ c .before .before .before .if1 .left) _ (c .before .before .entries-refusal .ensures) (c .before .if2 .left) _ (c .soft-mask-refusal .ensures)
+    by-eight (v .m) (v .nets .now) (v .trits .now) (v .s) (v .entries .now) (v .writes .now) (v .reads .now) (v .long) (sym (c .before .before .before .before .memory-number .ensures ∙ ap (λ (t : Bool). memNumber t false false maxNets (givenOf (v .m) (v .nets .now) (v .trits .now))) (c .before .before .before .before .before .either .ensures ∙ ap (λ (t : Bool). t || v .long) (c .before .before .before .before .before .before .plan-too-large .ensures))) ∙ c .before .before .before .if1 .left) _ (c .before .before .entries-number .ensures) (c .before .if2 .left) _ (c .soft-mask-number .ensures)
 
 pub planned-number-spec : {M : Type 1} → statement M
 planned-number-spec =
@@ -48,7 +48,7 @@ planned-number-spec =
     either-requires
     memory-number-requires
     returns
-    entries-refusal-requires
+    entries-number-requires
     returns-2
-    soft-mask-refusal-requires
+    soft-mask-number-requires
     returns-3)

@@ -30,14 +30,14 @@ returns c =
 params-of-requires : tie.Need-params-of-requires
 params-of-requires c κs = search needs
 
-result-refusal-requires : tie.Need-result-refusal-requires
-result-refusal-requires c κs = search needs
+result-number-requires : tie.Need-result-number-requires
+result-number-requires c κs = search needs
 
 returns-2 : tie.Need-returns-2
 unfolding swizzleDepthsCall
 returns-2 c =
     let v = c .before .before .before .before .before .before .before .before .before .before .before .args in
-    let e = depths-ten (v .m) (v .nets .now) (v .trits .now) (v .s) (v .entries .now) (v .writes .now) (v .reads .now) (length (v .out .now)) (sym (c .before .before .before .before .planned-number .ensures) ∙ c .before .before .before .if1 .left) _ (c .before .result-refusal .ensures ∙ ap (λ (x : Params). resultNumber (layoutBy x (v .entries .now))) (c .before .before .params-of .ensures)) (c .if2 .taken) in
+    let e = depths-ten (v .m) (v .nets .now) (v .trits .now) (v .s) (v .entries .now) (v .writes .now) (v .reads .now) (length (v .out .now)) (sym (c .before .before .before .before .planned-number .ensures) ∙ c .before .before .before .if1 .left) _ (c .before .result-number .ensures ∙ ap (λ (x : Params). resultNumber (layoutBy x (v .entries .now))) (c .before .before .params-of .ensures)) (c .if2 .taken) in
     filled-refused (swizzleDepthsRefusal (length (v .out .now)) (givenOf (v .m) (v .nets .now) (v .trits .now)) (planOf (v .s) (v .entries .now) (v .writes .now) (v .reads .now))) _ (v .out .now) (v .out .now) (swizzleDepths (layoutOf (memoryOf (v .m) (v .nets .now) (v .trits .now)) (planOf (v .s) (v .entries .now) (v .writes .now) (v .reads .now)))) e (λ z. c .if2 .taken (e ∙ z)) refl
 
 depths-requires : tie.Need-depths-requires
@@ -52,7 +52,7 @@ unfolding swizzleDepthsCall depthsCall
 returns-3 c =
     let v = c .before .before .before .before .before .before .before .before .before .before .before .before .before .before .before .args in
     let k = c .before .before .before .before .before .before .params-of .ensures in
-    let e = depths-rest (v .m) (v .nets .now) (v .trits .now) (v .s) (v .entries .now) (v .writes .now) (v .reads .now) (length (v .out .now)) (sym (c .before .before .before .before .before .before .before .before .planned-number .ensures) ∙ c .before .before .before .before .before .before .before .if1 .left) _ (c .before .before .before .before .before .result-refusal .ensures ∙ ap (λ (x : Params). resultNumber (layoutBy x (v .entries .now))) (c .before .before .before .before .before .before .params-of .ensures)) (c .before .before .before .before .if2 .left) in
+    let e = depths-rest (v .m) (v .nets .now) (v .trits .now) (v .s) (v .entries .now) (v .writes .now) (v .reads .now) (length (v .out .now)) (sym (c .before .before .before .before .before .before .before .before .planned-number .ensures) ∙ c .before .before .before .before .before .before .before .if1 .left) _ (c .before .before .before .before .before .result-number .ensures ∙ ap (λ (x : Params). resultNumber (layoutBy x (v .entries .now))) (c .before .before .before .before .before .before .params-of .ensures)) (c .before .before .before .before .if2 .left) in
     c .before .before .depths .ensures ∙ ap (λ (x : Params). depthsCall (v .out .now) (layoutBy x (v .entries .now))) k ∙ (λ i. filled (e i) (v .out .now) (swizzleDepths (same-layout (v .m) (v .nets .now) (v .trits .now) (v .s) (v .entries .now) (v .writes .now) (v .reads .now) i)))
 
 pub swizzle-depths-spec : {M : Type 1} → statement M
@@ -62,7 +62,7 @@ swizzle-depths-spec =
     planned-number-requires
     returns
     params-of-requires
-    result-refusal-requires
+    result-number-requires
     returns-2
     depths-requires
     same-length

@@ -1,6 +1,6 @@
 -- `record_listing::summary::memory_summary` meets its contract.
 use Rattle.rules.specs.Answers.{summaryCall}
-use Rattle.rules.proofs.Calls.{refused, accepted}
+use Rattle.rules.proofs.Answers.{refused, accepted}
 use mathlib.Core.Path.{sym, _∙_}
 use Prim.Native.Nat.{_-_}
 use borrow.Author.Needs.{needs}

@@ -1,4 +1,4 @@
--- `image_geometry::result_refusal` meets its contract.
+-- `image_geometry::result_number` meets its contract.
 use mathlib.Core.Path.{_≡_, sym, ap, _∙_}
 use mathlib.Core.Bool.{false}
 use Rattle.rules.specs.Beside.Shape.{shapeOf}
@@ -6,8 +6,8 @@ use Rattle.rules.proofs.GoodLayouts.{layoutTooLarge}
 use Rattle.rules.proofs.Shaping.{shape-told, shape-not-told, large-columns, large-trits, not-large, result-1, result-10, result-0}
 use Rattle.image_geometry.specs.View.{layoutBy, shapeBy, measuredOf}
 use borrow.Author.Needs.{needs}
-use Rattle.image_geometry.proofs.result_refusal.Statement.{statement}
-use Rattle.image_geometry.proofs.result_refusal.Tie as tie
+use Rattle.image_geometry.proofs.result_number.Statement.{statement}
+use Rattle.image_geometry.proofs.result_number.Tie as tie
 
 -- what the sizes are that `measure` gave
 told : (c : tie.After-s) → (layoutTooLarge (layoutBy (c .before .before .before .before .args .p) (c .before .before .before .before .args .entries .now)) ≡ false) × (shapeBy (c .s .given .0 .0) ≡ shapeOf (layoutBy (c .before .before .before .before .args .p) (c .before .before .before .before .args .entries .now)))
@@ -45,7 +45,7 @@ enum-known-s c = search needs
 enum-told : tie.Need-enum-told
 enum-told c = search needs
 
-pub result-refusal-spec : {M : Type 1} → statement M
-result-refusal-spec =
+pub result-number-spec : {M : Type 1} → statement M
+result-number-spec =
     tie.close
     (tie.spec measure-requires enum-known-s enum-told returns returns-2 returns-3 returns-4)

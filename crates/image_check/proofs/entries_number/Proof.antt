@@ -1,11 +1,11 @@
--- `image_check::entries_refusal` meets its contract.
+-- `image_check::entries_number` meets its contract.
 use mathlib.Core.Path.{sym, ap, _∙_}
 use mathlib.Core.Bool.{Bool}
 use Rattle.lists.specs.Choice.{if_then_else_}
 use Rattle.rules.specs.Beside.Shape.{entriesNumber}
 use borrow.Author.Needs.{needs}
-use Rattle.image_check.proofs.entries_refusal.Statement.{statement}
-use Rattle.image_check.proofs.entries_refusal.Tie as tie
+use Rattle.image_check.proofs.entries_number.Statement.{statement}
+use Rattle.image_check.proofs.entries_number.Tie as tie
 
 returns : tie.Need-returns
 unfolding entriesNumber
@@ -18,5 +18,5 @@ returns-2 c = sym (ap (λ (t : Bool). if t then 7 else 0) (sym (c .before .entri
 entries-bad-requires : tie.Need-entries-bad-requires
 entries-bad-requires c κs = search needs
 
-pub entries-refusal-spec : {M : Type 1} → statement M
-entries-refusal-spec = tie.close (tie.spec entries-bad-requires returns returns-2)
+pub entries-number-spec : {M : Type 1} → statement M
+entries-number-spec = tie.close (tie.spec entries-bad-requires returns returns-2)

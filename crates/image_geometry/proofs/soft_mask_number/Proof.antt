@@ -1,4 +1,4 @@
--- `image_geometry::soft_mask_refusal` meets its contract.
+-- `image_geometry::soft_mask_number` meets its contract.
 use Prim.Native.Nat.{ℕ, _%_, _^_, _≤_}
 use mathlib.Core.Path.{_≡_, sym, ap, _∙_, subst}
 use Rattle.rules.specs.Limits.{addrBits}
@@ -7,8 +7,8 @@ use Rattle.rules.proofs.Walks.{tops-le}
 use Rattle.rules.proofs.Shaping.{soft-8, soft-0}
 use Rattle.image_geometry.proofs.Sizing.{power-pos}
 use borrow.Author.Needs.{needs}
-use Rattle.image_geometry.proofs.soft_mask_refusal.Statement.{statement}
-use Rattle.image_geometry.proofs.soft_mask_refusal.Tie as tie
+use Rattle.image_geometry.proofs.soft_mask_number.Statement.{statement}
+use Rattle.image_geometry.proofs.soft_mask_number.Tie as tie
 
 pow2-requires : tie.Need-pow2-requires
 pow2-requires c κs = subst (λ (n : ℕ). n ≤ 32) (sym (c .top-bits .ensures)) (tops-le 32 _)
@@ -32,6 +32,6 @@ u64-of-u32-requires c κs = search needs
 top-bits-requires : tie.Need-top-bits-requires
 top-bits-requires c κs = search needs
 
-pub soft-mask-refusal-spec : {M : Type 1} → statement M
-soft-mask-refusal-spec =
+pub soft-mask-number-spec : {M : Type 1} → statement M
+soft-mask-number-spec =
     tie.close (tie.spec u64-of-u32-requires top-bits-requires pow2-requires rem-if1 returns returns-2)
