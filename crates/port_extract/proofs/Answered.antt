@@ -104,7 +104,7 @@ module _ (rn rt ro : List ℕ) (m : Memory) (nets trits list output : List ℕ) 
         → Promise (record { refusal = 0; memory = m′ }) rn′ rt′ ro′
     accepted m′ rn′ rt′ ro′ z p a b c = (
       call-accepted rn rt ro (givenOf m nets trits) list output (drivingOf m′ rn′ rt′ ro′) rn′ rt′ ro′ z
-      ((λ i. drivingOf (p i) (a i) (b i) (c i)) ∙ driving-is) (a ∙ ap (sets rn 0) n-flat) (b ∙ ap (sets rt 0) t-flat) c,
+          ((λ i. drivingOf (p i) (a i) (b i) (c i)) ∙ driving-is) (a ∙ ap (sets rn 0) n-flat) (b ∙ ap (sets rt 0) t-flat) c,
       record {
         struct-is = p ∙ sym (leaves-accepted 0 m (withPorts m list) refl);
         nets-long = λ _. ap netsTotal p ∙ extract-nets m nets trits (y .ready-is .nets-exact) (y .ready-is .trits-exact) list output eight (y .ready-is .listed) ∙ ap length n-flat;
