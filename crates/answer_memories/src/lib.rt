@@ -283,14 +283,14 @@ fn extracted(
     let m = memory_pieces::memory_at(given, 2);
     let at = memory_pieces::after_memory(given, 2);
     port_extract::extract_read_ports(
+        room_nets,
+        room_trits,
+        room_output,
         m,
         nets,
         trits,
         pieces::list(given, at),
         pieces::list(given, pieces::after(given, at)),
-        room_nets,
-        room_trits,
-        room_output,
     )
 }
 

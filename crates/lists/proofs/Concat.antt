@@ -1,11 +1,11 @@
--- Laws of `concatMap`: a turn of a loop that stores the lists, and the views of what was stored.
+-- Laws of `concatMap`: a turn of a loop that stores the lists, the views of what was stored, and its length.
 use mathlib.Core.Path.{_≡_, refl, sym, ap, _∙_}
 use Prim.Native.Nat.{ℕ, _+_, _<_}
 use native.Mathlib.Numerals.{add-one}
 use mathlib.Core.List.{List, [], _∷_, _++_, map, append-assoc, append-nil}
-use lib.ListN.{length, take, getD}
+use lib.ListN.{length, take, getD, length-append}
 use lib.Seq.{sets, take-suc, take-at, drop-at}
-use Rattle.lists.specs.Lists.{concatMap}
+use Rattle.lists.specs.Lists.{sumBy, concatMap}
 use Rattle.lists.specs.Views.{views}
 use Rattle.lists.proofs.Store.{sets-at}
 
@@ -35,3 +35,9 @@ module _ {K P A B R : Type 0} (s t : P → ℕ) (read : P → List A → List B 
 pub concat-map : {A B C : Type 0} (f : B → List C) (g : A → B) (l : List A) → concatMap f (map g l) ≡ concatMap (λ a. f (g a)) l
 concat-map f g [] = refl
 concat-map f g (a ∷ l) = ap (λ r. f (g a) ++ r) (concat-map f g l)
+
+-- the length of the lists of each element
+module _ {A B P : Type 0} (f : A → List B) (p : A → P) (s : P → ℕ) (e : (a : A) → length (f a) ≡ s (p a)) where
+  pub length-concat : (l : List A) → length (concatMap f l) ≡ sumBy s (map p l)
+  length-concat [] = refl
+  length-concat (a ∷ l) = length-append (f a) (concatMap f l) ∙ (λ i. e a i + length-concat l i)

@@ -16,3 +16,4 @@ pub mod UpFrom
 pub mod DistinctMap
 pub mod DistinctOrder
 pub mod Lent
+pub mod Flat

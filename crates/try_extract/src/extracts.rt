@@ -39,14 +39,14 @@ fn call(
     let b = room::at_most(lent.trits, room_trits.len());
     let e = room::at_most(lent.outs, room_outs.len());
     port_extract::extract_read_ports(
+        &mut room_nets[0..a],
+        &mut room_trits[0..b],
+        &mut room_outs[0..e],
         m,
         lists::part_u32(&nets, 0, c.nets),
         lists::part_u8(&trits, 0, c.trits),
         list,
         lists::part_u32(&outs, 0, c.outs),
-        &mut room_nets[0..a],
-        &mut room_trits[0..b],
-        &mut room_outs[0..e],
     )
 }
 

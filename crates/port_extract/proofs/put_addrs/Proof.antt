@@ -13,10 +13,10 @@ use Rattle.port_extract.proofs.put_addrs.Statement.{statement}
 use Rattle.port_extract.proofs.put_addrs.Tie as tie
 
 abbrev Inv-loop : tie.InvT-loop
-Inv-loop m nets list room₀ start at₀ j₀ room at j = (j ≤ length list) × (at ≡ start + length (concatMap (readNets m nets) (take j list))) × (room ≡ sets room₀ start (concatMap (readNets m nets) (take j list))) × (at ≤ start + j * 0x300000000)
+Inv-loop room₀ start m nets list at₀ j₀ room at j = (j ≤ length list) × (at ≡ start + length (concatMap (readNets m nets) (take j list))) × (room ≡ sets room₀ start (concatMap (readNets m nets) (take j list))) × (at ≤ start + j * 0x300000000)
 
 abbrev μ-loop : tie.MeasureT-loop
-μ-loop m nets list room₀ start at₀ j₀ room at j = length list - j
+μ-loop room₀ start m nets list at₀ j₀ room at j = length list - j
 
 loop-holds : tie.Need-loop-holds Inv-loop μ-loop
 loop-holds c = (omega arith, omega arith, refl, omega arith)

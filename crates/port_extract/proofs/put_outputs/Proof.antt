@@ -18,10 +18,10 @@ plus-zero : (a n : ℕ) → a ≡ n → a ≡ 0 + n
 plus-zero a n e = omega arith
 
 abbrev Inv-loop : tie.InvT-loop
-Inv-loop m output list room₀ at₀ j₀ room at j = (j ≤ length list) × ((n t : List ℕ) → at ≡ length (concatMap (λ i. outputSlice (memoryOf m n t) i output) (take j list))) × ((n t : List ℕ) → room ≡ sets room₀ 0 (concatMap (λ i. outputSlice (memoryOf m n t) i output) (take j list))) × (at ≤ j * 0x100000000)
+Inv-loop room₀ m output list at₀ j₀ room at j = (j ≤ length list) × ((n t : List ℕ) → at ≡ length (concatMap (λ i. outputSlice (memoryOf m n t) i output) (take j list))) × ((n t : List ℕ) → room ≡ sets room₀ 0 (concatMap (λ i. outputSlice (memoryOf m n t) i output) (take j list))) × (at ≤ j * 0x100000000)
 
 abbrev μ-loop : tie.MeasureT-loop
-μ-loop m output list room₀ at₀ j₀ room at j = length list - j
+μ-loop room₀ m output list at₀ j₀ room at j = length list - j
 
 loop-holds : tie.Need-loop-holds Inv-loop μ-loop
 loop-holds c = (omega arith, λ n t. refl, λ n t. refl, omega arith)

@@ -2,7 +2,7 @@
 use mathlib.Core.Path.{ap, _∙_}
 use Prim.Native.Nat.{ℕ, _-_}
 use Rattle.lists.specs.Lists.{part}
-use Rattle.port_extract.proofs.Refused.{joined, joined-length}
+use Rattle.port_extract.proofs.Stored.{joined, joined-length}
 use borrow.Author.Needs.{needs}
 use Rattle.port_extract.proofs.put_trits.Statement.{statement}
 use Rattle.port_extract.proofs.put_trits.Tie as tie

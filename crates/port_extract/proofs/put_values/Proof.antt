@@ -8,15 +8,15 @@ use lib.Seq.{sets, length-sets, take-all}
 use borrow.Author.Needs.{needs}
 use Rattle.lists.specs.Lists.{concatMap}
 use Rattle.lists.proofs.Concat.{concat-more, concat-stored}
-use Rattle.net_memory.specs.View.{readTrits}
+use Rattle.port_extract.specs.Extract.{keptTrits}
 use Rattle.port_extract.proofs.put_values.Statement.{statement}
 use Rattle.port_extract.proofs.put_values.Tie as tie
 
 abbrev Inv-loop : tie.InvT-loop
-Inv-loop m trits list room₀ start at₀ j₀ room at j = (j ≤ length list) × (at ≡ start + length (concatMap (readTrits m trits) (take j list))) × (room ≡ sets room₀ start (concatMap (readTrits m trits) (take j list))) × (at ≤ start + j * 0x300000000)
+Inv-loop room₀ start m trits list at₀ j₀ room at j = (j ≤ length list) × (at ≡ start + length (concatMap (keptTrits m trits) (take j list))) × (room ≡ sets room₀ start (concatMap (keptTrits m trits) (take j list))) × (at ≤ start + j * 0x300000000)
 
 abbrev μ-loop : tie.MeasureT-loop
-μ-loop m trits list room₀ start at₀ j₀ room at j = length list - j
+μ-loop room₀ start m trits list at₀ j₀ room at j = length list - j
 
 loop-holds : tie.Need-loop-holds Inv-loop μ-loop
 loop-holds c = (omega arith, omega arith, refl, omega arith)
@@ -30,8 +30,8 @@ shared-slice-read-usize-of-u32 c = omega arith
 usize-of-u32-requires : tie.Need-usize-of-u32-requires Inv-loop μ-loop
 usize-of-u32-requires c κs = search needs
 
-read-trits-requires : tie.Need-read-trits-requires Inv-loop μ-loop
-read-trits-requires c κs = search needs
+clocked-trits-requires : tie.Need-clocked-trits-requires Inv-loop μ-loop
+clocked-trits-requires c κs = search needs
 
 copy-u8-requires : tie.Need-copy-u8-requires Inv-loop μ-loop
 copy-u8-requires c κs = search needs
@@ -49,13 +49,13 @@ loop-again : tie.Need-loop-again Inv-loop μ-loop
 loop-again c =
     let h = c .before .before .before .before .before .before .before .before in
     let v = c .before .before .before .before .before .before .before .before .before .before .before .before .args in
-    let f : ℕ → List ℕ = readTrits (v .m) (v .trits .now) in
+    let f : ℕ → List ℕ = keptTrits (v .m) (v .trits .now) in
     let l : List ℕ = v .list .now in
     let i : h .loop .j < length l = omega arith in
-    let e = c .before .before .before .before .read-trits .ensures .0 ∙ ap f (c .before .before .before .before .before .usize-of-u32 .ensures .0) in
+    let e = c .before .before .before .before .clocked-trits .ensures .0 ∙ ap f (c .before .before .before .before .before .usize-of-u32 .ensures .0) in
     let n = concat-more f l (h .loop .j) 0 i in
     let s = c .before .before .copy-u8 .ensures ∙ (λ k. sets (h .loop .inv .2 k) (h .loop .at) (e k)) ∙ concat-stored f (v .room .now) (v .start) (h .loop .at) l (h .loop .j) 0 i (h .loop .inv .1) in
-    (omega arith, omega (arith, ap length n, length-append (concatMap f (take (h .loop .j) l)) (f (getD l (h .loop .j) 0)), ap length e, h .loop .inv .1), s, omega (arith, c .before .before .before .before .read-trits .ensures .1, h .loop .inv .3))
+    (omega arith, omega (arith, ap length n, length-append (concatMap f (take (h .loop .j) l)) (f (getD l (h .loop .j) 0)), ap length e, h .loop .inv .1), s, omega (arith, c .before .before .before .before .clocked-trits .ensures .1, h .loop .inv .3))
 
 same-length : tie.Need-same-length Inv-loop μ-loop
 same-length c = ap length (c .before .loop .inv .2) ∙ simp length-sets
@@ -65,7 +65,7 @@ returns c =
     let h = c .before in
     let v = c .before .before .before .before .before .args in
     let e : take (h .loop .j) (v .list .now) ≡ v .list .now = take-all (h .loop .j) (v .list .now) (omega arith) in
-    (h .loop .inv .1 ∙ (λ k. v .start + length (concatMap (readTrits (v .m) (v .trits .now)) (e k))), h .loop .inv .2 ∙ (λ k. sets (v .room .now) (v .start) (concatMap (readTrits (v .m) (v .trits .now)) (e k))))
+    (h .loop .inv .1 ∙ (λ k. v .start + length (concatMap (keptTrits (v .m) (v .trits .now)) (e k))), h .loop .inv .2 ∙ (λ k. sets (v .room .now) (v .start) (concatMap (keptTrits (v .m) (v .trits .now)) (e k))))
 
 pub put-values-spec : {M : Type 1} → statement M
 put-values-spec =
@@ -77,7 +77,7 @@ put-values-spec =
     mul-usize-of-u32
     shared-slice-read-usize-of-u32
     usize-of-u32-requires
-    read-trits-requires
+    clocked-trits-requires
     copy-u8-requires
     add-at
     add-j

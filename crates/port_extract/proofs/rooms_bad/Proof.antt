@@ -9,34 +9,37 @@ slice-aggregate-put-nets : tie.Need-slice-aggregate-put-nets
 slice-aggregate-put-nets c = search needs
 
 put-nets-requires : tie.Need-put-nets-requires
-put-nets-requires c κs = search needs
+put-nets-requires c κs = c .before .before .before .before .before .pre .listed .few
 
 returns : tie.Need-returns
 returns c =
-    let v = c .before .before .before .before .before .before .before .before .args in
-    nets-short (v .m) (v .nets .now) (v .trits .now) (v .list .now) (v .output .now) (v .a) (v .b) (v .c) _ (c .before .before .put-nets .ensures .0) (c .if1 .taken)
+    let y = c .before .before .before .before .before .before .before .before in
+    let v = y .args in
+    nets-short (v .m) (v .nets .now) (v .trits .now) (v .list .now) (v .output .now) (record { nets = v .a; trits = v .b; output = v .c }) (y .pre) _ (c .before .before .put-nets .ensures .0) (c .if1 .taken)
 
 slice-aggregate-put-trits : tie.Need-slice-aggregate-put-trits
 slice-aggregate-put-trits c = search needs
 
 put-trits-requires : tie.Need-put-trits-requires
-put-trits-requires c κs = search needs
+put-trits-requires c κs = c .before .before .before .before .before .before .before .before .before .pre .listed .few
 
 returns-2 : tie.Need-returns-2
 returns-2 c =
-    let v = c .before .before .before .before .before .before .before .before .before .before .before .before .args in
-    trits-short (v .m) (v .nets .now) (v .trits .now) (v .list .now) (v .output .now) (v .a) (v .b) (v .c) _ _ (c .before .before .before .before .before .before .put-nets .ensures .0) (c .before .before .before .before .if1 .left) (c .before .before .put-trits .ensures .0) (c .if2 .taken)
+    let y = c .before .before .before .before .before .before .before .before .before .before .before .before in
+    let v = y .args in
+    trits-short (v .m) (v .nets .now) (v .trits .now) (v .list .now) (v .output .now) (record { nets = v .a; trits = v .b; output = v .c }) (y .pre) _ _ (c .before .before .before .before .before .before .put-nets .ensures .0) (c .before .before .before .before .if1 .left) (c .before .before .put-trits .ensures .0) (c .if2 .taken)
 
 slice-aggregate-put-outputs : tie.Need-slice-aggregate-put-outputs
 slice-aggregate-put-outputs c = search needs
 
 put-outputs-requires : tie.Need-put-outputs-requires
-put-outputs-requires c κs = search needs
+put-outputs-requires c κs = c .before .before .before .before .before .before .before .before .before .before .before .before .before .pre .listed .few
 
 returns-3 : tie.Need-returns-3
 returns-3 c =
-    let v = c .before .before .before .before .before .before .before .before .before .before .before .before .before .before .before .args in
-    output-short (v .m) (v .nets .now) (v .trits .now) (v .list .now) (v .output .now) (v .a) (v .b) (v .c) _ _ _ (c .before .before .before .before .before .before .before .before .before .put-nets .ensures .0) (c .before .before .before .before .before .before .before .if1 .left) (c .before .before .before .before .before .put-trits .ensures .0) (c .before .before .before .if2 .left) (c .before .put-outputs .ensures .0 (v .nets .now) (v .trits .now))
+    let y = c .before .before .before .before .before .before .before .before .before .before .before .before .before .before .before in
+    let v = y .args in
+    output-short (v .m) (v .nets .now) (v .trits .now) (v .list .now) (v .output .now) (record { nets = v .a; trits = v .b; output = v .c }) (y .pre) _ _ _ (c .before .before .before .before .before .before .before .before .before .put-nets .ensures .0) (c .before .before .before .before .before .before .before .if1 .left) (c .before .before .before .before .before .put-trits .ensures .0) (c .before .before .before .if2 .left) (c .before .put-outputs .ensures .0 (v .nets .now) (v .trits .now))
 
 pub rooms-bad-spec : {M : Type 1} → statement M
 rooms-bad-spec =
