@@ -1,7 +1,7 @@
 // Lists the memories of the record that standard input holds, or the number that refuses it.
 ghost use Prim.Native.Nat.{_≤_};
 ghost use lib.ListN.{length};
-ghost use Rattle.record_listing.specs.Put.{maxRecord};
+ghost use Rattle.rules.specs.Limits.{maxRecord};
 use libc::STDIN_FILENO;
 use libc::STDOUT_FILENO;
 

@@ -9,10 +9,6 @@ pub record Put (before : List ℕ) (at : ℕ) (text after : List ℕ) (next : �
   pub stored : after ≡ sets before at text
   pub place : next ≡ at + length text
 
--- the bytes of the longest record that is accepted: its head, and two bits for each trit of the largest image
-abbrev pub maxRecord : ℕ
-maxRecord = 32780
-
 -- no text is longer: the first line has up to 37 bytes, each of up to 32,768 others up to 50
 abbrev pub maxText : ℕ
 maxText = 1638437
