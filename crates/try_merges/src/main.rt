@@ -1,9 +1,8 @@
 // Tries the merging muxes: five lengths, three rooms and five next free nets, with good values, with a bad net, and with one value a bit longer than
 // the other. Every lent word holds a pattern before a call, and every word of log, state and result is compared after it with what a plain computation
 // expects, which finds the distinct pairs by a plain search.
-mod tally;
-mod words;
-
+use lists::copy_u32;
+use lists::put_u32;
 use log_entries::LogState;
 use log_requests::Answer;
 use net_value::ControlNet;
@@ -11,24 +10,26 @@ use net_value::Net;
 use rules::FIRST_CELL;
 use rules::MAX_MERGE;
 use rules::MAX_NETS;
-use tally::Tally;
-use words::fill;
-use words::minus;
-use words::net_above;
-use words::net_at;
-use words::paint;
-use words::plus;
-use words::put;
-use words::put_all;
-use words::same;
-use words::word;
+use try_kit::borders::length_at;
+use try_kit::borders::room_at;
+use try_kit::borders::state_number;
+use try_kit::nets::fill_nets;
+use try_kit::nets::net_at;
+use try_kit::nets::select_of;
+use try_kit::nets::spoil;
+use try_kit::numbered;
+use try_kit::numbered::Tally;
+use try_kit::paint::paint_words;
+use try_kit::paint::same;
+use try_kit::words::minus;
+use try_kit::words::net_above;
+use try_kit::words::plus;
+use try_kit::words::word;
 
-// The nets and the words that a buffer has room for, and the cases of a merge.
+// The nets and the words that a buffer has room for.
 const NETS: usize = 4100;
 
 const LOG_WORDS: usize = 16640;
-
-const CASES: u32 = 96;
 
 fn word_at(s: &[u32], i: usize) -> u32 {
     if i < s.len() {
@@ -56,8 +57,8 @@ fn keep_pair(kx: &mut [u32], ky: &mut [u32], place: usize, kept: usize, x: u32, 
     if place < kept {
         return kept;
     }
-    put(kx, kept, x);
-    put(ky, kept, y);
+    put_u32(kx, kept, x);
+    put_u32(ky, kept, y);
     plus(kept, 1)
 }
 
@@ -69,7 +70,7 @@ fn keep(a: &[u32], b: &[u32], kx: &mut [u32], ky: &mut [u32], at: &mut [u32]) ->
         let x = word_at(a, i);
         let y = word_at(b, i);
         let place = place_of(kx, ky, kept, x, y);
-        put(at, i, word(place));
+        put_u32(at, i, word(place));
         kept = keep_pair(kx, ky, place, kept, x, y);
         i += 1;
     }
@@ -92,13 +93,13 @@ fn put_mux(
     let y = net_value::value_slice(ky, 0, kept);
     let first = plus(used, 5);
     let second = plus(first, kept);
-    put_all(want, used, &head);
+    copy_u32(want, used, &head);
     if neg {
-        put_all(want, second, x);
-        put_all(want, first, y);
+        copy_u32(want, second, x);
+        copy_u32(want, first, y);
     } else {
-        put_all(want, first, x);
-        put_all(want, second, y);
+        copy_u32(want, first, x);
+        copy_u32(want, second, y);
     }
 }
 
@@ -106,7 +107,7 @@ fn put_mux(
 fn put_nets(out: &mut [u32], to: usize, next: u32, at: &[u32], n: usize) {
     let mut i: usize = 0;
     while i < n {
-        put(out, plus(to, i), net_above(next, word_at(at, i) as usize));
+        put_u32(out, plus(to, i), net_above(next, word_at(at, i) as usize));
         i += 1;
     }
 }
@@ -202,23 +203,13 @@ struct Case {
     next: u32,
 }
 
-fn length_at(k: u32) -> usize {
-    match k {
-        0 => 0,
-        1 => 1,
-        2 => 4095,
-        3 => 4096,
-        _ => 4097,
-    }
-}
-
 fn next_at(k: u32) -> u32 {
     match k {
         0 => 1,
         1 => 2,
         2 => 100,
-        3 => 16777215,
-        _ => 16777216,
+        3 => MAX_NETS - 1,
+        _ => MAX_NETS,
     }
 }
 
@@ -240,15 +231,6 @@ fn longer(n: usize, test: bool) -> usize {
         return plus(n, 1);
     }
     n
-}
-
-// The room: all words, one word short, and seven more.
-fn room_at(k: u32, words: usize) -> usize {
-    match k {
-        0 => words,
-        1 => minus(words, 1),
-        _ => plus(words, 7),
-    }
 }
 
 // 1, 2 and 4 of a case.
@@ -280,16 +262,7 @@ fn number(c: Case, room: usize, wanted: LogState) -> u32 {
     if first != 0 {
         return first;
     }
-    if room < wanted.used {
-        return 20;
-    }
-    if c.next < FIRST_CELL {
-        return 21;
-    }
-    if MAX_NETS < wanted.next {
-        return 21;
-    }
-    0
+    state_number(room, wanted.used, c.next, wanted.next)
 }
 
 fn expect(
@@ -319,16 +292,9 @@ fn paint_and_expect(
     b: &[u32],
     nets: &mut [u32],
 ) -> LogState {
-    paint(want);
-    paint(nets);
+    paint_words(want);
+    paint_words(nets);
     expect(c, want, s, a, b, nets)
-}
-
-fn select_of(neg: bool) -> ControlNet {
-    if neg {
-        return ControlNet::Neg(Net(2));
-    }
-    ControlNet::Pos(Net(1))
 }
 
 // The call, in the room lent.
@@ -393,8 +359,8 @@ fn compare(
     want: &[u32],
     nets: &[u32],
 ) -> bool {
-    paint(log);
-    paint(out);
+    paint_words(log);
+    paint_words(out);
     let r = call(c, room, log, s, a, b, out);
     if !answered(n, wanted, r) {
         return false;
@@ -410,8 +376,8 @@ fn unset(n: u32, want: &mut [u32], nets: &mut [u32]) {
     if n == 0 {
         return;
     }
-    paint(want);
-    paint(nets);
+    paint_words(want);
+    paint_words(nets);
 }
 
 // A case: the words and nets expected are set first.
@@ -428,11 +394,11 @@ fn try_case(
     let mut out = [0u32; NETS];
     let mut nets = [0u32; NETS];
     let wanted = paint_and_expect(c, want, s, a, b, &mut nets);
-    let room = room_at(mode, wanted.used);
+    let room = room_at(mode, 0, wanted.used);
     let n = number(c, room, wanted);
     unset(n, want, &mut nets);
     let ok = compare(c, n, wanted, room, s, a, b, log, &mut out, want, &nets);
-    tally::add(t, n, ok)
+    numbered::add(t, n, ok)
 }
 
 // Selects in runs of nine.
@@ -445,26 +411,9 @@ fn fill_selects(s: &mut [u32], next: u32) {
 }
 
 fn set_nets(next: u32, s: &mut [u32], a: &mut [u32], b: &mut [u32]) {
-    fill(a, next, 0);
-    fill(b, next, 2);
+    fill_nets(a, next, 0);
+    fill_nets(b, next, 2);
     fill_selects(s, next);
-}
-
-// The lowest net that is not good.
-fn bad_net(next: u32) -> u32 {
-    if next < FIRST_CELL {
-        return FIRST_CELL;
-    }
-    next
-}
-
-// Where a case is bad, the last net of a is.
-fn spoil(c: Case, a: &mut [u32]) {
-    if c.bad {
-        if 0 < c.n {
-            put(a, minus(c.n, 1), bad_net(c.next));
-        }
-    }
 }
 
 fn set_and_try(t: Tally, bitwise: bool, k: u32, log: &mut [u32], want: &mut [u32]) -> Tally {
@@ -473,7 +422,9 @@ fn set_and_try(t: Tally, bitwise: bool, k: u32, log: &mut [u32], want: &mut [u32
     let mut b = [0u32; NETS];
     let c = case_at(bitwise, k);
     set_nets(c.next, &mut s, &mut a, &mut b);
-    spoil(c, &mut a);
+    if c.bad {
+        spoil(&mut a, c.n, c.next);
+    }
     try_case(
         t,
         c,
@@ -488,7 +439,7 @@ fn set_and_try(t: Tally, bitwise: bool, k: u32, log: &mut [u32], want: &mut [u32
 
 // All the cases of one of the two merges.
 fn cases(bitwise: bool, log: &mut [u32], want: &mut [u32]) -> Tally {
-    let mut t = tally::start();
+    let mut t = numbered::start();
     let mut k: u32 = 0;
     while k < 225 {
         t = set_and_try(t, bitwise, k, log, want);
@@ -497,13 +448,31 @@ fn cases(bitwise: bool, log: &mut [u32], want: &mut [u32]) -> Tally {
     t
 }
 
+fn count(name: &[u8], n: u32) {
+    io::write_all(libc::STDOUT_FILENO, name);
+    io::print_decimal(libc::STDOUT_FILENO, n as u64);
+}
+
+// The rest of a line, after a group's name: its counts.
+fn report(t: Tally) {
+    count(b" ", t.right);
+    count(b" of ", t.made);
+    count(b": accepted ", t.accepted);
+    count(b", 1: ", t.large);
+    count(b", 2: ", t.unequal);
+    count(b", 4: ", t.bad);
+    count(b", 20: ", t.full);
+    count(b", 21: ", t.netless);
+    io::write_all(libc::STDOUT_FILENO, b"\n");
+}
+
 fn main() {
     let mut log = [0u32; LOG_WORDS];
     let mut want = [0u32; LOG_WORDS];
     let t = cases(false, &mut log, &mut want);
     io::write_all(libc::STDOUT_FILENO, b"add_dedup_mux:");
-    tally::report(t);
+    report(t);
     let u = cases(true, &mut log, &mut want);
     io::write_all(libc::STDOUT_FILENO, b"add_bitwise_mux:");
-    tally::report(u);
+    report(u);
 }

@@ -1,12 +1,12 @@
 // make_data_swizzle: document 01's examples, masks that differ in one subport, and the borders.
 use crate::entries::made;
-use crate::memories::plain;
-use crate::memories::read_port;
-use crate::memories::write_port;
-use crate::tally::Tally;
 use net_memory::Memory;
 use rules::NO_BIT;
 use try_kit::samples::memory;
+use try_kit::samples::plain;
+use try_kit::samples::read_port;
+use try_kit::samples::write_port;
+use try_kit::tally::Tally;
 
 // One row; so many write ports without an address and with so many data bits.
 fn row(width: u32, writes: u32, data: u32) -> Memory {

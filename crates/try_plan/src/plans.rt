@@ -1,10 +1,13 @@
 // swizzle_depths and swizzle_mux_bits.
-use crate::room;
-use crate::tally::Tally;
-use crate::tally::add;
 use net_memory::Memory;
 use swizzle_plan::MemorySwizzle;
 use swizzle_sizes::MuxBits;
+use try_kit::paint::paint_words;
+use try_kit::paint::painted_words;
+use try_kit::paint::same;
+use try_kit::tally::Tally;
+use try_kit::tally::add;
+use try_kit::words::plus;
 
 // Places for depths, and for nets and trits, which are all 5 and 1.
 const ROOM: usize = 33000;
@@ -62,7 +65,7 @@ fn call(
 ) -> u32 {
     let nets = [5u32; NETS];
     let trits = [1u8; TRITS];
-    let n = room::at_most(lent, out.len());
+    let n = lists::smaller(lent, out.len());
     swizzle_sizes::swizzle_depths(
         m,
         lists::part_u32(&nets, 0, net_memory::nets_total(m)),
@@ -73,6 +76,23 @@ fn call(
         reads,
         &mut out[0..n],
     )
+}
+
+// So many words from a place on are one word.
+fn all_are(room: &[u32], at: usize, count: usize, word: u32) -> bool {
+    let mut i = at;
+    let mut left = count;
+    while 0 < left {
+        if room.len() <= i {
+            return false;
+        }
+        if room[i] != word {
+            return false;
+        }
+        i += 1;
+        left -= 1;
+    }
+    true
 }
 
 // swizzle_depths with so many words of a painted room.
@@ -87,23 +107,12 @@ pub(crate) fn depths(
     want: Wanted,
 ) -> Tally {
     let mut out = [0u32; ROOM];
-    room::paint_words(&mut out);
+    paint_words(&mut out);
     let n = call(m, s, entries, writes, reads, &mut out, lent);
     let t = add(t, n == want.number);
-    let t = add(t, room::all_are(&out, 0, want.full, want.deep));
-    let t = add(t, room::all_are(&out, want.full, want.rest, want.shallow));
-    add(t, room::words_kept(&out, room::sum(want.full, want.rest)))
-}
-
-fn same_eight(a: [u32; 8], b: [u32; 8]) -> bool {
-    let mut i = 0;
-    while i < 8 {
-        if a[i] != b[i] {
-            return false;
-        }
-        i += 1;
-    }
-    true
+    let t = add(t, all_are(&out, 0, want.full, want.deep));
+    let t = add(t, all_are(&out, want.full, want.rest, want.shallow));
+    add(t, painted_words(&out, plus(want.full, want.rest)))
 }
 
 fn mux_call(
@@ -145,8 +154,8 @@ pub(crate) fn mux(
     let a = r.writes;
     let b = r.reads;
     let t = add(t, r.refusal == number);
-    let t = add(t, same_eight(a, want_writes));
-    add(t, same_eight(b, want_reads))
+    let t = add(t, same(&a, &want_writes));
+    add(t, same(&b, &want_reads))
 }
 
 // A refused call's words are 0.

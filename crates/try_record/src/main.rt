@@ -368,30 +368,15 @@ fn deep_sizes() -> Sizes {
     }
 }
 
-fn fill_trits(image: &mut [u8]) {
-    let mut i = 0;
-    while i < image.len() {
-        image[i] = (i % 3) as u8;
-        i += 1;
-    }
-}
-
-fn front(bytes: &[u8], n: usize) -> &[u8] {
-    if bytes.len() < n {
-        return bytes;
-    }
-    &bytes[..n]
-}
-
 fn largest(s: Sizes, image: &mut [u8], bytes: &mut [u8], back: &mut [u8]) {
-    fill_trits(image);
+    try_kit::paint::fill_trits(image);
     write(b"write the largest", s, image, bytes, b"\x05\x00");
     read(
         b"read the largest",
-        front(bytes, 32780),
+        lists::part_u8(bytes, 0, 32780),
         back,
         s,
-        front(image, 131072),
+        lists::part_u8(image, 0, 131072),
     );
 }
 
