@@ -5,8 +5,6 @@ use lists::copy_u32;
 use lists::put_u32;
 use log_entries::LogState;
 use log_requests::Answer;
-use net_value::ControlNet;
-use net_value::Net;
 use rules::FIRST_CELL;
 use rules::MAX_MERGE;
 use rules::MAX_NETS;
@@ -410,10 +408,14 @@ fn fill_selects(s: &mut [u32], next: u32) {
     }
 }
 
-fn set_nets(next: u32, s: &mut [u32], a: &mut [u32], b: &mut [u32]) {
-    fill_nets(a, next, 0);
-    fill_nets(b, next, 2);
-    fill_selects(s, next);
+// Nets for a case.
+fn set_nets(c: Case, s: &mut [u32], a: &mut [u32], b: &mut [u32]) {
+    fill_nets(b, c.next, 2);
+    fill_selects(s, c.next);
+    fill_nets(a, c.next, 0);
+    if c.bad {
+        spoil(a, c.n, c.next);
+    }
 }
 
 fn set_and_try(t: Tally, bitwise: bool, k: u32, log: &mut [u32], want: &mut [u32]) -> Tally {
@@ -421,10 +423,7 @@ fn set_and_try(t: Tally, bitwise: bool, k: u32, log: &mut [u32], want: &mut [u32
     let mut a = [0u32; NETS];
     let mut b = [0u32; NETS];
     let c = case_at(bitwise, k);
-    set_nets(c.next, &mut s, &mut a, &mut b);
-    if c.bad {
-        spoil(&mut a, c.n, c.next);
-    }
+    set_nets(c, &mut s, &mut a, &mut b);
     try_case(
         t,
         c,

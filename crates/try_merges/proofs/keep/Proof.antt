@@ -28,8 +28,8 @@ place-of-requires c κs = search needs
 word-requires : tie.Need-word-requires Inv-loop μ-loop
 word-requires c κs = search needs
 
-put-requires : tie.Need-put-requires Inv-loop μ-loop
-put-requires c κs = search needs
+put-u32-requires : tie.Need-put-u32-requires Inv-loop μ-loop
+put-u32-requires c κs = search needs
 
 keep-pair-requires : tie.Need-keep-pair-requires Inv-loop μ-loop
 keep-pair-requires c κs = search needs
@@ -66,7 +66,7 @@ keep-spec =
     word-at-requires-2
     place-of-requires
     word-requires
-    put-requires
+    put-u32-requires
     keep-pair-requires
     add-i
     loop-less
