@@ -115,6 +115,10 @@ pub(crate) fn depths(
     add(t, painted_words(&out, plus(want.full, want.rest)))
 }
 
+fn same_eight(a: [u32; 8], b: [u32; 8]) -> bool {
+    same(&a, &b)
+}
+
 fn mux_call(
     m: Memory,
     list: &[u32],
@@ -154,8 +158,8 @@ pub(crate) fn mux(
     let a = r.writes;
     let b = r.reads;
     let t = add(t, r.refusal == number);
-    let t = add(t, same(&a, &want_writes));
-    add(t, same(&b, &want_reads))
+    let t = add(t, same_eight(a, want_writes));
+    add(t, same_eight(b, want_reads))
 }
 
 // A refused call's words are 0.

@@ -1,4 +1,4 @@
--- `plan_calls::plans::all_are` meets its contract.
+-- `try_plan::plans::all_are` meets its contract.
 use Prim.Native.Nat.{_≤_}
 use native.Mathlib.Omega.{arith}
 use Rattle.try_plan.proofs.plans.all_are.Statement.{statement}
