@@ -120,7 +120,7 @@ fn sizes(
 }
 
 // Number 5: one granularity to a write port, from 1 to 64.
-pub(crate) fn granularities(t: Tally) -> Tally {
+fn no_granularities(t: Tally) -> Tally {
     let none: [u32; 0] = [];
     let t = sizes(t, 0, 2, 1, 0, 99, 5, &none);
     let t = sizes(t, 0, 2, 0, 1, 99, 5, &none);
@@ -130,19 +130,17 @@ pub(crate) fn granularities(t: Tally) -> Tally {
     let t = sizes(t, 0, 1, 1, 1, 99, 5, &none);
     let t = sizes(t, 0, 3, 1, 1, 99, 5, &none);
     let t = sizes(t, 0, 0, 1, 1, 99, 5, &none);
-    let t = sizes(t, 3, 0, 1, 1, 99, 4, &none);
+    sizes(t, 3, 0, 1, 1, 99, 4, &none)
+}
+
+pub(crate) fn granularities(t: Tally) -> Tally {
+    let none: [u32; 0] = [];
+    let trits = [0u8, 1, 2];
+    let want = [0u32, 1, 2];
+    let t = no_granularities(t);
     let t = sizes(t, 0, 2, 1, 1, 1, 0, &[0u32]);
     let t = sizes(t, 0, 2, 1, 2, 2, 0, &[0u32, NO_BIT]);
-    made(
-        t,
-        row(3, 0, 0),
-        &none,
-        &[0u8, 1, 2],
-        &none,
-        3,
-        0,
-        &[0u32, 1, 2],
-    )
+    made(t, row(3, 0, 0), &none, &trits, &none, 3, 0, &want)
 }
 
 // Width 0, with a granularity or none.

@@ -61,11 +61,9 @@ fn call(
     writes: &[u32],
     reads: &[u32],
     out: &mut [u32],
-    lent: usize,
 ) -> u32 {
     let nets = [5u32; NETS];
     let trits = [1u8; TRITS];
-    let n = lists::smaller(lent, out.len());
     swizzle_sizes::swizzle_depths(
         m,
         lists::part_u32(&nets, 0, net_memory::nets_total(m)),
@@ -74,8 +72,22 @@ fn call(
         entries,
         writes,
         reads,
-        &mut out[0..n],
+        out,
     )
+}
+
+// The call with so many words of a room.
+fn call_in(
+    m: Memory,
+    s: MemorySwizzle,
+    entries: &[u32],
+    writes: &[u32],
+    reads: &[u32],
+    out: &mut [u32],
+    lent: usize,
+) -> u32 {
+    let n = lists::smaller(lent, out.len());
+    call(m, s, entries, writes, reads, &mut out[0..n])
 }
 
 // So many words from a place on are one word.
@@ -108,7 +120,7 @@ pub(crate) fn depths(
 ) -> Tally {
     let mut out = [0u32; ROOM];
     paint_words(&mut out);
-    let n = call(m, s, entries, writes, reads, &mut out, lent);
+    let n = call_in(m, s, entries, writes, reads, &mut out, lent);
     let t = add(t, n == want.number);
     let t = add(t, all_are(&out, 0, want.full, want.deep));
     let t = add(t, all_are(&out, want.full, want.rest, want.shallow));
