@@ -1,8 +1,6 @@
 // Tries into_pos and remap_reset_over_enable, over controls that are constants, cells, inverses and bad ones, four rooms and six next free nets.
 // Every lent word holds a pattern before a call, and every word of log, state and result is compared after it with what a plain computation expects.
-mod tally;
-mod words;
-
+use lists::copy_u32;
 use log_entries::LogState;
 use log_requests::ControlsAnswer;
 use log_requests::NetAnswer;
@@ -12,50 +10,18 @@ use net_value::Net;
 use rules::FIRST_CELL;
 use rules::MAX_NETS;
 use rules::NET_X;
-use tally::Tally;
-use words::both;
-use words::minus;
-use words::net_above;
-use words::paint;
-use words::plus;
-use words::put_all;
-use words::same;
-use words::word;
-
-fn room_at(k: u32, used: usize, words: usize) -> usize {
-    match k {
-        0 => plus(used, words),
-        1 => minus(plus(used, words), 1),
-        2 => plus(plus(used, words), 7),
-        _ => minus(used, 1),
-    }
-}
-
-// The next free net from which so many nets end at the limit.
-fn last_next(nets: usize) -> u32 {
-    let n = word(nets);
-    if MAX_NETS < n {
-        return 2;
-    }
-    MAX_NETS - n
-}
-
-// The third ends at the limit, and the fourth is one net short of it.
-fn next_at(k: u32, nets: usize) -> u32 {
-    let most = if word(nets) < MAX_NETS {
-        MAX_NETS - word(nets)
-    } else {
-        2
-    };
-    match k {
-        0 => 2,
-        1 => 100,
-        2 => most,
-        3 => net_above(most, 1),
-        4 => 1,
-        _ => MAX_NETS,
-    }
-}
+use try_kit::borders::next_at;
+use try_kit::borders::room_at;
+use try_kit::borders::state_number;
+use try_kit::numbered;
+use try_kit::numbered::Tally;
+use try_kit::paint::paint_words;
+use try_kit::paint::same;
+use try_kit::words::both;
+use try_kit::words::minus;
+use try_kit::words::net_above;
+use try_kit::words::plus;
+use try_kit::words::word;
 
 // A control in plain numbers.
 struct Wire {
@@ -117,20 +83,6 @@ fn nots(w: Wire) -> usize {
     if w.neg { 1 } else { 0 }
 }
 
-// 20 and 21 of so many words and nets, else 0.
-fn state_number(room: usize, used: usize, words: usize, next: u32, nets: usize) -> u32 {
-    if room < plus(used, words) {
-        return 20;
-    }
-    if next < FIRST_CELL {
-        return 21;
-    }
-    if MAX_NETS < net_above(next, nets) {
-        return 21;
-    }
-    0
-}
-
 // The words and the nets of an emission.
 struct Size {
     words: usize,
@@ -156,7 +108,7 @@ fn pos_net(w: Wire, next: u32) -> u32 {
 fn put_not(want: &mut [u32], at: usize, w: Wire, next: u32) {
     if w.neg {
         let entry = [2u32, 1, next, 1, w.net];
-        put_all(want, at, &entry);
+        copy_u32(want, at, &entry);
     }
 }
 
@@ -192,7 +144,7 @@ fn pos_number(w: Wire, room: usize, next: u32) -> u32 {
         return 4;
     }
     let z = not_size(w);
-    state_number(room, 3, z.words, next, z.nets)
+    state_number(room, plus(3, z.words), next, net_above(next, z.nets))
 }
 
 fn call_pos(log: &mut [u32], room: usize, next: u32, w: Wire) -> NetAnswer {
@@ -205,7 +157,7 @@ fn call_pos(log: &mut [u32], room: usize, next: u32, w: Wire) -> NetAnswer {
 
 // The log expected.
 fn want_pos(want: &mut [u32], n: u32, w: Wire, next: u32) {
-    paint(want);
+    paint_words(want);
     if n == 0 {
         put_not(want, 3, w, next);
     }
@@ -214,11 +166,11 @@ fn want_pos(want: &mut [u32], n: u32, w: Wire, next: u32) {
 fn try_pos(t: Tally, log: &mut [u32], want: &mut [u32], w: Wire, room: usize, next: u32) -> Tally {
     let n = pos_number(w, room, next);
     want_pos(want, n, w, next);
-    paint(log);
+    paint_words(log);
     let r = call_pos(log, room, next, w);
     let ok = net_answered(n, w, next, r);
     let kept = same(log, want);
-    tally::add(t, n, both(ok, kept))
+    numbered::add(t, n, both(ok, kept))
 }
 
 fn pos_case(t: Tally, log: &mut [u32], want: &mut [u32], k: u32) -> Tally {
@@ -230,7 +182,7 @@ fn pos_case(t: Tally, log: &mut [u32], want: &mut [u32], k: u32) -> Tally {
 }
 
 fn pos_cases(log: &mut [u32], want: &mut [u32]) -> Tally {
-    let mut t = tally::start();
+    let mut t = numbered::start();
     let mut k: u32 = 0;
     while k < 144 {
         t = pos_case(t, log, want, k);
@@ -300,7 +252,7 @@ fn remap_number(c: Remap) -> u32 {
         return 4;
     }
     let z = remap_size(reset, enable, c.over);
-    state_number(c.room, 3, z.words, c.next, z.nets)
+    state_number(c.room, plus(3, z.words), c.next, net_above(c.next, z.nets))
 }
 
 // Where the entry after a control's not stands.
@@ -321,7 +273,7 @@ fn put_gated(want: &mut [u32], reset: Wire, enable: Wire, next: u32) {
     let entry = [3u32, 1, third, 2, x, y];
     put_not(want, 3, reset, next);
     put_not(want, at, enable, second);
-    put_all(want, after_not(at, enable), &entry);
+    copy_u32(want, after_not(at, enable), &entry);
 }
 
 // The reset that the call gives.
@@ -421,7 +373,7 @@ fn put_remap(want: &mut [u32], c: Remap) {
 
 // The log expected.
 fn want_remap(want: &mut [u32], n: u32, c: Remap) {
-    paint(want);
+    paint_words(want);
     if n == 0 {
         put_remap(want, c);
     }
@@ -430,15 +382,15 @@ fn want_remap(want: &mut [u32], n: u32, c: Remap) {
 fn try_remap(t: Tally, log: &mut [u32], want: &mut [u32], c: Remap) -> Tally {
     let n = remap_number(c);
     want_remap(want, n, c);
-    paint(log);
+    paint_words(log);
     let r = call_remap(log, c);
     let ok = remap_answered(n, c, r);
     let kept = same(log, want);
-    tally::add(t, n, both(ok, kept))
+    numbered::add(t, n, both(ok, kept))
 }
 
 fn remap_cases(log: &mut [u32], want: &mut [u32]) -> Tally {
-    let mut t = tally::start();
+    let mut t = numbered::start();
     let mut k: u32 = 0;
     while k < 1728 {
         t = try_remap(t, log, want, remap_at(k));
@@ -447,13 +399,31 @@ fn remap_cases(log: &mut [u32], want: &mut [u32]) -> Tally {
     t
 }
 
+fn count(name: &[u8], n: u32) {
+    io::write_all(libc::STDOUT_FILENO, name);
+    io::print_decimal(libc::STDOUT_FILENO, n as u64);
+}
+
+// The rest of a line, after a group's name: its counts.
+fn report(t: Tally) {
+    count(b" ", t.right);
+    count(b" of ", t.made);
+    count(b": accepted ", t.accepted);
+    count(b", 1: ", t.large);
+    count(b", 2: ", t.unequal);
+    count(b", 4: ", t.bad);
+    count(b", 20: ", t.full);
+    count(b", 21: ", t.netless);
+    io::write_all(libc::STDOUT_FILENO, b"\n");
+}
+
 fn main() {
     let mut log = [0u32; 48];
     let mut want = [0u32; 48];
     let t = pos_cases(&mut log, &mut want);
     io::write_all(libc::STDOUT_FILENO, b"into_pos:");
-    tally::report(t);
+    report(t);
     let u = remap_cases(&mut log, &mut want);
     io::write_all(libc::STDOUT_FILENO, b"remap_reset_over_enable:");
-    tally::report(u);
+    report(u);
 }

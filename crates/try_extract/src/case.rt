@@ -96,7 +96,7 @@ pub(crate) fn nets_of(c: Case) -> [u32; NETS] {
 
 pub(crate) fn trits_of(c: Case) -> [u8; TRITS] {
     let mut lent = [0u8; TRITS];
-    room::count_trits(&mut lent);
+    try_kit::paint::fill_trits(&mut lent);
     put_trit(&mut lent, c.trit_at, c.trit);
     lent
 }

@@ -8,15 +8,15 @@ use crate::case::with_trit;
 use crate::extracts::extracted;
 use crate::extracts::lend;
 use crate::extracts::refused;
-use crate::memories::base;
-use crate::memories::clocked_port;
-use crate::tally::Tally;
 use net_memory::Memory;
 use net_memory::MemoryReadFlipFlop;
 use net_memory::MemoryReadPort;
+use try_kit::samples::base;
+use try_kit::samples::clocked_port;
 use try_kit::samples::read_by;
 use try_kit::samples::with_read;
 use try_kit::samples::with_sizes;
+use try_kit::tally::Tally;
 
 // The read ports of the first memory.
 fn port_0() -> MemoryReadPort {

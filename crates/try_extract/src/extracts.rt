@@ -6,10 +6,12 @@ use crate::case::OUTS;
 use crate::case::TRITS;
 use crate::room;
 use crate::same;
-use crate::tally::Tally;
-use crate::tally::add;
 use net_memory::Memory;
 use port_extract::Extracted;
+use try_kit::paint::paint;
+use try_kit::paint::paint_words;
+use try_kit::tally::Tally;
+use try_kit::tally::add;
 
 // How many places of each room are lent.
 pub(crate) struct Rooms {
@@ -35,9 +37,9 @@ fn call(
     let trits = case::trits_of(c);
     let outs = case::outs_of(c);
     let m = c.m;
-    let a = room::at_most(lent.nets, room_nets.len());
-    let b = room::at_most(lent.trits, room_trits.len());
-    let e = room::at_most(lent.outs, room_outs.len());
+    let a = lists::smaller(lent.nets, room_nets.len());
+    let b = lists::smaller(lent.trits, room_trits.len());
+    let e = lists::smaller(lent.outs, room_outs.len());
     port_extract::extract_read_ports(
         &mut room_nets[0..a],
         &mut room_trits[0..b],
@@ -65,9 +67,9 @@ pub(crate) fn extracted(
     let mut room_nets = [0u32; NETS];
     let mut room_trits = [0u8; TRITS];
     let mut room_outs = [0u32; OUTS];
-    room::paint_words(&mut room_nets);
-    room::paint_trits(&mut room_trits);
-    room::paint_words(&mut room_outs);
+    paint_words(&mut room_nets);
+    paint(&mut room_trits);
+    paint_words(&mut room_outs);
     let r = call(
         c,
         list,

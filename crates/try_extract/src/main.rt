@@ -2,15 +2,26 @@
 mod case;
 mod extract_cases;
 mod extracts;
-mod memories;
 mod room;
 mod same;
-mod tally;
+
+use try_kit::tally;
+use try_kit::tally::Tally;
+
+// A line with a group's name and its counts.
+fn report(name: &[u8], t: Tally) {
+    io::write_all(libc::STDOUT_FILENO, name);
+    io::write_all(libc::STDOUT_FILENO, b": ");
+    io::print_decimal(libc::STDOUT_FILENO, t.made as u64);
+    io::write_all(libc::STDOUT_FILENO, b" compared, ");
+    io::print_decimal(libc::STDOUT_FILENO, t.failed as u64);
+    io::write_all(libc::STDOUT_FILENO, b" wrong\n");
+}
 
 fn main() {
-    tally::report(b"extractions", extract_cases::accepted(tally::start()));
-    tally::report(b"output nets", extract_cases::output_nets(tally::start()));
-    tally::report(b"short rooms", extract_cases::short_rooms(tally::start()));
-    tally::report(b"missing ports", extract_cases::no_ports(tally::start()));
-    tally::report(b"order of numbers", extract_cases::orders(tally::start()));
+    report(b"extractions", extract_cases::accepted(tally::start()));
+    report(b"output nets", extract_cases::output_nets(tally::start()));
+    report(b"short rooms", extract_cases::short_rooms(tally::start()));
+    report(b"missing ports", extract_cases::no_ports(tally::start()));
+    report(b"order of numbers", extract_cases::orders(tally::start()));
 }

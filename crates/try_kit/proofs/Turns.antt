@@ -12,47 +12,48 @@ use lib.Seq.{sets, sets-eq, drop-cons, take-all, length-take-le, getD-take}
 use borrow.Author.Tests.{eq-eqb, ne-eqb}
 use Rattle.lists.specs.Lists.{all, upFrom, sameList}
 use Rattle.lists.proofs.UpFrom.{count-step, count-end, length-up}
-use Rattle.try_kit.specs.Paint.{paintAt, paintOf, paintedFrom, startsWith}
+use Rattle.try_kit.specs.Paint.{patternOf, patternFrom, startsWith}
 
--- ---- painting
-pub left : ℕ → ℕ → List ℕ
-left n i = map paintAt (upFrom i (n - i))
+-- ---- a pattern
+module _ (f : ℕ → ℕ) where
+  pub left : ℕ → ℕ → List ℕ
+  left n i = map f (upFrom i (n - i))
 
-pub paint-all : (l : List ℕ) → sets l 0 (left (length l) 0) ≡ paintOf (length l)
-unfolding left paintOf
-paint-all l =
-    let n = length l in
-    let z : n - 0 ≡ n = omega arith in
-    let w = map paintAt (upFrom 0 n) in
-    let q : length w ≡ n = length-map (upFrom 0 n) paintAt ∙ length-up 0 n in
-    ap (λ (k : ℕ). sets l 0 (map paintAt (upFrom 0 k))) z
-    ∙ sets-eq w l 0 (omega arith)
-    ∙ ap (λ (r : List ℕ). w ++ r) (drop-of-length-le l {i = 0 + length w} (omega arith))
-    ∙ append-nil w
+  pub fill-all : (l : List ℕ) → sets l 0 (left (length l) 0) ≡ patternOf f (length l)
+  unfolding left patternOf
+  fill-all l =
+      let n = length l in
+      let z : n - 0 ≡ n = omega arith in
+      let w = map f (upFrom 0 n) in
+      let q : length w ≡ n = length-map (upFrom 0 n) f ∙ length-up 0 n in
+      ap (λ (k : ℕ). sets l 0 (map f (upFrom 0 k))) z
+      ∙ sets-eq w l 0 (omega arith)
+      ∙ ap (λ (r : List ℕ). w ++ r) (drop-of-length-le l {i = 0 + length w} (omega arith))
+      ∙ append-nil w
 
-pub paint-turn : (l : List ℕ) (n i b : ℕ) → i < n → b ≡ paintAt i → sets (set l i b) (i + 1) (left n (i + 1)) ≡ sets l i (left n i)
-unfolding left
-paint-turn l n i b h e = rw (count-step i n h, e, add-one)
+  pub fill-turn : (l : List ℕ) (n i b : ℕ) → i < n → b ≡ f i → sets (set l i b) (i + 1) (left n (i + 1)) ≡ sets l i (left n i)
+  unfolding left
+  fill-turn l n i b h e = rw (count-step i n h, e, add-one)
 
-pub paint-end : (l : List ℕ) (n i : ℕ) → n ≤ i → sets l i (left n i) ≡ l
-unfolding left
-paint-end l n i h = rw (count-end i n h)
+  pub fill-end : (l : List ℕ) (n i : ℕ) → n ≤ i → sets l i (left n i) ≡ l
+  unfolding left
+  fill-end l n i h = rw (count-end i n h)
 
--- ---- comparing with the paint
-module _ (room : List ℕ) (i : ℕ) where
-  painted-step : i < length room → paintedFrom room i ≡ (eqb (getD room i 0) (paintAt i) && paintedFrom room (i + 1))
-  unfolding paintedFrom
-  painted-step h = ap (all (λ k. eqb (getD room k 0) (paintAt k))) (count-step i (length room) h)
+-- ---- comparing with a pattern
+module _ (f : ℕ → ℕ) (room : List ℕ) (i : ℕ) where
+  painted-step : i < length room → patternFrom f room i ≡ (eqb (getD room i 0) (f i) && patternFrom f room (i + 1))
+  unfolding patternFrom
+  painted-step h = ap (all (λ k. eqb (getD room k 0) (f k))) (count-step i (length room) h)
 
-  pub painted-fail : (b : ℕ) → i < length room → b ≡ paintAt i → (getD room i 0 ≡ b → ⊥) → false ≡ paintedFrom room i
-  painted-fail b h e n = sym (painted-step h ∙ ap (λ (t : Bool). t && paintedFrom room (i + 1)) (ne-eqb (getD room i 0) (paintAt i) (λ z. n (z ∙ sym e))))
+  pub painted-fail : (b : ℕ) → i < length room → b ≡ f i → (getD room i 0 ≡ b → ⊥) → false ≡ patternFrom f room i
+  painted-fail b h e n = sym (painted-step h ∙ ap (λ (t : Bool). t && patternFrom f room (i + 1)) (ne-eqb (getD room i 0) (f i) (λ z. n (z ∙ sym e))))
 
-  pub painted-pass : (b : ℕ) → i < length room → b ≡ paintAt i → getD room i 0 ≡ b → paintedFrom room (i + 1) ≡ paintedFrom room i
-  painted-pass b h e n = sym (painted-step h ∙ ap (λ (t : Bool). t && paintedFrom room (i + 1)) (eq-eqb (getD room i 0) (paintAt i) (n ∙ e)))
+  pub painted-pass : (b : ℕ) → i < length room → b ≡ f i → getD room i 0 ≡ b → patternFrom f room (i + 1) ≡ patternFrom f room i
+  painted-pass b h e n = sym (painted-step h ∙ ap (λ (t : Bool). t && patternFrom f room (i + 1)) (eq-eqb (getD room i 0) (f i) (n ∙ e)))
 
-  pub painted-end : length room ≤ i → true ≡ paintedFrom room i
-  unfolding paintedFrom
-  painted-end h = sym (ap (all (λ k. eqb (getD room k 0) (paintAt k))) (count-end i (length room) h))
+  pub painted-end : length room ≤ i → true ≡ patternFrom f room i
+  unfolding patternFrom
+  painted-end h = sym (ap (all (λ k. eqb (getD room k 0) (f k))) (count-end i (length room) h))
 
 -- ---- comparing with a text
 unlike : (a b : List ℕ) → length a ≢ length b → sameList a b ≡ false
@@ -64,6 +65,13 @@ unlike (x ∷ a) (y ∷ b) h = and-no (eqb x y) (unlike a b (λ e. h (ap suc e))
     and-no : (t : Bool) {u : Bool} → u ≡ false → (t && u) ≡ false
     and-no true e = e
     and-no false e = refl
+
+pub same-short : (a b : List ℕ) → (length a ≡ length b → ⊥) → false ≡ sameList a b
+same-short a b h = sym (unlike a b h)
+
+pub same-long : (a b : List ℕ) → length a ≡ length b → startsWith a b ≡ sameList a b
+unfolding startsWith
+same-long a b e = ap (λ (l : List ℕ). sameList l b) (take-all (length b) a (omega arith))
 
 pub starts-short : (room text : List ℕ) → length room < length text → false ≡ startsWith room text
 unfolding startsWith

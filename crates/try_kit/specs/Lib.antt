@@ -1,3 +1,7 @@
--- A pattern in a lent array.
-pub mod Paint
+-- What the programs that try calls share.
+pub mod Borders
 pub mod Build
+pub mod Nets
+pub mod Numbered
+pub mod Paint
+pub mod Tally

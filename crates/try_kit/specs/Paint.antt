@@ -1,22 +1,29 @@
--- The pattern that a test paints an array with, and what it looks for afterwards.
-use Prim.Native.Nat.{ℕ, _-_, _%_}
+-- The patterns that a test fills an array with, and what it looks for afterwards.
+use Prim.Native.Nat.{ℕ, _+_, _-_, _%_}
 use mathlib.Core.Bool.{Bool}
 use mathlib.Core.List.{List, map}
 use lib.ListN.{length, take, getD}
 use lib.Dec.{eqb}
 use Rattle.lists.specs.Lists.{all, upFrom, sameList}
 
+-- a painted byte, a painted word, and a trit
 abbrev pub paintAt : ℕ → ℕ
-paintAt i = i % 251
+paintAt i = 3 + i % 251
 
--- an array of n bytes
-unfoldable pub paintOf : ℕ → List ℕ
-paintOf n = map paintAt (upFrom 0 n)
+abbrev pub wordAt : ℕ → ℕ
+wordAt i = 3000000000 + i % 1009
 
--- every byte from a place on is as it was painted
-unfoldable pub paintedFrom : List ℕ → ℕ → Bool
-paintedFrom room from = all (λ i. eqb (getD room i 0) (paintAt i)) (upFrom from (length room - from))
+abbrev pub tritAt : ℕ → ℕ
+tritAt i = i % 3
 
--- the first bytes are these
+-- an array of n elements
+unfoldable pub patternOf : (ℕ → ℕ) → ℕ → List ℕ
+patternOf f n = map f (upFrom 0 n)
+
+-- every element from a place on is the pattern's
+unfoldable pub patternFrom : (ℕ → ℕ) → List ℕ → ℕ → Bool
+patternFrom f room from = all (λ i. eqb (getD room i 0) (f i)) (upFrom from (length room - from))
+
+-- the first elements are these
 unfoldable pub startsWith : List ℕ → List ℕ → Bool
 startsWith room text = sameList (take (length text) room) text

@@ -2,7 +2,7 @@
 ghost use mathlib.Core.Path.{_≡_};
 ghost use lib.ListN.{getD, set, replicate};
 ghost use Rattle.net_value.specs.declared.ControlNet.the-variants.{Pos, Neg};
-ghost use Rattle.try_kit.specs.Build.{writeOf, readOf, someOf, memoryWith, withWrites, withReads};
+ghost use Rattle.try_kit.specs.Build.{writeOf, readOf, someOf, memoryWith, withWrites, withReads, writeClocked, readPlain, usualOf, readClocked, plainOf, baseOf};
 use net_flip_flop::Controls;
 use net_memory::Memory;
 use net_memory::MemoryReadFlipFlop;
@@ -134,4 +134,61 @@ pub fn with_sizes(m: Memory, depth: u32, width: u32, init: u32, writes: u32, rea
     out.write_count = writes;
     out.read_count = reads;
     out
+}
+
+// ---- ports and memories that most cases start from
+
+// A write port clocked by net 9.
+pub fn write_port(addr: u32, bits: u32) -> MemoryWritePort
+    ensures { λ r. ⌜ r ≡ writeClocked addr bits ⌝ }
+{
+    write_by(addr, bits, bits, ControlNet::Pos(Net(9)))
+}
+
+// A read port without a flip-flop, which has no trits and no relations.
+pub fn read_port(addr: u32, bits: u32) -> MemoryReadPort
+    ensures { λ r. ⌜ r ≡ readPlain addr bits ⌝ }
+{
+    read_by(addr, bits, 0, 0, 0, 0, [0u8; 8], MemoryReadFlipFlop::None)
+}
+
+// The controls of most cases.
+pub fn usual() -> MemoryReadFlipFlop
+    ensures { λ r. ⌜ r ≡ usualOf ⌝ }
+{
+    controls(
+        ControlNet::Pos(Net(9)),
+        ControlNet::Pos(Net(0)),
+        ControlNet::Neg(Net(7)),
+        ControlNet::Pos(Net(1)),
+    )
+}
+
+// A clocked read port with the first relations of 2 0 1 2 0 1 2 0.
+pub fn clocked_port(addr: u32, bits: u32, count: u32) -> MemoryReadPort
+    ensures { λ r. ⌜ r ≡ readClocked addr bits count ⌝ }
+{
+    let relations = [2u8, 0, 1, 2, 0, 1, 2, 0];
+    read_by(addr, bits, bits, bits, bits, count, relations, usual())
+}
+
+// A memory without ports.
+pub fn plain(depth: u32, width: u32, init: u32) -> Memory
+    ensures { λ r. ⌜ r ≡ plainOf depth width init ⌝ }
+{
+    memory(depth, width, init, 0, write_port(0, 0), 0, read_port(0, 0))
+}
+
+// 8 rows of 2 bits. Write ports: addresses of 2 and 3 nets, data of 4 and 2. Read ports: addresses of 1, 3 and 3 nets, data of 8, 2 and 2; the second
+// has no flip-flop, but three trits that nothing looks at.
+// So nets 0 to 9 and 10 to 16 are the write ports', 17, 18 to 20 and 21 to 23 the read ports'; trits 0 to 15 are initial, 16 to 39, 40 to 42 and 43
+// to 48 the read ports'; outputs 0 to 7, 8 and 9, 10 and 11.
+pub fn base() -> Memory
+    ensures { λ r. ⌜ r ≡ baseOf ⌝ }
+{
+    let none = read_by(3, 2, 1, 0, 2, 1, [3u8; 8], MemoryReadFlipFlop::None);
+    let m = memory(8, 2, 16, 2, write_port(2, 4), 3, clocked_port(3, 2, 2));
+    let m = with_write(m, 1, write_port(3, 2));
+    let m = with_read(m, 0, clocked_port(1, 8, 2));
+    with_read(m, 1, none)
 }

@@ -1,8 +1,8 @@
 // Values: their tests and parts, and zext, whose lent room holds 201 to 204 before each call.
 use crate::consts::bool_number;
-use crate::tally::Tally;
-use crate::tally::add;
-use crate::tally::same_u32;
+use try_kit::paint::same;
+use try_kit::tally::Tally;
+use try_kit::tally::add;
 
 fn undef_case(t: Tally, v: &[u32], number: u32, undef: bool, good: bool) -> Tally {
     let t = add(t, bool_number(net_value::value_is_undef(v)) == number);
@@ -28,7 +28,7 @@ pub(crate) fn undefs(t: Tally) -> Tally {
 // A part of 10 11 12 13 14.
 fn slice_case(t: Tally, start: usize, end: usize, want: &[u32]) -> Tally {
     let v = [10u32, 11, 12, 13, 14];
-    add(t, same_u32(net_value::value_slice(&v, start, end), want))
+    add(t, same(net_value::value_slice(&v, start, end), want))
 }
 
 pub(crate) fn slices(t: Tally) -> Tally {
@@ -47,7 +47,7 @@ pub(crate) fn slices(t: Tally) -> Tally {
 
 // The whole room after a call.
 fn holds(room: &[u32; 4], want: &[u32]) -> bool {
-    same_u32(room, want)
+    same(room, want)
 }
 
 fn zext_case(t: Tally, v: &[u32], n: usize, number: u32, want: &[u32]) -> Tally {
@@ -124,7 +124,7 @@ fn select_case(t: Tally, kw: u32, kr: u32, number: u32, want: &[u32]) -> Tally {
     );
     add(
         t,
-        same_u32(net_value::narrower_select(&waddr, &raddr, kw, kr), want),
+        same(net_value::narrower_select(&waddr, &raddr, kw, kr), want),
     )
 }
 

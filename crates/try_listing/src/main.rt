@@ -116,19 +116,11 @@ fn many_sizes() -> Sizes {
     }
 }
 
-fn fill_trits(image: &mut [u8]) {
-    let mut i = 0;
-    while i < image.len() {
-        image[i] = (i % 3) as u8;
-        i += 1;
-    }
-}
-
 // Lists the record of an image of the largest size.
 fn list_largest(out: &mut [u8], name: &[u8], s: Sizes, want: &[u8]) {
     let mut image = image_room();
     let mut bytes = bytes_room();
-    fill_trits(&mut image);
+    try_kit::paint::fill_trits(&mut image);
     record_codec::write_record(&mut bytes, s, &image);
     list(out, name, &bytes, want);
 }

@@ -1,18 +1,8 @@
 // The ten requests that log one entry: 360 cases each, of five lengths, four rooms and six next free nets, with good values, with a bad net, and
 // with one value a bit longer than the other.
-use crate::tally;
-use crate::tally::Tally;
-use crate::words::both;
-use crate::words::fill;
-use crate::words::minus;
-use crate::words::net_above;
-use crate::words::paint;
-use crate::words::plus;
-use crate::words::put;
-use crate::words::put_all;
-use crate::words::put_trits;
-use crate::words::same;
-use crate::words::word;
+use lists::copy_u8_to_u32;
+use lists::copy_u32;
+use lists::put_u32;
 use log_entries::LogState;
 use log_requests::Answer;
 use net_flip_flop::Controls;
@@ -20,7 +10,22 @@ use net_value::ControlNet;
 use net_value::Net;
 use rules::FIRST_CELL;
 use rules::MAX_MERGE;
-use rules::MAX_NETS;
+use try_kit::borders::length_at;
+use try_kit::borders::next_at;
+use try_kit::borders::room_at;
+use try_kit::borders::state_number;
+use try_kit::nets::fill_nets;
+use try_kit::nets::select_of;
+use try_kit::nets::spoil;
+use try_kit::numbered;
+use try_kit::numbered::Tally;
+use try_kit::paint::paint_words;
+use try_kit::paint::same;
+use try_kit::words::both;
+use try_kit::words::minus;
+use try_kit::words::net_above;
+use try_kit::words::plus;
+use try_kit::words::word;
 
 // A request by its kind: its values' lengths, whether its select is Neg, whether a net is bad, and the log's state and room.
 struct Case {
@@ -35,16 +40,6 @@ struct Case {
 }
 
 const STRIDE: u32 = 3;
-
-fn length_at(k: u32) -> usize {
-    match k {
-        0 => 0,
-        1 => 1,
-        2 => MAX_MERGE - 1,
-        3 => MAX_MERGE,
-        _ => MAX_MERGE + 1,
-    }
-}
 
 // The words of an entry.
 fn entry_words(kind: u32, n: usize, m: usize) -> usize {
@@ -65,41 +60,6 @@ fn results(kind: u32, n: usize) -> usize {
         6 => 1,
         10 => 0,
         _ => n,
-    }
-}
-
-fn room_at(k: u32, used: usize, words: usize) -> usize {
-    match k {
-        0 => plus(used, words),
-        1 => minus(plus(used, words), 1),
-        2 => plus(plus(used, words), 7),
-        _ => minus(used, 1),
-    }
-}
-
-// The next free net from which so many nets end at the limit.
-fn last_next(nets: usize) -> u32 {
-    let n = word(nets);
-    if MAX_NETS < n {
-        return 2;
-    }
-    MAX_NETS - n
-}
-
-// The third ends at the limit, and the fourth is one net short of it.
-fn next_at(k: u32, nets: usize) -> u32 {
-    let most = if word(nets) < MAX_NETS {
-        MAX_NETS - word(nets)
-    } else {
-        2
-    };
-    match k {
-        0 => 2,
-        1 => 100,
-        2 => most,
-        3 => net_above(most, 1),
-        4 => 1,
-        _ => MAX_NETS,
     }
 }
 
@@ -172,16 +132,12 @@ fn number(c: Case) -> u32 {
         return first;
     }
     let words = entry_words(c.kind, c.n, c.m);
-    if c.room < plus(c.used, words) {
-        return 20;
-    }
-    if c.next < FIRST_CELL {
-        return 21;
-    }
-    if MAX_NETS < net_above(c.next, results(c.kind, c.n)) {
-        return 21;
-    }
-    0
+    state_number(
+        c.room,
+        plus(c.used, words),
+        c.next,
+        net_above(c.next, results(c.kind, c.n)),
+    )
 }
 
 // The head of an entry.
@@ -189,30 +145,30 @@ fn put_head(want: &mut [u32], c: Case) {
     let first = if c.kind == 10 { 0 } else { c.next };
     let count = minus(entry_words(c.kind, c.n, c.m), 4);
     let head = [c.kind, word(results(c.kind, c.n)), first, word(count)];
-    put_all(want, c.used, &head);
+    copy_u32(want, c.used, &head);
 }
 
 // Two values, from a place on.
 fn put_two(want: &mut [u32], at: usize, a: &[u32], b: &[u32]) {
-    put_all(want, at, a);
-    put_all(want, plus(at, a.len()), b);
+    copy_u32(want, at, a);
+    copy_u32(want, plus(at, a.len()), b);
 }
 
 fn put_mux(want: &mut [u32], c: Case, a: &[u32], b: &[u32]) {
     let at = plus(c.used, 4);
     if c.neg {
-        put(want, at, FIRST_CELL);
+        put_u32(want, at, FIRST_CELL);
         put_two(want, plus(at, 1), b, a);
     } else {
-        put(want, at, 1);
+        put_u32(want, at, 1);
         put_two(want, plus(at, 1), a, b);
     }
 }
 
 fn put_shift(want: &mut [u32], c: Case, a: &[u32], b: &[u32]) {
     let at = plus(c.used, 4);
-    put(want, at, STRIDE);
-    put(want, plus(at, 1), word(b.len()));
+    put_u32(want, at, STRIDE);
+    put_u32(want, plus(at, 1), word(b.len()));
     put_two(want, plus(at, 2), b, a);
 }
 
@@ -229,7 +185,7 @@ fn controls(over: bool) -> Controls {
 
 fn put_controls(want: &mut [u32], at: usize, over: bool) {
     let nine = [0u32, 2, 0, 0, 1, 2, 0, 1, flag(over)];
-    put_all(want, at, &nine);
+    copy_u32(want, at, &nine);
 }
 
 fn flag(test: bool) -> u32 {
@@ -241,19 +197,19 @@ fn flag(test: bool) -> u32 {
 
 fn put_dff(want: &mut [u32], c: Case, a: &[u32], trits: &[u8]) {
     let at = plus(c.used, 4);
-    put_all(want, at, a);
+    copy_u32(want, at, a);
     put_controls(want, plus(at, c.n), c.neg);
     put_dff_trits(want, plus(plus(at, c.n), 9), c.n, trits);
 }
 
 fn put_dff_trits(want: &mut [u32], at: usize, n: usize, trits: &[u8]) {
-    put_trits(want, at, net_logic::const_slice(trits, 0, n));
-    put_trits(
+    copy_u8_to_u32(want, at, net_logic::const_slice(trits, 0, n));
+    copy_u8_to_u32(
         want,
         plus(at, n),
         net_logic::const_slice(trits, 1, plus(n, 1)),
     );
-    put_trits(
+    copy_u8_to_u32(
         want,
         plus(at, plus(n, n)),
         net_logic::const_slice(trits, 2, plus(n, 2)),
@@ -266,20 +222,13 @@ fn put_entry(want: &mut [u32], c: Case, a: &[u32], b: &[u32], trits: &[u8]) {
     let kind = c.kind;
     match kind {
         1 => {}
-        2 => put_all(want, plus(c.used, 4), a),
+        2 => copy_u32(want, plus(c.used, 4), a),
         5 => put_mux(want, c, a, b),
         7 => put_shift(want, c, a, b),
         8 => put_shift(want, c, a, b),
         9 => put_dff(want, c, a, trits),
         _ => put_two(want, plus(c.used, 4), a, b),
     }
-}
-
-fn select_of(neg: bool) -> ControlNet {
-    if neg {
-        return ControlNet::Neg(Net(2));
-    }
-    ControlNet::Pos(Net(1))
 }
 
 fn call_dff(log: &mut [u32], st: LogState, c: Case, a: &[u32], trits: &[u8]) -> Answer {
@@ -363,25 +312,10 @@ fn answered(c: Case, n: u32, r: Answer) -> bool {
     }
 }
 
-// The lowest net that is not good.
-fn bad_net(next: u32) -> u32 {
-    if next < FIRST_CELL {
-        return FIRST_CELL;
-    }
-    next
-}
-
-// The last of n nets is bad.
-fn spoil(a: &mut [u32], n: usize, next: u32) {
-    if 0 < n {
-        put(a, minus(n, 1), bad_net(next));
-    }
-}
-
 // Nets for a case.
 fn set_nets(c: Case, a: &mut [u32], b: &mut [u32]) {
-    fill(b, c.next, 2);
-    fill(a, c.next, 0);
+    fill_nets(b, c.next, 2);
+    fill_nets(a, c.next, 0);
     if c.bad {
         spoil(a, c.n, c.next);
     }
@@ -389,7 +323,7 @@ fn set_nets(c: Case, a: &mut [u32], b: &mut [u32]) {
 
 // The log expected.
 fn want_entry(want: &mut [u32], n: u32, c: Case, a: &[u32], b: &[u32], trits: &[u8]) {
-    paint(want);
+    paint_words(want);
     if n == 0 {
         put_entry(want, c, a, b, trits);
     }
@@ -407,11 +341,11 @@ fn try_case(
 ) -> Tally {
     let n = number(c);
     want_entry(want, n, c, a, b, trits);
-    paint(log);
+    paint_words(log);
     let r = call_in(log, c, a, b, trits);
     let ok = answered(c, n, r);
     let kept = same(log, want);
-    tally::add(t, n, both(ok, kept))
+    numbered::add(t, n, both(ok, kept))
 }
 
 fn set_and_try(
@@ -444,7 +378,7 @@ pub(crate) fn cases(
     b: &mut [u32],
     trits: &[u8],
 ) -> Tally {
-    let mut t = tally::start();
+    let mut t = numbered::start();
     let mut k: u32 = 0;
     while k < 360 {
         t = set_and_try(t, case_at(kind, k), log, want, a, b, trits);

@@ -1,8 +1,8 @@
 // Tries every request of one entry at border lengths, rooms and next free nets. Every lent word holds a pattern before a call, and every word of log,
 // state and result is compared after it with what a plain computation here expects, for accepted and for refused calls.
 mod cells;
-mod tally;
-mod words;
+
+use try_kit::numbered::Tally;
 
 const LOG_WORDS: usize = 16640;
 
@@ -10,6 +10,24 @@ const NETS: usize = 4100;
 
 fn say(s: &[u8]) {
     io::write_all(libc::STDOUT_FILENO, s);
+}
+
+fn count(name: &[u8], n: u32) {
+    io::write_all(libc::STDOUT_FILENO, name);
+    io::print_decimal(libc::STDOUT_FILENO, n as u64);
+}
+
+// The rest of a line, after a group's name: its counts.
+fn report(t: Tally) {
+    count(b" ", t.right);
+    count(b" of ", t.made);
+    count(b": accepted ", t.accepted);
+    count(b", 1: ", t.large);
+    count(b", 2: ", t.unequal);
+    count(b", 4: ", t.bad);
+    count(b", 20: ", t.full);
+    count(b", 21: ", t.netless);
+    io::write_all(libc::STDOUT_FILENO, b"\n");
 }
 
 fn name_of(kind: u32) {
@@ -24,7 +42,7 @@ fn all_cells(log: &mut [u32], want: &mut [u32], a: &mut [u32], b: &mut [u32], tr
     while kind < 11 {
         let t = cells::cases(kind, log, want, a, b, trits);
         name_of(kind);
-        tally::report(t);
+        report(t);
         kind += 1;
     }
 }
@@ -35,6 +53,6 @@ fn main() {
     let mut a = [0u32; NETS];
     let mut b = [0u32; NETS];
     let mut trits = [0u8; NETS];
-    words::fill_trits(&mut trits);
+    try_kit::paint::fill_trits(&mut trits);
     all_cells(&mut log, &mut want, &mut a, &mut b, &trits);
 }

@@ -1,19 +1,19 @@
 // output_len, read_port_output_slice and can_lower_fallback.
 use crate::calls;
 use crate::case::of;
-use crate::memories::base;
-use crate::memories::plain;
-use crate::memories::read_port;
-use crate::tally::Tally;
-use crate::tally::add;
 use net_memory::Memory;
 use net_value::ControlNet;
+use try_kit::samples::base;
 use try_kit::samples::memory;
 use try_kit::samples::neg;
+use try_kit::samples::plain;
 use try_kit::samples::pos;
+use try_kit::samples::read_port;
 use try_kit::samples::with_sizes;
 use try_kit::samples::with_write;
 use try_kit::samples::write_by;
+use try_kit::tally::Tally;
+use try_kit::tally::add;
 
 fn length_is(t: Tally, m: Memory, len: u64) -> Tally {
     add(t, calls::look(of(m), calls::LEN, 0) == 1000000 + len % 1000)

@@ -2,40 +2,51 @@
 mod calls;
 mod case;
 mod look_cases;
-mod memories;
 mod numbers;
-mod tally;
+
+use try_kit::tally;
+use try_kit::tally::Tally;
+
+// A line with a group's name and its counts.
+fn report(name: &[u8], t: Tally) {
+    io::write_all(libc::STDOUT_FILENO, name);
+    io::write_all(libc::STDOUT_FILENO, b": ");
+    io::print_decimal(libc::STDOUT_FILENO, t.made as u64);
+    io::write_all(libc::STDOUT_FILENO, b" compared, ");
+    io::print_decimal(libc::STDOUT_FILENO, t.failed as u64);
+    io::write_all(libc::STDOUT_FILENO, b" wrong\n");
+}
 
 fn try_sizes() {
-    tally::report(
+    report(
         b"lengths that a memory says",
         numbers::totals(tally::start()),
     );
-    tally::report(b"sizes", numbers::sizes(tally::start()));
-    tally::report(b"numbers of ports", numbers::counts(tally::start()));
-    tally::report(b"data lengths", numbers::data_lens(tally::start()));
+    report(b"sizes", numbers::sizes(tally::start()));
+    report(b"numbers of ports", numbers::counts(tally::start()));
+    report(b"data lengths", numbers::data_lens(tally::start()));
 }
 
 fn try_lens() {
-    tally::report(b"address lengths", numbers::addresses(tally::start()));
-    tally::report(b"depths and 2^k", numbers::depths(tally::start()));
-    tally::report(b"other lengths", numbers::lens(tally::start()));
-    tally::report(b"lengths of arrays", numbers::arrays(tally::start()));
+    report(b"address lengths", numbers::addresses(tally::start()));
+    report(b"depths and 2^k", numbers::depths(tally::start()));
+    report(b"other lengths", numbers::lens(tally::start()));
+    report(b"lengths of arrays", numbers::arrays(tally::start()));
 }
 
 fn try_elements() {
-    tally::report(b"nets", numbers::nets(tally::start()));
-    tally::report(b"trits", numbers::trits(tally::start()));
-    tally::report(b"relations", numbers::relations(tally::start()));
-    tally::report(b"controls", numbers::controls(tally::start()));
+    report(b"nets", numbers::nets(tally::start()));
+    report(b"trits", numbers::trits(tally::start()));
+    report(b"relations", numbers::relations(tally::start()));
+    report(b"controls", numbers::controls(tally::start()));
 }
 
 fn try_orders() {
-    tally::report(b"two numbers", numbers::orders(tally::start()));
-    tally::report(b"numbers of a call", numbers::flags(tally::start()));
-    tally::report(b"next free net", numbers::nexts(tally::start()));
-    tally::report(b"outputs", look_cases::outputs(tally::start()));
-    tally::report(b"fallbacks", look_cases::fallbacks(tally::start()));
+    report(b"two numbers", numbers::orders(tally::start()));
+    report(b"numbers of a call", numbers::flags(tally::start()));
+    report(b"next free net", numbers::nexts(tally::start()));
+    report(b"outputs", look_cases::outputs(tally::start()));
+    report(b"fallbacks", look_cases::fallbacks(tally::start()));
 }
 
 fn main() {

@@ -5,24 +5,24 @@ use crate::case::of;
 use crate::case::with_lens;
 use crate::case::with_net;
 use crate::case::with_trit;
-use crate::memories::base;
-use crate::memories::clocked_port;
-use crate::memories::plain;
-use crate::memories::read_port;
-use crate::memories::usual;
-use crate::memories::write_port;
-use crate::tally::Tally;
-use crate::tally::add;
 use net_memory::Memory;
 use net_memory::MemoryReadFlipFlop;
 use net_value::ControlNet;
+use try_kit::samples::base;
+use try_kit::samples::clocked_port;
 use try_kit::samples::memory;
 use try_kit::samples::neg;
+use try_kit::samples::plain;
 use try_kit::samples::pos;
 use try_kit::samples::read_by;
+use try_kit::samples::read_port;
+use try_kit::samples::usual;
 use try_kit::samples::with_read;
 use try_kit::samples::with_write;
 use try_kit::samples::write_by;
+use try_kit::samples::write_port;
+use try_kit::tally::Tally;
+use try_kit::tally::add;
 
 // Every call is refused by the number, also for a port that is not there; or none is.
 fn numbered(t: Tally, c: Case, n: u64) -> Tally {

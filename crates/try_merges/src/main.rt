@@ -1,34 +1,33 @@
 // Tries the merging muxes: five lengths, three rooms and five next free nets, with good values, with a bad net, and with one value a bit longer than
 // the other. Every lent word holds a pattern before a call, and every word of log, state and result is compared after it with what a plain computation
 // expects, which finds the distinct pairs by a plain search.
-mod tally;
-mod words;
-
+use lists::copy_u32;
+use lists::put_u32;
 use log_entries::LogState;
 use log_requests::Answer;
-use net_value::ControlNet;
-use net_value::Net;
 use rules::FIRST_CELL;
 use rules::MAX_MERGE;
 use rules::MAX_NETS;
-use tally::Tally;
-use words::fill;
-use words::minus;
-use words::net_above;
-use words::net_at;
-use words::paint;
-use words::plus;
-use words::put;
-use words::put_all;
-use words::same;
-use words::word;
+use try_kit::borders::length_at;
+use try_kit::borders::room_at;
+use try_kit::borders::state_number;
+use try_kit::nets::fill_nets;
+use try_kit::nets::net_at;
+use try_kit::nets::select_of;
+use try_kit::nets::spoil;
+use try_kit::numbered;
+use try_kit::numbered::Tally;
+use try_kit::paint::paint_words;
+use try_kit::paint::same;
+use try_kit::words::minus;
+use try_kit::words::net_above;
+use try_kit::words::plus;
+use try_kit::words::word;
 
-// The nets and the words that a buffer has room for, and the cases of a merge.
+// The nets and the words that a buffer has room for.
 const NETS: usize = 4100;
 
 const LOG_WORDS: usize = 16640;
-
-const CASES: u32 = 96;
 
 fn word_at(s: &[u32], i: usize) -> u32 {
     if i < s.len() {
@@ -56,20 +55,20 @@ fn keep_pair(kx: &mut [u32], ky: &mut [u32], place: usize, kept: usize, x: u32, 
     if place < kept {
         return kept;
     }
-    put(kx, kept, x);
-    put(ky, kept, y);
+    put_u32(kx, kept, x);
+    put_u32(ky, kept, y);
     plus(kept, 1)
 }
 
 // The distinct pairs and each bit's place among them; how many there are.
-fn keep(kx: &mut [u32], ky: &mut [u32], at: &mut [u32], a: &[u32], b: &[u32]) -> usize {
+fn keep(a: &[u32], b: &[u32], kx: &mut [u32], ky: &mut [u32], at: &mut [u32]) -> usize {
     let mut kept: usize = 0;
     let mut i: usize = 0;
     while i < a.len() {
         let x = word_at(a, i);
         let y = word_at(b, i);
         let place = place_of(kx, ky, kept, x, y);
-        put(at, i, word(place));
+        put_u32(at, i, word(place));
         kept = keep_pair(kx, ky, place, kept, x, y);
         i += 1;
     }
@@ -92,13 +91,13 @@ fn put_mux(
     let y = net_value::value_slice(ky, 0, kept);
     let first = plus(used, 5);
     let second = plus(first, kept);
-    put_all(want, used, &head);
+    copy_u32(want, used, &head);
     if neg {
-        put_all(want, second, x);
-        put_all(want, first, y);
+        copy_u32(want, second, x);
+        copy_u32(want, first, y);
     } else {
-        put_all(want, first, x);
-        put_all(want, second, y);
+        copy_u32(want, first, x);
+        copy_u32(want, second, y);
     }
 }
 
@@ -106,7 +105,7 @@ fn put_mux(
 fn put_nets(out: &mut [u32], to: usize, next: u32, at: &[u32], n: usize) {
     let mut i: usize = 0;
     while i < n {
-        put(out, plus(to, i), net_above(next, word_at(at, i) as usize));
+        put_u32(out, plus(to, i), net_above(next, word_at(at, i) as usize));
         i += 1;
     }
 }
@@ -115,20 +114,20 @@ fn put_nets(out: &mut [u32], to: usize, next: u32, at: &[u32], n: usize) {
 fn expect_run(
     want: &mut [u32],
     st: LogState,
-    nets: &mut [u32],
     neg: bool,
     net: u32,
     a: &[u32],
     b: &[u32],
     i: usize,
     e: usize,
+    nets: &mut [u32],
 ) -> LogState {
     let mut kx = [0u32; NETS];
     let mut ky = [0u32; NETS];
     let mut at = [0u32; NETS];
     let x = net_value::value_slice(a, i, e);
     let y = net_value::value_slice(b, i, e);
-    let kept = keep(&mut kx, &mut ky, &mut at, x, y);
+    let kept = keep(x, y, &mut kx, &mut ky, &mut at);
     put_mux(want, st.used, st.next, neg, net, kept, &kx, &ky);
     put_nets(nets, i, st.next, &at, x.len());
     LogState {
@@ -161,32 +160,32 @@ fn run_end(s: &[u32], i: usize) -> usize {
 fn expect_bit(
     want: &mut [u32],
     st: LogState,
-    nets: &mut [u32],
     s: &[u32],
     a: &[u32],
     b: &[u32],
     i: usize,
+    nets: &mut [u32],
 ) -> LogState {
     if !starts_run(s, i) {
         return st;
     }
     let e = run_end(s, i);
-    expect_run(want, st, nets, false, word_at(s, i), a, b, i, e)
+    expect_run(want, st, false, word_at(s, i), a, b, i, e, nets)
 }
 
 // What a bitwise mux leaves.
 fn expect_runs(
     want: &mut [u32],
     st: LogState,
-    nets: &mut [u32],
     s: &[u32],
     a: &[u32],
     b: &[u32],
+    nets: &mut [u32],
 ) -> LogState {
     let mut state = st;
     let mut i: usize = 0;
     while i < s.len() {
-        state = expect_bit(want, state, nets, s, a, b, i);
+        state = expect_bit(want, state, s, a, b, i, nets);
         i += 1;
     }
     state
@@ -200,16 +199,6 @@ struct Case {
     neg: bool,
     bad: bool,
     next: u32,
-}
-
-fn length_at(k: u32) -> usize {
-    match k {
-        0 => 0,
-        1 => 1,
-        2 => MAX_MERGE - 1,
-        3 => MAX_MERGE,
-        _ => MAX_MERGE + 1,
-    }
 }
 
 fn next_at(k: u32) -> u32 {
@@ -242,15 +231,6 @@ fn longer(n: usize, test: bool) -> usize {
     n
 }
 
-// The room: all words, one word short, and seven more.
-fn room_at(k: u32, words: usize) -> usize {
-    match k {
-        0 => words,
-        1 => minus(words, 1),
-        _ => plus(words, 7),
-    }
-}
-
 // 1, 2 and 4 of a case.
 fn input_number(c: Case) -> u32 {
     if MAX_MERGE < c.m {
@@ -280,66 +260,50 @@ fn number(c: Case, room: usize, wanted: LogState) -> u32 {
     if first != 0 {
         return first;
     }
-    if room < wanted.used {
-        return 20;
-    }
-    if c.next < FIRST_CELL {
-        return 21;
-    }
-    if MAX_NETS < wanted.next {
-        return 21;
-    }
-    0
+    state_number(room, wanted.used, c.next, wanted.next)
 }
 
 fn expect(
-    want: &mut [u32],
-    nets: &mut [u32],
     c: Case,
+    want: &mut [u32],
     s: &[u32],
     a: &[u32],
     b: &[u32],
+    nets: &mut [u32],
 ) -> LogState {
     let st = LogState {
         used: 3,
         next: c.next,
     };
     if c.bitwise {
-        return expect_runs(want, st, nets, s, a, b);
+        return expect_runs(want, st, s, a, b, nets);
     }
     let net = if c.neg { 2 } else { 1 };
-    expect_run(want, st, nets, c.neg, net, a, b, 0, a.len())
+    expect_run(want, st, c.neg, net, a, b, 0, a.len(), nets)
 }
 
 fn paint_and_expect(
-    want: &mut [u32],
-    nets: &mut [u32],
     c: Case,
+    want: &mut [u32],
     s: &[u32],
     a: &[u32],
     b: &[u32],
+    nets: &mut [u32],
 ) -> LogState {
-    paint(want);
-    paint(nets);
-    expect(want, nets, c, s, a, b)
-}
-
-fn select_of(neg: bool) -> ControlNet {
-    if neg {
-        return ControlNet::Neg(Net(2));
-    }
-    ControlNet::Pos(Net(1))
+    paint_words(want);
+    paint_words(nets);
+    expect(c, want, s, a, b, nets)
 }
 
 // The call, in the room lent.
 fn call(
-    log: &mut [u32],
-    out: &mut [u32],
     c: Case,
     room: usize,
+    log: &mut [u32],
     s: &[u32],
     a: &[u32],
     b: &[u32],
+    out: &mut [u32],
 ) -> Answer {
     let st = LogState {
         used: 3,
@@ -381,8 +345,6 @@ fn same_state(a: LogState, b: LogState) -> bool {
 
 // The call and its comparison: every word of the log and of the result nets.
 fn compare(
-    log: &mut [u32],
-    out: &mut [u32],
     c: Case,
     n: u32,
     wanted: LogState,
@@ -390,12 +352,14 @@ fn compare(
     s: &[u32],
     a: &[u32],
     b: &[u32],
+    log: &mut [u32],
+    out: &mut [u32],
     want: &[u32],
     nets: &[u32],
 ) -> bool {
-    paint(log);
-    paint(out);
-    let r = call(log, out, c, room, s, a, b);
+    paint_words(log);
+    paint_words(out);
+    let r = call(c, room, log, s, a, b, out);
     if !answered(n, wanted, r) {
         return false;
     }
@@ -406,33 +370,33 @@ fn compare(
 }
 
 // A refused call leaves all as it was.
-fn unset(want: &mut [u32], nets: &mut [u32], n: u32) {
+fn unset(n: u32, want: &mut [u32], nets: &mut [u32]) {
     if n == 0 {
         return;
     }
-    paint(want);
-    paint(nets);
+    paint_words(want);
+    paint_words(nets);
 }
 
 // A case: the words and nets expected are set first.
 fn try_case(
     t: Tally,
-    log: &mut [u32],
-    want: &mut [u32],
     c: Case,
     mode: u32,
     s: &[u32],
     a: &[u32],
     b: &[u32],
+    log: &mut [u32],
+    want: &mut [u32],
 ) -> Tally {
     let mut out = [0u32; NETS];
     let mut nets = [0u32; NETS];
-    let wanted = paint_and_expect(want, &mut nets, c, s, a, b);
-    let room = room_at(mode, wanted.used);
+    let wanted = paint_and_expect(c, want, s, a, b, &mut nets);
+    let room = room_at(mode, 0, wanted.used);
     let n = number(c, room, wanted);
-    unset(want, &mut nets, n);
-    let ok = compare(log, &mut out, c, n, wanted, room, s, a, b, want, &nets);
-    tally::add(t, n, ok)
+    unset(n, want, &mut nets);
+    let ok = compare(c, n, wanted, room, s, a, b, log, &mut out, want, &nets);
+    numbered::add(t, n, ok)
 }
 
 // Selects in runs of nine.
@@ -444,66 +408,70 @@ fn fill_selects(s: &mut [u32], next: u32) {
     }
 }
 
-fn set_nets(s: &mut [u32], a: &mut [u32], b: &mut [u32], next: u32) {
-    fill(a, next, 0);
-    fill(b, next, 2);
-    fill_selects(s, next);
-}
-
-// The lowest net that is not good.
-fn bad_net(next: u32) -> u32 {
-    if next < FIRST_CELL {
-        return FIRST_CELL;
-    }
-    next
-}
-
-// Where a case is bad, the last net of a is.
-fn spoil(a: &mut [u32], c: Case) {
+// Nets for a case.
+fn set_nets(c: Case, s: &mut [u32], a: &mut [u32], b: &mut [u32]) {
+    fill_nets(b, c.next, 2);
+    fill_selects(s, c.next);
+    fill_nets(a, c.next, 0);
     if c.bad {
-        if 0 < c.n {
-            put(a, minus(c.n, 1), bad_net(c.next));
-        }
+        spoil(a, c.n, c.next);
     }
 }
 
-fn set_and_try(t: Tally, log: &mut [u32], want: &mut [u32], bitwise: bool, k: u32) -> Tally {
+fn set_and_try(t: Tally, bitwise: bool, k: u32, log: &mut [u32], want: &mut [u32]) -> Tally {
     let mut s = [0u32; NETS];
     let mut a = [0u32; NETS];
     let mut b = [0u32; NETS];
     let c = case_at(bitwise, k);
-    set_nets(&mut s, &mut a, &mut b, c.next);
-    spoil(&mut a, c);
+    set_nets(c, &mut s, &mut a, &mut b);
     try_case(
         t,
-        log,
-        want,
         c,
         k / 25 % 3,
         net_value::value_slice(&s, 0, c.n),
         net_value::value_slice(&a, 0, c.n),
         net_value::value_slice(&b, 0, c.m),
+        log,
+        want,
     )
 }
 
 // All the cases of one of the two merges.
-fn cases(log: &mut [u32], want: &mut [u32], bitwise: bool) -> Tally {
-    let mut t = tally::start();
+fn cases(bitwise: bool, log: &mut [u32], want: &mut [u32]) -> Tally {
+    let mut t = numbered::start();
     let mut k: u32 = 0;
     while k < 225 {
-        t = set_and_try(t, log, want, bitwise, k);
+        t = set_and_try(t, bitwise, k, log, want);
         k += 1;
     }
     t
 }
 
+fn count(name: &[u8], n: u32) {
+    io::write_all(libc::STDOUT_FILENO, name);
+    io::print_decimal(libc::STDOUT_FILENO, n as u64);
+}
+
+// The rest of a line, after a group's name: its counts.
+fn report(t: Tally) {
+    count(b" ", t.right);
+    count(b" of ", t.made);
+    count(b": accepted ", t.accepted);
+    count(b", 1: ", t.large);
+    count(b", 2: ", t.unequal);
+    count(b", 4: ", t.bad);
+    count(b", 20: ", t.full);
+    count(b", 21: ", t.netless);
+    io::write_all(libc::STDOUT_FILENO, b"\n");
+}
+
 fn main() {
     let mut log = [0u32; LOG_WORDS];
     let mut want = [0u32; LOG_WORDS];
-    let t = cases(&mut log, &mut want, false);
+    let t = cases(false, &mut log, &mut want);
     io::write_all(libc::STDOUT_FILENO, b"add_dedup_mux:");
-    tally::report(t);
-    let u = cases(&mut log, &mut want, true);
+    report(t);
+    let u = cases(true, &mut log, &mut want);
     io::write_all(libc::STDOUT_FILENO, b"add_bitwise_mux:");
-    tally::report(u);
+    report(u);
 }

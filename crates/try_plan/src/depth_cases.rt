@@ -1,18 +1,18 @@
 // swizzle_depths.
-use crate::memories::plain;
-use crate::memories::read_port;
-use crate::memories::write_port;
 use crate::plans::Wanted;
 use crate::plans::depths;
 use crate::plans::memories;
 use crate::plans::plan;
 use crate::plans::refusal;
-use crate::tally::Tally;
 use rules::NO_BIT;
 use swizzle_plan::MemorySwizzle;
 use try_kit::samples::memory;
+use try_kit::samples::plain;
 use try_kit::samples::pos;
+use try_kit::samples::read_port;
 use try_kit::samples::write_by;
+use try_kit::samples::write_port;
+use try_kit::tally::Tally;
 
 // A memory without ports: its numbers, a plan, entries, and so many words of the room.
 fn bare(
@@ -112,9 +112,11 @@ fn logged(t: Tally, writes: &[u32], reads: &[u32], want: Wanted) -> Tally {
 
 pub(crate) fn logs(t: Tally) -> Tally {
     let none: [u32; 0] = [];
-    let t = logged(t, &[4u32], &[4u32], memories(1, 2, 0, 0));
-    let t = logged(t, &[5u32], &[4u32], refusal(1));
-    let t = logged(t, &[4u32], &[5u32], refusal(1));
+    let four = [4u32];
+    let five = [5u32];
+    let t = logged(t, &four, &four, memories(1, 2, 0, 0));
+    let t = logged(t, &five, &four, refusal(1));
+    let t = logged(t, &four, &five, refusal(1));
     let t = logged(t, &none, &none, memories(1, 2, 0, 0));
     let t = logged(t, &[0u32; 9], &[4u32; 9], memories(1, 2, 0, 0));
     logged(t, &[0u32, 0, 0, 0, 0, 0, 0, 0, 5], &none, refusal(1))
@@ -186,44 +188,27 @@ pub(crate) fn masks(t: Tally) -> Tally {
     masked(t, 4, 4294967295, 2, 0, 0)
 }
 
-// Depth 0 gives no memory with any mask; width 0 keeps the formula.
-pub(crate) fn nothing(t: Tally) -> Tally {
+// Depth 0 gives no memory with any mask.
+fn no_rows(t: Tally) -> Tally {
+    let one = [0u32];
+    let none = memories(0, 0, 0, 0);
+    let t = bare(t, 0, 1, 0, plan(4294967295, 15, 1), &one, 0, none);
+    let t = bare(t, 0, 1, 0, plan(2147483648, 0, 256), &one, 0, none);
+    bare(t, 0, 1, 0, plan(1, 0, 1), &[1u32], 0, refusal(7))
+}
+
+// Width 0 keeps the formula.
+fn no_width(t: Tally) -> Tally {
     let none: [u32; 0] = [];
-    let n = NO_BIT;
-    let t = bare(
-        t,
-        0,
-        1,
-        0,
-        plan(4294967295, 15, 1),
-        &[0u32],
-        0,
-        memories(0, 0, 0, 0),
-    );
-    let t = bare(
-        t,
-        0,
-        1,
-        0,
-        plan(2147483648, 0, 256),
-        &[0u32],
-        0,
-        memories(0, 0, 0, 0),
-    );
-    let t = bare(t, 0, 1, 0, plan(1, 0, 1), &[1u32], 0, refusal(7));
+    let row = [NO_BIT; 3];
     let t = bare(t, 3, 0, 0, plan(0, 1, 2), &none, 0, memories(0, 0, 0, 0));
-    let t = bare(
-        t,
-        3,
-        0,
-        0,
-        plan(0, 1, 2),
-        &[n, n, n],
-        3,
-        memories(2, 2, 1, 1),
-    );
+    let t = bare(t, 3, 0, 0, plan(0, 1, 2), &row, 3, memories(2, 2, 1, 1));
     let t = bare(t, 3, 0, 0, plan(0, 1, 2), &[0u32], 3, refusal(7));
     bare(t, 3, 0, 0, plan(1, 1, 2), &none, 0, refusal(8))
+}
+
+pub(crate) fn nothing(t: Tally) -> Tally {
+    no_width(no_rows(t))
 }
 
 // Number 10: 32,768 columns after rounding up to the unit.

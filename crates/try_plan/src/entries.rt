@@ -1,9 +1,12 @@
 // make_data_swizzle: a painted room, of which the first words are lent.
-use crate::room;
-use crate::tally::Tally;
-use crate::tally::add;
 use net_memory::Memory;
 use swizzle_entries::DataSwizzle;
+use try_kit::paint::paint_words;
+use try_kit::paint::painted_words;
+use try_kit::paint::starts_words;
+use try_kit::tally::Tally;
+use try_kit::tally::add;
+use try_kit::words::both;
 
 const ROOM: usize = 300;
 
@@ -24,7 +27,7 @@ fn call(
     out: &mut [u32],
     lent: usize,
 ) -> DataSwizzle {
-    let n = room::at_most(lent, out.len());
+    let n = lists::smaller(lent, out.len());
     swizzle_entries::make_data_swizzle(&mut out[0..n], m, nets, trits, sizes)
 }
 
@@ -40,8 +43,10 @@ pub(crate) fn made(
     want: &[u32],
 ) -> Tally {
     let mut out = [0u32; ROOM];
-    room::paint_words(&mut out);
+    paint_words(&mut out);
     let r = call(m, nets, trits, sizes, &mut out, lent);
     let t = add(t, answer_is(r, number, want.len()));
-    add(t, room::words_are(&out, want))
+    let first = starts_words(&out, want);
+    let rest = painted_words(&out, want.len());
+    add(t, both(first, rest))
 }

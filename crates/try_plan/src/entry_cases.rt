@@ -1,12 +1,12 @@
 // make_data_swizzle: document 01's examples, masks that differ in one subport, and the borders.
 use crate::entries::made;
-use crate::memories::plain;
-use crate::memories::read_port;
-use crate::memories::write_port;
-use crate::tally::Tally;
 use net_memory::Memory;
 use rules::NO_BIT;
 use try_kit::samples::memory;
+use try_kit::samples::plain;
+use try_kit::samples::read_port;
+use try_kit::samples::write_port;
+use try_kit::tally::Tally;
 
 // One row; so many write ports without an address and with so many data bits.
 fn row(width: u32, writes: u32, data: u32) -> Memory {
@@ -76,22 +76,33 @@ pub(crate) fn subport_masks(t: Tally) -> Tally {
     subports(t, 10, 11, 11, 10, &split)
 }
 
-// Two ports of width 4 with the masks of one net each: 3 and 4 divide 12. Then the first port's masks change after bit 1, then the second's.
-pub(crate) fn two_ports(t: Tally) -> Tally {
-    let m = row(4, 2, 4);
+// Two ports of width 4, with masks that start with nets 9 9 and 8 8 and end with these; granularities 3 and 4, which divide 12.
+fn two(t: Tally, a: u32, b: u32, lent: usize, number: u32, want: &[u32]) -> Tally {
+    let nets = [2u32, 3, 4, 5, 9, 9, a, a, 2, 3, 4, 5, 8, 8, b, b];
     let trits = [0u8, 1, 2, 0];
-    let same = [2u32, 3, 4, 5, 9, 9, 9, 9, 2, 3, 4, 5, 8, 8, 8, 8];
-    let first = [2u32, 3, 4, 5, 9, 9, 7, 7, 2, 3, 4, 5, 8, 8, 8, 8];
-    let second = [2u32, 3, 4, 5, 9, 9, 9, 9, 2, 3, 4, 5, 8, 8, 6, 6];
+    made(
+        t,
+        row(4, 2, 4),
+        &nets,
+        &trits,
+        &[3u32, 4],
+        lent,
+        number,
+        want,
+    )
+}
+
+// The masks of one net each; then the first port's change after bit 1, then the second's.
+pub(crate) fn two_ports(t: Tally) -> Tally {
     let n = NO_BIT;
     let padded = [0u32, 1, 2, 3, n, n, n, n, n, n, n, n];
     let by_three = [0u32, 1, n, 2, 3, n, n, n, n, n, n, n];
     let by_four = [0u32, 1, n, n, 2, 3, n, n, n, n, n, n];
-    let t = made(t, m, &same, &trits, &[3u32, 4], 12, 0, &padded);
-    let t = made(t, m, &first, &trits, &[3u32, 4], 12, 0, &by_three);
-    let t = made(t, m, &second, &trits, &[3u32, 4], 12, 0, &by_four);
     let none: [u32; 0] = [];
-    made(t, m, &second, &trits, &[3u32, 4], 11, 20, &none)
+    let t = two(t, 9, 8, 12, 0, &padded);
+    let t = two(t, 7, 8, 12, 0, &by_three);
+    let t = two(t, 9, 6, 12, 0, &by_four);
+    two(t, 9, 6, 11, 20, &none)
 }
 
 // Two ports of width 1, an initial trit, and some of three granularities.
@@ -120,7 +131,7 @@ fn sizes(
 }
 
 // Number 5: one granularity to a write port, from 1 to 64.
-pub(crate) fn granularities(t: Tally) -> Tally {
+fn no_granularities(t: Tally) -> Tally {
     let none: [u32; 0] = [];
     let t = sizes(t, 0, 2, 1, 0, 99, 5, &none);
     let t = sizes(t, 0, 2, 0, 1, 99, 5, &none);
@@ -130,19 +141,17 @@ pub(crate) fn granularities(t: Tally) -> Tally {
     let t = sizes(t, 0, 1, 1, 1, 99, 5, &none);
     let t = sizes(t, 0, 3, 1, 1, 99, 5, &none);
     let t = sizes(t, 0, 0, 1, 1, 99, 5, &none);
-    let t = sizes(t, 3, 0, 1, 1, 99, 4, &none);
+    sizes(t, 3, 0, 1, 1, 99, 4, &none)
+}
+
+pub(crate) fn granularities(t: Tally) -> Tally {
+    let none: [u32; 0] = [];
+    let trits = [0u8, 1, 2];
+    let want = [0u32, 1, 2];
+    let t = no_granularities(t);
     let t = sizes(t, 0, 2, 1, 1, 1, 0, &[0u32]);
     let t = sizes(t, 0, 2, 1, 2, 2, 0, &[0u32, NO_BIT]);
-    made(
-        t,
-        row(3, 0, 0),
-        &none,
-        &[0u8, 1, 2],
-        &none,
-        3,
-        0,
-        &[0u32, 1, 2],
-    )
+    made(t, row(3, 0, 0), &none, &trits, &none, 3, 0, &want)
 }
 
 // Width 0, with a granularity or none.

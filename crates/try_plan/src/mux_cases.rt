@@ -1,16 +1,16 @@
 // swizzle_mux_bits.
-use crate::memories::plain;
-use crate::memories::read_port;
-use crate::memories::write_port;
 use crate::plans::mux;
 use crate::plans::mux_refused;
 use crate::plans::plan;
-use crate::tally::Tally;
 use net_memory::Memory;
 use swizzle_plan::MemorySwizzle;
 use try_kit::samples::memory;
+use try_kit::samples::plain;
+use try_kit::samples::read_port;
 use try_kit::samples::with_read;
 use try_kit::samples::with_write;
+use try_kit::samples::write_port;
+use try_kit::tally::Tally;
 
 // Width 1: write ports with k 0 and 2, read ports with k 1, 0 and 3.
 fn ports(depth: u32) -> Memory {

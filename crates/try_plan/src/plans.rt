@@ -1,10 +1,13 @@
 // swizzle_depths and swizzle_mux_bits.
-use crate::room;
-use crate::tally::Tally;
-use crate::tally::add;
 use net_memory::Memory;
 use swizzle_plan::MemorySwizzle;
 use swizzle_sizes::MuxBits;
+use try_kit::paint::paint_words;
+use try_kit::paint::painted_words;
+use try_kit::paint::same;
+use try_kit::tally::Tally;
+use try_kit::tally::add;
+use try_kit::words::plus;
 
 // Places for depths, and for nets and trits, which are all 5 and 1.
 const ROOM: usize = 33000;
@@ -58,13 +61,11 @@ fn call(
     writes: &[u32],
     reads: &[u32],
     out: &mut [u32],
-    lent: usize,
 ) -> u32 {
     let nets = [5u32; NETS];
     let trits = [1u8; TRITS];
-    let n = room::at_most(lent, out.len());
     swizzle_sizes::swizzle_depths(
-        &mut out[0..n],
+        out,
         m,
         lists::part_u32(&nets, 0, net_memory::nets_total(m)),
         lists::part_u8(&trits, 0, net_memory::trits_total(m)),
@@ -73,6 +74,37 @@ fn call(
         writes,
         reads,
     )
+}
+
+// The call with so many words of a room.
+fn call_in(
+    m: Memory,
+    s: MemorySwizzle,
+    entries: &[u32],
+    writes: &[u32],
+    reads: &[u32],
+    out: &mut [u32],
+    lent: usize,
+) -> u32 {
+    let n = lists::smaller(lent, out.len());
+    call(m, s, entries, writes, reads, &mut out[0..n])
+}
+
+// So many words from a place on are one word.
+fn all_are(room: &[u32], at: usize, count: usize, word: u32) -> bool {
+    let mut i = at;
+    let mut left = count;
+    while 0 < left {
+        if room.len() <= i {
+            return false;
+        }
+        if room[i] != word {
+            return false;
+        }
+        i += 1;
+        left -= 1;
+    }
+    true
 }
 
 // swizzle_depths with so many words of a painted room.
@@ -87,23 +119,16 @@ pub(crate) fn depths(
     want: Wanted,
 ) -> Tally {
     let mut out = [0u32; ROOM];
-    room::paint_words(&mut out);
-    let n = call(m, s, entries, writes, reads, &mut out, lent);
+    paint_words(&mut out);
+    let n = call_in(m, s, entries, writes, reads, &mut out, lent);
     let t = add(t, n == want.number);
-    let t = add(t, room::all_are(&out, 0, want.full, want.deep));
-    let t = add(t, room::all_are(&out, want.full, want.rest, want.shallow));
-    add(t, room::words_kept(&out, room::sum(want.full, want.rest)))
+    let t = add(t, all_are(&out, 0, want.full, want.deep));
+    let t = add(t, all_are(&out, want.full, want.rest, want.shallow));
+    add(t, painted_words(&out, plus(want.full, want.rest)))
 }
 
 fn same_eight(a: [u32; 8], b: [u32; 8]) -> bool {
-    let mut i = 0;
-    while i < 8 {
-        if a[i] != b[i] {
-            return false;
-        }
-        i += 1;
-    }
-    true
+    same(&a, &b)
 }
 
 fn mux_call(

@@ -373,30 +373,15 @@ fn deep_sizes() -> Sizes {
     }
 }
 
-fn fill_trits(image: &mut [u8]) {
-    let mut i = 0;
-    while i < image.len() {
-        image[i] = (i % 3) as u8;
-        i += 1;
-    }
-}
-
-fn front(bytes: &[u8], n: usize) -> &[u8] {
-    if bytes.len() < n {
-        return bytes;
-    }
-    &bytes[..n]
-}
-
 fn largest(image: &mut [u8], bytes: &mut [u8], back: &mut [u8], s: Sizes) {
-    fill_trits(image);
+    try_kit::paint::fill_trits(image);
     write(bytes, b"write the largest", s, image, b"\x05\x00");
     read(
         back,
         b"read the largest",
-        front(bytes, rules::MAX_RECORD),
+        lists::part_u8(bytes, 0, rules::MAX_RECORD),
         s,
-        front(image, rules::MAX_IMAGE as usize),
+        lists::part_u8(image, 0, rules::MAX_IMAGE as usize),
     );
 }
 

@@ -8,10 +8,10 @@ use Rattle.try_merges.proofs.cases.Statement.{statement}
 use Rattle.try_merges.proofs.cases.Tie as tie
 
 abbrev Inv-loop : tie.InvT-loop
-Inv-loop log₀ want₀ bitwise t₀ k₀ log want t k = (length log ≡ length log₀) × (length want ≡ length want₀)
+Inv-loop bitwise log₀ want₀ t₀ k₀ log want t k = (length log ≡ length log₀) × (length want ≡ length want₀)
 
 abbrev μ-loop : tie.MeasureT-loop
-μ-loop log₀ want₀ bitwise t₀ k₀ log want t k = 225 - k
+μ-loop bitwise log₀ want₀ t₀ k₀ log want t k = 225 - k
 
 start-requires : tie.Need-start-requires Inv-loop μ-loop
 start-requires c κs = search needs

@@ -8,10 +8,10 @@ use Rattle.try_merges.proofs.expect_runs.Statement.{statement}
 use Rattle.try_merges.proofs.expect_runs.Tie as tie
 
 abbrev Inv-loop : tie.InvT-loop
-Inv-loop want₀ nets₀ s a b state₀ i₀ want nets state i = (length want ≡ length want₀) × (length nets ≡ length nets₀)
+Inv-loop want₀ s a b nets₀ state₀ i₀ want nets state i = (length want ≡ length want₀) × (length nets ≡ length nets₀)
 
 abbrev μ-loop : tie.MeasureT-loop
-μ-loop want₀ nets₀ s a b state₀ i₀ want nets state i = length s - i
+μ-loop want₀ s a b nets₀ state₀ i₀ want nets state i = length s - i
 
 loop-holds : tie.Need-loop-holds Inv-loop μ-loop
 loop-holds c = (refl, refl)

@@ -8,10 +8,10 @@ use Rattle.try_merges.proofs.keep.Statement.{statement}
 use Rattle.try_merges.proofs.keep.Tie as tie
 
 abbrev Inv-loop : tie.InvT-loop
-Inv-loop kx₀ ky₀ at₀ a b kept₀ i₀ kx ky at kept i = (length kx ≡ length kx₀) × (length ky ≡ length ky₀) × (length at ≡ length at₀)
+Inv-loop a b kx₀ ky₀ at₀ kept₀ i₀ kx ky at kept i = (length kx ≡ length kx₀) × (length ky ≡ length ky₀) × (length at ≡ length at₀)
 
 abbrev μ-loop : tie.MeasureT-loop
-μ-loop kx₀ ky₀ at₀ a b kept₀ i₀ kx ky at kept i = length a - i
+μ-loop a b kx₀ ky₀ at₀ kept₀ i₀ kx ky at kept i = length a - i
 
 loop-holds : tie.Need-loop-holds Inv-loop μ-loop
 loop-holds c = (refl, refl, refl)
@@ -28,8 +28,8 @@ place-of-requires c κs = search needs
 word-requires : tie.Need-word-requires Inv-loop μ-loop
 word-requires c κs = search needs
 
-put-requires : tie.Need-put-requires Inv-loop μ-loop
-put-requires c κs = search needs
+put-u32-requires : tie.Need-put-u32-requires Inv-loop μ-loop
+put-u32-requires c κs = search needs
 
 keep-pair-requires : tie.Need-keep-pair-requires Inv-loop μ-loop
 keep-pair-requires c κs = search needs
@@ -66,7 +66,7 @@ keep-spec =
     word-at-requires-2
     place-of-requires
     word-requires
-    put-requires
+    put-u32-requires
     keep-pair-requires
     add-i
     loop-less

@@ -28,8 +28,8 @@ cast-net-above c = omega arith
 net-above-requires : tie.Need-net-above-requires Inv-loop μ-loop
 net-above-requires c κs = search needs
 
-put-requires : tie.Need-put-requires Inv-loop μ-loop
-put-requires c κs = search needs
+put-u32-requires : tie.Need-put-u32-requires Inv-loop μ-loop
+put-u32-requires c κs = search needs
 
 add-i : tie.Need-add-i Inv-loop μ-loop
 add-i c = omega arith
@@ -57,7 +57,7 @@ put-nets-spec =
     word-at-requires
     cast-net-above
     net-above-requires
-    put-requires
+    put-u32-requires
     add-i
     loop-less
     loop-again

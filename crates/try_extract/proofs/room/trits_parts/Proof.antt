@@ -35,8 +35,8 @@ trits-run-requires c κs = tt
 returns : tie.Need-returns Inv-loop μ-loop
 returns c = tt
 
-sum-requires : tie.Need-sum-requires Inv-loop μ-loop
-sum-requires c κs = tt
+plus-requires : tie.Need-plus-requires Inv-loop μ-loop
+plus-requires c κs = tt
 
 add-i : tie.Need-add-i Inv-loop μ-loop
 add-i c = omega arith
@@ -47,8 +47,8 @@ loop-less c = omega arith
 loop-again : tie.Need-loop-again Inv-loop μ-loop
 loop-again c = (omega arith, omega arith)
 
-trits-kept-requires : tie.Need-trits-kept-requires Inv-loop μ-loop
-trits-kept-requires c κs = tt
+painted-requires : tie.Need-painted-requires Inv-loop μ-loop
+painted-requires c κs = tt
 
 returns-2 : tie.Need-returns-2 Inv-loop μ-loop
 returns-2 c = tt
@@ -67,9 +67,9 @@ trits-parts-spec =
     shared-slice-read-trits-run
     trits-run-requires
     returns
-    sum-requires
+    plus-requires
     add-i
     loop-less
     loop-again
-    trits-kept-requires
+    painted-requires
     returns-2)

@@ -19,11 +19,11 @@ returns c = tt
 shared-slice-read-if2 : tie.Need-shared-slice-read-if2 Inv-loop μ-loop
 shared-slice-read-if2 c = omega arith
 
-sub-sum : tie.Need-sub-sum Inv-loop μ-loop
-sub-sum c = omega arith
+sub-plus : tie.Need-sub-plus Inv-loop μ-loop
+sub-plus c = omega arith
 
-sum-requires : tie.Need-sum-requires Inv-loop μ-loop
-sum-requires c κs = tt
+plus-requires : tie.Need-plus-requires Inv-loop μ-loop
+plus-requires c κs = tt
 
 trit-by-requires : tie.Need-trit-by-requires Inv-loop μ-loop
 trit-by-requires c κs = tt
@@ -55,8 +55,8 @@ trits-run-spec =
     loop-holds
     returns
     shared-slice-read-if2
-    sub-sum
-    sum-requires
+    sub-plus
+    plus-requires
     trit-by-requires
     returns-2
     add-i

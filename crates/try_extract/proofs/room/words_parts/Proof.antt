@@ -35,8 +35,8 @@ words-run-requires c κs = tt
 returns : tie.Need-returns Inv-loop μ-loop
 returns c = tt
 
-sum-requires : tie.Need-sum-requires Inv-loop μ-loop
-sum-requires c κs = tt
+plus-requires : tie.Need-plus-requires Inv-loop μ-loop
+plus-requires c κs = tt
 
 add-i : tie.Need-add-i Inv-loop μ-loop
 add-i c = omega arith
@@ -47,8 +47,8 @@ loop-less c = omega arith
 loop-again : tie.Need-loop-again Inv-loop μ-loop
 loop-again c = (omega arith, omega arith)
 
-words-kept-requires : tie.Need-words-kept-requires Inv-loop μ-loop
-words-kept-requires c κs = tt
+painted-words-requires : tie.Need-painted-words-requires Inv-loop μ-loop
+painted-words-requires c κs = tt
 
 returns-2 : tie.Need-returns-2 Inv-loop μ-loop
 returns-2 c = tt
@@ -67,9 +67,9 @@ words-parts-spec =
     shared-slice-read-words-run
     words-run-requires
     returns
-    sum-requires
+    plus-requires
     add-i
     loop-less
     loop-again
-    words-kept-requires
+    painted-words-requires
     returns-2)

@@ -22,11 +22,11 @@ mul-if2 c = omega arith
 shared-slice-read-if2 : tie.Need-shared-slice-read-if2 Inv-loop μ-loop
 shared-slice-read-if2 c = omega arith
 
-sub-sum : tie.Need-sub-sum Inv-loop μ-loop
-sub-sum c = omega arith
+sub-plus : tie.Need-sub-plus Inv-loop μ-loop
+sub-plus c = omega arith
 
-sum-requires : tie.Need-sum-requires Inv-loop μ-loop
-sum-requires c κs = tt
+plus-requires : tie.Need-plus-requires Inv-loop μ-loop
+plus-requires c κs = tt
 
 word-by-requires : tie.Need-word-by-requires Inv-loop μ-loop
 word-by-requires c κs = tt
@@ -59,8 +59,8 @@ words-run-spec =
     returns
     mul-if2
     shared-slice-read-if2
-    sub-sum
-    sum-requires
+    sub-plus
+    plus-requires
     word-by-requires
     returns-2
     add-i

@@ -1,6 +1,6 @@
 -- `try_kit::paint::paint` meets its contract.
-use Rattle.try_kit.specs.Paint.{paintOf}
-use Rattle.try_kit.proofs.Turns.{left, paint-all, paint-turn, paint-end}
+use Rattle.try_kit.specs.Paint.{paintAt, patternOf}
+use Rattle.try_kit.proofs.Turns.{left, fill-all, fill-turn, fill-end}
 use mathlib.Core.Path.{_≡_, refl, sym, _∙_}
 use Prim.Native.Nat.{_-_, _≤_}
 use native.Mathlib.Omega.{arith}
@@ -11,13 +11,13 @@ use Rattle.try_kit.proofs.paint.paint.Statement.{statement}
 use Rattle.try_kit.proofs.paint.paint.Tie as tie
 
 abbrev Inv-loop : tie.InvT-loop
-Inv-loop room₀ i₀ room i = (i ≤ length room₀) × (length room ≡ length room₀) × (sets room i (left (length room₀) i) ≡ paintOf (length room₀))
+Inv-loop room₀ i₀ room i = (i ≤ length room₀) × (length room ≡ length room₀) × (sets room i (left paintAt (length room₀) i) ≡ patternOf paintAt (length room₀))
 
 abbrev μ-loop : tie.MeasureT-loop
 μ-loop room₀ i₀ room i = length room₀ - i
 
 loop-holds : tie.Need-loop-holds Inv-loop μ-loop
-loop-holds c = (omega arith, refl, paint-all (c .before .args .room .now))
+loop-holds c = (omega arith, refl, fill-all paintAt (c .before .args .room .now))
 
 paint-at-requires : tie.Need-paint-at-requires Inv-loop μ-loop
 paint-at-requires c κs = search needs
@@ -35,7 +35,7 @@ loop-again : tie.Need-loop-again Inv-loop μ-loop
 loop-again c =
     let l = c .before .before .loop in
     let n = length (c .before .before .before .before .args .room .now) in
-    (omega arith, simp length-set (omega arith), paint-turn (l .room) n (l .i) (c .paint-at .result) (omega arith) (c .paint-at .ensures) ∙ l .inv .2)
+    (omega arith, simp length-set (omega arith), fill-turn paintAt (l .room) n (l .i) (c .paint-at .result) (omega arith) (c .paint-at .ensures) ∙ l .inv .2)
 
 same-length : tie.Need-same-length Inv-loop μ-loop
 same-length c = c .before .loop .inv .1
@@ -43,7 +43,7 @@ same-length c = c .before .loop .inv .1
 returns : tie.Need-returns Inv-loop μ-loop
 returns c =
     let l = c .before .loop in
-    sym (paint-end (l .room) (length (c .before .before .before .args .room .now)) (l .i) (omega arith)) ∙ l .inv .2
+    sym (fill-end paintAt (l .room) (length (c .before .before .before .args .room .now)) (l .i) (omega arith)) ∙ l .inv .2
 
 pub paint-spec : {M : Type 1} → statement M
 paint-spec =

@@ -1,5 +1,5 @@
 -- `try_kit::paint::painted` meets its contract.
-use Rattle.try_kit.specs.Paint.{paintedFrom}
+use Rattle.try_kit.specs.Paint.{paintAt, patternFrom}
 use Rattle.try_kit.proofs.Turns.{painted-fail, painted-pass, painted-end}
 use mathlib.Core.Path.{_≡_, refl, _∙_}
 use Prim.Native.Nat.{_-_}
@@ -10,7 +10,7 @@ use Rattle.try_kit.proofs.paint.painted.Statement.{statement}
 use Rattle.try_kit.proofs.paint.painted.Tie as tie
 
 abbrev Inv-loop : tie.InvT-loop
-Inv-loop room from i₀ i = paintedFrom room i ≡ paintedFrom room from
+Inv-loop room from i₀ i = patternFrom paintAt room i ≡ patternFrom paintAt room from
 
 abbrev μ-loop : tie.MeasureT-loop
 μ-loop room from i₀ i = length room - i
@@ -29,7 +29,7 @@ returns c =
     let p = c .before in
     let l = p .before .before .before .loop in
     let r = p .before .before .before .before .before .args .room .now in
-    painted-fail r (l .i) (p .paint-at .result) (omega arith) (p .paint-at .ensures) (c .if1 .taken) ∙ l .inv
+    painted-fail paintAt r (l .i) (p .paint-at .result) (omega arith) (p .paint-at .ensures) (c .if1 .taken) ∙ l .inv
 
 add-i : tie.Need-add-i Inv-loop μ-loop
 add-i c = omega arith
@@ -42,12 +42,12 @@ loop-again c =
     let p = c .before in
     let l = p .before .before .before .loop in
     let r = p .before .before .before .before .before .args .room .now in
-    painted-pass r (l .i) (p .paint-at .result) (omega arith) (p .paint-at .ensures) (c .if1 .left) ∙ l .inv
+    painted-pass paintAt r (l .i) (p .paint-at .result) (omega arith) (p .paint-at .ensures) (c .if1 .left) ∙ l .inv
 
 returns-2 : tie.Need-returns-2 Inv-loop μ-loop
 returns-2 c =
     let l = c .before .loop in
-    painted-end (c .before .before .before .args .room .now) (l .i) (omega arith) ∙ l .inv
+    painted-end paintAt (c .before .before .before .args .room .now) (l .i) (omega arith) ∙ l .inv
 
 pub painted-spec : {M : Type 1} → statement M
 painted-spec =
