@@ -97,12 +97,12 @@ module _ (depth width size room len : ℕ) where
   fill-0 e l = rw (eq-eqb len (depth * width) e, le-ltb room size l)
 
 pub fill-refusal-is : (q : Layout) (size room len : ℕ) → size ≡ imageSize q → fillRefusalBy (q .depth) (q .width) size room len ≡ fillRefusalOf q room len
-unfolding fillRefusalBy fillRefusalOf
-fill-refusal-is q size room len e = ap (λ (n : ℕ). if not (eqb len (q .depth * q .width)) then 2 else if noRoom room n then 20 else 0) e
+unfolding fillRefusalOf
+fill-refusal-is q size room len e = ap (λ (n : ℕ). fillRefusalBy (q .depth) (q .width) n room len) e
 
 -- what is known where no number refuses
 pub fills : (q : Layout) (room len : ℕ) → fillRefusalOf q room len ≡ 0 → (len ≡ q .depth * q .width) × (imageSize q ≤ room)
-unfolding fillRefusalOf noRoom
+unfolding fillRefusalOf fillRefusalBy noRoom
 fills q room len e =
     let a = if-zero (not (eqb len (q .depth * q .width))) 1 _ e in
     let b = if-zero (ltb room (imageSize q)) 19 0 (a .1) in

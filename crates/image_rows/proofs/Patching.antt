@@ -13,7 +13,7 @@ use Rattle.rules.specs.Logic.{areTrits}
 use Rattle.rules.specs.Geometry.{Layout}
 use Rattle.rules.specs.Image.{imageSize, writeRow, Patch, Laid}
 use Rattle.rules.specs.Conditions.{badTrits, notBelow, noRoom}
-use Rattle.rules.specs.Refusals.{imageRefusal, patchRefusalOf, patchRefusal, patchRefusalBy}
+use Rattle.rules.specs.Refusals.{patchRefusalOf, patchRefusal, patchRefusalBy}
 use Rattle.rules.specs.Patch.{patchedBy, patchedOne}
 use Rattle.rules.specs.Answers.{Filled, patchCall}
 
@@ -41,8 +41,8 @@ module _ (width depth size row : ℕ) (trits : List ℕ) (room : ℕ) where
 -- the rules' own number
 pub number-is : (q : Layout) (size row : ℕ) (trits : List ℕ) (room : ℕ) → size ≡ imageSize q
     → patchRefusalBy (q .width) (q .depth) size row trits room ≡ patchRefusalOf q (record { row = row; trits = trits; room = room })
-unfolding patchRefusalBy patchRefusalOf imageRefusal
-number-is q size row trits room e = ap (λ (n : ℕ). if not (eqb (length trits) (q .width)) || badTrits trits then 4 else if notBelow (q .depth) row then 15 else if noRoom room n then 20 else 0) e
+unfolding patchRefusalOf
+number-is q size row trits room e = ap (λ (n : ℕ). patchRefusalBy (q .width) (q .depth) n row trits room) e
 
 -- ---- what is left of the image
 kept-by : (q : Layout) (c : Patch) (image : List ℕ) → patchRefusalOf q c ≢ 0 → image ≡ patchedBy q c image

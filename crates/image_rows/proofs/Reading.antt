@@ -36,12 +36,12 @@ module _ (depth width size room len row : ℕ) where
   read-0 a b c = rw (lt-leb depth row a, le-ltb len size b, le-ltb room width c)
 
 pub read-refusal-is : (q : Layout) (size room len row : ℕ) → size ≡ imageSize q → readRowRefusalBy (q .depth) (q .width) size room len row ≡ readRowRefusalOf q room len row
-unfolding readRowRefusalBy readRowRefusalOf
-read-refusal-is q size room len row e = ap (λ (n : ℕ). if notBelow (q .depth) row then 15 else if noRoom len n || noRoom room (q .width) then 20 else 0) e
+unfolding readRowRefusalOf
+read-refusal-is q size room len row e = ap (λ (n : ℕ). readRowRefusalBy (q .depth) (q .width) n room len row) e
 
 -- what is known where no number refuses
 pub reads : (q : Layout) (room len row : ℕ) → readRowRefusalOf q room len row ≡ 0 → (row < q .depth) × (q .width ≤ room)
-unfolding readRowRefusalOf notBelow noRoom
+unfolding readRowRefusalOf readRowRefusalBy notBelow noRoom
 reads q room len row e =
     let a = if-zero (leb (q .depth) row) 14 _ e in
     let b = if-zero (ltb len (imageSize q) || ltb room (q .width)) 19 0 (a .1) in
