@@ -14,7 +14,7 @@ const ROOM_NETS: usize = 66048;
 
 const ROOM_TRITS: usize = 229376;
 
-const ROOM_OUTPUT: usize = 32768;
+const ROOM_OUTPUT: usize = rules::MAX_PORTS * rules::MAX_MERGE;
 
 // A case of at most so many words, and the nets, trits and output nets that an extraction from it stores: each port may be named eight times.
 const SMALL_CASE: usize = 512;
@@ -22,9 +22,9 @@ const SMALL_CASE: usize = 512;
 const SMALL_ROOM: usize = 4096;
 
 // The entries of a row, and the depths of memories, that these calls have room for: a memory has a column at least.
-const ROOM_ROW: usize = 256;
+const ROOM_ROW: usize = rules::MAX_ROW;
 
-const ROOM_DEPTHS: usize = 32768;
+const ROOM_DEPTHS: usize = rules::MAX_COLUMNS as usize;
 
 const FEW_DEPTHS: usize = 256;
 
@@ -170,7 +170,7 @@ fn depth_count(given: &[u32]) -> usize {
 }
 
 fn size(n: u64) -> usize {
-    if n < 32768 {
+    if n < rules::MAX_COLUMNS {
         return n as usize;
     }
     ROOM_DEPTHS

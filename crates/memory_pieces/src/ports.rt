@@ -1,5 +1,6 @@
 // The ports of a memory of a case, without their nets and trits.
 ghost use Prim.Native.Nat.{_≤_};
+ghost use Rattle.rules.specs.Limits.{maxPorts};
 use net_flip_flop::Controls;
 use net_memory::MemoryReadFlipFlop;
 use net_memory::MemoryReadPort;
@@ -30,7 +31,7 @@ fn plain_read_port(addr_len: u32, data_len: u32) -> MemoryReadPort {
         reset_len: 0,
         init_len: 0,
         relations_len: 0,
-        relations: [0u8; 8],
+        relations: [0u8; rules::MAX_PORTS],
         flip_flop: MemoryReadFlipFlop::None,
     }
 }
@@ -51,10 +52,14 @@ fn write_port_at(given: &[u32], c: Cursor) -> MemoryWritePort {
     }
 }
 
-pub(crate) fn write_ports(given: &[u32], first: Cursor, n: usize) -> [MemoryWritePort; 8]
-    requires { ⌜ n ≤ 8 ⌝ }
+pub(crate) fn write_ports(
+    given: &[u32],
+    first: Cursor,
+    n: usize,
+) -> [MemoryWritePort; rules::MAX_PORTS]
+    requires { ⌜ n ≤ maxPorts ⌝ }
 {
-    let mut ports = [no_write_port(); 8];
+    let mut ports = [no_write_port(); rules::MAX_PORTS];
     let mut c = first;
     let mut i = 0;
     while i < n {
@@ -80,10 +85,10 @@ fn controls_at(given: &[u32], c: Cursor) -> Controls {
 }
 
 // The codes of as many relations as there is place for.
-fn relations_at(given: &[u32], c: Cursor) -> [u8; 8] {
-    let mut codes = [0u8; 8];
+fn relations_at(given: &[u32], c: Cursor) -> [u8; rules::MAX_PORTS] {
+    let mut codes = [0u8; rules::MAX_PORTS];
     let list = pieces::list(given, c.at);
-    pieces::codes(&mut codes, 0, pieces::part(list, 0, 8));
+    pieces::codes(&mut codes, 0, pieces::part(list, 0, rules::MAX_PORTS));
     codes
 }
 
@@ -116,10 +121,14 @@ fn read_port_at(given: &[u32], c: Cursor) -> MemoryReadPort {
     plain_read_port(addr_len, data_len)
 }
 
-pub(crate) fn read_ports(given: &[u32], first: Cursor, n: usize) -> [MemoryReadPort; 8]
-    requires { ⌜ n ≤ 8 ⌝ }
+pub(crate) fn read_ports(
+    given: &[u32],
+    first: Cursor,
+    n: usize,
+) -> [MemoryReadPort; rules::MAX_PORTS]
+    requires { ⌜ n ≤ maxPorts ⌝ }
 {
-    let mut ports = [plain_read_port(0, 0); 8];
+    let mut ports = [plain_read_port(0, 0); rules::MAX_PORTS];
     let mut c = first;
     let mut i = 0;
     while i < n {

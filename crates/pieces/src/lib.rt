@@ -275,10 +275,10 @@ pub fn put_control(to: &mut [u32], at: usize, c: ControlNet) -> usize
 fn small(n: usize) -> u32
     ensures { λ r. ⌜ r ≡ wordOf n ⌝ }
 {
-    if n < 0xffffffff {
+    if n < rules::MAX_WORDS {
         return n as u32;
     }
-    0xffffffff
+    rules::MAX_WORDS as u32
 }
 
 // A list of an answer from `at` on: the index after it.
@@ -361,7 +361,7 @@ pub fn finish(answer: &mut [u32], number: u32, payload: &[u32]) -> usize
     if answer.len() - 2 < n {
         return 0;
     }
-    if 0xffffffff < n {
+    if rules::MAX_WORDS < n {
         return 0;
     }
     answer[0] = number;

@@ -5,6 +5,7 @@ ghost use Prim.Native.Nat.{ℕ, _+_, _<_, _≤_};
 ghost use lib.ListN.{length};
 ghost use lib.Seq.{sets};
 ghost use Rattle.lists.specs.Lists.{concatMap};
+ghost use Rattle.rules.specs.Limits.{maxPorts};
 ghost use Rattle.rules.specs.Cell.{outputSlice};
 ghost use Rattle.rules.specs.Refusals.{noRooms, extractReadPortsRefusal};
 ghost use Rattle.rules.specs.Answers.{extractReadPortsCall};
@@ -50,7 +51,7 @@ fn clocked_trits(m: Memory, trits: &[u8], i: usize) -> &[u8]
 
 // Stores the addresses of the listed ports from `start` on, and says where they end.
 fn put_addrs(room: &mut [u32], start: usize, m: Memory, nets: &[u32], list: &[u32]) -> usize
-    requires { ⌜ (start ≤ 0x1800000000) × (length (now list) ≤ 8) ⌝ }
+    requires { ⌜ (start ≤ 0x1800000000) × (length (now list) ≤ maxPorts) ⌝ }
     ensures { λ r. ⌜ r ≡ start + length (concatMap (readNets m (now (nets .entry))) (now (list .entry))) ⌝ }
     ensures { λ _. ⌜ now (room .exit) ≡ sets (now (room .entry)) start (concatMap (readNets m (now (nets .entry))) (now (list .entry))) ⌝ }
 {
@@ -67,7 +68,7 @@ fn put_addrs(room: &mut [u32], start: usize, m: Memory, nets: &[u32], list: &[u3
 
 // Stores the trits of the listed ports from `start` on, and says where they end.
 fn put_values(room: &mut [u8], start: usize, m: Memory, trits: &[u8], list: &[u32]) -> usize
-    requires { ⌜ (start ≤ 0x1800000000) × (length (now list) ≤ 8) ⌝ }
+    requires { ⌜ (start ≤ 0x1800000000) × (length (now list) ≤ maxPorts) ⌝ }
     ensures { λ r. ⌜ r ≡ start + length (concatMap (keptTrits m (now (trits .entry))) (now (list .entry))) ⌝ }
     ensures { λ _. ⌜ now (room .exit) ≡ sets (now (room .entry)) start (concatMap (keptTrits m (now (trits .entry))) (now (list .entry))) ⌝ }
 {
@@ -84,7 +85,7 @@ fn put_values(room: &mut [u8], start: usize, m: Memory, trits: &[u8], list: &[u3
 
 // Stores the outputs of the listed ports, and says where they end.
 fn put_outputs(room: &mut [u32], m: Memory, output: &[u32], list: &[u32]) -> usize
-    requires { ⌜ length (now list) ≤ 8 ⌝ }
+    requires { ⌜ length (now list) ≤ maxPorts ⌝ }
     ensures { λ r. ⌜ ((nets trits : List ℕ) → r ≡ length (newOutput m nets trits (now (list .entry)) (now (output .entry)))) ⌝ }
     ensures { λ _. ⌜ ((nets trits : List ℕ) → now (room .exit) ≡ sets (now (room .entry)) 0 (newOutput m nets trits (now (list .entry)) (now (output .entry)))) ⌝ }
 {
@@ -102,7 +103,7 @@ fn put_outputs(room: &mut [u32], m: Memory, output: &[u32], list: &[u32]) -> usi
 
 // Stores the new nets, and says how many they are.
 fn put_nets(room: &mut [u32], m: Memory, nets: &[u32], list: &[u32]) -> usize
-    requires { ⌜ length (now list) ≤ 8 ⌝ }
+    requires { ⌜ length (now list) ≤ maxPorts ⌝ }
     ensures { λ r. ⌜ r ≡ length (newNets m (now (nets .entry)) (now (list .entry))) ⌝ }
     ensures { λ _. ⌜ now (room .exit) ≡ sets (now (room .entry)) 0 (newNets m (now (nets .entry)) (now (list .entry))) ⌝ }
 {
@@ -113,7 +114,7 @@ fn put_nets(room: &mut [u32], m: Memory, nets: &[u32], list: &[u32]) -> usize
 
 // Stores the new trits, and says how many they are.
 fn put_trits(room: &mut [u8], m: Memory, trits: &[u8], list: &[u32]) -> usize
-    requires { ⌜ length (now list) ≤ 8 ⌝ }
+    requires { ⌜ length (now list) ≤ maxPorts ⌝ }
     ensures { λ r. ⌜ r ≡ length (newTrits m (now (trits .entry)) (now (list .entry))) ⌝ }
     ensures { λ _. ⌜ now (room .exit) ≡ sets (now (room .entry)) 0 (newTrits m (now (trits .entry)) (now (list .entry))) ⌝ }
 {
