@@ -12,7 +12,7 @@ use lib.Dec.{eqb, ltb}
 use lib.ListN.{length, take, drop, replicate, length-replicate, take-append-drop}
 use lib.Seq.{sets, sets-eq, take-at, drop-at}
 use borrow.Author.Tests.{eq-eqb, ne-eqb, lt-ltb, le-ltb, eqb-true, ltb-false, not-false}
-use Rattle.lists.specs.Choice.{if_then_else_, leaves}
+use Rattle.lists.specs.Choice.{leaves}
 use Rattle.lists.proofs.Choice.{if-zero, leaves-refused, leaves-accepted}
 use Rattle.rules.specs.Limits.{tritX}
 use Rattle.rules.specs.Logic.{undef}

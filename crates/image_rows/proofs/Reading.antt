@@ -9,7 +9,7 @@ use lib.Dec.{ltb, leb}
 use lib.ListN.{length}
 use lib.Seq.{sets}
 use borrow.Author.Tests.{lt-ltb, le-ltb, le-leb, lt-leb, leb-false, ltb-false}
-use Rattle.lists.specs.Choice.{if_then_else_, leaves}
+use Rattle.lists.specs.Choice.{leaves}
 use Rattle.lists.proofs.Choice.{if-zero, or-false}
 use Rattle.rules.specs.Geometry.{Layout}
 use Rattle.rules.specs.Image.{imageSize, Laid}

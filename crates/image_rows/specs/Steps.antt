@@ -1,15 +1,15 @@
 -- What the private functions ask and give: the cursor over a row's places, and a row taken out of an image.
 use Prim.Native.Nat.{ℕ, zero, suc, _+_, _*_, _≤_, _<_}
 use mathlib.Core.Path.{_≡_}
-use mathlib.Core.Bool.{false, not, _||_}
+use mathlib.Core.Bool.{false}
 use mathlib.Core.List.{List, [], _∷_}
 use lib.Dec.{eqb, ltb}
-use lib.ListN.{length, getD}
+use lib.ListN.{getD}
 use Rattle.lists.specs.Choice.{if_then_else_}
 use Rattle.rules.specs.Limits.{None, tritX}
 use Rattle.rules.specs.Geometry.{Layout, rowLen, fullMems, fullDepth, partDepth}
 use Rattle.rules.specs.Image.{placeOf, flatAt, put}
-use Rattle.rules.specs.Conditions.{badTrits, notBelow, noRoom, badLayoutSizes}
+use Rattle.rules.specs.Conditions.{badLayoutSizes}
 use Rattle.image_geometry.specs.declared.Params.{Params}
 use Rattle.image_geometry.specs.declared.Shape.{Shape}
 use Rattle.image_geometry.specs.View.{layoutBy}

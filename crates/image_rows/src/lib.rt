@@ -2,7 +2,6 @@
 ghost use mathlib.Core.Path.{_≡_};
 ghost use Prim.Native.Nat.{_+_, _*_, _≤_, _<_};
 ghost use lib.ListN.{length};
-ghost use Rattle.rules.specs.Logic.{areTrits};
 ghost use Rattle.rules.specs.Image.{putRow, writeRow, writeRows, indexOf};
 ghost use Rattle.rules.specs.Beside.Shape.{handedOn, placeCall};
 ghost use Rattle.rules.specs.Beside.Layouts.{fillCall, readRowCall, fillRefusalBy, readRowRefusalBy};

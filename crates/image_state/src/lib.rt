@@ -1,7 +1,7 @@
 // Images: the state that a swizzle hands on, and by it an image laid out from rows, a row patched and a row read back.
 ghost use mathlib.Core.Path.{_≡_};
 ghost use mathlib.Core.Option.{none};
-ghost use Prim.Native.Nat.{_<_, _≤_, min};
+ghost use Prim.Native.Nat.{_≤_, min};
 ghost use lib.ListN.{length};
 ghost use Rattle.rules.specs.Limits.{maxRow};
 ghost use Rattle.rules.specs.Beside.Shape.{handedOn};

@@ -3,7 +3,7 @@
 // Emission asks nothing: what lies past the log's end is not stored, and the state's numbers stop where `specs/Emission.antt` says. So a dry run
 // is the same function on an empty part of the log.
 ghost use mathlib.Core.Path.{_≡_};
-ghost use mathlib.Core.List.{_∷_, [], _++_};
+ghost use mathlib.Core.List.{_∷_, _++_};
 ghost use Prim.Native.Nat.{_+_, _-_, _<_, _≤_, min};
 ghost use lib.ListN.{length};
 ghost use lib.Seq.{sets};

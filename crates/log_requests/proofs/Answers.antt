@@ -22,7 +22,7 @@ use Rattle.log_entries.specs.View.{stateOf, lent}
 use Rattle.log_entries.specs.declared.LogState as machine
 use Rattle.log_entries.proofs.Rooms.{Fits, room-fits}
 use Rattle.log_entries.proofs.Emission.{ran, run-fits, accepted-run, accepted-held}
-use Rattle.log_requests.specs.Answers.{requestOf, loggedOf}
+use Rattle.log_requests.specs.Answers.{loggedOf}
 use Rattle.log_requests.specs.declared.Answer.the-variants.{Refused, Accepted}
 
 module _ {A : Type 0} (v : A) (N : ℕ) (log : List ℕ) (s : LogState) (t : Trace A) where

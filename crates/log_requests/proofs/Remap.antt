@@ -5,7 +5,6 @@ use native.Mathlib.Omega.{arith}
 use mathlib.Core.Bool.{true, false, _||_}
 use mathlib.Core.List.{[], _∷_}
 use lib.ListN.{getD}
-use Rattle.lists.specs.Choice.{if_then_else_}
 use Rattle.lists.proofs.Choice.{if-true, if-false}
 use Rattle.rules.specs.Limits.{maxNets, X}
 use Rattle.rules.specs.Value.{Control, Pos, Neg, isAlways, goodControl}

@@ -1,6 +1,6 @@
 // The requests of a design, each logged as one entry: the cores, which take the log state by value. A refused request changes nothing.
 ghost use mathlib.Core.Path.{_≡_};
-ghost use mathlib.Core.List.{_∷_, [], _++_};
+ghost use mathlib.Core.List.{_∷_, []};
 ghost use Prim.Native.Nat.{_+_, _*_, _<_, _≤_};
 ghost use lib.ListN.{length};
 ghost use Rattle.lists.specs.Choice.{_orElse_};

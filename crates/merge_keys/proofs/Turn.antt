@@ -11,7 +11,7 @@ use borrow.Author.Tests.{eq-eqb, eqb-true, eqb-false}
 use Rattle.lists.specs.Choice.{if_then_else_}
 use Rattle.lists.proofs.Choice.{cases-le}
 use Rattle.lists.specs.Lists.{pairs}
-use Rattle.lists.specs.Distinct.{placeIn, withNew, keptFrom, placesFrom, kept}
+use Rattle.lists.specs.Distinct.{placeIn, withNew, keptFrom, placesFrom}
 use Rattle.lists.proofs.Store.{sets-at, part-sets}
 use Rattle.lists.proofs.Parts.{take-most}
 use Rattle.lists.proofs.Pairs.{pairs-size, pairs-at, take-pairs, pairs-columns}

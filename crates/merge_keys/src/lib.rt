@@ -1,7 +1,6 @@
 // Equal keys are kept once, in order of first appearance. A key is two words, one of each column; `merge` keeps the keys of two columns and gives
 // each its place among them.
 ghost use mathlib.Core.Path.{_≡_};
-ghost use mathlib.Core.List.{[], map};
 ghost use Prim.Native.Nat.{_+_, _-_, _<_};
 ghost use lib.ListN.{length, take, getD, set};
 ghost use lib.Seq.{sets};
@@ -9,7 +8,7 @@ ghost use lib.Dec.{eqb};
 ghost use Rattle.lists.specs.Choice.{if_then_else_};
 ghost use Rattle.lists.specs.Lists.{pairs};
 ghost use Rattle.lists.specs.Distinct.{placeIn, kept, places};
-ghost use Rattle.rules.specs.Merge.{Key2, same2};
+ghost use Rattle.rules.specs.Merge.{same2};
 ghost use Rattle.merge_keys.specs.Keys.{merging, Columns, Ready, Roomy, firsts, seconds};
 
 // The place of a key among the first count of two columns, or count where it is not among them.

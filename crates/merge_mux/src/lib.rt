@@ -1,6 +1,5 @@
 // memory/src/lib.rs, add_dedup_mux and add_bitwise_mux with their numbers: a refused call changes neither the log nor the room for the result nets.
 ghost use mathlib.Core.Path.{_≡_};
-ghost use lib.ListN.{length};
 ghost use Rattle.lists.specs.Choice.{_orElse_};
 ghost use Rattle.rules.specs.Merge.{addDedupMux, addBitwiseMux};
 ghost use Rattle.rules.specs.Refusals.{muxNumber, bitwiseNumber, resultRefusal, logRefusal};

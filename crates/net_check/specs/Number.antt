@@ -1,22 +1,14 @@
--- The refusal number of a machine's memory: the rules' number of its view, with what only the struct and the arrays can break.
+-- The numbers 2 to 4 of a memory port by port, as the code tries them.
 use mathlib.Core.Path.{_≡_}
 use Prim.Native.Nat.{ℕ, _<_, min}
-use mathlib.Core.Bool.{Bool, true, false, _&&_, _||_, not}
-use mathlib.Core.List.{List, []}
-use lib.ListN.{length}
-use lib.Dec.{eqb, ltb}
+use mathlib.Core.Bool.{Bool}
+use mathlib.Core.List.{[]}
 use Rattle.lists.specs.Choice.{if_then_else_}
-use Rattle.lists.specs.Lists.{any}
-use Rattle.rules.specs.Limits.{maxPorts, maxNets}
+use Rattle.rules.specs.Limits.{maxPorts}
 use Rattle.rules.specs.Cell.{WritePort, ReadPort, Mem, writeWideLog2, readWideLog2}
 use Rattle.rules.specs.Conditions.{badWriteShape, badReadShape, indivisible, badWriteNets, badReadNets}
-use Rattle.rules.specs.Refusals.{memNumber}
-use Rattle.net_memory.specs.declared.MemoryReadFlipFlop.{MemoryReadFlipFlop}
-use Rattle.net_memory.specs.declared.MemoryReadFlipFlop.the-variants.{None, Some}
-use Rattle.net_memory.specs.declared.MemoryReadPort.{MemoryReadPort}
 use Rattle.net_memory.specs.declared.Memory.{Memory}
-use Rattle.net_memory.specs.Given.{givenOf}
-use Rattle.net_memory.specs.View.{noReadPort, readPorts, readBy, readStart, tritStart, netsTotal, tritsTotal, memoryOf}
+use Rattle.net_memory.specs.View.{noReadPort, readBy, readStart, tritStart}
 
 -- 2, 3 or 4 by their tests, or 0
 abbrev pub numberBy : Bool → Bool → Bool → ℕ

@@ -2,9 +2,8 @@
 ghost use mathlib.Core.Path.{_≡_};
 ghost use mathlib.Core.List.{_++_, map};
 ghost use Prim.Native.Nat.{_+_, _%_, _≤_, min};
-ghost use lib.ListN.{length, take, drop, getD, set};
+ghost use lib.ListN.{length, take, drop, getD};
 ghost use lib.Seq.{sets};
-ghost use Rattle.rules.specs.Logic.{areTrits};
 ghost use Rattle.rules.specs.Value.{fromUint};
 ghost use Rattle.rules.specs.Record.{byteOf, packBits, arrayBytes, knownBit, valueBit, tritBy};
 ghost use Rattle.record_bits.specs.Groups.{groupTrits, badPair, badGroup};

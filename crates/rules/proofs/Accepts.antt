@@ -1,14 +1,13 @@
 -- Demand 3 from an accepted swizzle on: whatever patch calls follow on its image, the images are those of the patched rows.
 use Prim.Native.Nat.{ℕ, _*_, _≤_}
-use mathlib.Core.Path.{_≡_, sym, subst, ap, _∙_}
-use mathlib.Core.Bool.{false, not, _&&_, _||_}
-use mathlib.Core.Option.{some}
+use mathlib.Core.Path.{_≡_, sym, subst}
+use mathlib.Core.Bool.{false, not, _||_}
 use mathlib.Core.List.{List}
 use lib.Dec.{eqb, ltb}
 use lib.ListN.{length}
 use borrow.Author.Tests.{eqb-true, ltb-false, not-false}
 use Rattle.rules.specs.Limits.{maxDepth, maxWidth, maxBits, maxRow, maxUnit, maxHard, maxMask, maxWide}
-use Rattle.lists.specs.Choice.{if_then_else_, _orElse_}
+use Rattle.lists.specs.Choice.{if_then_else_}
 use Rattle.lists.specs.Lists.{any}
 use Rattle.rules.specs.Value.{Value}
 use Rattle.rules.specs.Cell.{Mem, Given, Plan}
@@ -16,10 +15,10 @@ use Rattle.rules.specs.Log.{LogState}
 use Rattle.rules.specs.Geometry.{layoutOf, rowLen}
 use Rattle.rules.specs.Image.{imageSize, Laid, Patch}
 use Rattle.rules.specs.Swizzle.{swizzleLaid}
-use Rattle.rules.specs.Conditions.{tooLarge, planTooLarge, badShape, badOutputLen, badValue, badEntries, badSoftMask, noRoom, allReads, imageTooLarge, badLayoutSizes, badLayout}
-use Rattle.rules.specs.Refusals.{memNumber, drivingNumber, planNumber, wideNumber, imageNumber, wholePlan, swizzlePlanNumber, swizzleNumber, SwizzleRooms, imageRefusal, swizzleRefusal}
+use Rattle.rules.specs.Conditions.{tooLarge, planTooLarge, badShape, badOutputLen, badEntries, badSoftMask, noRoom, allReads, imageTooLarge, badLayoutSizes, badLayout}
+use Rattle.rules.specs.Refusals.{memNumber, drivingNumber, planNumber, wideNumber, imageNumber, wholePlan, swizzlePlanNumber, swizzleNumber, imageRefusal, swizzleRefusal}
 use Rattle.rules.specs.Answers.{Accepted, SwizzleLent, roomsOf, swizzleCall}
-use Rattle.rules.specs.Patch.{calledAll, patched, laidOut, Demand}
+use Rattle.rules.specs.Patch.{patched, laidOut, Demand}
 use Rattle.lists.proofs.Choice.{if-zero, or-false, or-both, else-zero, leaves-accepted}
 use Rattle.rules.proofs.Demand.{demand-3}
 use Rattle.rules.proofs.GoodLayouts.{good-accepted}

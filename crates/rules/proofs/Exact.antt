@@ -1,7 +1,7 @@
 -- The test of 23 is exact: a layout that passes it is one that an accepted swizzle hands on, here of a memory of X with no ports.
 use Prim.Native.Nat.{ℕ, zero, suc, _+_, _-_, _*_, _≤_}
 use mathlib.Core.Path.{_≡_, refl, _∙_}
-use mathlib.Core.Bool.{Bool, true, false, not, _||_, _&&_}
+use mathlib.Core.Bool.{Bool, true, false, _||_, _&&_}
 use mathlib.Core.List.{List, []}
 use native.Mathlib.Omega.{arith}
 use lib.Dec.{eqb, leb}
@@ -14,14 +14,14 @@ use Rattle.rules.specs.Limits.{tritX, maxDepth, maxWidth, maxBits, maxRo
 use Rattle.rules.specs.Logic.{areTrits}
 use Rattle.rules.specs.Value.{goodValue, xNets}
 use Rattle.rules.specs.Cell.{Given, given, outputLen}
-use Rattle.rules.specs.Log.{Trace, LogState, startNet, added, words, encode, entry, done, request, replaceValue, _>>=_, _>>_}
+use Rattle.rules.specs.Log.{Trace, startNet, added, words, encode, entry, done, request, replaceValue, _>>=_, _>>_}
 use Rattle.rules.specs.Ports.{Driving, unmapEach, unmapAll}
 use Rattle.rules.specs.Geometry.{Layout, layoutOf, rowLen}
 use Rattle.rules.specs.Image.{imageSize}
 use Rattle.rules.specs.Numbers.{largest}
 use Rattle.rules.specs.Examples.{bareMem, barePlan, firstState, imageRoom}
 use Rattle.rules.specs.Swizzle.{sharedNets, sharedTrits, swizzleScratch, swizzle, swizzleRows, swizzleEmpty, swizzleWrites, swizzleReads}
-use Rattle.rules.specs.Conditions.{tooLarge, planTooLarge, badShape, badOutputLen, badDepth, badNets, badTrits, badValue, badSoftMask, badWrites, badReads, allReads, shortPorts, resultTooLarge, noRoom, logFull, netsFull, badLayout}
+use Rattle.rules.specs.Conditions.{tooLarge, planTooLarge, badShape, badOutputLen, badDepth, badNets, badTrits, badValue, badSoftMask, badWrites, badReads, allReads, shortPorts, noRoom, logFull, netsFull, badLayout}
 use Rattle.rules.specs.Refusals.{memNumber, drivingNumber, planNumber, wideNumber, imageNumber, wholePlan, swizzlePlanNumber, swizzleNumber, imageRefusal, resultsRefusal, lentRefusal, roomRefusal, logRefusal, swizzleRefusal}
 use Rattle.rules.proofs.GoodLayouts.{good, good-small}
 

@@ -1,7 +1,7 @@
 -- The limits that accepted sizes keep.
 use Prim.Native.Nat.{ℕ, _+_, _*_, _<_, _≤_, min}
-use mathlib.Core.Path.{_≡_, refl, sym, ap, _∙_}
-use mathlib.Core.Bool.{Bool, true, false, not, _&&_}
+use mathlib.Core.Path.{_≡_, sym, ap, _∙_}
+use mathlib.Core.Bool.{Bool, false, not, _&&_}
 use mathlib.Core.List.{List}
 use native.Mathlib.Omega.{arith}
 use native.Mathlib.Nat.{mul-le-mul, mul-one}
@@ -9,10 +9,8 @@ use lib.Dec.{eqb, ltb}
 use borrow.Author.Tests.{eqb-false, ltb-false}
 use Rattle.lists.proofs.Choice.{or-false}
 use Rattle.rules.specs.Limits.{maxUnit, maxDepth, maxPartial, maxColumns, maxImage}
-use lib.ListN.{length}
-use Rattle.lists.specs.Choice.{if_then_else_, _orElse_}
 use Rattle.rules.specs.Logic.{areTrits}
-use Rattle.rules.specs.Record.{Sizes, sizeMems, sizeTrits, headSizes}
+use Rattle.rules.specs.Record.{Sizes, sizeMems, sizeTrits}
 use Rattle.rules.specs.Conditions.{badTrits, isPower, badUnit, unlike, badDepths, badSizes}
 
 -- ---- what sizes keep that 17 does not refuse

@@ -2,19 +2,18 @@
 use Prim.Native.Nat.{ℕ, _+_, _-_, _*_, _^_, _<_, _≤_}
 use mathlib.Core.Path.{_≡_, refl, sym, ap, _∙_}
 use mathlib.Core.Logic.{_≢_}
-use mathlib.Core.Bool.{Bool, true, false, not, _&&_, _||_}
+use mathlib.Core.Bool.{Bool, true, false, not, _&&_}
 use native.Mathlib.Omega.{arith}
 use native.Mathlib.Nat.{zero-add, zero-mul, mul-zero, mul-comm, mod-lt, pow-le-pow-right, mul-le-mul}
 use lib.Dec.{eqb, ltb, leb}
 use lib.Pow.{pow-pos}
-use lib.ListN.{length, getD}
+use lib.ListN.{getD}
 use borrow.Author.Tests.{eqb-true, eqb-false, eq-eqb, ne-eqb, lt-ltb, le-ltb, lt-leb, ltb-false}
-use Rattle.lists.specs.Choice.{if_then_else_}
 use Rattle.lists.specs.Lists.{upFrom}
-use Rattle.lists.proofs.Choice.{or-both, or-false, and-false, not-is-true, if-zero, else-zero}
+use Rattle.lists.proofs.Choice.{or-both, or-false, and-false, not-is-true}
 use Rattle.lists.proofs.All.{any-has}
 use Rattle.lists.proofs.UpFrom.{up-at, length-up}
-use Rattle.rules.specs.Limits.{maxHard, maxUnit, maxRow, maxDepth, maxPartial, maxColumns, maxImage}
+use Rattle.rules.specs.Limits.{maxDepth, maxPartial, maxColumns, maxImage}
 use Rattle.rules.specs.Value.{Value}
 use Rattle.rules.specs.Cell.{Given, Plan}
 use Rattle.rules.specs.Geometry.{Layout, layoutOf, soft, rowLen, fullDepth, partDepth, fullChunks, allChunks, fullMems, allMems, columns}

@@ -1,12 +1,12 @@
 -- The address split worked out on a few nets, as computed sentences: what the definitions of `Swizzle` say of one small port.
 use mathlib.Core.Path.{_≡_, refl}
-use mathlib.Core.List.{List, [], _∷_}
+use mathlib.Core.List.{[], _∷_}
 use Rattle.rules.specs.Limits.{X, None}
 use Rattle.rules.specs.Numbers.{ceilDiv, softs, topBits, bitsFor}
 use Rattle.rules.specs.Value.{zext}
 use Rattle.rules.specs.Log.{flag}
-use Rattle.rules.specs.Geometry.{Layout, Spot, softBits, soft, rowLen, fullDepth, fullChunks, partDepth, allChunks, allMems, columns, under}
-use Rattle.rules.specs.Swizzle.{Role, Soft, Wide, Row, High, roleOf, isChunk, isRow, doubles, wideAfter, rowsAfter, roles, lowRoles, rowNets, muxNets, muxRoles, spotBy, Split, countDoubles, splitBy, splitAddr, pieceStart, restore, storeRows}
+use Rattle.rules.specs.Geometry.{Layout, softBits, soft, rowLen, fullDepth, fullChunks, partDepth, allChunks, allMems, columns, under}
+use Rattle.rules.specs.Swizzle.{Soft, Wide, High, roleOf, isChunk, isRow, doubles, wideAfter, rowsAfter, roles, lowRoles, rowNets, muxNets, muxRoles, spotBy, Split, countDoubles, splitBy, splitAddr, pieceStart, restore, storeRows}
 
 -- eight rows of two bits, bit 1 of the row number soft, one hard bit, unit 2: memories of two rows, four of them
 abbrev eight : Layout

@@ -14,7 +14,7 @@ use Rattle.rules.specs.Numbers.{ceilDiv}
 use Rattle.rules.specs.Logic.{areTrits}
 use Rattle.rules.specs.Value.{fromUint}
 use Rattle.rules.specs.Record.{sizeTrits, word16, wordAt, byteOf, packBits, bitsOf, arrayBytes, knownBit, valueBit, tritBy, recordHead, encodeRecord, headSizes, recordBytes, knownBits, valueBits, bitPairs, decodeImage}
-use Rattle.rules.specs.Conditions.{badHead, badSizes, badBits, spareBits}
+use Rattle.rules.specs.Conditions.{badHead, badBits, spareBits}
 use Rattle.rules.specs.Refusals.{headerRefusal, recordNumber, WritesBack}
 use Rattle.lists.proofs.Choice.{and-true, if-zero, or-false, else-zero}
 use Rattle.lists.proofs.All.{all-take, all-drop}

@@ -20,7 +20,7 @@ use Rattle.rules.specs.Image.{Laid, Patch}
 use Rattle.rules.specs.Swizzle.{swizzle, swizzleLaid, sharedNets, sharedTrits, swizzleScratch}
 use Rattle.rules.specs.Fallback.{canLowerFallback, lowerFallback, fallbackScratch}
 use Rattle.rules.specs.Record.{Sizes, sizesOf, encodeRecord, headSizes, decodeImage, recordImage}
-use Rattle.rules.specs.Refusals.{Rooms, OverlayRooms, SwizzleRooms, alone, tritRefusal, constNotRefusal, constPairRefusal, isUndefRefusal, controlRefusal, wideLog2Refusal, sliceRefusal, valueRefusal, zextRefusal, netOfCellRefusal, narrowerSelectRefusal, addVoidRefusal, addNotRefusal, addPairRefusal, addShiftRefusal, addMuxRefusal, addDffRefusal, addDedupMuxRefusal, addDedupDffRefusal, addBitwiseMuxRefusal, intoPosRefusal, remapResetOverEnableRefusal, memRefusal, outputSliceRefusal, transparencyMuxRefusal, extractReadPortsRefusal, unmapReadDffRefusal, unmapReadInitResetTransparencyRefusal, emulateReadBeforeWriteRefusal, makeDataSwizzleRefusal, swizzleDepthsRefusal, swizzleMuxBitsRefusal, swizzleRefusal, canLowerFallbackRefusal, lowerFallbackRefusal, patchRefusal, writeRecordRefusal, readRecordRefusal, summaryRefusal, headerRefusal}
+use Rattle.rules.specs.Refusals.{Rooms, SwizzleRooms, alone, tritRefusal, constNotRefusal, constPairRefusal, isUndefRefusal, controlRefusal, wideLog2Refusal, sliceRefusal, valueRefusal, zextRefusal, netOfCellRefusal, narrowerSelectRefusal, addVoidRefusal, addNotRefusal, addPairRefusal, addShiftRefusal, addMuxRefusal, addDffRefusal, addDedupMuxRefusal, addDedupDffRefusal, addBitwiseMuxRefusal, intoPosRefusal, remapResetOverEnableRefusal, memRefusal, outputSliceRefusal, transparencyMuxRefusal, extractReadPortsRefusal, unmapReadDffRefusal, unmapReadInitResetTransparencyRefusal, emulateReadBeforeWriteRefusal, makeDataSwizzleRefusal, swizzleDepthsRefusal, swizzleMuxBitsRefusal, swizzleRefusal, canLowerFallbackRefusal, lowerFallbackRefusal, patchRefusal, writeRecordRefusal, readRecordRefusal, summaryRefusal, headerRefusal}
 use Rattle.rules.specs.Patch.{patchedOne, lentTo, patched, laidOut}
 use Rattle.rules.specs.Lister.{Summary, summaryOf}
 

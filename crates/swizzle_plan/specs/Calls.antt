@@ -1,19 +1,9 @@
 -- The plan that a struct and its lent arrays hold, its numbers, and the whole answer of `swizzle_depths`.
 use Prim.Native.Nat.{ℕ}
-use mathlib.Core.Bool.{Bool, false, _||_}
 use mathlib.Core.List.{List}
-use lib.ListN.{length}
-use Rattle.lists.specs.Choice.{if_then_else_, _orElse_}
-use Rattle.rules.specs.Limits.{maxNets}
 use Rattle.rules.specs.Cell.{Plan}
-use Rattle.rules.specs.Geometry.{layoutOf, allMems, swizzleDepths}
-use Rattle.rules.specs.Conditions.{planTooLarge, resultTooLarge, noRoom}
-use Rattle.rules.specs.Refusals.{planNumber, memNumber}
-use Rattle.rules.specs.Answers.{Filled, filled}
 use Rattle.net_memory.specs.declared.Memory.{Memory}
-use Rattle.net_memory.specs.View.{memoryOf}
 use Rattle.image_geometry.specs.declared.Params.{Params}
-use Rattle.net_memory.specs.Given.{givenOf}
 use Rattle.swizzle_plan.specs.declared.MemorySwizzle.{MemorySwizzle}
 
 -- the plan that a struct and its lent arrays hold

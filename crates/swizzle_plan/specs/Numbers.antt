@@ -3,15 +3,8 @@ use Prim.Native.Nat.{ℕ}
 use mathlib.Core.List.{List, map}
 use lib.ListN.{replicate}
 use lib.Seq.{sets}
-use Rattle.lists.specs.Choice.{_orElse_}
 use Rattle.rules.specs.Limits.{maxPorts}
-use Rattle.rules.specs.Cell.{Plan, Mem, writeWideLog2, readWideLog2, readAt}
-use Rattle.rules.specs.Value.{Value}
-use Rattle.rules.specs.Conditions.{planTooLarge}
-use Rattle.net_memory.specs.declared.Memory.{Memory}
-use Rattle.rules.specs.Refusals.{wholePlan, drivingNumber}
-use Rattle.net_memory.specs.Given.{givenOf}
-use Rattle.net_memory.specs.View.{memoryOf}
+use Rattle.rules.specs.Cell.{Mem, writeWideLog2, readWideLog2, readAt}
 
 -- a list of at most eight numbers in an array of eight
 abbrev pub inEight : List ℕ → List ℕ

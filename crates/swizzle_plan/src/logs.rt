@@ -2,7 +2,7 @@
 ghost use mathlib.Core.Path.{_≡_};
 ghost use mathlib.Core.Bool.{_||_};
 ghost use mathlib.Core.List.{List};
-ghost use Prim.Native.Nat.{ℕ, _-_, _≤_, min};
+ghost use Prim.Native.Nat.{ℕ, _-_, _≤_};
 ghost use Rattle.lists.specs.Lists.{any, pairs};
 ghost use Rattle.rules.specs.Numbers.{softs};
 ghost use Rattle.rules.specs.Conditions.{badWide, badWrites, badReads, allReads};

@@ -2,18 +2,18 @@
 use mathlib.Core.Path.{_≡_, refl, sym, ap, _∙_}
 use mathlib.Core.Logic.{_≢_}
 use native.Mathlib.Omega.{arith}
-use Prim.Native.Nat.{ℕ, _+_, _-_, _<_, _≤_, min}
-use mathlib.Core.Bool.{Bool, true, false, not, _||_}
+use Prim.Native.Nat.{ℕ, _+_, _-_, _<_, _≤_}
+use mathlib.Core.Bool.{true, false, _||_}
 use lib.Dec.{eqb, ltb}
-use borrow.Author.Tests.{eq-eqb, ne-eqb, ltb-false}
-use Rattle.lists.specs.Lists.{any, pairs, part}
-use Rattle.lists.proofs.Choice.{else-first, else-rest, else-zero, or-false, or-left, hit, miss}
+use borrow.Author.Tests.{ltb-false}
+use Rattle.lists.specs.Lists.{any, pairs}
+use Rattle.lists.proofs.Choice.{else-first, else-rest, else-zero, or-false, hit, miss}
 use Rattle.lists.proofs.All.{any-at}
 use Rattle.rules.specs.Limits.{maxWide, maxRow, maxUnit, maxHard, addrBits}
 use Rattle.rules.specs.Numbers.{bitsFor}
 use Rattle.rules.specs.Geometry.{Layout, layoutOf, chunkMuxBits, soft, softBits, muxBits, writeMuxBits, readMuxBits}
-use Rattle.rules.specs.Conditions.{planTooLarge, longList, badWide, badWrites, badReads, badPort}
-use Rattle.rules.specs.Cell.{Mem, Plan, WritePort, wideLog2, writeWideLog2, readWideLog2, readAt}
+use Rattle.rules.specs.Conditions.{planTooLarge, longList, badWrites, badReads, badPort}
+use Rattle.rules.specs.Cell.{Mem, Plan, writeWideLog2, readWideLog2, readAt}
 use Rattle.rules.proofs.Walks.{tops-le, softs-le}
 use Rattle.net_check.proofs.Accept.{Valid}
 use Rattle.image_geometry.specs.View.{layoutBy}
@@ -22,14 +22,12 @@ use Rattle.swizzle_plan.specs.Calls.{planOf, paramsBy}
 use Rattle.swizzle_plan.proofs.Planned.{same-layout, planned-valid}
 use Rattle.swizzle_plan.proofs.Wides.{map-first}
 use Rattle.swizzle_plan.specs.Numbers.{writeLogs, readLogs}
-use mathlib.Core.List.{List, [], map}
-use lib.ListN.{length, getD, length-map, replicate}
-use lib.Seq.{sets}
+use mathlib.Core.List.{List, map}
+use lib.ListN.{length, getD}
 use Rattle.net_memory.specs.declared.Memory.{Memory}
-use Rattle.net_memory.specs.View.{memoryOf, writesOf, writeBy, writePort, writeStart, writeSize}
+use Rattle.net_memory.specs.View.{memoryOf}
 use Rattle.rules.specs.Refusals.{plannedNumber, wideNumber, swizzleMuxBitsRefusal}
 use Rattle.net_memory.specs.Given.{givenOf}
-use Rattle.net_memory.proofs.Ports.{noWrite, writes-at}
 
 -- ---- the number of the call
 module _ (m : Memory) (nets trits ports : List ℕ) (p : Plan) where

@@ -2,7 +2,7 @@
 // it would decode with muxes.
 ghost use mathlib.Core.Path.{_≡_};
 ghost use mathlib.Core.List.{List, map};
-ghost use Prim.Native.Nat.{ℕ, _+_, _-_, _≤_, min};
+ghost use Prim.Native.Nat.{ℕ, _+_, _-_, _≤_};
 ghost use lib.ListN.{length};
 ghost use Rattle.lists.specs.Lists.{pairs};
 ghost use Rattle.rules.specs.Geometry.{chunkMuxBits, softBits};

@@ -4,7 +4,7 @@ use Prim.Native.Nat.{_-_}
 use mathlib.Core.Bool.{Bool}
 use Rattle.swizzle_plan.proofs.Wides.{left}
 use Rattle.swizzle_plan.specs.Calls.{planOf}
-use Rattle.swizzle_sizes.proofs.Refused.{by-planned, by-nine, by-port, by-none, long-by, ports-few}
+use Rattle.swizzle_sizes.proofs.Refused.{by-planned, by-nine, by-port, by-none, long-by}
 use borrow.Author.Needs.{needs}
 use Rattle.swizzle_sizes.proofs.mux_refusal.Statement.{statement}
 use Rattle.rules.specs.Refusals.{plannedNumber}
