@@ -14,12 +14,11 @@ use Rattle.rules.specs.Limits.{maxMerge}
 use Rattle.rules.specs.Value.{Value, Control, goodValue}
 use Rattle.rules.specs.Merge.{addDedupMux, addBitwiseMux}
 use Rattle.rules.specs.Conditions.{unequal, badValue, longValue}
-use Rattle.rules.specs.Refusals.{muxNumber, bitwiseNumber, resultRefusal}
+use Rattle.rules.specs.Refusals.{muxNumber, bitwiseLensNumber, bitwiseNumber, resultRefusal}
 use Rattle.log_requests.proofs.Numbers.{mux-lens}
 use Rattle.merge_mux.specs.Results.{limited}
 use Rattle.merge_mux.specs.Runs.{bitsOf, bitwiseOf}
 use Rattle.merge_mux.proofs.Found.{limited-all}
-use Rattle.merge_mux.specs.Lens.{bitwiseLens}
 
 -- ---- the bits of a call without a number
 module _ (next room : ℕ) (c : Control) (a b : Value) (e : (muxNumber next c a b orElse resultRefusal room a) ≡ 0) where
@@ -31,54 +30,47 @@ module _ (next room : ℕ) (c : Control) (a b : Value) (e : (muxNumber next c a 
 
 -- ---- the numbers of a bitwise mux
 module _ (s a b : Value) where
-  pub lens-1s : maxMerge < length s → 1 ≡ bitwiseLens s a b
-  unfolding bitwiseLens longValue
+  pub lens-1s : maxMerge < length s → 1 ≡ bitwiseLensNumber s a b
+  unfolding bitwiseLensNumber longValue
   lens-1s h = rw (lt-ltb maxMerge (length s) h)
 
-  pub lens-1a : length s ≤ maxMerge → maxMerge < length a → 1 ≡ bitwiseLens s a b
-  unfolding bitwiseLens longValue
+  pub lens-1a : length s ≤ maxMerge → maxMerge < length a → 1 ≡ bitwiseLensNumber s a b
+  unfolding bitwiseLensNumber longValue
   lens-1a g h = rw (le-ltb maxMerge (length s) g, lt-ltb maxMerge (length a) h)
 
   module _ (g : length s ≤ maxMerge) (h : length a ≤ maxMerge) where
-    pub lens-1b : maxMerge < length b → 1 ≡ bitwiseLens s a b
-    unfolding bitwiseLens longValue
+    pub lens-1b : maxMerge < length b → 1 ≡ bitwiseLensNumber s a b
+    unfolding bitwiseLensNumber longValue
     lens-1b k = rw (le-ltb maxMerge (length s) g, le-ltb maxMerge (length a) h, lt-ltb maxMerge (length b) k)
 
     module _ (k : length b ≤ maxMerge) where
-      past-1 : (if unequal s a || unequal s b then 2 else 0) ≡ bitwiseLens s a b
-      unfolding bitwiseLens longValue
+      past-1 : (if unequal s a || unequal s b then 2 else 0) ≡ bitwiseLensNumber s a b
+      unfolding bitwiseLensNumber longValue
       past-1 = rw (le-ltb maxMerge (length s) g, le-ltb maxMerge (length a) h, le-ltb maxMerge (length b) k)
 
-      pub lens-2a : (length s ≡ length a → ⊥) → 2 ≡ bitwiseLens s a b
+      pub lens-2a : (length s ≡ length a → ⊥) → 2 ≡ bitwiseLensNumber s a b
       unfolding unequal
       lens-2a e = rw (ne-eqb (length s) (length a) e) at past-1
 
-      pub lens-2b : length s ≡ length a → (length s ≡ length b → ⊥) → 2 ≡ bitwiseLens s a b
+      pub lens-2b : length s ≡ length a → (length s ≡ length b → ⊥) → 2 ≡ bitwiseLensNumber s a b
       unfolding unequal
       lens-2b e f = rw (eq-eqb (length s) (length a) e, ne-eqb (length s) (length b) f) at past-1
 
-      pub lens-0 : length s ≡ length a → length s ≡ length b → 0 ≡ bitwiseLens s a b
+      pub lens-0 : length s ≡ length a → length s ≡ length b → 0 ≡ bitwiseLensNumber s a b
       unfolding unequal
       lens-0 e f = rw (eq-eqb (length s) (length a) e, eq-eqb (length s) (length b) f) at past-1
 
--- a choice of numbers whose last one is 0 stands before another
-nested : (p q : Bool) (m : ℕ) → (if p then 1 else if q then 2 else m) ≡ ((if p then 1 else if q then 2 else 0) orElse m)
-unfolding _orElse_
-nested true q m = refl
-nested false true m = refl
-nested false false m = refl
-
 module _ (next : ℕ) (s a b : Value) where
-  by-lens : bitwiseNumber next s a b ≡ (bitwiseLens s a b orElse (if badValue next s || (badValue next a || badValue next b) then 4 else 0))
-  unfolding bitwiseNumber bitwiseLens
-  by-lens = nested (longValue s || (longValue a || longValue b)) (unequal s a || unequal s b) _
+  by-lens : bitwiseNumber next s a b ≡ (bitwiseLensNumber s a b orElse (if badValue next s || (badValue next a || badValue next b) then 4 else 0))
+  unfolding bitwiseNumber
+  by-lens = refl
 
-  pub number-lens : (n : ℕ) → n ≡ bitwiseLens s a b → n ≢ 0 → n ≡ bitwiseNumber next s a b
-  number-lens n e h = e ∙ sym (else-first (bitwiseLens s a b) _ (λ z. h (e ∙ z))) ∙ sym by-lens
+  pub number-lens : (n : ℕ) → n ≡ bitwiseLensNumber s a b → n ≢ 0 → n ≡ bitwiseNumber next s a b
+  number-lens n e h = e ∙ sym (else-first (bitwiseLensNumber s a b) _ (λ z. h (e ∙ z))) ∙ sym by-lens
 
-  module _ (z : bitwiseLens s a b ≡ 0) where
+  module _ (z : bitwiseLensNumber s a b ≡ 0) where
     rest : (t : ℕ) → t ≡ (if badValue next s || (badValue next a || badValue next b) then 4 else 0) → t ≡ bitwiseNumber next s a b
-    rest t e = e ∙ sym (else-rest (bitwiseLens s a b) _ z) ∙ sym by-lens
+    rest t e = e ∙ sym (else-rest (bitwiseLensNumber s a b) _ z) ∙ sym by-lens
 
     pub number-s : goodValue next s ≡ false → 4 ≡ bitwiseNumber next s a b
     unfolding badValue
@@ -99,9 +91,10 @@ module _ (next : ℕ) (s a b : Value) where
 -- no number: three values of one length, short enough
 module _ (next room : ℕ) (s a b : Value) (e : (bitwiseNumber next s a b orElse resultRefusal room a) ≡ 0) where
   few : (length s ≡ length a) × ((length s ≡ length b) × (length s ≤ maxMerge))
-  unfolding bitwiseNumber longValue unequal
+  unfolding bitwiseNumber bitwiseLensNumber longValue unequal
   few =
-      let x = refused-not (ltb maxMerge (length s) || (ltb maxMerge (length a) || ltb maxMerge (length b))) 1 _ (omega arith) (else-zero _ _ e .0) in
+      let l = else-zero (bitwiseLensNumber s a b) _ (else-zero (bitwiseNumber next s a b) _ e .0) in
+      let x = refused-not (ltb maxMerge (length s) || (ltb maxMerge (length a) || ltb maxMerge (length b))) 1 _ (omega arith) (l .0) in
       let y = refused-not (not (eqb (length s) (length a)) || not (eqb (length s) (length b))) 2 _ (omega arith) (x .1) in
       let z = or-false (not (eqb (length s) (length a))) (not (eqb (length s) (length b))) (y .0) in
       (eqb-true (length s) (length a) (not-false _ (z .0)), (eqb-true (length s) (length b) (not-false _ (z .1)), ltb-false maxMerge (length s) (or-false _ _ (x .0) .0)))

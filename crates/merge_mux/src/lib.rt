@@ -2,14 +2,13 @@
 ghost use mathlib.Core.Path.{_≡_};
 ghost use Rattle.lists.specs.Choice.{_orElse_};
 ghost use Rattle.rules.specs.Merge.{addDedupMux, addBitwiseMux};
-ghost use Rattle.rules.specs.Refusals.{muxNumber, bitwiseNumber, resultRefusal, logRefusal};
+ghost use Rattle.rules.specs.Refusals.{muxNumber, bitwiseNumber, resultRefusal, logRefusal, bitwiseLensNumber};
 ghost use Rattle.rules.specs.Answers.{addDedupMuxCall, addBitwiseMuxCall};
 ghost use Rattle.net_value.specs.View.{controlOf};
 ghost use Rattle.log_entries.specs.View.{stateOf};
 ghost use Rattle.log_requests.specs.Merged.{mergedOf};
 ghost use Rattle.merge_mux.specs.Results.{limited};
 ghost use Rattle.merge_mux.specs.Runs.{bitwiseOf};
-ghost use Rattle.merge_mux.specs.Lens.{bitwiseLens};
 use log_entries::LogState;
 use log_requests::Answer;
 use net_value::ControlNet;
@@ -63,7 +62,7 @@ pub fn add_dedup_mux(
 
 // 1 and 2 of a bitwise mux.
 fn bitwise_lens_number(s: &[u32], a: &[u32], b: &[u32]) -> u32
-    ensures { λ r. ⌜ r ≡ bitwiseLens (now (s .entry)) (now (a .entry)) (now (b .entry)) ⌝ }
+    ensures { λ r. ⌜ r ≡ bitwiseLensNumber (now (s .entry)) (now (a .entry)) (now (b .entry)) ⌝ }
 {
     if rules::MAX_MERGE < s.len() {
         return 1;

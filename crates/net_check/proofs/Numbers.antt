@@ -9,7 +9,8 @@ use Rattle.lists.specs.Choice.{least}
 use Rattle.lists.specs.Lists.{any, leastBy}
 use Rattle.rules.specs.Cell.{Mem, writeWideLog2, readWideLog2}
 use Rattle.rules.specs.Conditions.{badShape, badDepth, badNets, badWriteShape, badReadShape, indivisible, badWriteNets, badReadNets, badTrits}
-use Rattle.net_check.specs.Number.{numberBy, writeNumber, readNumber}
+use Rattle.rules.specs.Refusals.{numberBy}
+use Rattle.net_check.specs.Number.{writeNumber, readNumber}
 
 pub merge : (a a′ b b′ k k′ : Bool) → least (numberBy a b k) (numberBy a′ b′ k′) ≡ numberBy (a || a′) (b || b′) (k || k′)
 merge true true b b′ k k′ = refl

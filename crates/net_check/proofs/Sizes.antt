@@ -10,10 +10,9 @@ use borrow.Author.Tests.{le-ltb}
 use Rattle.lists.specs.Choice.{if_then_else_, least}
 use Rattle.rules.specs.Limits.{maxDepth, maxWidth, maxBits, maxPorts}
 use Rattle.rules.specs.Conditions.{tooLarge, badShape, badDepth, badNets}
-use Rattle.rules.specs.Refusals.{memNumber}
+use Rattle.rules.specs.Refusals.{memNumber, numberBy}
 use Rattle.net_memory.specs.declared.Memory.{Memory}
 use Rattle.net_memory.specs.View.{writesOf, readsOf, memoryOf}
-use Rattle.net_check.specs.Number.{numberBy}
 use Rattle.net_memory.specs.Given.{tooManyPorts, badLens, givenOf}
 use Rattle.net_check.proofs.Numbers.{merge}
 

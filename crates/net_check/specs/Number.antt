@@ -1,18 +1,13 @@
 -- The numbers 2 to 4 of a memory port by port, as the code tries them.
 use mathlib.Core.Path.{_≡_}
 use Prim.Native.Nat.{ℕ, _<_, min}
-use mathlib.Core.Bool.{Bool}
 use mathlib.Core.List.{[]}
-use Rattle.lists.specs.Choice.{if_then_else_}
 use Rattle.rules.specs.Limits.{maxPorts}
 use Rattle.rules.specs.Cell.{WritePort, ReadPort, Mem, writeWideLog2, readWideLog2}
+use Rattle.rules.specs.Refusals.{numberBy}
 use Rattle.rules.specs.Conditions.{badWriteShape, badReadShape, indivisible, badWriteNets, badReadNets}
 use Rattle.net_memory.specs.declared.Memory.{Memory}
 use Rattle.net_memory.specs.View.{noReadPort, readBy, readStart, tritStart}
-
--- 2, 3 or 4 by their tests, or 0
-abbrev pub numberBy : Bool → Bool → Bool → ℕ
-numberBy shape depth nets = if shape then 2 else if depth then 3 else if nets then 4 else 0
 
 unfoldable pub writeNumber : ℕ → Mem → WritePort → ℕ
 writeNumber next m p = numberBy (badWriteShape m p) (indivisible (m .depth) (writeWideLog2 m p)) (badWriteNets next p)

@@ -141,12 +141,12 @@ unfoldable pub addDedupDffRefusal : ℕ → ℕ → LogState → FlipFlop → �
 addDedupDffRefusal out room s f =
     mergeDffNumber (s .next) f orElse resultRefusal out (f .bits) orElse logRefusal room s (addDedupDff f)
 
+-- 1 and 2 of a bitwise mux, by the lengths of its values alone
+unfoldable pub bitwiseLensNumber : Value → Value → Value → ℕ
+bitwiseLensNumber c a b = if longValue c || (longValue a || longValue b) then 1 else if unequal c a || unequal c b then 2 else 0
+
 unfoldable pub bitwiseNumber : ℕ → Value → Value → Value → ℕ
-bitwiseNumber next c a b =
-    if longValue c || (longValue a || longValue b) then 1
-    else if unequal c a || unequal c b then 2
-    else if badValue next c || (badValue next a || badValue next b) then 4
-    else 0
+bitwiseNumber next c a b = bitwiseLensNumber c a b orElse (if badValue next c || (badValue next a || badValue next b) then 4 else 0)
 
 unfoldable pub addBitwiseMuxRefusal : ℕ → ℕ → LogState → Value → Value → Value → ℕ
 addBitwiseMuxRefusal out room s c a b =
@@ -180,13 +180,14 @@ unfoldable pub drivingRefusal : Rooms → Driving → ℕ
 drivingRefusal r d = if noRooms r d then 20 else 0
 
 -- ---- a memory: 1 to 4, each with what else of the call breaks it
+-- 2, 3 or 4 by their tests
+abbrev pub numberBy : Bool → Bool → Bool → ℕ
+numberBy shape depth nets = if shape then 2 else if depth then 3 else if nets then 4 else 0
+
 unfoldable pub memNumber : Bool → Bool → Bool → ℕ → Given → ℕ
 memNumber one two four next g =
     if tooLarge (g .mem) || (g .extraPorts || one) then 1
-    else if badShape (g .mem) || (g .wrongLens || two) then 2
-    else if badDepth (g .mem) then 3
-    else if badNets next (g .mem) || four then 4
-    else 0
+    else numberBy (badShape (g .mem) || (g .wrongLens || two)) (badDepth (g .mem)) (badNets next (g .mem) || four)
 
 -- a call that has only the memory
 unfoldable pub memRefusal : Given → ℕ

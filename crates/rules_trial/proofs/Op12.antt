@@ -7,7 +7,7 @@ use Rattle.lists.specs.Choice.{_orElse_}
 use Rattle.rules.specs.Conditions.{longValue, unequal, badValue, logFull, noRoom, netsFull}
 use Rattle.rules.specs.Log.{entry, flag, dffOperands, encode, words, _>>=_, _>>_, done, request, muxBy, addMux, startNet, added, stateAfter}
 use Rattle.rules.specs.Merge.{spread, addDedupMux, longer, runs, muxRuns, addBitwiseMux}
-use Rattle.rules.specs.Refusals.{roomRefusal, logRefusal, resultRefusal, bitwiseNumber, addBitwiseMuxRefusal}
+use Rattle.rules.specs.Refusals.{roomRefusal, logRefusal, resultRefusal, bitwiseLensNumber, bitwiseNumber, addBitwiseMuxRefusal}
 use Rattle.rules.specs.Value.{isCellNet, goodNet, goodValue, controlWords}
 use Rattle.rules_trial.specs.Read.{give, word, wordsOf, list, test, control, log, controls}
 use Rattle.rules_trial.specs.Wire.{reply, asList, logOut, mergeAnswer, op12, agrees, agree, Case, case}
@@ -67,5 +67,5 @@ cases =
     []
 
 pub agreed : agree op12 cases ≡ true
-unfolding _orElse_ longValue unequal badValue logFull noRoom netsFull entry flag dffOperands encode words _>>=_ _>>_ done request muxBy addMux startNet added stateAfter spread addDedupMux longer runs muxRuns addBitwiseMux roomRefusal logRefusal resultRefusal bitwiseNumber addBitwiseMuxRefusal isCellNet goodNet goodValue controlWords give word wordsOf list test control log controls reply asList logOut mergeAnswer op12 agrees agree Rattle.rules_trial.specs.Read._>>=_
+unfolding _orElse_ longValue unequal badValue logFull noRoom netsFull entry flag dffOperands encode words _>>=_ _>>_ done request muxBy addMux startNet added stateAfter spread addDedupMux longer runs muxRuns addBitwiseMux roomRefusal logRefusal resultRefusal bitwiseLensNumber bitwiseNumber addBitwiseMuxRefusal isCellNet goodNet goodValue controlWords give word wordsOf list test control log controls reply asList logOut mergeAnswer op12 agrees agree Rattle.rules_trial.specs.Read._>>=_
 agreed = refl

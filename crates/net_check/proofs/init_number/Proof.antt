@@ -6,8 +6,8 @@ use lib.ListN.{length}
 use lib.Dec.{eqb}
 use Rattle.lists.specs.Lists.{part}
 use Rattle.rules.specs.Conditions.{badTrits}
-use Rattle.net_check.specs.Number.{numberBy}
 use Rattle.rules.specs.Logic.{areTrits}
+use Rattle.rules.specs.Refusals.{numberBy}
 use borrow.Author.Needs.{needs}
 use Rattle.net_check.proofs.init_number.Statement.{statement}
 use Rattle.net_check.proofs.init_number.Tie as tie

@@ -3,7 +3,8 @@ use mathlib.Core.Path.{sym, _∙_}
 use Prim.Native.Nat.{_-_}
 use Rattle.rules.specs.Cell.{readWideLog2, wideLog2}
 use Rattle.rules.specs.Conditions.{indivisible}
-use Rattle.net_check.specs.Number.{numberBy, readNumber}
+use Rattle.rules.specs.Refusals.{numberBy}
+use Rattle.net_check.specs.Number.{readNumber}
 use borrow.Author.Needs.{needs}
 use Rattle.net_check.proofs.read_number.Statement.{statement}
 use Rattle.net_check.proofs.read_number.Tie as tie

@@ -4,7 +4,8 @@ use Prim.Native.Nat.{_-_}
 use lib.ListN.{length}
 use Rattle.rules.specs.Cell.{writeWideLog2, wideLog2}
 use Rattle.rules.specs.Conditions.{indivisible}
-use Rattle.net_check.specs.Number.{numberBy, writeNumber}
+use Rattle.rules.specs.Refusals.{numberBy}
+use Rattle.net_check.specs.Number.{writeNumber}
 use borrow.Author.Needs.{needs}
 use Rattle.net_check.proofs.write_number.Statement.{statement}
 use Rattle.net_check.proofs.write_number.Tie as tie
