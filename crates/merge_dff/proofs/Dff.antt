@@ -22,20 +22,20 @@ use Rattle.net_flip_flop.specs.View.{flipFlop}
 use Rattle.merge_mux.specs.Results.{limited, results}
 use Rattle.merge_mux.proofs.Nets.{request-nets, trace-results}
 use Rattle.merge_mux.proofs.Found.{Found}
-use Rattle.merge_dff.specs.Packs.{byteOf, packs, unpacked, mergePacked, Bytes}
+use Rattle.merge_dff.specs.Packs.{packedByte, packs, unpacked, mergePacked, Bytes}
 use Rattle.merge_dff.proofs.Keys.{merged-keys, merged-places}
 
 -- ---- a flip-flop of kept bits
 -- a part of each word, in the scratch it was stored in
-pub part-kept : (to₀ to ps : List ℕ) (by n : ℕ) → to ≡ sets to₀ 0 (map (byteOf by) ps) → n ≡ length ps → n ≤ length to₀ → take n to ≡ map (byteOf by) ps
-part-kept to₀ to ps by n e f h = take-stored to₀ to (map (byteOf by) ps) n e (f ∙ sym (length-map ps (byteOf by))) h
+pub part-kept : (to₀ to ps : List ℕ) (by n : ℕ) → to ≡ sets to₀ 0 (map (packedByte by) ps) → n ≡ length ps → n ≤ length to₀ → take n to ≡ map (packedByte by) ps
+part-kept to₀ to ps by n e f h = take-stored to₀ to (map (packedByte by) ps) n e (f ∙ sym (length-map ps (packedByte by))) h
 
 dff-nets : (f : FlipFlop) (n : ℕ) → upFrom n (addDff f n .next - n) ≡ addDff f n .value
 unfolding addDff
 dff-nets f n = request-nets (λ first. Dff first f) (length (f .bits)) n
 
-module _ (x : Controls) (bits ps at out clear reset init : List ℕ) (l l1 : Lent) (ec : clear ≡ map (byteOf 256) ps) (er : reset ≡ map (byteOf 1) ps)
-    (ei : init ≡ map (byteOf 65536) ps) (e : l1 ≡ run (addDff (flipFlop x bits clear reset init)) l) where
+module _ (x : Controls) (bits ps at out clear reset init : List ℕ) (l l1 : Lent) (ec : clear ≡ map (packedByte 256) ps) (er : reset ≡ map (packedByte 1) ps)
+    (ei : init ≡ map (packedByte 65536) ps) (e : l1 ≡ run (addDff (flipFlop x bits clear reset init)) l) where
   pub kept-run : l1 ≡ run (addDff (unpacked x bits ps)) l
   unfolding unpacked
   kept-run = rw (ec, er, ei) at e

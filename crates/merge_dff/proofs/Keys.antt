@@ -15,7 +15,7 @@ use Rattle.rules.specs.Cell.{Controls}
 use Rattle.rules.specs.Merge.{Key2, same2, Key4, same4, dffKeys, dffOf}
 use Rattle.merge_keys.specs.Keys.{firsts, seconds}
 use Rattle.net_flip_flop.specs.View.{flipFlop}
-use Rattle.merge_dff.specs.Packs.{packOf, byteOf, packs, unpacked, Bytes}
+use Rattle.merge_dff.specs.Packs.{packOf, packedByte, packs, unpacked, Bytes}
 
 -- a key of two words
 abbrev pub packKey : Key4 → Key2
@@ -30,13 +30,13 @@ pub record Small (k : Key4) : Type 0 where
 -- ---- one key
 module _ (r c i : ℕ) (hr : r < 256) (hc : c < 256) (hi : i < 256) where
   -- the bytes of a word
-  reset-byte : byteOf 1 (packOf r c i) ≡ r
+  reset-byte : packedByte 1 (packOf r c i) ≡ r
   reset-byte = omega arith
 
-  clear-byte : byteOf 256 (packOf r c i) ≡ c
+  clear-byte : packedByte 256 (packOf r c i) ≡ c
   clear-byte = omega arith
 
-  init-byte : byteOf 65536 (packOf r c i) ≡ i
+  init-byte : packedByte 65536 (packOf r c i) ≡ i
   init-byte = omega arith
 
   -- bytes are told apart by the word that holds them
@@ -91,10 +91,10 @@ module _ (b r c i : List ℕ) where
       rw (key-at k h) (record { reset = s .resets k; clear = s .clears k; init = s .inits k }))
 
 -- a byte of each word
-bytes-of : (by : ℕ) (g : Key4 → ℕ) → ((k : Key4) → Small k → byteOf by (packOf (k .0 .1) (k .1 .0) (k .1 .1)) ≡ g k) → (l : List Key4) → Each Small l
-    → map (byteOf by) (seconds (map packKey l)) ≡ map g l
+bytes-of : (by : ℕ) (g : Key4 → ℕ) → ((k : Key4) → Small k → packedByte by (packOf (k .0 .1) (k .1 .0) (k .1 .1)) ≡ g k) → (l : List Key4) → Each Small l
+    → map (packedByte by) (seconds (map packKey l)) ≡ map g l
 bytes-of by g f [] s = refl
-bytes-of by g f (k ∷ l) s = ap (λ (n : ℕ). n ∷ map (byteOf by) (seconds (map packKey l))) (f k (s .0)) ∙ ap (λ (m : List ℕ). g k ∷ m) (bytes-of by g f l (s .1))
+bytes-of by g f (k ∷ l) s = ap (λ (n : ℕ). n ∷ map (packedByte by) (seconds (map packKey l))) (f k (s .0)) ∙ ap (λ (m : List ℕ). g k ∷ m) (bytes-of by g f l (s .1))
 
 data-of : (l : List Key4) → firsts (map packKey l) ≡ map (λ (k : Key4). k .0 .0) l
 data-of [] = refl

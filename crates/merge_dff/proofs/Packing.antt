@@ -10,7 +10,7 @@ use Rattle.lists.specs.Lists.{pairs}
 use Rattle.lists.proofs.Pairs.{pairs-size, pairs-at}
 use Rattle.lists.proofs.Maps.{map-turn}
 use Rattle.lists.proofs.Store.{copy-done}
-use Rattle.merge_dff.specs.Packs.{packOf, byteOf, packs}
+use Rattle.merge_dff.specs.Packs.{packOf, packedByte, packs}
 
 module _ (r c i : List ℕ) where
   pub packs-size : length (packs r c i) ≡ min (length r) (min (length c) (length i))
@@ -34,9 +34,9 @@ module _ (r c i : List ℕ) where
     pub pack-done : k ≡ min (length to₀) (min (length r) (min (length c) (length i))) → to ≡ sets to₀ 0 (packs r c i)
     pack-done h = copy-done to₀ to 0 k (packs r c i) e (omega (arith, packs-size))
 
-module _ (ps : List ℕ) (by : ℕ) (to₀ to : List ℕ) (k : ℕ) (e : to ≡ sets to₀ 0 (take k (map (byteOf by) ps))) where
-  pub part-turn : k < length ps → set to k (byteOf by (getD ps k 0)) ≡ sets to₀ 0 (take (k + 1) (map (byteOf by) ps))
-  part-turn h = map-turn (byteOf by) ps to₀ to 0 k e 0 k (sym (zero-add k)) h
+module _ (ps : List ℕ) (by : ℕ) (to₀ to : List ℕ) (k : ℕ) (e : to ≡ sets to₀ 0 (take k (map (packedByte by) ps))) where
+  pub part-turn : k < length ps → set to k (packedByte by (getD ps k 0)) ≡ sets to₀ 0 (take (k + 1) (map (packedByte by) ps))
+  part-turn h = map-turn (packedByte by) ps to₀ to 0 k e 0 k (sym (zero-add k)) h
 
-  pub part-done : k ≡ min (length ps) (length to₀) → to ≡ sets to₀ 0 (map (byteOf by) ps)
-  part-done h = copy-done to₀ to 0 k (map (byteOf by) ps) e (omega (arith, length-map ps (byteOf by)))
+  pub part-done : k ≡ min (length ps) (length to₀) → to ≡ sets to₀ 0 (map (packedByte by) ps)
+  part-done h = copy-done to₀ to 0 k (map (packedByte by) ps) e (omega (arith, length-map ps (packedByte by)))

@@ -15,15 +15,15 @@ abbrev pub packOf : ℕ → ℕ → ℕ → ℕ
 packOf r c i = r + (256 * c + 65536 * i)
 
 -- the byte of a word: 1, 256 or 65536 is its weight
-abbrev pub byteOf : ℕ → ℕ → ℕ
-byteOf by p = p / by % 256
+abbrev pub packedByte : ℕ → ℕ → ℕ
+packedByte by p = p / by % 256
 
 -- of each bit, as many as all three have
 unfoldable pub packs : List ℕ → List ℕ → List ℕ → List ℕ
 packs r c i = map (λ t. packOf (t .0) (t .1 .0) (t .1 .1)) (pairs r (pairs c i))
 
 unfoldable pub unpacked : Controls → List ℕ → List ℕ → FlipFlop
-unpacked c bits ps = flipFlop c bits (map (byteOf 256) ps) (map (byteOf 1) ps) (map (byteOf 65536) ps)
+unpacked c bits ps = flipFlop c bits (map (packedByte 256) ps) (map (packedByte 1) ps) (map (packedByte 65536) ps)
 
 -- the merge of such a flip-flop
 unfoldable pub mergePacked : Controls → List ℕ → List ℕ → Trace Value

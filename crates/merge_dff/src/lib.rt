@@ -16,7 +16,7 @@ ghost use Rattle.net_flip_flop.specs.View.{controlsOf, flipFlop};
 ghost use Rattle.log_entries.specs.Emission.{isOver, run};
 ghost use Rattle.log_entries.specs.View.{stateOf, lent};
 ghost use Rattle.merge_mux.specs.Results.{limited, results, Scratch};
-ghost use Rattle.merge_dff.specs.Packs.{packOf, byteOf, packs, unpacked, mergePacked, Bytes};
+ghost use Rattle.merge_dff.specs.Packs.{packOf, packedByte, packs, unpacked, mergePacked, Bytes};
 use log_entries::LogState;
 use log_requests::Answer;
 use net_flip_flop::Controls;
@@ -49,7 +49,7 @@ fn pack_trits(to: &mut [u32], reset: &[u8], clear: &[u8], init: &[u8]) -> usize
 // Stores the byte of weight `by` of each word in `to`, as far as it reaches.
 fn unpack_part(to: &mut [u8], ps: &[u32], by: u32)
     requires { ⌜ 0 < by ⌝ }
-    ensures { λ _. ⌜ now (to .exit) ≡ sets (now (to .entry)) 0 (map (byteOf by) (now (ps .entry))) ⌝ }
+    ensures { λ _. ⌜ now (to .exit) ≡ sets (now (to .entry)) 0 (map (packedByte by) (now (ps .entry))) ⌝ }
 {
     let n = lists::smaller(ps.len(), to.len());
     let mut i = 0;

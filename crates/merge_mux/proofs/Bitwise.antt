@@ -23,7 +23,7 @@ use Rattle.rules.proofs.Chain.{chains-dedup-mux}
 use Rattle.log_entries.specs.Emission.{Lent, isOver, run}
 use Rattle.log_entries.proofs.Emission.{run-done, run-then, run-same, run-next, run-held}
 use Rattle.merge_mux.specs.Results.{results}
-use Rattle.merge_mux.specs.Runs.{runAt, Bits, Within, bitsOf, bitwiseOf}
+use Rattle.merge_mux.specs.Runs.{runAt, Bits, Within, bitsTaken, bitwiseOf}
 use Rattle.merge_mux.proofs.Spread.{length-spread, results-are}
 use Rattle.merge_mux.proofs.RunLaws.{runs-from, run-within}
 
@@ -185,10 +185,10 @@ module _ (s a b : Value) (n : ℕ) (w : Within s a b n) where
       (sym (bitwise-length (take n s) (take n a) (take n b) (cut-bits .first) (cut-bits .second) k ∙ length-take-le n s (w .in-s)))
       (omega (arith, w .few))
 
-  pub cut-is : n ≡ bitsOf s a b → addBitwiseMux (take n s) (take n a) (take n b) ≡ bitwiseOf s a b
+  pub cut-is : n ≡ bitsTaken s a b → addBitwiseMux (take n s) (take n a) (take n b) ≡ bitwiseOf s a b
   unfolding bitwiseOf
   cut-is e = ap (λ (m : ℕ). addBitwiseMux (take m s) (take m a) (take m b)) e
 
-pub within-bits : (s a b : Value) (x y n : ℕ) → x ≡ min maxMerge (length s) → y ≡ min (length a) (length b) → n ≡ min x y → (n ≡ bitsOf s a b) × Within s a b n
-unfolding bitsOf
+pub within-bits : (s a b : Value) (x y n : ℕ) → x ≡ min maxMerge (length s) → y ≡ min (length a) (length b) → n ≡ min x y → (n ≡ bitsTaken s a b) × Within s a b n
+unfolding bitsTaken
 within-bits s a b x y n e f g = (g ∙ rw (e, f), record { in-s = omega arith; in-a = omega arith; in-b = omega arith; few = omega arith })

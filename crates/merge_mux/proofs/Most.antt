@@ -16,7 +16,7 @@ use Rattle.rules.proofs.Counted.{AtMost, most-counted, most-done, most-bind, co
 use Rattle.rules.specs.Beside.Chain.{Chains}
 use Rattle.rules.proofs.Chain.{chains-bitwise-mux}
 use Rattle.merge_mux.specs.Results.{limited}
-use Rattle.merge_mux.specs.Runs.{bitsOf, bitwiseOf}
+use Rattle.merge_mux.specs.Runs.{bitsTaken, bitwiseOf}
 
 most-dedup-mux : (c : Control) (a b : Value) → AtMost (addDedupMux c a b) (length a)
 unfolding addDedupMux
@@ -50,10 +50,10 @@ mux-below c a b s = below (addDedupMux c (take maxMerge a) (take maxMerge b)) _ 
 
 pub chains-bitwise : (x a b : Value) → Chains (bitwiseOf x a b)
 unfolding bitwiseOf
-chains-bitwise x a b = chains-bitwise-mux (take (bitsOf x a b) x) (take (bitsOf x a b) a) (take (bitsOf x a b) b)
+chains-bitwise x a b = chains-bitwise-mux (take (bitsTaken x a b) x) (take (bitsTaken x a b) a) (take (bitsTaken x a b) b)
 
 pub bitwise-below : (x a b : Value) (s : LogState) → bitwiseOf x a b (startNet s) .next < X
-unfolding bitwiseOf bitsOf
+unfolding bitwiseOf bitsTaken
 bitwise-below x a b s =
     let n = min (min maxMerge (length x)) (min (length a) (length b)) in
     below (addBitwiseMux (take n x) (take n a) (take n b)) _ s (most-bitwise (take n x) (take n a) (take n b)) (omega (arith, length-take n a))

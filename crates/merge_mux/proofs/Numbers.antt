@@ -17,7 +17,7 @@ use Rattle.rules.specs.Conditions.{unequal, badValue, longValue}
 use Rattle.rules.specs.Refusals.{muxNumber, bitwiseLensNumber, bitwiseNumber, resultRefusal}
 use Rattle.log_requests.proofs.Numbers.{mux-lens}
 use Rattle.merge_mux.specs.Results.{limited}
-use Rattle.merge_mux.specs.Runs.{bitsOf, bitwiseOf}
+use Rattle.merge_mux.specs.Runs.{bitsTaken, bitwiseOf}
 use Rattle.merge_mux.proofs.Found.{limited-all}
 
 -- ---- the bits of a call without a number
@@ -99,8 +99,8 @@ module _ (next room : ℕ) (s a b : Value) (e : (bitwiseNumber next s a b orElse
       let z = or-false (not (eqb (length s) (length a))) (not (eqb (length s) (length b))) (y .0) in
       (eqb-true (length s) (length a) (not-false _ (z .0)), (eqb-true (length s) (length b) (not-false _ (z .1)), ltb-false maxMerge (length s) (or-false _ _ (x .0) .0)))
 
-  bits : bitsOf s a b ≡ length s
-  unfolding bitsOf
+  bits : bitsTaken s a b ≡ length s
+  unfolding bitsTaken
   bits = omega (arith, few .0, few .1 .0, few .1 .1)
 
   pub bitwise-all : bitwiseOf s a b ≡ addBitwiseMux s a b

@@ -12,7 +12,7 @@ ghost use Rattle.rules.specs.Value.{Pos};
 ghost use Rattle.net_value.specs.View.{controlOf};
 ghost use Rattle.log_entries.specs.Emission.{isOver, run};
 ghost use Rattle.log_entries.specs.View.{stateOf, lent};
-ghost use Rattle.merge_mux.specs.Runs.{runAt, Run, Bits, Within, bitsOf, bitwiseOf};
+ghost use Rattle.merge_mux.specs.Runs.{runAt, Run, Bits, Within, bitsTaken, bitwiseOf};
 ghost use Rattle.merge_mux.specs.Results.{limited, results, Scratch};
 use log_entries::LogState;
 use net_value::ControlNet;
@@ -200,7 +200,7 @@ fn bitwise_in(
 
 // How many bits a bitwise mux of these values has.
 fn bits_of(s: &[u32], a: &[u32], b: &[u32]) -> usize
-    ensures { λ r. ⌜ r ≡ bitsOf (now (s .entry)) (now (a .entry)) (now (b .entry)) ⌝ }
+    ensures { λ r. ⌜ r ≡ bitsTaken (now (s .entry)) (now (a .entry)) (now (b .entry)) ⌝ }
     ensures { λ r. ⌜ Within (now (s .entry)) (now (a .entry)) (now (b .entry)) r ⌝ }
 {
     lists::smaller(

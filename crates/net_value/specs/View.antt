@@ -49,9 +49,9 @@ constView None = none
 constView (Some t) = some (tritView t)
 
 -- the constant net of a flag
-abbrev pub bitOf : Bool → ℕ
-bitOf false = 0
-bitOf true = 1
+abbrev pub boolNet : Bool → ℕ
+boolNet false = 0
+boolNet true = 1
 
 abbrev pub isX : ℕ → Bool
 isX n = eqb n X

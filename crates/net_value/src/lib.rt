@@ -8,7 +8,7 @@ ghost use Rattle.rules.specs.Value.{isCellNet, goodNet, goodValue, goodControl,
 ghost use Rattle.rules.specs.Refusals.{zextRefusal, narrowerSelectRefusal};
 ghost use Rattle.rules.specs.Answers.{netOfCellCall, inverseCall, isAlwaysCall, valueIsUndefCall, sliceCall, zextCall, narrowerSelectCall, filledWith};
 ghost use Rattle.net_logic.specs.View.{boolAnswer, givenPart};
-ghost use Rattle.net_value.specs.View.{controlOf, netAnswer, controlAnswer, driverView, constView, isConst, asConst, bitOf, isX};
+ghost use Rattle.net_value.specs.View.{controlOf, netAnswer, controlAnswer, driverView, constView, isConst, asConst, boolNet, isX};
 
 // A net's number: 0, 1, X, or the first-cell offset and a cell's number.
 pub struct Net(pub u32);
@@ -185,7 +185,7 @@ pub fn control_not(c: ControlNet) -> ControlAnswer
 
 // The control is 0 or 1 for ever.
 pub fn is_always(c: ControlNet, v: bool) -> bool
-    ensures { λ r. ⌜ r ≡ isAlways (bitOf v) (controlOf c) ⌝ }
+    ensures { λ r. ⌜ r ≡ isAlways (boolNet v) (controlOf c) ⌝ }
 {
     match c {
         ControlNet::Pos(n) => {
@@ -200,7 +200,7 @@ pub fn is_always(c: ControlNet, v: bool) -> bool
 
 // The control is 0 or 1 for ever, or number 4.
 pub fn control_is_always(c: ControlNet, v: bool) -> BoolAnswer
-    ensures { λ r. ⌜ boolAnswer r ≡ isAlwaysCall (bitOf v) (controlOf c) ⌝ }
+    ensures { λ r. ⌜ boolAnswer r ≡ isAlwaysCall (boolNet v) (controlOf c) ⌝ }
 {
     if !control_good(rules::MAX_NETS, c) {
         return BoolAnswer::Refused(4);

@@ -20,7 +20,7 @@ use Rattle.net_memory.specs.declared.MemoryReadPort.{MemoryReadPort}
 use Rattle.net_memory.specs.declared.Memory.{Memory}
 use Rattle.net_memory.specs.View.{noReadPort, writePorts, readPorts, writeSize, addrSize, tritSize, noTrits, writeBy, readBy, writesOf, readsOf, readsStart, readPort, memoryOf, readNets, readTrits, netsTotal, tritsTotal}
 use Rattle.net_memory.proofs.Ports.{noRead, trits-none}
-use Rattle.port_extract.specs.Extract.{portOf, keptList, keptPort, newPort, keptTrits, withPorts, newNets, newTrits, extractionOf, Listed}
+use Rattle.port_extract.specs.Extract.{portOf, keptList, keptPort, newPort, keptTrits, withPorts, newNets, newTrits, extractionOf, ListedPorts}
 use Rattle.lists.proofs.Flat.{views-flat}
 use Rattle.port_extract.proofs.Kept.{kept-nil, kept-same, kept-long, kept-flat, write-flat}
 
@@ -36,7 +36,7 @@ module _ (m : Memory) (trits : List ℕ) (k : ℕ) where
   kept-by f h e = ap (λ (g : MemoryReadFlipFlop). keptList g (readTrits m trits k)) (sym (ap (λ (p : MemoryReadPort). p .«flip_flop») (port-is m k h) ∙ e))
 
 -- a turn of the loop that stores the listed ports
-pub ports-turn : (m : Memory) (list : List ℕ) (j k : ℕ) (p : MemoryReadPort) → j < length list → k ≡ getD list j 0 → Listed m list → p ≡ keptPort (readPort m k)
+pub ports-turn : (m : Memory) (list : List ℕ) (j k : ℕ) (p : MemoryReadPort) → j < length list → k ≡ getD list j 0 → ListedPorts m list → p ≡ keptPort (readPort m k)
     → set (sets (m .«read_ports») 0 (take j (map (newPort m) list))) j p ≡ sets (m .«read_ports») 0 (take (j + 1) (map (newPort m) list))
 ports-turn m list j k p h e l kept =
     let n : k < min maxPorts (m .«read_count») = omega (arith, l .there j h) in
@@ -128,7 +128,7 @@ module _ (m : Memory) (nets trits : List ℕ) (nets-exact : length nets ≡ nets
     long-trits : length (part 0 (m .«init_len») trits) ≡ m .«init_len»
     long-trits = length-take-le (m .«init_len») trits (omega (arith, trits-by))
 
-    module _ (eight : length (m .«read_ports») ≡ 8) (listed : Listed m list) where
+    module _ (eight : length (m .«read_ports») ≡ 8) (listed : ListedPorts m list) where
       ports : readPorts (withPorts m list) ≡ map (newPort m) list
       ports =
           let n : length (map (newPort m) list) ≡ min maxPorts (length list) = omega (arith, length-map list (newPort m), listed .few) in

@@ -105,12 +105,12 @@ pub record NewStruct (m : Memory) (nets trits list output : List ℕ) (r : Extra
   pub trits-long : r .refusal ≡ 0 → tritsTotal (r .memory) ≡ length (flatTrits (extractionOf m nets trits list output .memory))
 
 -- a list of ports that there are
-pub record Listed (m : Memory) (list : List ℕ) : Type 0 where
+pub record ListedPorts (m : Memory) (list : List ℕ) : Type 0 where
   pub few : length list ≤ 8
   pub there : (j : ℕ) → j < length list → getD list j 0 < min maxPorts (m .«read_count»)
 
 -- such a list, and arrays as long as the struct says
 pub record Ready (m : Memory) (nets trits list : List ℕ) : Type 0 where
-  pub listed : Listed m list
+  pub listed : ListedPorts m list
   pub nets-exact : length nets ≡ netsTotal m
   pub trits-exact : length trits ≡ tritsTotal m

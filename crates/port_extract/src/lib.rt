@@ -11,7 +11,7 @@ ghost use Rattle.rules.specs.Refusals.{noRooms, extractReadPortsRefusal};
 ghost use Rattle.rules.specs.Answers.{extractReadPortsCall};
 ghost use Rattle.net_memory.specs.View.{memoryOf, readNets};
 ghost use Rattle.net_memory.specs.Given.{givenOf};
-ghost use Rattle.port_extract.specs.Extract.{extractedOf, keptPort, keptTrits, withPorts, newNets, newTrits, extractionOf, newOutput, NewStruct, Listed, Ready};
+ghost use Rattle.port_extract.specs.Extract.{extractedOf, keptPort, keptTrits, withPorts, newNets, newTrits, extractionOf, newOutput, NewStruct, ListedPorts, Ready};
 use net_memory::Memory;
 use net_memory::MemoryReadFlipFlop;
 use net_memory::MemoryReadPort;
@@ -142,7 +142,7 @@ fn kept_port(p: MemoryReadPort) -> MemoryReadPort
 
 // The struct with the listed ports.
 fn pick_ports(m: Memory, list: &[u32]) -> Memory
-    requires { ⌜ Listed m (now list) ⌝ }
+    requires { ⌜ ListedPorts m (now list) ⌝ }
     ensures { λ r. ⌜ r ≡ withPorts m (now (list .entry)) ⌝ }
 {
     let mut out = m;

@@ -18,7 +18,7 @@ use Rattle.rules.specs.Cell.{Controls, FlipFlop}
 use Rattle.rules.specs.Log.{Entry, Void, Not, And, Or, Mux, Eq, Shl, Ushr, Dff, Replace, entry, flag, dffOperands, encode, words}
 use Rattle.rules.proofs.Entries.{length-control}
 use Rattle.rules.specs.Conditions.{unequal, badTritLens}
-use Rattle.rules.specs.Beside.Decode.{controlsWords, controlAt, controlsOf, flipFlopFrom, firstHalf, secondHalf, entryFrom, formed, decode, before, readOn, decodeBy, decodeAll}
+use Rattle.rules.specs.Beside.Decode.{controlsWords, controlAt, controlsFrom, flipFlopFrom, firstHalf, secondHalf, entryFrom, formed, decode, before, readOn, decodeBy, decodeAll}
 
 -- an entry whose words are these is read back, where its operands make it
 read-back : (e : Entry) (kind width first : ℕ) (ops rest : List ℕ) → encode e ≡ entry kind width first ops → entryFrom kind width first ops ≡ e → formed e ≡ true
@@ -81,8 +81,8 @@ drop-control (Neg n) l i = refl
 abbrev nine : Controls → List ℕ → List ℕ
 nine c l = controlWords (c .clock) ++ (controlWords (c .clear) ++ (controlWords (c .reset) ++ (controlWords (c .enable) ++ (flag (c .resetOverEnable) ∷ l))))
 
-controls-back : (c : Controls) (l : List ℕ) → controlsOf (nine c l) ≡ c
-unfolding controlsOf
+controls-back : (c : Controls) (l : List ℕ) → controlsFrom (nine c l) ≡ c
+unfolding controlsFrom
 controls-back c l = λ i. record { clock = ck i; clear = cl i; reset = rs i; enable = en i; resetOverEnable = ro i }
   where
     ck : controlAt (nine c l) 0 ≡ c .clock

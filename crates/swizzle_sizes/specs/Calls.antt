@@ -13,11 +13,11 @@ muxBitsBy (Refused n) = record { refusal = n; writes = replicate maxPorts 0; rea
 muxBitsBy (Accepted x) = record { refusal = 0; writes = inEight (x .0); reads = inEight (x .1) }
 
 -- what the mux bits can be counted from: the bits that all ports have, and the new wide logs
-pub record Small (base : ℕ) (news : List ℕ) : Type 0 where
+pub record SmallLogs (base : ℕ) (news : List ℕ) : Type 0 where
   pub base-small : base ≤ 1000
   pub news-small : (j : ℕ) → j < length news → getD news j 0 ≤ 4
 
 -- and few old wide logs
 pub record Countable (base : ℕ) (olds news : List ℕ) : Type 0 where
-  pub small : Small base news
+  pub small : SmallLogs base news
   pub olds-few : length olds ≤ 8

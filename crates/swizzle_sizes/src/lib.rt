@@ -13,7 +13,7 @@ ghost use Rattle.swizzle_plan.specs.Numbers.{inEight, writeLogs, readLogs};
 ghost use Rattle.rules.specs.Answers.{swizzleDepthsCall, swizzleMuxBitsCall, filledWith};
 ghost use Rattle.rules.specs.Refusals.{swizzleMuxBitsRefusal};
 ghost use Rattle.net_memory.specs.Given.{givenOf};
-ghost use Rattle.swizzle_sizes.specs.Calls.{muxBitsBy, Countable, Small};
+ghost use Rattle.swizzle_sizes.specs.Calls.{muxBitsBy, Countable, SmallLogs};
 use net_memory::Memory;
 use swizzle_plan::MemorySwizzle;
 
@@ -85,7 +85,7 @@ fn bits_of(base: u32, olds: &[u32], news: &[u32]) -> [u32; rules::MAX_PORTS]
 
 // The mux bits of the write ports.
 fn write_bits(m: Memory, nets: &[u32], base: u32, news: &[u32]) -> [u32; rules::MAX_PORTS]
-    requires { ⌜ Small base (now news) ⌝ }
+    requires { ⌜ SmallLogs base (now news) ⌝ }
     ensures { λ r. ⌜ ((trits : List ℕ) → r ≡ inEight (map (λ x. base + x .1 - x .0) (pairs (writeLogs (memoryOf m (now (nets .entry)) trits)) (now (news .entry))))) ⌝ }
 {
     let logs = swizzle_plan::logs::write_logs(m, nets);
@@ -95,7 +95,7 @@ fn write_bits(m: Memory, nets: &[u32], base: u32, news: &[u32]) -> [u32; rules::
 
 // The mux bits of the listed read ports.
 fn read_bits(m: Memory, ports: &[u32], base: u32, news: &[u32]) -> [u32; rules::MAX_PORTS]
-    requires { ⌜ (length (now ports) ≤ 8) × Small base (now news) ⌝ }
+    requires { ⌜ (length (now ports) ≤ 8) × SmallLogs base (now news) ⌝ }
     ensures { λ r. ⌜ ((nets trits : List ℕ) → r ≡ inEight (map (λ x. base + x .1 - x .0) (pairs (readLogs (memoryOf m nets trits) (now (ports .entry))) (now (news .entry))))) ⌝ }
 {
     let logs = read_logs(m, ports);

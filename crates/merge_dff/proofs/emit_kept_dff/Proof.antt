@@ -6,7 +6,7 @@ use lib.ListN.{length, take}
 use lib.Seq.{length-take-le}
 use Rattle.log_entries.specs.View.{lent}
 use Rattle.net_flip_flop.specs.View.{controlsOf}
-use Rattle.merge_dff.specs.Packs.{byteOf}
+use Rattle.merge_dff.specs.Packs.{packedByte}
 use Rattle.merge_dff.proofs.Dff.{part-kept, kept-run, kept-results}
 use borrow.Author.Needs.{needs}
 use Rattle.merge_dff.proofs.emit_kept_dff.Statement.{statement}
@@ -70,9 +70,9 @@ returns c =
     let z = c .before .before .before .before .before .before .before .before .before .before .before .before .unpack-part3 in
     let p = c .before .before .before .before .before .before .emit-dff in
     let n = length ps in
-    let ec : take n (u .last .0) ≡ map (byteOf 256) ps = part-kept _ (u .last .0) ps 256 n (u .ensures) refl (omega (arith, k .pre)) in
-    let er : take n (w .last .0) ≡ map (byteOf 1) ps = part-kept _ (w .last .0) ps 1 n (w .ensures) refl (omega (arith, k .pre)) in
-    let ei : take n (z .last .0) ≡ map (byteOf 65536) ps = part-kept _ (z .last .0) ps 65536 n (z .ensures) refl (omega (arith, k .pre)) in
+    let ec : take n (u .last .0) ≡ map (packedByte 256) ps = part-kept _ (u .last .0) ps 256 n (u .ensures) refl (omega (arith, k .pre)) in
+    let er : take n (w .last .0) ≡ map (packedByte 1) ps = part-kept _ (w .last .0) ps 1 n (w .ensures) refl (omega (arith, k .pre)) in
+    let ei : take n (z .last .0) ≡ map (packedByte 65536) ps = part-kept _ (z .last .0) ps 65536 n (z .ensures) refl (omega (arith, k .pre)) in
     let l = lent (v .st) (v .log .now) in
     let l1 = lent (p .result) (p .last .0) in (
       kept-run (controlsOf (v .c)) (v .bits .now) ps (v .at .now) (v .out .now) _ _ _ l l1 ec er ei (p .ensures),

@@ -6,13 +6,13 @@ use mathlib.Core.List.{map}
 use lib.ListN.{length, take, length-set}
 use lib.Seq.{sets}
 use borrow.Author.Needs.{needs}
-use Rattle.merge_dff.specs.Packs.{byteOf}
+use Rattle.merge_dff.specs.Packs.{packedByte}
 use Rattle.merge_dff.proofs.Packing.{part-turn, part-done}
 use Rattle.merge_dff.proofs.unpack_part.Statement.{statement}
 use Rattle.merge_dff.proofs.unpack_part.Tie as tie
 
 abbrev Inv-loop : tie.InvT-loop
-Inv-loop to₀ ps by n i₀ to i = (i ≤ n) × (length to ≡ length to₀) × (to ≡ sets to₀ 0 (take i (map (byteOf by) ps)))
+Inv-loop to₀ ps by n i₀ to i = (i ≤ n) × (length to ≡ length to₀) × (to ≡ sets to₀ 0 (take i (map (packedByte by) ps)))
 
 abbrev μ-loop : tie.MeasureT-loop
 μ-loop to₀ ps by n i₀ to i = n - i

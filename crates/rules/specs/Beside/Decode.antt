@@ -22,8 +22,8 @@ controlsWords c =
 unfoldable pub controlAt : List ℕ → ℕ → Control
 controlAt ops i = if eqb (getD ops i 0) 0 then Pos (getD ops (suc i) 0) else Neg (getD ops (suc i) 0)
 
-unfoldable pub controlsOf : List ℕ → Controls
-controlsOf ops = record {
+unfoldable pub controlsFrom : List ℕ → Controls
+controlsFrom ops = record {
   clock = controlAt ops 0;
   clear = controlAt ops 2;
   reset = controlAt ops 4;
@@ -37,7 +37,7 @@ flipFlopFrom width ops =
     let trits = drop 9 (drop width ops) in
     record {
       bits = take width ops;
-      controls = controlsOf (drop width ops);
+      controls = controlsFrom (drop width ops);
       clearValue = take width trits;
       resetValue = take width (drop width trits);
       initValue = drop width (drop width trits);
