@@ -1,10 +1,12 @@
 #!/usr/bin/env python3
-"""sample.py [FILE]: writes the sentences that antt proves by computing.
+"""sample.py [--check] [FILE]: writes the sentences that antt proves by computing.
 
 crates/rules_trial/proofs/: one file a call, with cases and one sentence: the rules give the Rust's own answers. With FILE the cases are those of the
 oracle's sample (`oracle sample`): a line is a case's words in decimal, ` = `, and the words of the Rust's answer. Without it the committed cases stay.
+Those of scripts/sample_cases.txt, in the same format, come after them.
 crates/rules/proofs/Starred.antt: the starred examples hold.
 A sentence names every definition that is unfolded on the way: this script finds them.
+With --check nothing is written: the script fails where a file that it makes differs from the committed one.
 """
 import glob
 import os
@@ -14,6 +16,7 @@ import sys
 SPECS = sorted(p for c in ('lists', 'rules', 'rules_trial') for p in glob.glob(f'crates/{c}/specs/**/*.antt', recursive=True))
 PROOFS = 'crates/rules_trial/proofs'
 STARRED = 'crates/rules/proofs/Starred.antt'
+ADDED = 'scripts/sample_cases.txt'
 
 
 def module_of(path, own):
@@ -113,21 +116,43 @@ def committed():
     return by_op
 
 
-def put(path, text):
-    with open(path, 'w', encoding='utf-8') as out:
-        out.write(text)
+def joined(first, then):
+    """The cases of both, by call; one that stands in both stands among the second."""
+    ops = {}
+    for op in sorted({*first, *then}):
+        later = [given for given, _ in then.get(op, [])]
+        ops[op] = [c for c in first.get(op, []) if c[0] not in later] + then.get(op, [])
+    return ops
+
+
+def made(by_op):
+    """Each file that this script makes, with its text."""
+    table = definitions()
+    files = {f'{PROOFS}/Op{op}.antt': trial_text(op, cases, table) for op, cases in by_op.items()}
+    head = "-- A sample of calls on which the rules give the Rust's own answers: one sentence for each call of the format.\n"
+    files[f'{PROOFS}/Lib.antt'] = head + ''.join(f'pub mod Op{op}\n' for op in by_op)
+    files[STARRED] = starred_text(table)
+    return files
+
+
+def stands(path, text):
+    return os.path.exists(path) and open(path, encoding='utf-8').read() == text
 
 
 def main():
-    by_op = sampled(sys.argv[1]) if len(sys.argv) > 1 else committed()
-    table = definitions()
-    for old in glob.glob(f'{PROOFS}/Op*.antt'):
-        os.remove(old)
-    for op, cases in sorted(by_op.items()):
-        put(f'{PROOFS}/Op{op}.antt', trial_text(op, cases, table))
-    head = "-- A sample of calls on which the rules give the Rust's own answers: one sentence for each call of the format.\n"
-    put(f'{PROOFS}/Lib.antt', head + ''.join(f'pub mod Op{op}\n' for op in sorted(by_op)))
-    put(STARRED, starred_text(table))
+    names = [a for a in sys.argv[1:] if a != '--check']
+    files = made(joined(sampled(names[0]) if names else committed(), sampled(ADDED)))
+    others = [p for p in glob.glob(f'{PROOFS}/Op*.antt') if p not in files]
+    if '--check' in sys.argv:
+        differ = others + [p for p, text in files.items() if not stands(p, text)]
+        if differ:
+            sys.exit('sample: not as this script makes them: ' + ' '.join(differ))
+        return
+    for path in others:
+        os.remove(path)
+    for path, text in files.items():
+        with open(path, 'w', encoding='utf-8') as out:
+            out.write(text)
 
 
 main()
