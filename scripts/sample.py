@@ -3,12 +3,13 @@
 
 crates/rules_trial/proofs/: one file a call, with cases and one sentence: the rules give the Rust's own answers. With FILE the cases are those of the
 oracle's sample (`oracle sample`): a line is a case's words in decimal, ` = `, and the words of the Rust's answer. Without it the committed cases stay.
-Those of scripts/sample_cases.txt, in the same format, come after them.
+Those of scripts/sample_cases.txt, in the same format, come after them; there 0*4096 is a word 4,096 times.
 crates/rules/proofs/Starred.antt: the starred examples hold.
 A sentence names every definition that is unfolded on the way: this script finds them.
 With --check nothing is written: the script fails where a file that it makes differs from the committed one.
 """
 import glob
+import itertools
 import os
 import re
 import sys
@@ -17,6 +18,8 @@ SPECS = sorted(p for c in ('lists', 'rules', 'rules_trial') for p in glob.glob(f
 PROOFS = 'crates/rules_trial/proofs'
 STARRED = 'crates/rules/proofs/Starred.antt'
 ADDED = 'scripts/sample_cases.txt'
+# so many equal words and more are not written out
+MANY = 16
 
 
 def module_of(path, own):
@@ -65,7 +68,20 @@ def uses(names, table, own):
 
 
 def numerals(words):
-    return ' ∷ '.join(words + ['[]'])
+    """The words as a list; so many equal ones are a `replicate`."""
+    text = ''
+    for word, group in itertools.groupby(words):
+        n = len(list(group))
+        text += f'replicate {n} {word} ++ ' if n >= MANY else f'{word} ∷ ' * n
+    return text + '[]'
+
+
+def words_of(text):
+    """The words of a line, or of such a list."""
+    words = []
+    for n, word, plain, times in re.findall(r'replicate (\d+) (\d+)|(\d+)(?:\*(\d+))?', text):
+        words += [word] * int(n) if n else [plain] * int(times or 1)
+    return words
 
 
 def trial_text(op, cases, table):
@@ -73,13 +89,12 @@ def trial_text(op, cases, table):
     groups = uses(names, table, 'rules_trial')
     groups.setdefault('Rattle.rules_trial.specs.Wire', []).extend(['Case', 'case'])
     lines = [f'-- Calls {op} of the call format, which the rules answer as the Rust does. Made by scripts/sample.py.']
-    lines += ['use Prim.Native.Nat.{ℕ}', 'use mathlib.Core.Path.{_≡_, refl}', 'use mathlib.Core.Bool.{true}', 'use mathlib.Core.List.{List, [], _∷_}']
+    lines += ['use Prim.Native.Nat.{ℕ}', 'use mathlib.Core.Path.{_≡_, refl}', 'use mathlib.Core.Bool.{true}']
+    shown = [f'    case ({numerals(given)}) ({numerals(answer)})\n    ∷' for given, answer in cases]
+    many = any('replicate' in one for one in shown)
+    lines += ['use mathlib.Core.List.{List, [], _∷_, _++_}', 'use lib.ListN.{replicate}'] if many else ['use mathlib.Core.List.{List, [], _∷_}']
     lines += [f'use {module}.{{{", ".join(group)}}}' for module, group in groups.items()]
-    lines += ['', 'abbrev pub cases : List Case', 'cases =']
-    for given, answer in cases:
-        lines.append(f'    case ({numerals(given)}) ({numerals(answer)})')
-        lines.append('    ∷')
-    lines.append('    []')
+    lines += ['', 'abbrev pub cases : List Case', 'cases ='] + shown + ['    []']
     binds = 'Rattle.rules_trial.specs.Read._>>=_'
     lines += ['', f'pub agreed : agree op{op} cases ≡ true', 'unfolding ' + ' '.join(names + [binds]), 'agreed = refl', '']
     return '\n'.join(lines)
@@ -101,7 +116,7 @@ def sampled(path):
     for line in open(path, encoding='utf-8'):
         line = line.split('#')[0].strip()
         if line:
-            given, answer = (side.split() for side in line.split('='))
+            given, answer = (words_of(side) for side in line.split('='))
             by_op.setdefault(int(given[0]), []).append((given, answer))
     return by_op
 
@@ -111,8 +126,7 @@ def committed():
     by_op = {}
     for path in glob.glob(f'{PROOFS}/Op*.antt'):
         for given, answer in re.findall(r'case \(([^()]*)\) \(([^()]*)\)', open(path, encoding='utf-8').read()):
-            words = [re.findall(r'\d+', side) for side in (given, answer)]
-            by_op.setdefault(int(words[0][0]), []).append((words[0], words[1]))
+            by_op.setdefault(int(words_of(given)[0]), []).append((words_of(given), words_of(answer)))
     return by_op
 
 
