@@ -1,22 +1,26 @@
 #!/usr/bin/env python3
-"""sample.py [--check] [FILE]: writes the sentences that antt proves by computing.
+"""sample.py [--check | --oracle PROGRAM]: writes the sentences that antt proves by computing.
 
-crates/rules_trial/proofs/: one file a call, with cases and one sentence: the rules give the Rust's own answers. With FILE the cases are those of the
-oracle's sample (`oracle sample`): a line is a case's words in decimal, ` = `, and the words of the Rust's answer. Without it the committed cases stay.
-Those of scripts/sample_cases.txt, in the same format, come after them; there 0*4096 is a word 4,096 times.
+crates/rules_trial/proofs/: one file a call, with cases and one sentence: the rules give the Rust's own answers. The cases are those of scripts/sample.txt,
+which is what `oracle sample` prints, and after them those of scripts/sample_cases.txt. A line is a case's words in decimal, ` = `, and the words of the
+Rust's answer; 0*4096 is a word 4,096 times.
 crates/rules/proofs/Starred.antt: the starred examples hold.
 A sentence names every definition that is unfolded on the way: this script finds them.
-With --check nothing is written: the script fails where a file that it makes differs from the committed one.
+With --check nothing is written: the script fails where a file that it makes differs from the committed one. With --oracle it asks the oracle, and fails
+where its sample, or its answer to a case, is another one.
 """
 import glob
 import itertools
 import os
 import re
+import struct
+import subprocess
 import sys
 
 SPECS = sorted(p for c in ('lists', 'rules', 'rules_trial') for p in glob.glob(f'crates/{c}/specs/**/*.antt', recursive=True))
 PROOFS = 'crates/rules_trial/proofs'
 STARRED = 'crates/rules/proofs/Starred.antt'
+SAMPLE = 'scripts/sample.txt'
 ADDED = 'scripts/sample_cases.txt'
 # so many equal words and more are not written out
 MANY = 16
@@ -77,10 +81,11 @@ def numerals(words):
 
 
 def words_of(text):
-    """The words of a line, or of such a list."""
+    """The words of one side of a line."""
     words = []
-    for n, word, plain, times in re.findall(r'replicate (\d+) (\d+)|(\d+)(?:\*(\d+))?', text):
-        words += [word] * int(n) if n else [plain] * int(times or 1)
+    for part in text.split():
+        word, _, times = part.partition('*')
+        words += [word] * int(times or 1)
     return words
 
 
@@ -110,41 +115,26 @@ def starred_text(table):
     return '\n'.join(lines)
 
 
-def sampled(path):
-    """The cases of the oracle's sample, by call."""
-    by_op = {}
+def cases_of(path):
+    """The cases of a text, in order."""
+    cases = []
     for line in open(path, encoding='utf-8'):
         line = line.split('#')[0].strip()
         if line:
-            given, answer = (words_of(side) for side in line.split('='))
-            by_op.setdefault(int(given[0]), []).append((given, answer))
-    return by_op
+            given, answer = line.split('=')
+            cases.append((words_of(given), words_of(answer)))
+    return cases
 
 
-def committed():
-    """The cases that stand in the proofs, by call."""
-    by_op = {}
-    for path in glob.glob(f'{PROOFS}/Op*.antt'):
-        for given, answer in re.findall(r'case \(([^()]*)\) \(([^()]*)\)', open(path, encoding='utf-8').read()):
-            by_op.setdefault(int(words_of(given)[0]), []).append((words_of(given), words_of(answer)))
-    return by_op
-
-
-def joined(first, then):
-    """The cases of both, by call; one that stands in both stands among the second."""
-    ops = {}
-    for op in sorted({*first, *then}):
-        later = [given for given, _ in then.get(op, [])]
-        ops[op] = [c for c in first.get(op, []) if c[0] not in later] + then.get(op, [])
-    return ops
-
-
-def made(by_op):
+def made():
     """Each file that this script makes, with its text."""
     table = definitions()
+    by_op = {}
+    for case in cases_of(SAMPLE) + cases_of(ADDED):
+        by_op.setdefault(int(case[0][0]), []).append(case)
     files = {f'{PROOFS}/Op{op}.antt': trial_text(op, cases, table) for op, cases in by_op.items()}
     head = "-- A sample of calls on which the rules give the Rust's own answers: one sentence for each call of the format.\n"
-    files[f'{PROOFS}/Lib.antt'] = head + ''.join(f'pub mod Op{op}\n' for op in by_op)
+    files[f'{PROOFS}/Lib.antt'] = head + ''.join(f'pub mod Op{op}\n' for op in sorted(by_op))
     files[STARRED] = starred_text(table)
     return files
 
@@ -153,11 +143,24 @@ def stands(path, text):
     return os.path.exists(path) and open(path, encoding='utf-8').read() == text
 
 
+def asked(oracle):
+    """Fails where the oracle's sample or its answers are others than the texts'."""
+    if subprocess.run([oracle, 'sample'], capture_output=True, check=True).stdout != open(SAMPLE, 'rb').read():
+        sys.exit(f'sample: {SAMPLE} is not what the oracle prints')
+    cases = cases_of(ADDED)
+    numbers = [int(word) for given, _ in cases for word in given]
+    answers = subprocess.run([oracle, 'answer'], input=struct.pack(f'<{len(numbers)}I', *numbers), capture_output=True, check=True).stdout
+    told = [int(word) for _, answer in cases for word in answer]
+    if answers != struct.pack(f'<{len(told)}I', *told):
+        sys.exit(f'sample: {ADDED} has an answer that is not the oracle\'s')
+
+
 def main():
-    names = [a for a in sys.argv[1:] if a != '--check']
-    files = made(joined(sampled(names[0]) if names else committed(), sampled(ADDED)))
+    if sys.argv[1:2] == ['--oracle']:
+        return asked(sys.argv[2])
+    files = made()
     others = [p for p in glob.glob(f'{PROOFS}/Op*.antt') if p not in files]
-    if '--check' in sys.argv:
+    if sys.argv[1:] == ['--check']:
         differ = others + [p for p, text in files.items() if not stands(p, text)]
         if differ:
             sys.exit('sample: not as this script makes them: ' + ' '.join(differ))

@@ -1,7 +1,7 @@
 """Lists of rules that are made wrong on purpose: read, and made wrong in a copy of the project.
 
-An entry of a list is a comment, `refused by: WHAT`, `file: FILE` and pairs of `old: ` and `new: `, each a text of the file; \\n in it
-is an end of line.
+An entry of a list is a comment, `refused by: WHAT`, `file: FILE` and pairs of `old: ` and `new: `, each a text of the file; a
+backslash and n in it is an end of line.
 """
 import os
 import sys
@@ -28,14 +28,18 @@ def entries(path):
     return found
 
 
-def make_wrong(root, entry):
-    """Exchanges the entry's texts, all at once; each old text stands once."""
-    path = os.path.join(root, entry['file'])
-    text = open(path, encoding='utf-8').read()
+def wrong_text(root, entry):
+    """The entry's file with its texts exchanged, all at once; each old text stands once."""
+    text = open(os.path.join(root, entry['file']), encoding='utf-8').read()
     for old, new in entry['pairs']:
         if text.count(old) != 1 or new is None:
             sys.exit(f"wrong: '{entry['comment']}': this text stands {text.count(old)} times: {old}")
     for at, old, new in sorted(((text.index(old), old, new) for old, new in entry['pairs']), reverse=True):
         text = text[:at] + new + text[at + len(old):]
-    with open(path, 'w', encoding='utf-8') as out:
+    return text
+
+
+def make_wrong(root, entry):
+    text = wrong_text(root, entry)
+    with open(os.path.join(root, entry['file']), 'w', encoding='utf-8') as out:
         out.write(text)

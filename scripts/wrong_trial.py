@@ -14,7 +14,7 @@ import sys
 import tempfile
 from concurrent.futures import ThreadPoolExecutor
 
-from wrong import entries, make_wrong
+from wrong import entries, make_wrong, wrong_text
 
 LIST = 'scripts/wrong_trial.txt'
 CRATES = ['lists', 'rules', 'rules_trial']
@@ -29,7 +29,7 @@ def make_base(root):
     for crate in CRATES:
         shutil.copytree(f'crates/{crate}', f'{root}/crates/{crate}', ignore=shutil.ignore_patterns('must-fail'))
     os.mkdir(f'{root}/scripts')
-    for name in ('sample.py', 'sample_cases.txt'):
+    for name in ('sample.py', 'sample.txt', 'sample_cases.txt'):
         shutil.copy(f'scripts/{name}', f'{root}/scripts')
     if os.path.exists('target/stamp/lists'):
         shutil.copytree('target/rlib/lists.rlib', f'{root}/target/rlib/lists.rlib')
@@ -43,43 +43,59 @@ def make_base(root):
 
 
 def keep_only(folder, name):
-    """Of a crate's proofs this file alone, or none, with its sentence turned round."""
+    """Of a crate's proofs this file alone, or none."""
     for other in os.listdir(folder):
         path = os.path.join(folder, other)
-        if other == 'Lib.antt':
-            with open(path, 'w', encoding='utf-8') as out:
-                out.write('-- One sentence.\n' + (f'pub mod {name}\n' if name else ''))
-        elif other == f'{name}.antt':
-            text, times = SENTENCE.subn(r'\1 ≡ false', open(path, encoding='utf-8').read())
-            if times != 1:
-                return f'{other} has {times} sentences'
-            with open(path, 'w', encoding='utf-8') as out:
-                out.write(text.replace('Core.Bool.{true', 'Core.Bool.{false, true'))
-        elif os.path.isdir(path):
+        if os.path.isdir(path):
             shutil.rmtree(path)
-        else:
+        elif other not in ('Lib.antt', f'{name}.antt'):
             os.remove(path)
+    with open(f'{folder}/Lib.antt', 'w', encoding='utf-8') as out:
+        out.write('-- The sentence that is tried.\n' + (f'pub mod {name}\n' if name else ''))
+
+
+def turn_round(path):
+    """The file's sentence says `≡ false`; what is wrong where it has no such sentence, or two."""
+    text, times = SENTENCE.subn(r'\1 ≡ false', open(path, encoding='utf-8').read())
+    if times != 1:
+        return f'{os.path.basename(path)} has {times} sentences'
+    with open(path, 'w', encoding='utf-8') as out:
+        out.write(text.replace('Core.Bool.{true}', 'Core.Bool.{false}'))
     return ''
+
+
+def copy_of(base):
+    """A copy, which takes `lists` from the base."""
+    root = tempfile.mkdtemp(prefix='entry.', dir=base)
+    for name in ('crates', 'scripts', 'target/stamp', 'target/log'):
+        shutil.copytree(f'{base}/{name}', f'{root}/{name}')
+    shutil.copy2(f'{base}/crates.txt', root)
+    os.mkdir(f'{root}/target/rlib')
+    os.symlink(f'{base}/target/rlib/lists.rlib', f'{root}/target/rlib/lists.rlib')
+    return root
 
 
 def tried(base, entry):
     """What is wrong with an entry; nothing where its sentence is proved false."""
-    root = tempfile.mkdtemp(prefix='entry.', dir=base)
-    for name in ('crates', 'scripts', 'target'):
-        shutil.copytree(os.path.join(base, name), os.path.join(root, name))
-    shutil.copy2(os.path.join(base, 'crates.txt'), root)
-    make_wrong(root, entry)
+    root = copy_of(base)
+    try:
+        make_wrong(root, entry)
+        return tried_in(root, entry['by'])
+    finally:
+        shutil.rmtree(root)
+
+
+def tried_in(root, name):
     made = subprocess.run([sys.executable, 'scripts/sample.py'], cwd=root, capture_output=True, text=True)
     if made.returncode != 0:
         return made.stderr
-    name = entry['by']
     crate = 'rules_trial' if name.startswith('Op') else 'rules'
     for other in ('rules', 'rules_trial'):
-        fault = keep_only(f'{root}/crates/{other}/proofs', name if other == crate else '')
-        if fault:
-            return fault
+        keep_only(f'{root}/crates/{other}/proofs', name if other == crate else '')
+    fault = turn_round(f'{root}/crates/{crate}/proofs/{name}.antt')
+    if fault:
+        return fault
     said = subprocess.run(['rt', 'check', crate], cwd=root, capture_output=True, text=True)
-    shutil.rmtree(root)
     if said.returncode == 0 and re.search(rf'^rt: {crate} proved', said.stdout, re.M):
         return ''
     errors = [line for line in (said.stdout + said.stderr).splitlines() if ' error: ' in line]
@@ -89,14 +105,21 @@ def tried(base, entry):
 def main():
     only = sys.argv[1] if len(sys.argv) > 1 else ''
     wrong = [e for e in entries(LIST) if only in e['comment']]
+    for entry in wrong:
+        wrong_text('.', entry)
+    # the script itself: with no rule wrong a sentence is not false
+    right = {'comment': 'no rule wrong', 'by': 'Op28', 'file': 'crates/rules/specs/Limits.antt', 'pairs': []}
     base = tempfile.mkdtemp(prefix='wrong_trial.')
     try:
         make_base(base)
-        failed = 0
         with ThreadPoolExecutor(2) as pool:
-            for entry, fault in zip(wrong, pool.map(lambda e: tried(base, e), wrong)):
+            faults = pool.map(lambda e: tried(base, e), [right] + wrong)
+            if 'error: `agreed`' not in next(faults):
+                sys.exit('wrong_trial: a sentence is false, or not tried, with no rule wrong')
+            failed = 0
+            for entry, fault in zip(wrong, faults):
                 failed += fault != ''
-                print(f"wrong_trial: '{entry['comment']}': " + (f"NOT contradicted by {entry['by']}: {fault}" if fault else f"contradicted by {entry['by']}"), flush=True)
+                print(f"wrong_trial: '{entry['comment']}': {'NOT ' if fault else ''}contradicted by {entry['by']} {fault}".rstrip(), flush=True)
         print(f'wrong_trial: {len(wrong) - failed} of {len(wrong)} wrong rules are contradicted')
         sys.exit(1 if failed else 0)
     finally:
