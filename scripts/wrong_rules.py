@@ -10,41 +10,11 @@ import subprocess
 import sys
 import tempfile
 
+from wrong import entries, make_wrong
+
 LIST = 'scripts/wrong_rules.txt'
 # what the checker says where a file's shape is refused, not a fact
 SHAPE = re.compile(r'has no `?Need-|not in scope|takes only names|that can be named from here|no proof: expected')
-
-
-def entries():
-    """Each entry: its comment, its crate, its file and its pairs of texts."""
-    found = []
-    comment = ''
-    for line in open(LIST, encoding='utf-8'):
-        line = line.rstrip('\n')
-        if line.startswith('# '):
-            comment = line[2:]
-        elif line.startswith('refused by: '):
-            found.append({'comment': comment, 'crate': line[12:], 'pairs': []})
-        elif line.startswith('file: '):
-            found[-1]['file'] = line[6:]
-        elif line.startswith('old: '):
-            found[-1]['pairs'].append([line[5:], None])
-        elif line.startswith('new: '):
-            found[-1]['pairs'][-1][1] = line[5:]
-    return found
-
-
-def make_wrong(root, entry):
-    """Exchanges the entry's texts, all at once; each old text stands once."""
-    path = os.path.join(root, entry['file'])
-    text = open(path, encoding='utf-8').read()
-    for old, _ in entry['pairs']:
-        if text.count(old) != 1:
-            sys.exit(f"wrong_rules: '{entry['comment']}': this text stands {text.count(old)} times: {old}")
-    for at, old, new in sorted(((text.index(old), old, new) for old, new in entry['pairs']), reverse=True):
-        text = text[:at] + new + text[at + len(old):]
-    with open(path, 'w', encoding='utf-8') as out:
-        out.write(text)
 
 
 def first_error(root, crate):
@@ -56,8 +26,8 @@ def first_error(root, crate):
 
 
 def main():
-    wrong = entries()
-    crates = [e['crate'] for e in wrong]
+    wrong = entries(LIST)
+    crates = [e['by'] for e in wrong]
     root = tempfile.mkdtemp(prefix='wrong_rules.')
     try:
         shutil.copy('crates.txt', root)
@@ -69,7 +39,7 @@ def main():
             sys.exit('wrong_rules: the rules themselves do not prove:\n' + said[-3000:])
         failed = 0
         for entry in wrong:
-            crate = entry['crate']
+            crate = entry['by']
             if not re.search(rf'^rt: {crate} NOT PROVED \(exit 1', said, re.M):
                 print(f"wrong_rules: '{entry['comment']}': {crate} was not refused")
                 failed += 1

@@ -2,7 +2,8 @@
 use Prim.Native.Nat.{ℕ}
 use mathlib.Core.Path.{_≡_, refl}
 use mathlib.Core.Bool.{true}
-use mathlib.Core.List.{List, [], _∷_}
+use mathlib.Core.List.{List, [], _∷_, _++_}
+use lib.ListN.{replicate}
 use Rattle.lists.specs.Choice.{_orElse_}
 use Rattle.rules.specs.Cell.{wideLog2, writeWideLog2, readWideLog2, writeAt, readAt, held}
 use Rattle.rules.specs.Conditions.{tooLarge, longValue, unequal, badDataLen, badAddrLen, badWriteShape, badTritLens, badFlipFlopShape, badReadShape, badShape, indivisible, badDepth, badValue, badControl, badTrits, badControls, badWriteNets, badRelation, badFlipFlopNets, badReadNets, badNets, tooFewBits, shortPair, notBelow, badPort, logFull, noRoom, netsFull}
@@ -22,7 +23,7 @@ cases =
     ∷
     case (13 ∷ 35 ∷ 2000 ∷ 0 ∷ 200 ∷ 4 ∷ 1 ∷ 4 ∷ 1 ∷ 0 ∷ 2 ∷ 1 ∷ 1 ∷ 1 ∷ 0 ∷ 4 ∷ 20 ∷ 21 ∷ 22 ∷ 23 ∷ 4 ∷ 40 ∷ 41 ∷ 42 ∷ 43 ∷ 0 ∷ 5 ∷ 2 ∷ 60 ∷ 61 ∷ 1 ∷ 0 ∷ 0 ∷ 0 ∷ 1 ∷ 80 ∷ 0 ∷ []) (0 ∷ 48 ∷ 42 ∷ 211 ∷ 42 ∷ 8 ∷ 4 ∷ 200 ∷ 8 ∷ 1 ∷ 2 ∷ 60 ∷ 61 ∷ 20 ∷ 21 ∷ 22 ∷ 23 ∷ 8 ∷ 4 ∷ 204 ∷ 8 ∷ 1 ∷ 2 ∷ 60 ∷ 61 ∷ 40 ∷ 41 ∷ 42 ∷ 43 ∷ 6 ∷ 1 ∷ 208 ∷ 0 ∷ 5 ∷ 1 ∷ 209 ∷ 3 ∷ 208 ∷ 204 ∷ 0 ∷ 5 ∷ 1 ∷ 210 ∷ 3 ∷ 209 ∷ 200 ∷ 80 ∷ 1 ∷ 210 ∷ 0 ∷ [])
     ∷
-    case (13 ∷ 94 ∷ 30 ∷ 0 ∷ 235 ∷ 0 ∷ 0 ∷ 0 ∷ 8 ∷ 2 ∷ 2 ∷ 4294967295 ∷ 4294967295 ∷ 0 ∷ 0 ∷ 0 ∷ 3 ∷ 0 ∷ 0 ∷ 0 ∷ 1 ∷ 2 ∷ 32 ∷ 3 ∷ 3 ∷ 3 ∷ 3 ∷ 3 ∷ 3 ∷ 3 ∷ 3 ∷ 3 ∷ 3 ∷ 3 ∷ 3 ∷ 3 ∷ 3 ∷ 3 ∷ 3 ∷ 3 ∷ 3 ∷ 3 ∷ 3 ∷ 3 ∷ 3 ∷ 3 ∷ 3 ∷ 3 ∷ 3 ∷ 3 ∷ 3 ∷ 3 ∷ 3 ∷ 3 ∷ 3 ∷ 0 ∷ 0 ∷ 1 ∷ 3 ∷ 2 ∷ 3 ∷ 4 ∷ 0 ∷ 0 ∷ 1 ∷ 2 ∷ 0 ∷ 0 ∷ 0 ∷ 1 ∷ 3 ∷ 0 ∷ 0 ∷ 0 ∷ 1 ∷ 3 ∷ 0 ∷ 0 ∷ 0 ∷ 1 ∷ 3 ∷ 0 ∷ 0 ∷ 0 ∷ 1 ∷ 4 ∷ 0 ∷ 0 ∷ 0 ∷ 0 ∷ 0 ∷ 0 ∷ 0 ∷ 0 ∷ 0 ∷ 0 ∷ []) (0 ∷ 18 ∷ 13 ∷ 236 ∷ 13 ∷ 6 ∷ 1 ∷ 235 ∷ 4 ∷ 0 ∷ 0 ∷ 4294967295 ∷ 4294967295 ∷ 5 ∷ 0 ∷ 236 ∷ 1 ∷ 235 ∷ 0 ∷ 0 ∷ [])
+    case (13 ∷ 94 ∷ 30 ∷ 0 ∷ 235 ∷ 0 ∷ 0 ∷ 0 ∷ 8 ∷ 2 ∷ 2 ∷ 4294967295 ∷ 4294967295 ∷ 0 ∷ 0 ∷ 0 ∷ 3 ∷ 0 ∷ 0 ∷ 0 ∷ 1 ∷ 2 ∷ 32 ∷ replicate 32 3 ++ 0 ∷ 0 ∷ 1 ∷ 3 ∷ 2 ∷ 3 ∷ 4 ∷ 0 ∷ 0 ∷ 1 ∷ 2 ∷ 0 ∷ 0 ∷ 0 ∷ 1 ∷ 3 ∷ 0 ∷ 0 ∷ 0 ∷ 1 ∷ 3 ∷ 0 ∷ 0 ∷ 0 ∷ 1 ∷ 3 ∷ 0 ∷ 0 ∷ 0 ∷ 1 ∷ 4 ∷ 0 ∷ 0 ∷ 0 ∷ 0 ∷ 0 ∷ 0 ∷ 0 ∷ 0 ∷ 0 ∷ 0 ∷ []) (0 ∷ 18 ∷ 13 ∷ 236 ∷ 13 ∷ 6 ∷ 1 ∷ 235 ∷ 4 ∷ 0 ∷ 0 ∷ 4294967295 ∷ 4294967295 ∷ 5 ∷ 0 ∷ 236 ∷ 1 ∷ 235 ∷ 0 ∷ 0 ∷ [])
     ∷
     case (13 ∷ 20 ∷ 9 ∷ 0 ∷ 183 ∷ 1 ∷ 0 ∷ 0 ∷ 1 ∷ 1 ∷ 0 ∷ 0 ∷ 0 ∷ 0 ∷ 66 ∷ 0 ∷ 0 ∷ 0 ∷ 0 ∷ 0 ∷ 0 ∷ 0 ∷ []) (0 ∷ 14 ∷ 9 ∷ 184 ∷ 9 ∷ 6 ∷ 1 ∷ 183 ∷ 0 ∷ 5 ∷ 0 ∷ 184 ∷ 1 ∷ 183 ∷ 0 ∷ 0 ∷ [])
     ∷

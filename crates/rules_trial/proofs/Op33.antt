@@ -2,7 +2,8 @@
 use Prim.Native.Nat.{ℕ}
 use mathlib.Core.Path.{_≡_, refl}
 use mathlib.Core.Bool.{true}
-use mathlib.Core.List.{List, [], _∷_}
+use mathlib.Core.List.{List, [], _∷_, _++_}
+use lib.ListN.{replicate}
 use Rattle.lists.specs.Choice.{_orElse_}
 use Rattle.rules.specs.Answers.{after}
 use Rattle.rules.specs.Conditions.{badHead, isPower, badUnit, unlike, badDepths, badSizes, spareBits, badBits}
@@ -55,6 +56,8 @@ cases =
     case (33 ∷ 3 ∷ 2 ∷ 5 ∷ 0 ∷ []) (0 ∷ 12 ∷ 11 ∷ 114 ∷ 101 ∷ 102 ∷ 117 ∷ 115 ∷ 101 ∷ 100 ∷ 32 ∷ 49 ∷ 54 ∷ 10 ∷ [])
     ∷
     case (33 ∷ 13 ∷ 12 ∷ 5 ∷ 0 ∷ 5 ∷ 0 ∷ 0 ∷ 0 ∷ 0 ∷ 0 ∷ 0 ∷ 0 ∷ 0 ∷ 0 ∷ []) (0 ∷ 20 ∷ 19 ∷ 109 ∷ 101 ∷ 109 ∷ 111 ∷ 114 ∷ 105 ∷ 101 ∷ 115 ∷ 32 ∷ 48 ∷ 32 ∷ 116 ∷ 114 ∷ 105 ∷ 116 ∷ 115 ∷ 32 ∷ 48 ∷ 10 ∷ [])
+    ∷
+    case (33 ∷ 2513 ∷ 2512 ∷ 5 ∷ 0 ∷ 1 ∷ 0 ∷ 0 ∷ 0 ∷ 0 ∷ 0 ∷ 1 ∷ 0 ∷ 16 ∷ 39 ∷ replicate 2500 255 ++ []) (0 ∷ 49 ∷ 48 ∷ 109 ∷ 101 ∷ 109 ∷ 111 ∷ 114 ∷ 105 ∷ 101 ∷ 115 ∷ 32 ∷ 49 ∷ 32 ∷ 116 ∷ 114 ∷ 105 ∷ 116 ∷ 115 ∷ 32 ∷ 49 ∷ 48 ∷ 48 ∷ 48 ∷ 48 ∷ 10 ∷ 48 ∷ 32 ∷ 49 ∷ 48 ∷ 48 ∷ 48 ∷ 48 ∷ 32 ∷ 49 ∷ 48 ∷ 48 ∷ 48 ∷ 48 ∷ 32 ∷ 49 ∷ 48 ∷ 48 ∷ 48 ∷ 48 ∷ 32 ∷ 108 ∷ 111 ∷ 97 ∷ 100 ∷ 10 ∷ [])
     ∷
     []
 

@@ -2,7 +2,8 @@
 use Prim.Native.Nat.{ℕ}
 use mathlib.Core.Path.{_≡_, refl}
 use mathlib.Core.Bool.{true}
-use mathlib.Core.List.{List, [], _∷_}
+use mathlib.Core.List.{List, [], _∷_, _++_}
+use lib.ListN.{replicate}
 use Rattle.rules.specs.Conditions.{badTrits}
 use Rattle.rules.specs.Log.{flag, _>>=_, _>>_}
 use Rattle.rules.specs.Logic.{isUndef, areTrits}
@@ -42,7 +43,7 @@ cases =
     ∷
     case (4 ∷ 3 ∷ 2 ∷ 1 ∷ 2 ∷ []) (0 ∷ 1 ∷ 0 ∷ [])
     ∷
-    case (4 ∷ 18 ∷ 17 ∷ 2 ∷ 2 ∷ 2 ∷ 2 ∷ 2 ∷ 2 ∷ 2 ∷ 2 ∷ 2 ∷ 2 ∷ 2 ∷ 2 ∷ 2 ∷ 2 ∷ 2 ∷ 2 ∷ 2 ∷ []) (0 ∷ 1 ∷ 1 ∷ [])
+    case (4 ∷ 18 ∷ 17 ∷ replicate 17 2 ++ []) (0 ∷ 1 ∷ 1 ∷ [])
     ∷
     case (4 ∷ 3 ∷ 2 ∷ 2 ∷ 3 ∷ []) (4 ∷ 0 ∷ [])
     ∷
