@@ -29,6 +29,7 @@ UNSAID = {
 PUBLIC = re.compile(r'\bpub\b(?!\s*\()[^;{}()=]*?\bfn\s+(\w+)')
 EXPORTED = re.compile(r'#\[[^\]]*\bno_mangle\b[^\]]*\](?:\s*#\[[^\]]*\])*\s*(?:pub\s*\([^)]*\))?[^;{}()=]*?\bfn\s+(\w+)')
 QUOTED = re.compile(r'''b?r(#*)".*?"\1|"(?:\\.|[^"\\])*"|b?'(?:\\(?:x..|.)|[^'\\\n])\'''', re.S)
+MUT = re.compile(r"&\s*(?:'\w+\s*)?mut\b")
 TOKEN = re.compile(r'«[^»]*»|\.[^\s(){}.;,@"«»]+|[(){}.;,@"]|[^\s(){}.;,@"«»]+')
 CLOSES = {'(': ')', '{': '}', '⌜': '⌝'}
 ARROWS = {'→', '→ₛ', '-∗'}
@@ -124,12 +125,18 @@ def taken_apart(text, start):
     return params, result or '', clauses, others
 
 
-def lent(params):
+def holders(text):
+    """The types of a file that hold a `&mut`, by a field or under another name."""
+    kinds = re.findall(r'\b(?:struct|enum|type)\s+(\w+)([^;{(=]*(?:\{[^}]*\}|\([^)]*\)|=[^;]*))', text)
+    return {name for name, body in kinds if MUT.search(body)}
+
+
+def lent(params, holding=()):
     """The names of the parameters through which the function writes."""
     names = []
     for part in re.split(r',(?![^<(\[]*[>)\]])', params):
         name, _, kind = part.partition(':')
-        if re.search(r"&\s*(?:'\w+\s*)?mut\b", kind or name):
+        if MUT.search(kind or name) or set(re.findall(r'\w+', kind)) & set(holding):
             names.append('self' if not kind else name.split()[-1])
     return names
 
@@ -348,14 +355,14 @@ def clause_faults(clause, params):
     return found, named
 
 
-def function_faults(text, start):
+def function_faults(text, start, holding):
     """The faults of the function whose name ends at `start`, and what its clauses leave unsaid."""
     params, result, clauses, others = taken_apart(text, start)
     promises = [body for kind, body in clauses if kind == 'ensures']
     found = [] if promises else ['has no ensures']
     found += ['has a requires'] if len(promises) < len(clauses) else []
     found += ['has a clause of another kind'] if others else []
-    written = lent(params)
+    written = lent(params, holding)
     named = set()
     for clause in promises:
         wrong, names = clause_faults(clause, written)
@@ -381,14 +388,15 @@ def strange_signs(text):
                 yield text.count('\n', 0, m.start()) + 1, name
 
 
-def text_faults(text, path='', unsaid=None):
-    """The faults of one file, where `unsaid` lists what its functions need not say."""
+def text_faults(text, path='', unsaid=None, holding=()):
+    """The faults of one file, where `unsaid` lists what its functions need not say, and `holding` other files' types that hold a `&mut`."""
     unsaid = {} if unsaid is None else unsaid
     text = without_comments(text)
+    holding = holders(text) | set(holding)
     for line, name in strange_signs(text):
         yield f'{path}:{line}: {name} is brought in from another module than its own'
     for start, name in functions(text):
-        found, missing = function_faults(text, start)
+        found, missing = function_faults(text, start, holding)
         line = text.count('\n', 0, start) + 1
         for fault in found:
             yield f'{path}:{line}: {name} {fault}'
@@ -403,17 +411,20 @@ def text_faults(text, path='', unsaid=None):
 
 
 def faults():
-    left = dict(UNSAID)
-    for crate in sorted(glob.glob('crates/*')):
-        if not os.path.exists(os.path.join(crate, 'src', 'lib.rt')):
-            continue
-        for path in sorted(glob.glob(os.path.join(crate, 'src', '**', '*.rt'), recursive=True)):
-            text = open(path, encoding='utf-8').read()
-            yield from text_faults(text, path, UNSAID)
-            for _, name in functions(without_comments(text)):
-                left.pop(f'{path} {name}', None)
-    for key in left:
+    """The faults of every library crate, and exceptions that name no function."""
+    texts = {}
+    for root in sorted(glob.glob('crates/*/src/lib.rt')):
+        for path in sorted(glob.glob(os.path.join(os.path.dirname(root), '**', '*.rt'), recursive=True)):
+            texts[path] = open(path, encoding='utf-8').read()
+    holding = set().union(*(holders(without_comments(text)) for text in texts.values()))
+    there = set()
+    for path, text in texts.items():
+        yield from text_faults(text, path, UNSAID, holding)
+        there |= {f'{path} {name}' for _, name in functions(without_comments(text))}
+    for key in sorted(set(UNSAID) - there):
         yield f'{key} is excepted by scripts/contracts.py and is not there'
+    if not there:
+        yield 'no public function was found'
 
 
 def main():

@@ -62,6 +62,8 @@ TRICKS = [
     ('pub fn f(out: &mut [u8], n: u32) ensures { λ _. ⌜ now (out .entry) ≡ g n ⌝ } { }', 'says out at exit'),
     ('pub fn f(out: &mut [u8]) ensures { λ _. ⌜ length (now (out .exit)) ≡ length (now (out .entry)) ⌝ } { }', 'says out at exit'),
     ('pub fn f(a: &mut [u8], b: &\'a mut S) ensures { λ _. ⌜ now (a .exit) ≡ g ⌝ } { }', 'says b at exit'),
+    ('pub struct W<\'a> { out: &\'a mut [u8] } pub fn f<\'a>(w: W<\'a>) ensures { λ _. ⌜ g ≡ 3 ⌝ } { }', 'says w at exit'),
+    ('type Room<\'a> = &\'a mut [u8]; pub fn f<\'a>(to: Room<\'a>) ensures { λ _. ⌜ g ≡ 3 ⌝ } { }', 'says to at exit'),
     ('pub fn f(&mut self) ensures { λ _. ⌜ g ≡ 3 ⌝ } { }', 'says self at exit'),
     ('pub fn f(n: [u8; 4], out: &mut [u8; 4]) ensures { λ _. ⌜ n ≡ g ⌝ } { }', 'says out at exit'),
     ('pub fn f(x: u32) -> u32 ensures { λ r. ⌜ r ≡ x ⌝ } trusted { 1 } { x }', 'clause of another kind'),
