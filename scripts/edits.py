@@ -9,13 +9,13 @@ import os
 import re
 import sys
 
-ERROR = re.compile(r'^(\S+?):\d+:\d+: error: (.*)')
+ERROR = re.compile(r'^(\S+?)(?::\d+:\d+)?: error: (.*)')
 
 # What the checker says where a proof file no longer fits the function, or the source is not taken.
 NO_NEED = re.compile(r'has no `?Need-')
 SHAPE = re.compile(
-    r'not in scope|no proof: expected|that can be named|takes only names|no such (?:field|module|name)|has no field|'
-    r'not a field|is not a function|too many arguments|did not look at every field|not declared|unexpected|syntax|parse')
+    r'not in scope|no proof: expected|that can be named|takes only names|has no (?:field|function|module)|is not a function|'
+    r'more than .* takes|was not admitted|did not look at every field|not declared|unexpected|syntax|parse')
 
 # What it says where a fact does not hold: another type than the need's, an arithmetic goal that fails, a rewriting that does not close.
 FACT = re.compile(

@@ -107,12 +107,16 @@ FACT_LOGS = [
 ]
 # Logs of edits that do not count: another reason, no refusal, an error outside proofs, an error of no known kind.
 SHAPE_LOGS = [
-    PROOF + '`tie` has no `Need-returns-3`' + REFUSED,
+    PROOF + 'module `T` has no `Need-returns-3` that can be named from here' + REFUSED,
+    PROOF + 'record `T.Else2` has no field `if1`' + REFUSED,
+    PROOF + 'record `T.Else2`\n  has no field `if1`\n  expected type `a`' + REFUSED,
+    PROOF + 'this is applied to an argument but has type `a`\n  which is not a function or extension (path) type' + REFUSED,
+    AT + 'proofs/f/Proof.antt: error: `c` has no function `f` for this file to be the proof of' + REFUSED,
     PROOF + '`x` is not in scope' + REFUSED,
     PROOF + 'no proof: expected a file' + REFUSED,
-    PROOF + 'there is no `x` that can be named from here' + REFUSED,
     PROOF + 'something else' + REFUSED,
     AT + 'src/lib.rt:3:4: error: the two types differ' + REFUSED,
+    AT + 'src/lib.rt:3:4: error: not a type\n' + PROOF + 'expected type `a`' + REFUSED,
     PROOF + 'expected type `a`',
     'fn f: proved\nlogic=proved functions=1\n',
     '',
