@@ -15,7 +15,7 @@ ERROR = re.compile(r'^(\S+?)(?::\d+:\d+)?: error: (.*)')
 NO_NEED = re.compile(r'has no `?Need-')
 SHAPE = re.compile(
     r'not in scope|no proof: expected|that can be named|takes only names|has no (?:field|function|module)|is not a function|'
-    r'more than .* takes|was not admitted|did not look at every field|not declared|unexpected|syntax|parse')
+    r'more than .* takes|was not admitted|not declared|unexpected|syntax|parse')
 
 # What it says where a fact does not hold: another type than the need's, an arithmetic goal that fails, a rewriting that does not close.
 FACT = re.compile(

@@ -102,7 +102,7 @@ REFUSED = '\nlogic=not-proved functions=1\n'
 FACT_LOGS = [
     PROOF + 'expected type `columns three ≡ 4`, but this has type `columns three ≡ columns three`' + REFUSED,
     PROOF + 'as printed, the two types differ only where one has `has no field`\n  (expected) and the other has `b` (found)' + REFUSED,
-    PROOF + '`omega`: the goal does not follow from what it read' + REFUSED,
+    PROOF + '`omega`: the goal does not follow from what it read. It did not look at every field' + REFUSED,
     'note: a text\n' + PROOF + 'give a proof of that as the last argument, `rw L t`\n  `rw` has no last argument' + REFUSED,
 ]
 # Logs of edits that do not count: another reason, no refusal, an error outside proofs, an error of no known kind.
