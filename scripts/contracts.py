@@ -285,9 +285,11 @@ def bound(items):
     for part in split(items, ARROWS)[:-1]:
         names |= {x for x in part[:part.index(':')] if isinstance(x, str)} if ':' in part else set()
     for i, item in enumerate(items):
-        if item in ('λ', 'let', '∀'):
-            rest = items[i + 1:]
-            names |= {x for x in flat(rest[:rest.index('.')] if '.' in rest else rest[:1])}
+        rest = items[i + 1:]
+        if item in ('λ', '∀'):
+            names |= set(flat(rest[:rest.index('.')] if '.' in rest else rest[:1]))
+        elif item == 'let':
+            names |= set(flat(rest[:1]))
     for item in items:
         names |= bound(item) if isinstance(item, tuple) else set()
     return names
