@@ -19,7 +19,7 @@ SHAPE = re.compile(
 
 # What it says where a fact does not hold: another type than the need's, an arithmetic goal that fails, a rewriting that does not close.
 FACT = re.compile(
-    r'the two (?:types|values)|expected type|the goal does not follow|`omega`|`cc`|`search`|'
+    r'the two (?:types|values|sides)|expected type|the goal does not follow|`omega`|`cc`|`search`|'
     r'give a proof of that as the last argument|must be a path whose two ends are equal|`rw`|`simp`')
 
 
