@@ -64,11 +64,11 @@ def main():
     for edit in edits:
         crate, label = edit.split('/')[1], os.path.basename(edit)[:-len('.edit')]
         where = f'target/must-fail/{crate}/{label}'
-        try:
-            log = open(os.path.join(where, '.log'), encoding='utf-8').read()
-            why = fault(log, where)
-        except OSError:
-            why = 'there is no log of it: run rt ci first'
+        log = os.path.join(where, '.log')
+        if not os.path.exists(log) or os.path.getmtime(log) < os.path.getmtime(edit):
+            why = 'there is no log of it, or an older one: run rt ci first'
+        else:
+            why = fault(open(log, encoding='utf-8', errors='replace').read(), where)
         if why:
             print(f'edits: {crate}/{label}: {why}')
             failed += 1
