@@ -1,9 +1,9 @@
 #!/usr/bin/env python3
 """wrong_trial.py [TEXT]: makes each rule of scripts/wrong_trial.txt wrong, and fails where antt does not prove that a computed sentence is then false.
 
-An entry is `refused by` the file of the sentence: OpN of crates/rules_trial/proofs, or one of crates/rules/proofs. Such a file says of one thing that it
-is `≡ true`. In a copy with the wrong rule the files are made anew (scripts/sample.py), and the file says `≡ false`, which must then be proved: a sentence
-that no longer computes, or a rule that is no definition any more, counts for nothing. With TEXT only the entries whose comment has it are tried.
+An entry is `refused by` the files of some sentences, each OpN of crates/rules_trial/proofs. Such a file says of its cases that they agree, `≡ true`. In a
+copy with the wrong rule the files are made anew (scripts/sample.py), and these say `≡ false`, which must then be proved: a sentence that no longer
+computes, or a rule that is no definition any more, counts for nothing. With TEXT only the entries whose comment has it are tried.
 """
 import glob
 import os
@@ -42,26 +42,25 @@ def make_base(root):
         sys.exit('wrong_trial: lists is not proved:\n' + said.stdout[-2000:])
 
 
-def keep_only(folder, name):
-    """Of a crate's proofs this file alone, or none."""
+def keep_only(folder, names):
+    """Of a crate's proofs these files alone."""
     for other in os.listdir(folder):
         path = os.path.join(folder, other)
         if os.path.isdir(path):
             shutil.rmtree(path)
-        elif other not in ('Lib.antt', f'{name}.antt'):
+        elif other[:-5] not in names:
             os.remove(path)
     with open(f'{folder}/Lib.antt', 'w', encoding='utf-8') as out:
-        out.write('-- The sentence that is tried.\n' + (f'pub mod {name}\n' if name else ''))
+        out.write('-- The sentences that are tried.\n' + ''.join(f'pub mod {name}\n' for name in names))
 
 
 def turn_round(path):
-    """The file's sentence says `≡ false`; what is wrong where it has no such sentence, or two."""
+    """The file's sentence says `≡ false`."""
     text, times = SENTENCE.subn(r'\1 ≡ false', open(path, encoding='utf-8').read())
     if times != 1:
-        return f'{os.path.basename(path)} has {times} sentences'
+        sys.exit(f'wrong_trial: {os.path.basename(path)} has {times} sentences')
     with open(path, 'w', encoding='utf-8') as out:
         out.write(text.replace('Core.Bool.{true}', 'Core.Bool.{false}'))
-    return ''
 
 
 def copy_of(base):
@@ -76,27 +75,25 @@ def copy_of(base):
 
 
 def tried(base, entry):
-    """What is wrong with an entry; nothing where its sentence is proved false."""
+    """What is wrong with an entry; nothing where its sentences are proved false."""
     root = copy_of(base)
     try:
         make_wrong(root, entry)
-        return tried_in(root, entry['by'])
+        return tried_in(root, entry['by'].split())
     finally:
         shutil.rmtree(root)
 
 
-def tried_in(root, name):
+def tried_in(root, names):
     made = subprocess.run([sys.executable, 'scripts/sample.py'], cwd=root, capture_output=True, text=True)
     if made.returncode != 0:
         return made.stderr
-    crate = 'rules_trial' if name.startswith('Op') else 'rules'
-    for other in ('rules', 'rules_trial'):
-        keep_only(f'{root}/crates/{other}/proofs', name if other == crate else '')
-    fault = turn_round(f'{root}/crates/{crate}/proofs/{name}.antt')
-    if fault:
-        return fault
-    said = subprocess.run(['rt', 'check', crate], cwd=root, capture_output=True, text=True)
-    if said.returncode == 0 and re.search(rf'^rt: {crate} proved', said.stdout, re.M):
+    keep_only(f'{root}/crates/rules/proofs', [])
+    keep_only(f'{root}/crates/rules_trial/proofs', names)
+    for name in names:
+        turn_round(f'{root}/crates/rules_trial/proofs/{name}.antt')
+    said = subprocess.run(['rt', 'check', 'rules_trial'], cwd=root, capture_output=True, text=True)
+    if said.returncode == 0 and re.search(r'^rt: rules_trial proved', said.stdout, re.M):
         return ''
     errors = [line for line in (said.stdout + said.stderr).splitlines() if ' error: ' in line]
     return (errors[0].split('/crates/')[-1] if errors else said.stdout[-500:])[:300]

@@ -69,6 +69,8 @@ cases =
     ∷
     case (10 ∷ 8201 ∷ 100 ∷ 0 ∷ 3 ∷ 0 ∷ 2 ∷ 4097 ∷ replicate 4097 0 ++ 4097 ∷ replicate 4097 1 ++ []) (1 ∷ 0 ∷ [])
     ∷
+    case (10 ∷ 8 ∷ 100 ∷ 0 ∷ 3 ∷ 0 ∷ 2 ∷ 1 ∷ 3 ∷ 0 ∷ []) (2 ∷ 0 ∷ [])
+    ∷
     []
 
 pub agreed : agree op10 cases ≡ true

@@ -69,6 +69,8 @@ cases =
     ∷
     case (12 ∷ 12297 ∷ 100 ∷ 0 ∷ 3 ∷ 4097 ∷ replicate 4097 2 ++ 4097 ∷ replicate 4097 0 ++ 4097 ∷ replicate 4097 1 ++ []) (1 ∷ 0 ∷ [])
     ∷
+    case (12 ∷ 7 ∷ 100 ∷ 0 ∷ 3 ∷ 1 ∷ 3 ∷ 0 ∷ 0 ∷ []) (2 ∷ 0 ∷ [])
+    ∷
     []
 
 pub agreed : agree op12 cases ≡ true
