@@ -1,4 +1,4 @@
--- The answer of `check` as the rules' sizes.
+-- The answer of `check_layout` as the rules' sizes.
 use mathlib.Core.Option.{Option, none, some}
 use Rattle.rules.specs.Beside.Shape as sizes
 use Rattle.image_geometry.specs.View.{shapeBy}

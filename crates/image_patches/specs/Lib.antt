@@ -1,2 +1,2 @@
--- Lists of calls in memory, and demand 3 of a state.
+-- Lists of calls in memory.
 pub mod Calls

@@ -1,2 +1,2 @@
--- When the machine's memory is refused.
+-- The numbers of a machine's memory port by port.
 pub mod Number

@@ -1,4 +1,4 @@
--- cell/flip_flop.rs and cell/memory.rs: the records, wide_log2, and a port's part of the outputs.
+-- cell/flip_flop.rs and cell/memory.rs: the records, a memory as a call is given it and in two arrays, wide_log2, and a port's part of the outputs.
 use Prim.Native.Nat.{ℕ, suc, _-_, _/_}
 use mathlib.Core.Bool.{Bool, true, false}
 use mathlib.Core.Option.{Option, none, some}

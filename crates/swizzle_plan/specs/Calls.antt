@@ -1,4 +1,4 @@
--- The plan that a struct and its lent arrays hold, its numbers, and the whole answer of `swizzle_depths`.
+-- The plan that a struct and its lent arrays hold, and the sizes of a memory and a plan.
 use Prim.Native.Nat.{ℕ}
 use mathlib.Core.List.{List}
 use Rattle.rules.specs.Cell.{Plan}

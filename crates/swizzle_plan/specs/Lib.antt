@@ -1,3 +1,3 @@
--- Plans, and `swizzle_depths` on a machine's memory.
+-- Plans in terms of the rules, and the old wide logs of a memory's ports.
 pub mod Calls
 pub mod Numbers

@@ -1,4 +1,4 @@
--- The old wide logs of a memory's ports, and the number of a whole plan on a machine's memory.
+-- The old wide logs of a memory's ports.
 use Prim.Native.Nat.{ℕ}
 use mathlib.Core.List.{List, map}
 use lib.ListN.{replicate}
