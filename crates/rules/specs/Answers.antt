@@ -2,6 +2,7 @@
 -- A call's promise cites the definition here; how a machine's enum reads as an answer is said in the crate that has the enum.
 use Prim.Native.Nat.{ℕ, _-_}
 use mathlib.Core.Bool.{Bool}
+use mathlib.Core.Option.{none, some}
 use mathlib.Core.List.{List, [], _∷_}
 use lib.ListN.{length, drop}
 use lib.Seq.{sets}
@@ -20,9 +21,9 @@ use Rattle.rules.specs.Image.{Laid, Patch}
 use Rattle.rules.specs.Swizzle.{swizzle, swizzleLaid, sharedNets, sharedTrits, swizzleScratch}
 use Rattle.rules.specs.Fallback.{canLowerFallback, lowerFallback, fallbackScratch}
 use Rattle.rules.specs.Record.{Sizes, sizesOf, encodeRecord, headSizes, decodeImage, recordImage}
-use Rattle.rules.specs.Refusals.{Rooms, SwizzleRooms, alone, tritRefusal, constNotRefusal, constPairRefusal, isUndefRefusal, controlRefusal, wideLog2Refusal, sliceRefusal, valueRefusal, zextRefusal, netOfCellRefusal, narrowerSelectRefusal, addVoidRefusal, addNotRefusal, addPairRefusal, addShiftRefusal, addMuxRefusal, addDffRefusal, addDedupMuxRefusal, addDedupDffRefusal, addBitwiseMuxRefusal, intoPosRefusal, remapResetOverEnableRefusal, memRefusal, outputSliceRefusal, transparencyMuxRefusal, extractReadPortsRefusal, unmapReadDffRefusal, unmapReadInitResetTransparencyRefusal, emulateReadBeforeWriteRefusal, makeDataSwizzleRefusal, swizzleDepthsRefusal, swizzleMuxBitsRefusal, swizzleRefusal, canLowerFallbackRefusal, lowerFallbackRefusal, patchRefusal, writeRecordRefusal, readRecordRefusal, summaryRefusal, headerRefusal}
+use Rattle.rules.specs.Refusals.{Rooms, SwizzleRooms, alone, tritRefusal, constNotRefusal, constPairRefusal, isUndefRefusal, controlRefusal, wideLog2Refusal, sliceRefusal, valueRefusal, zextRefusal, netOfCellRefusal, narrowerSelectRefusal, addVoidRefusal, addNotRefusal, addPairRefusal, addShiftRefusal, addMuxRefusal, addDffRefusal, addDedupMuxRefusal, addDedupDffRefusal, addBitwiseMuxRefusal, intoPosRefusal, remapResetOverEnableRefusal, memRefusal, outputSliceRefusal, transparencyMuxRefusal, extractReadPortsRefusal, unmapReadDffRefusal, unmapReadInitResetTransparencyRefusal, emulateReadBeforeWriteRefusal, makeDataSwizzleRefusal, swizzleDepthsRefusal, swizzleMuxBitsRefusal, swizzleRefusal, canLowerFallbackRefusal, lowerFallbackRefusal, patchRefusal, writeRecordRefusal, readRecordRefusal, summaryRefusal, headerRefusal, lentRefusal}
 use Rattle.rules.specs.Patch.{patchedOne, lentTo, patched, laidOut}
-use Rattle.rules.specs.Lister.{Summary, summaryOf}
+use Rattle.rules.specs.Lister.{Summary, summaryOf, lister}
 
 pub data Answer (A : Type 0) : Type 0 where
   Refused : ℕ → Answer A
@@ -257,11 +258,11 @@ pub record Listed : Type 0 where
   pub answer : Answer ℕ
   pub out : List ℕ
 
+abbrev pub listedIn : ℕ → List ℕ → List ℕ → Listed
+listedIn n out l = record { answer = answerOf n (length l); out = leaves n out (sets out 0 l) }
+
 unfoldable pub makeDataSwizzleCall : List ℕ → Given → List ℕ → Listed
-makeDataSwizzleCall out g gs =
-    let n = makeDataSwizzleRefusal (length out) g gs in
-    let es = makeDataSwizzle (g .mem) gs in
-    record { answer = answerOf n (length es); out = leaves n out (sets out 0 es) }
+makeDataSwizzleCall out g gs = listedIn (makeDataSwizzleRefusal (length out) g gs) out (makeDataSwizzle (g .mem) gs)
 
 unfoldable pub swizzleDepthsCall : List ℕ → Given → Plan → Filled
 swizzleDepthsCall out g p = filled (swizzleDepthsRefusal (length out) g p) out (swizzleDepths (layoutOf (g .mem) p))
@@ -326,6 +327,34 @@ patchCall laid c image = record { number = patchRefusal laid c; out = patchedOne
 unfoldable pub callOn : Laid → Patch → List ℕ → Filled
 callOn laid c buffer = record { number = patchRefusal laid (lentTo (length buffer) c); out = patched laid (c ∷ []) buffer }
 
+-- the calls of a list on one buffer: each one's number
+unfoldable pub patchNumbers : Laid → ℕ → List Patch → List ℕ
+patchNumbers laid size [] = []
+patchNumbers laid size (c ∷ cs) = patchRefusal laid (lentTo size c) ∷ patchNumbers laid size cs
+
+-- a number for the list, and the room for the calls' numbers and the buffer after it
+pub record Patched : Type 0 where
+  pub number : ℕ
+  pub numbers : List ℕ
+  pub image : List ℕ
+
+-- the calls are made on the buffer `begun`, which is as long as the one that was lent
+unfoldable pub patchedWith : ℕ → List ℕ → Laid → List Patch → List ℕ → List ℕ → Patched
+patchedWith n numbers laid cs buffer begun = record {
+  number = n;
+  numbers = leaves n numbers (sets numbers 0 (patchNumbers laid (length buffer) cs));
+  image = leaves n buffer (patched laid cs begun);
+}
+
+-- 20 where the room for the numbers is short; no call is made then
+unfoldable pub patchesCall : List ℕ → Laid → List Patch → List ℕ → Patched
+patchesCall numbers laid cs buffer = patchedWith (lentRefusal (length numbers) (length cs)) numbers laid cs buffer buffer
+
+-- the record's sizes for the images of the last accepted swizzle
+unfoldable pub sizesCall : Laid → Answer Sizes
+sizesCall none = Refused 23
+sizesCall (some q) = Accepted (sizesOf q)
+
 unfoldable pub writeRecordCall : List ℕ → Sizes → Const → Filled
 writeRecordCall out z image = filled (writeRecordRefusal (length out) z image) out (encodeRecord z (recordImage z image))
 
@@ -345,3 +374,7 @@ summaryCall z image i = answerOf (summaryRefusal z image i) (summaryOf z image i
 -- a record's sizes from its first bytes and its length
 unfoldable pub headerCall : List ℕ → ℕ → Answer Sizes
 headerCall first total = answerOf (headerRefusal first total) (headSizes first)
+
+-- the lister's text for a record in lent room
+unfoldable pub listRecordCall : List ℕ → List ℕ → Listed
+listRecordCall out bytes = listedIn (lentRefusal (length out) (length (lister bytes))) out (lister bytes)

@@ -107,7 +107,11 @@ bitPairs bytes = take (sizeTrits (headSizes bytes)) (pairs (knownBits bytes) (va
 unfoldable pub decodeImage : List ℕ → Const
 decodeImage bytes = map (λ p. tritBy (p .0) (p .1)) (bitPairs bytes)
 
--- ---- the reader: the record's bytes and a place in them
+-- the trit of that number
+unfoldable pub tritAt : List ℕ → ℕ → ℕ
+tritAt bytes i = tritBy (getD (knownBits bytes) i 0) (getD (valueBits bytes) i 0)
+
+-- ---- the reader: the record's bytes and a place in them, which counts bytes in the head and trits behind it
 pub record Reader : Type 0 where
   pub bytes : List ℕ
   pub at : ℕ
@@ -119,9 +123,16 @@ nextWord r = wordAt (r .bytes) (r .at)
 unfoldable pub afterWord : Reader → Reader
 afterWord r = record { bytes = r .bytes; at = r .at + 2 }
 
--- the trit of that number, and the reader after it
+-- the trit there, behind the head, and the reader after it
 unfoldable pub nextTrit : Reader → ℕ
-nextTrit r = tritBy (getD (knownBits (r .bytes)) (r .at) 0) (getD (valueBits (r .bytes)) (r .at) 0)
+nextTrit r = tritAt (r .bytes) (r .at - headBytes)
 
 unfoldable pub afterTrit : Reader → Reader
 afterTrit r = record { bytes = r .bytes; at = r .at + 1 }
+
+-- the n trits from there on, and the reader after them
+unfoldable pub nextTrits : ℕ → Reader → Const
+nextTrits n r = part (r .at - headBytes) n (decodeImage (r .bytes))
+
+unfoldable pub afterTrits : ℕ → Reader → Reader
+afterTrits n r = record { bytes = r .bytes; at = r .at + n }

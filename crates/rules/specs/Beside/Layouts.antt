@@ -5,28 +5,30 @@ use mathlib.Core.Option.{none, some}
 use mathlib.Core.List.{List, [], map}
 use lib.ListN.{length, getD}
 use lib.Dec.{eqb}
-use Rattle.lists.specs.Choice.{if_then_else_, leaves}
+use Rattle.lists.specs.Choice.{if_then_else_, _orElse_, leaves}
 use Rattle.lists.specs.Lists.{upFrom}
 use Rattle.lists.specs.Distinct.{placeIn}
 use Rattle.rules.specs.Limits.{tritX}
 use Rattle.rules.specs.Logic.{Const}
 use Rattle.rules.specs.Geometry.{Layout}
 use Rattle.rules.specs.Image.{imageSize, indexOf, Laid, Patch}
-use Rattle.rules.specs.Conditions.{notBelow, noRoom}
-use Rattle.rules.specs.Patch.{patched, laidOut}
-use Rattle.rules.specs.Answers.{Filled, filled}
+use Rattle.rules.specs.Conditions.{badTrits, notBelow, noRoom}
+use Rattle.rules.specs.Refusals.{lentRefusal}
+use Rattle.rules.specs.Patch.{laidOut}
+use Rattle.rules.specs.Answers.{Filled, filled, Patched, patchedWith}
 
--- ---- an image laid out: the rows are the memory's initial trits, which the swizzle's own numbers have tried
--- by the depth, the width and the image's trits of a layout: of this room and so many trits
-unfoldable pub fillRefusalBy : ℕ → ℕ → ℕ → ℕ → ℕ → ℕ
-fillRefusalBy depth width size room len = if not (eqb len (depth * width)) then 2 else if noRoom room size then 20 else 0
+-- ---- an image laid out: the rows are the memory's initial trits
+-- 2, 4, then 20, by the depth, the width and the image's trits of a layout: of this room and these rows
+unfoldable pub fillRefusalBy : ℕ → ℕ → ℕ → ℕ → List ℕ → ℕ
+fillRefusalBy depth width size room rows =
+    if not (eqb (length rows) (depth * width)) then 2 else if badTrits rows then 4 else lentRefusal room size
 
-unfoldable pub fillRefusalOf : Layout → ℕ → ℕ → ℕ
-fillRefusalOf q room len = fillRefusalBy (q .depth) (q .width) (imageSize q) room len
+unfoldable pub fillRefusalOf : Layout → ℕ → List ℕ → ℕ
+fillRefusalOf q room rows = fillRefusalBy (q .depth) (q .width) (imageSize q) room rows
 
-unfoldable pub fillRefusal : Laid → ℕ → ℕ → ℕ
-fillRefusal none room size = 23
-fillRefusal (some q) room size = fillRefusalOf q room size
+unfoldable pub fillRefusal : Laid → ℕ → List ℕ → ℕ
+fillRefusal none room rows = 23
+fillRefusal (some q) room rows = fillRefusalOf q room rows
 
 -- the lent image once the rows are laid out in it
 unfoldable pub filledBy : Laid → List ℕ → List ℕ → List ℕ
@@ -35,14 +37,16 @@ filledBy (some q) rows image = laidOut q rows image
 
 unfoldable pub fillCall : Laid → List ℕ → List ℕ → Filled
 fillCall laid rows image =
-    let n = fillRefusal laid (length image) (length rows) in
+    let n = fillRefusal laid (length image) rows in
     record { number = n; out = leaves n image (filledBy laid rows image) }
 
--- laid out, and then a list of patch calls
-unfoldable pub fillAndPatchCall : Laid → List ℕ → List Patch → List ℕ → Filled
-fillAndPatchCall laid rows cs image =
-    let n = fillRefusal laid (length image) (length rows) in
-    record { number = n; out = leaves n image (patched laid cs (filledBy laid rows image)) }
+-- laid out, and then a list of patch calls: 20 also where the room for the calls' numbers is short
+unfoldable pub fillAndPatchRefusal : Laid → ℕ → ℕ → List ℕ → List Patch → ℕ
+fillAndPatchRefusal laid numbers room rows cs = fillRefusal laid room rows orElse lentRefusal numbers (length cs)
+
+unfoldable pub fillAndPatchCall : List ℕ → Laid → List ℕ → List Patch → List ℕ → Patched
+fillAndPatchCall numbers laid rows cs image =
+    patchedWith (fillAndPatchRefusal laid (length numbers) (length image) rows cs) numbers laid cs image (filledBy laid rows image)
 
 -- ---- a row read back
 -- the trit at the place of the entry that names bit b
