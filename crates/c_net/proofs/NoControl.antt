@@ -1,8 +1,8 @@
 -- Neg(0), which a polarity or a flag above 1 reads as, is neither a control nor a mux select, so calls refuse it by 4.
 use mathlib.Core.Path.{_≡_, refl}
 use Prim.Native.Nat.{ℕ}
-use mathlib.Core.Bool.{Bool, false}
-use Rattle.rules.specs.Value.{Control, Neg, inverse, isCellNet, goodControl, goodSelect}
+use mathlib.Core.Bool.{false}
+use Rattle.rules.specs.Value.{Neg, isCellNet, goodControl, goodSelect}
 use Rattle.rules.specs.Conditions.{badControl}
 use Rattle.rules.specs.Refusals.{controlRefusal}
 use Rattle.rules.specs.Answers.{Refused, answerOf, inverseCall, isAlwaysCall}
