@@ -2,13 +2,9 @@
 // or in the second value, with a bad select or control, with a bad trit code, and with one value a bit longer than the other.
 use lists::copy_u8_to_u32;
 use lists::copy_u32;
-use lists::put_u8;
 use lists::put_u32;
 use log_entries::LogState;
 use log_requests::Answer;
-use net_flip_flop::Controls;
-use net_value::ControlNet;
-use net_value::Net;
 use rules::FIRST_CELL;
 use rules::MAX_MERGE;
 use try_kit::borders::length_at;
@@ -16,31 +12,25 @@ use try_kit::borders::next_at;
 use try_kit::borders::room_at;
 use try_kit::borders::state_number;
 use try_kit::nets::fill_nets;
-use try_kit::nets::select_of;
 use try_kit::nets::spoil;
 use try_kit::numbered;
 use try_kit::numbered::Tally;
-use try_kit::paint::fill_trits;
 use try_kit::paint::paint_words;
 use try_kit::paint::same;
+use try_kit::spoilt::CONTROL;
+use try_kit::spoilt::FIRST;
+use try_kit::spoilt::NOTHING;
+use try_kit::spoilt::SECOND;
+use try_kit::spoilt::TRIT;
+use try_kit::spoilt::controls_in;
+use try_kit::spoilt::of_what;
+use try_kit::spoilt::select_in;
+use try_kit::spoilt::set_trits;
 use try_kit::words::both;
 use try_kit::words::minus;
 use try_kit::words::net_above;
 use try_kit::words::plus;
 use try_kit::words::word;
-
-// What is bad in a case: nothing, a net of the first or of the second value, the select or a control, a trit code.
-const NOTHING: u32 = 0;
-
-const FIRST: u32 = 1;
-
-const SECOND: u32 = 2;
-
-const CONTROL: u32 = 3;
-
-const TRIT: u32 = 4;
-
-const BAD_CODE: u8 = 3;
 
 // A request by its kind: its values' lengths, whether its select is Neg, what is bad and which control or trit that is, and the log's state and room.
 struct Case {
@@ -222,29 +212,6 @@ fn put_shift(want: &mut [u32], c: Case, a: &[u32], b: &[u32]) {
     put_two(want, plus(at, 2), b, a);
 }
 
-// No control: Neg of a constant.
-fn no_control() -> ControlNet {
-    ControlNet::Neg(Net(0))
-}
-
-fn control_or(bad: bool, good: ControlNet) -> ControlNet {
-    if bad {
-        return no_control();
-    }
-    good
-}
-
-// The controls of a flip-flop: clock Pos 2, clear Pos 0, reset Neg 2, enable Pos 1, the reset over the enable where `over` says. One of them may be bad.
-fn controls(over: bool, bad: u32) -> Controls {
-    Controls {
-        clock: control_or(bad == 0, ControlNet::Pos(Net(2))),
-        clear: control_or(bad == 1, ControlNet::Pos(Net(0))),
-        reset: control_or(bad == 2, ControlNet::Neg(Net(2))),
-        enable: control_or(bad == 3, ControlNet::Pos(Net(1))),
-        reset_over_enable: over,
-    }
-}
-
 // Which of the four controls is bad; 4 is none.
 fn bad_control(c: Case) -> u32 {
     if c.bad == CONTROL {
@@ -301,18 +268,11 @@ fn put_entry(want: &mut [u32], c: Case, a: &[u32], b: &[u32], trits: &[u8]) {
     }
 }
 
-fn select_in(c: Case) -> ControlNet {
-    if c.bad == CONTROL {
-        return no_control();
-    }
-    select_of(c.neg)
-}
-
 fn call_dff(log: &mut [u32], st: LogState, c: Case, a: &[u32], trits: &[u8]) -> Answer {
     log_requests::add_dff(
         log,
         st,
-        controls(c.neg, bad_control(c)),
+        controls_in(c.neg, bad_control(c)),
         a,
         net_logic::const_slice(trits, 0, c.n),
         net_logic::const_slice(trits, 1, plus(c.n, 1)),
@@ -347,7 +307,7 @@ fn call(log: &mut [u32], st: LogState, c: Case, a: &[u32], b: &[u32]) -> Answer 
         return log_requests::add_or(log, st, a, b);
     }
     if c.kind == 5 {
-        return log_requests::add_mux(log, st, select_in(c), a, b);
+        return log_requests::add_mux(log, st, select_in(c.neg, c.bad == CONTROL), a, b);
     }
     call_late(log, st, c, a, b)
 }
@@ -389,29 +349,18 @@ fn answered(c: Case, n: u32, r: Answer) -> bool {
     }
 }
 
-// How many nets of a value are looked at where one is spoilt: none where that is not what is bad.
-fn spoilt_nets(bad: u32, what: u32, n: usize) -> usize {
-    if bad == what {
-        return n;
-    }
-    0
-}
-
 // Nets for a case.
 fn set_nets(c: Case, a: &mut [u32], b: &mut [u32]) {
     fill_nets(b, c.next, 2);
     fill_nets(a, c.next, 0);
-    spoil(a, spoilt_nets(c.bad, FIRST, c.n), c.next);
-    spoil(b, spoilt_nets(c.bad, SECOND, c.m), c.next);
+    spoil(a, of_what(c.bad, FIRST, c.n), c.next);
+    spoil(b, of_what(c.bad, SECOND, c.m), c.next);
 }
 
-// Trits for a case: where one is bad, the first of clear, the last of reset, which is one of init too, or the last of init.
-fn set_trits(c: Case, trits: &mut [u8]) {
-    fill_trits(trits);
-    if c.bad == TRIT {
-        let places = [0usize, c.n, plus(c.n, 1)];
-        put_u8(trits, places[lists::usize_of_u32(c.which) % 3], BAD_CODE);
-    }
+// The place of the trit that is bad: the first of clear, the last of reset, which is one of init too, or the last of init.
+fn bad_trit(c: Case) -> usize {
+    let places = [0usize, c.n, plus(c.n, 1)];
+    places[lists::usize_of_u32(c.which) % 3]
 }
 
 // The log expected.
@@ -451,7 +400,7 @@ fn set_and_try(
     trits: &mut [u8],
 ) -> Tally {
     set_nets(c, a, b);
-    set_trits(c, trits);
+    set_trits(trits, c.bad == TRIT, bad_trit(c));
     try_case(
         t,
         c,

@@ -5,8 +5,6 @@ use lists::copy_u32;
 use lists::put_u32;
 use log_entries::LogState;
 use log_requests::Answer;
-use net_value::ControlNet;
-use net_value::Net;
 use rules::FIRST_CELL;
 use rules::MAX_MERGE;
 use rules::MAX_NETS;
@@ -15,12 +13,17 @@ use try_kit::borders::room_at;
 use try_kit::borders::state_number;
 use try_kit::nets::fill_nets;
 use try_kit::nets::net_at;
-use try_kit::nets::select_of;
 use try_kit::nets::spoil;
 use try_kit::numbered;
 use try_kit::numbered::Tally;
 use try_kit::paint::paint_words;
 use try_kit::paint::same;
+use try_kit::spoilt::CONTROL;
+use try_kit::spoilt::FIRST;
+use try_kit::spoilt::NOTHING;
+use try_kit::spoilt::SECOND;
+use try_kit::spoilt::of_what;
+use try_kit::spoilt::select_in;
 use try_kit::words::minus;
 use try_kit::words::net_above;
 use try_kit::words::plus;
@@ -195,15 +198,7 @@ fn expect_runs(
     state
 }
 
-// What is wrong in a case: nothing, a net of the first or of the second value, the select, or the room for results.
-const NOTHING: u32 = 0;
-
-const FIRST: u32 = 1;
-
-const SECOND: u32 = 2;
-
-const SELECT: u32 = 3;
-
+// What is wrong in a case beside what `spoilt` lists: the room for results is one net short.
 const ROOM: u32 = 4;
 
 // A merge: whether it is the bitwise one, its values' lengths, whether its select is Neg, what is wrong, and the next free net.
@@ -270,7 +265,7 @@ fn select_bad(c: Case) -> bool {
     if c.bitwise {
         return false;
     }
-    if c.bad == SELECT {
+    if c.bad == CONTROL {
         return true;
     }
     if c.neg {
@@ -339,13 +334,6 @@ fn out_room(c: Case) -> usize {
     NETS
 }
 
-fn select_in(c: Case) -> ControlNet {
-    if c.bad == SELECT {
-        return ControlNet::Neg(Net(0));
-    }
-    select_of(c.neg)
-}
-
 // The call, in the room lent.
 fn call(
     c: Case,
@@ -366,7 +354,14 @@ fn call(
     if c.bitwise {
         return merge_mux::add_bitwise_mux(&mut log[..room], st, out, s, a, b);
     }
-    merge_mux::add_dedup_mux(&mut log[..room], st, out, select_in(c), a, b)
+    merge_mux::add_dedup_mux(
+        &mut log[..room],
+        st,
+        out,
+        select_in(c.neg, c.bad == CONTROL),
+        a,
+        b,
+    )
 }
 
 // The same, in the room for results.
@@ -476,22 +471,14 @@ fn fill_selects(s: &mut [u32], next: u32) {
     }
 }
 
-// How many nets of a value are looked at where one is spoilt: none where that is not what is bad.
-fn spoilt_nets(bad: u32, what: u32, n: usize) -> usize {
-    if bad == what {
-        return n;
-    }
-    0
-}
-
 // Nets for a case.
 fn set_nets(c: Case, s: &mut [u32], a: &mut [u32], b: &mut [u32]) {
     fill_nets(b, c.next, 2);
     fill_selects(s, c.next);
     fill_nets(a, c.next, 0);
-    spoil(s, spoilt_nets(c.bad, SELECT, c.n), c.next);
-    spoil(a, spoilt_nets(c.bad, FIRST, c.n), c.next);
-    spoil(b, spoilt_nets(c.bad, SECOND, c.m), c.next);
+    spoil(s, of_what(c.bad, CONTROL, c.n), c.next);
+    spoil(a, of_what(c.bad, FIRST, c.n), c.next);
+    spoil(b, of_what(c.bad, SECOND, c.m), c.next);
 }
 
 fn set_and_try(t: Tally, bitwise: bool, k: u32, log: &mut [u32], want: &mut [u32]) -> Tally {
