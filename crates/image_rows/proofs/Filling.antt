@@ -104,6 +104,15 @@ pub fill-refusal-is : (q : Layout) (size room : ℕ) (rows : List ℕ) → size 
 unfolding fillRefusalOf
 fill-refusal-is q size room rows e = ap (λ (n : ℕ). fillRefusalBy (q .depth) (q .width) n room rows) e
 
+-- by the state
+pub refusal-none : (l : Laid) (room : ℕ) (rows : List ℕ) → l ≡ none → 23 ≡ fillRefusal l room rows
+unfolding fillRefusal
+refusal-none l room rows e = sym (ap (λ (x : Laid). fillRefusal x room rows) e)
+
+pub refusal-some : (l : Laid) (q : Layout) (room : ℕ) (rows : List ℕ) → l ≡ some q → fillRefusalOf q room rows ≡ fillRefusal l room rows
+unfolding fillRefusal
+refusal-some l q room rows e = sym (ap (λ (x : Laid). fillRefusal x room rows) e)
+
 -- what is known where no number refuses
 pub fills : (q : Layout) (room : ℕ) (rows : List ℕ) → fillRefusalOf q room rows ≡ 0 → (length rows ≡ q .depth * q .width) × (imageSize q ≤ room)
 unfolding fillRefusalOf fillRefusalBy noRoom

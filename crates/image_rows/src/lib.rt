@@ -4,7 +4,7 @@ ghost use Prim.Native.Nat.{_+_, _*_, _≤_, _<_};
 ghost use lib.ListN.{length};
 ghost use Rattle.rules.specs.Image.{putRow, writeRow, writeRows, indexOf};
 ghost use Rattle.rules.specs.Beside.Shape.{handedOn, placeCall};
-ghost use Rattle.rules.specs.Beside.Layouts.{fillCall, readRowCall, fillRefusalBy, readRowRefusalBy};
+ghost use Rattle.rules.specs.Beside.Layouts.{fillCall, readRowCall, fillRefusalBy, fillRefusal, readRowRefusalBy};
 ghost use Rattle.rules.specs.Answers.{patchCall, filledWith};
 ghost use Rattle.rules.specs.Refusals.{patchRefusalBy};
 ghost use Rattle.image_geometry.specs.View.{layoutBy};
@@ -222,6 +222,21 @@ fn fill_refusal(room: usize, p: image_geometry::Params, size: u64, rows: &[u8]) 
         return 20;
     }
     0
+}
+
+// The number that refuses rows to lay out in so many lent trits, or 0; nothing is stored.
+pub fn fill_rows_refusal(
+    room: usize,
+    p: image_geometry::Params,
+    entries: &[u32],
+    rows: &[u8],
+) -> u32
+    ensures { λ r. ⌜ r ≡ fillRefusal (handedOn (layoutBy p (now (entries .entry)))) room (now (rows .entry)) ⌝ }
+{
+    let image_check::Checked::Good(s) = image_check::check_layout(p, entries) else {
+        return 23;
+    };
+    fill_refusal(room, p, s.image_size, rows)
 }
 
 // Lays the rows out in an image with this layout, or refuses by a number. Every code is looked at before the first trit is stored.
