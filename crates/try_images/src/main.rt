@@ -210,7 +210,7 @@ fn lay(laid: image_state::Laid, rows: &[u8]) -> [u8; 40] {
     image
 }
 
-// Rows that do not fit five bytes that hold 7.
+// The rows laid out in five bytes that hold 7, which are too few.
 fn lay_short(laid: image_state::Laid, rows: &[u8]) {
     let mut image = [7u8; 5];
     text(b"fill");
@@ -219,7 +219,7 @@ fn lay_short(laid: image_state::Laid, rows: &[u8]) {
     trits(&image);
 }
 
-// Rows of two bits: four codes past X, before and after a length that is wrong, and before a room that is short.
+// Codes past X in rows of two bits: 4, but 2 where the length is wrong, and 4 where the room is short too.
 fn bad_codes(laid: image_state::Laid) {
     lay(laid, &[1u8, 0, 2, 1, 0, 3]);
     lay(laid, &[3u8, 0, 2, 1, 0, 0]);
@@ -373,7 +373,7 @@ fn lists_of_calls() {
     read_rows(laid, &image, 6);
     list(&mut image, &mut [77u32; 9], laid, &[2u8; 17]);
     list(&mut image, &mut [77u32; 6], laid, &[3u8; 18]);
-    calls(&mut image, &mut [77u32; 7], laid);
+    calls(&mut [7u8; 40], &mut [77u32; 7], laid);
     list(
         &mut image,
         &mut [77u32; 6],
