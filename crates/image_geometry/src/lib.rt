@@ -16,6 +16,7 @@ ghost use Rattle.image_geometry.specs.View.{viewSpot, layoutBy, shapeBy,
 ghost use Rattle.image_geometry.specs.Steps.{Narrow, memsOf, Roomy, stepped};
 
 // A layout's numbers: the memory's depth and width, and the plan's without its entries.
+#[repr(C)]
 pub struct Params {
     pub depth: u32,
     pub width: u32,
@@ -32,6 +33,7 @@ pub struct Spot {
 
 // What a layout gives: the full memories and all, the depth of a full one and of the others, columns rounded up to the unit, the trits of all
 // memories, and those of the image, which has none where the width is 0.
+#[repr(C)]
 pub struct Shape {
     pub full_mems: u64,
     pub all_mems: u64,

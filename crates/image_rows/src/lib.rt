@@ -14,6 +14,7 @@ ghost use Rattle.image_rows.specs.Steps.{stepsBy, Ready, Low, Lows, next
 pub mod entry;
 
 // The place of an entry: the memory, the row in it, the bit of that row, and the index in the flat image.
+#[repr(C)]
 pub struct Place {
     pub memory: u64,
     pub row: u64,

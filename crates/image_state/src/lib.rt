@@ -18,6 +18,7 @@ ghost use Rattle.image_state.specs.Counts.{Counted};
 
 // What a swizzle hands on for patches: the layout's numbers, and the entries of a row, of which the first `len` are in use. The unit is 0 where
 // no swizzle was accepted yet.
+#[repr(C)]
 pub struct Laid {
     pub depth: u32,
     pub width: u32,

@@ -18,6 +18,7 @@ use net_flip_flop::Controls;
 use net_value::ControlNet;
 
 // The words of the log that are used, and the next free net.
+#[repr(C)]
 pub struct LogState {
     pub used: usize,
     pub next: u32,

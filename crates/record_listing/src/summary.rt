@@ -13,6 +13,7 @@ ghost use Rattle.record_listing.specs.Summary.{viewSummary, viewSummariz
 use record_sizes::Sizes;
 
 // Of memory `index`: its depth, its known trits and its ones.
+#[repr(C)]
 pub struct Summary {
     pub index: usize,
     pub depth: usize,

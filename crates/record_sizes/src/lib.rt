@@ -9,6 +9,7 @@ ghost use Rattle.rules.specs.Conditions.{isPower, badUnit, unlike, badDepths, b
 ghost use Rattle.record_sizes.specs.View.{viewSizes};
 
 // `full` memories of depth `full_depth`, then `partial` ones of depth `partial_depth`, each `unit` bits wide.
+#[repr(C)]
 pub struct Sizes {
     pub unit: u32,
     pub full: u32,

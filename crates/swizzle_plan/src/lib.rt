@@ -17,6 +17,7 @@ use net_memory::Memory;
 pub mod logs;
 
 // A plan without its lists: the entries of a row and the new wide logs stand in lent arrays.
+#[repr(C)]
 pub struct MemorySwizzle {
     pub soft_addr_bits_mask: u32,
     pub hard_addr_bits: u32,

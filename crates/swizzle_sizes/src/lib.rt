@@ -18,6 +18,7 @@ use net_memory::Memory;
 use swizzle_plan::MemorySwizzle;
 
 // The number that refuses `swizzle_mux_bits`, or 0, and the mux bits of the write ports and of the listed read ports.
+#[repr(C)]
 pub struct MuxBits {
     pub refusal: u32,
     pub writes: [u32; rules::MAX_PORTS],
