@@ -39,7 +39,7 @@ fn bad_head(first: &[u8], total: usize) -> bool
     if first.len() < rules::HEAD_BYTES {
         return true;
     }
-    if record_reader::word_at(first, 0) != rules::RECORD_MARK {
+    if record_reader::head_mark(first) != rules::RECORD_MARK {
         return true;
     }
     total as u64 != bytes_for(record_reader::head_trits(first))

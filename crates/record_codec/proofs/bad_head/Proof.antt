@@ -15,14 +15,14 @@ returns : tie.Need-returns
 unfolding badHead
 returns c = or-stop _ (lt-ltb _ _ (c .if1 .taken))
 
-word-at-requires : tie.Need-word-at-requires
-word-at-requires c κs = search needs
+head-mark-requires : tie.Need-head-mark-requires
+head-mark-requires c κs = search needs
 
 returns-2 : tie.Need-returns-2
 unfolding badHead
 returns-2 c =
     let b = c .before .before in
-    or-skip (le-ltb _ _ (b .if1 .left)) (or-stop _ (not-is-true _ (sym (ap (λ (n : ℕ). eqb n 5) (c .before .word-at .ensures)) ∙ ne-eqb _ _ (c .if2 .taken))))
+    or-skip (le-ltb _ _ (b .if1 .left)) (or-stop _ (not-is-true _ (sym (ap (λ (n : ℕ). eqb n 5) (c .before .head-mark .ensures)) ∙ ne-eqb _ _ (c .if2 .taken))))
 
 head-trits-requires : tie.Need-head-trits-requires
 head-trits-requires c κs = search needs
@@ -35,10 +35,10 @@ unfolding badHead recordBytes
 returns-3 c =
     let d = c .before .before in
     let b = d .before .before in
-    or-skip (le-ltb _ _ (b .if1 .left)) (or-skip (not-is-false _ (sym (ap (λ (n : ℕ). eqb n 5) (d .before .word-at .ensures)) ∙ eq-eqb _ _ (d .if2 .left)))
+    or-skip (le-ltb _ _ (b .if1 .left)) (or-skip (not-is-false _ (sym (ap (λ (n : ℕ). eqb n 5) (d .before .head-mark .ensures)) ∙ eq-eqb _ _ (d .if2 .left)))
     (ap (λ (n : ℕ). not (eqb (b .before .before .args .total) n)) (c .bytes-for .ensures ∙ ap (λ (n : ℕ). 12 + 2 * arrayBytes n) (c .before .head-trits .ensures .0))))
 
 pub bad-head-spec : {M : Type 1} → statement M
 bad-head-spec =
     tie.close
-    (tie.spec returns word-at-requires returns-2 head-trits-requires bytes-for-requires returns-3)
+    (tie.spec returns head-mark-requires returns-2 head-trits-requires bytes-for-requires returns-3)

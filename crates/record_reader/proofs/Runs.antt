@@ -1,0 +1,76 @@
+-- Words that are taken one after another stand at the bytes 0, 2, 4 and so on.
+use mathlib.Core.Path.{_≡_, refl, sym, ap, _∙_}
+use mathlib.Core.Logic.{_⊎_, inl, inr, ⊎-elim}
+use mathlib.Core.Bool.{Bool, true, false}
+use Prim.Native.Nat.{ℕ, _+_, _≤_, _<_}
+use native.Mathlib.Omega.{arith}
+use mathlib.Core.List.{List}
+use lib.ListN.{length}
+use borrow.Author.Tests.{le-ltb, ltb-true, ltb-false}
+use Rattle.rules.specs.Record.{afterWord}
+use Rattle.record_reader.specs.Reading.{hasWord, wordThere, placeAfterWord, headWords}
+use Rattle.record_reader.specs.declared.HeadWords.{HeadWords}
+use Rattle.record_reader.specs.declared.Word.the-variants.{End}
+
+module _ (bytes : List ℕ) where
+  -- the reader stands at n, or nothing is left where it stands
+  abbrev pub Stands : ℕ → ℕ → Type 0
+  Stands p n = (p ≡ n) ⊎ ((length bytes ≤ p + 1) × (p ≤ n))
+
+  goes : (p : ℕ) → hasWord bytes p ≡ true → placeAfterWord bytes p ≡ p + 2
+  unfolding placeAfterWord afterWord
+  goes p e = rw e
+
+  stays : (p : ℕ) → hasWord bytes p ≡ false → placeAfterWord bytes p ≡ p
+  unfolding placeAfterWord
+  stays p e = rw e
+
+  none : (p : ℕ) → length bytes ≤ p + 1 → wordThere bytes p ≡ End
+  unfolding wordThere
+  none p h = rw (le-ltb (p + 1) (length bytes) h)
+
+  below : (p n q : ℕ) → q ≡ p → Stands p n → p ≤ n + 2
+  below p n q e o = ⊎-elim (λ h. omega arith) (λ h. omega arith) o
+
+  by-word : (p n : ℕ) → Stands p n → (x : Bool) → hasWord bytes p ≡ x → Stands (placeAfterWord bytes p) (n + 2)
+  by-word p n o true e =
+      let g : placeAfterWord bytes p ≡ p + 2 = goes p e in
+      let l : p + 1 < length bytes = ltb-true (p + 1) (length bytes) e in
+      ⊎-elim (λ h. inl (g ∙ omega arith)) (λ h. inl (omega arith)) o
+  by-word p n o false e =
+      let g : placeAfterWord bytes p ≡ p = stays p e in
+      let l : length bytes ≤ p + 1 = ltb-false (p + 1) (length bytes) e in
+      let b : p ≤ n + 2 = below p n p refl o in
+      inr (omega arith, omega arith)
+
+  pub next : (p n : ℕ) → Stands p n → Stands (placeAfterWord bytes p) (n + 2)
+  next p n o = by-word p n o (hasWord bytes p) refl
+
+  pub there : (p n : ℕ) → Stands p n → wordThere bytes p ≡ wordThere bytes n
+  there p n o = ⊎-elim (λ h. ap (wordThere bytes) h) (λ h. none p (h .0) ∙ sym (none n (omega arith))) o
+
+-- each word of a head
+module _ (bytes : List ℕ) (w : HeadWords) (e : w ≡ headWords bytes) where
+  pub is-mark : w .mark ≡ wordThere bytes 0
+  unfolding headWords
+  is-mark = ap (λ (r : HeadWords). r .mark) e
+
+  pub is-unit : w .unit ≡ wordThere bytes 2
+  unfolding headWords
+  is-unit = ap (λ (r : HeadWords). r .unit) e
+
+  pub is-full : w .full ≡ wordThere bytes 4
+  unfolding headWords
+  is-full = ap (λ (r : HeadWords). r .full) e
+
+  pub is-full-depth : w .«full_depth» ≡ wordThere bytes 6
+  unfolding headWords
+  is-full-depth = ap (λ (r : HeadWords). r .«full_depth») e
+
+  pub is-partial : w .partial ≡ wordThere bytes 8
+  unfolding headWords
+  is-partial = ap (λ (r : HeadWords). r .partial) e
+
+  pub is-partial-depth : w .«partial_depth» ≡ wordThere bytes 10
+  unfolding headWords
+  is-partial-depth = ap (λ (r : HeadWords). r .«partial_depth») e
