@@ -76,6 +76,10 @@ tritThere bytes at = if hasTritAt bytes at then Code (rules.nextTrit (readerAt b
 unfoldable pub placeAfterTrit : List ℕ → ℕ → ℕ
 placeAfterTrit bytes at = if hasTritAt bytes at then rules.afterTrit (readerAt bytes at) .at else at
 
+-- above the trits of any five 16-bit sizes
+abbrev pub manyTrits : ℕ
+manyTrits = 1125899906842624
+
 -- ---- all the trits that are left, of a record of so many trits
 -- the image of such a record; `rules.decodeImage` has the count of the record's own head
 abbrev pub imageOf : ℕ → List ℕ → Const
@@ -84,17 +88,14 @@ imageOf count bytes = tritsBy count (rules.bitsOf (part headBytes (rules.arrayBy
 -- a byte of trits starts at the place, and the record is as long as so many trits take
 abbrev pub hasTrits : ℕ → List ℕ → ℕ → Bool
 hasTrits count bytes at =
-    leb headBytes at && (eqb ((at - headBytes) % 8) 0 && eqb (length bytes) (headBytes + 2 * rules.arrayBytes count))
+    leb headBytes at
+    && (eqb ((at - headBytes) % 8) 0 && (leb count manyTrits && eqb (length bytes) (headBytes + 2 * rules.arrayBytes count)))
 
 unfoldable pub tritsThere : ℕ → List ℕ → ℕ → Const
 tritsThere count bytes at = if hasTrits count bytes at then drop (at - headBytes) (imageOf count bytes) else []
 
 unfoldable pub placeAfterTrits : ℕ → List ℕ → ℕ → ℕ
 placeAfterTrits count bytes at = rules.afterTrits (length (tritsThere count bytes at)) (readerAt bytes at) .at
-
--- above the trits of any five 16-bit sizes
-abbrev pub manyTrits : ℕ
-manyTrits = 1125899906842624
 
 -- the bytes of a bit array are no more
 abbrev pub manyBytes : ℕ

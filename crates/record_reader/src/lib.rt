@@ -257,6 +257,9 @@ fn has_trits(bytes: &[u8], at: usize, count: usize) -> bool
     if (at - rules::HEAD_BYTES) % 8 != 0 {
         return false;
     }
+    if MANY < count as u64 {
+        return false;
+    }
     bytes.len() == rules::HEAD_BYTES + 2 * array_bytes(count)
 }
 
