@@ -17,7 +17,7 @@ use Rattle.lists.proofs.Parts.{drop-take}
 use Rattle.lists.proofs.Store.{sets-at}
 use Rattle.rules.specs.Numbers.{ceilDiv}
 use Rattle.rules.specs.Value.{fromUint}
-use Rattle.rules.specs.Record.{bitsOf, arrayBytes, tritBy, afterTrits}
+use Rattle.rules.specs.Record.{sizeTrits, headSizes, bitsOf, arrayBytes, tritBy, knownBits, valueBits, bitPairs, decodeImage, nextTrits, afterTrits}
 use Rattle.rules.proofs.Written.{length-uint, length-bits}
 use Rattle.record_bits.specs.Groups.{tritsBy, groupTrits}
 use Rattle.record_bits.proofs.Arrays.{trits-byte}
@@ -140,7 +140,7 @@ module _ (count : ℕ) (bytes : List ℕ) (at : ℕ) where
       (leb-true 12 at (a .0), eqb-true ((at - 12) % 8) 0 (b .0), eqb-true (length bytes) (12 + 2 * arrayBytes count) (d .1), leb-true count manyTrits (d .0))
 
   module _ (e : hasTrits count bytes at ≡ true) where
-    has-some : tritsThere count bytes at ≡ drop (at - 12) (imageOf count bytes)
+    pub has-some : tritsThere count bytes at ≡ drop (at - 12) (imageOf count bytes)
     unfolding tritsThere
     has-some = rw e
 
@@ -193,3 +193,31 @@ module _ (count : ℕ) (bytes : List ℕ) (at : ℕ) where
 
 pub take-most : (n k b : ℕ) (l : List ℕ) → n ≤ b → length (take (12 + n - (12 + k)) l) ≤ b
 take-most n k b l h = omega (arith, length-take (12 + n - (12 + k)) l)
+
+-- ---- with the count of the record's own head they are the rules'
+module _ (bytes : List ℕ) where
+  pub image-whole : decodeImage bytes ≡ imageOf (sizeTrits (headSizes bytes)) bytes
+  unfolding decodeImage bitPairs knownBits valueBits
+  image-whole = refl
+
+  pub is-next : (at : ℕ) → hasTrits (sizeTrits (headSizes bytes)) bytes at ≡ true → tritsThere (sizeTrits (headSizes bytes)) bytes at ≡ nextTrits (sizeTrits (headSizes bytes)) (readerAt bytes at)
+  unfolding nextTrits
+  is-next at e =
+      let t = sizeTrits (headSizes bytes) in
+      let l : length (drop (at - 12) (imageOf t bytes)) ≤ t = omega (arith, length-drop (at - 12) (imageOf t bytes), length-image t bytes (tests t bytes at e .2)) in
+      has-some t bytes at e ∙ sym (take-all t (drop (at - 12) (imageOf t bytes)) l) ∙ ap (λ (x : List ℕ). take t (drop (at - 12) x)) (sym image-whole)
+
+  -- from the head's end on they are the image
+  pub all-trits : length bytes ≡ 12 + 2 * arrayBytes (sizeTrits (headSizes bytes)) → sizeTrits (headSizes bytes) ≤ manyTrits → tritsThere (sizeTrits (headSizes bytes)) bytes 12 ≡ decodeImage bytes
+  all-trits w h =
+      let t = sizeTrits (headSizes bytes) in
+      let e : hasTrits t bytes 12 ≡ true = rw (le-leb t manyTrits h, eq-eqb (length bytes) (12 + 2 * arrayBytes t) w) in
+      has-some t bytes 12 e ∙ sym image-whole
+
+-- a record of no trits
+pub none-there : (bytes : List ℕ) (at : ℕ) → tritsThere 0 bytes at ≡ []
+none-there bytes at = by-test (hasTrits 0 bytes at) refl
+  where
+    by-test : (b : Bool) → hasTrits 0 bytes at ≡ b → tritsThere 0 bytes at ≡ []
+    by-test true e = has-some 0 bytes at e ∙ drop-nil {A = ℕ} (at - 12)
+    by-test false e = no-trits 0 bytes at e

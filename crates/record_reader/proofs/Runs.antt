@@ -6,9 +6,9 @@ use Prim.Native.Nat.{ℕ, _+_, _≤_, _<_}
 use native.Mathlib.Omega.{arith}
 use mathlib.Core.List.{List}
 use lib.ListN.{length}
-use borrow.Author.Tests.{le-ltb, ltb-true, ltb-false}
-use Rattle.rules.specs.Record.{afterWord}
-use Rattle.record_reader.specs.Reading.{hasWord, wordThere, placeAfterWord, headWords}
+use borrow.Author.Tests.{lt-ltb, le-ltb, ltb-true, ltb-false}
+use Rattle.rules.specs.Record.{wordAt, headSizes, nextWord, afterWord}
+use Rattle.record_reader.specs.Reading.{hasWord, wordThere, placeAfterWord, wordOf, headWords, sizesBy}
 use Rattle.record_reader.specs.declared.HeadWords.{HeadWords}
 use Rattle.record_reader.specs.declared.Word.the-variants.{End}
 
@@ -74,3 +74,37 @@ module _ (bytes : List ℕ) (w : HeadWords) (e : w ≡ headWords bytes) where
   pub is-partial-depth : w .«partial_depth» ≡ wordThere bytes 10
   unfolding headWords
   is-partial-depth = ap (λ (r : HeadWords). r .«partial_depth») e
+
+-- ---- where all six are there
+module _ (bytes : List ℕ) (h : 12 ≤ length bytes) where
+  one : (n : ℕ) → n ≤ 10 → placeAfterWord bytes n ≡ n + 2
+  one n g = goes bytes n (lt-ltb (n + 1) (length bytes) (omega arith))
+
+  abbrev after : ℕ → ℕ
+  after p = placeAfterWord bytes p
+
+  -- the reader stands at the head's end
+  pub six-on : after (after (after (after (after (after 0))))) ≡ 12
+  six-on =
+      let a1 = one 0 (omega arith) in
+      let a2 = ap after a1 ∙ one 2 (omega arith) in
+      let a3 = ap after a2 ∙ one 4 (omega arith) in
+      let a4 = ap after a3 ∙ one 6 (omega arith) in
+      let a5 = ap after a4 ∙ one 8 (omega arith) in ap after a5 ∙ one 10 (omega arith)
+
+  found : (n : ℕ) → n ≤ 10 → wordOf (wordThere bytes n) ≡ wordAt bytes n
+  unfolding wordThere nextWord
+  found n g = rw (lt-ltb (n + 1) (length bytes) (omega arith))
+
+  module _ (w : HeadWords) (e : w ≡ headWords bytes) where
+    pub mark-word : wordOf (w .mark) ≡ wordAt bytes 0
+    mark-word = ap wordOf (is-mark bytes w e) ∙ found 0 (omega arith)
+
+    pub head-words : sizesBy w ≡ headSizes bytes
+    unfolding sizesBy headSizes
+    head-words =
+        let e1 = ap wordOf (is-unit bytes w e) ∙ found 2 (omega arith) in
+        let e2 = ap wordOf (is-full bytes w e) ∙ found 4 (omega arith) in
+        let e3 = ap wordOf (is-full-depth bytes w e) ∙ found 6 (omega arith) in
+        let e4 = ap wordOf (is-partial bytes w e) ∙ found 8 (omega arith) in
+        let e5 = ap wordOf (is-partial-depth bytes w e) ∙ found 10 (omega arith) in λ i. record { unit = e1 i; full = e2 i; fullDepth = e3 i; partial = e4 i; partialDepth = e5 i }

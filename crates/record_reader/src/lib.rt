@@ -264,7 +264,7 @@ fn has_trits(bytes: &[u8], at: usize, count: usize) -> bool
 }
 
 // Eight less, or 0.
-fn less_eight(left: usize) -> usize
+pub fn less_eight(left: usize) -> usize
     ensures { λ r. ⌜ r ≡ left - 8 ⌝ }
 {
     if left < 8 {
