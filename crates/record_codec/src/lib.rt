@@ -271,20 +271,7 @@ pub fn read_record(image: &mut [u8], bytes: &[u8]) -> Head
     ensures { λ r. ⌜ (viewHead r ≡ readRecordCall (now (image .entry)) (now (bytes .entry)) .answer) × (now (image .exit) ≡ readRecordCall (now (image .entry)) (now (bytes .entry)) .image) ⌝ }
 {
     let mut r = record_reader::new(bytes);
-    let mark = record_reader::next_word(&mut r);
-    let unit = record_reader::next_word(&mut r);
-    let full = record_reader::next_word(&mut r);
-    let full_depth = record_reader::next_word(&mut r);
-    let partial = record_reader::next_word(&mut r);
-    let partial_depth = record_reader::next_word(&mut r);
-    let words = HeadWords {
-        mark,
-        unit,
-        full,
-        full_depth,
-        partial,
-        partial_depth,
-    };
+    let words = record_reader::next_head(&mut r);
     let head = head_in(image.len(), bytes, words);
     let count = trits_to_take(head);
     record_reader::next_trits(image, &mut r, count);

@@ -8,7 +8,7 @@ use mathlib.Core.List.{List}
 use lib.ListN.{length}
 use borrow.Author.Tests.{lt-ltb, le-ltb, ltb-true, ltb-false}
 use Rattle.rules.specs.Record.{wordAt, headSizes, nextWord, afterWord}
-use Rattle.record_reader.specs.Reading.{hasWord, wordThere, placeAfterWord, wordOf, headWords, sizesBy}
+use Rattle.record_reader.specs.Reading.{hasWord, wordThere, placeAfterWord, wordsFrom, placeAfterHead, wordOf, headWords, sizesBy}
 use Rattle.record_reader.specs.declared.HeadWords.{HeadWords}
 use Rattle.record_reader.specs.declared.Word.the-variants.{End}
 
@@ -49,6 +49,22 @@ module _ (bytes : List ℕ) where
   pub there : (p n : ℕ) → Stands p n → wordThere bytes p ≡ wordThere bytes n
   there p n o = ⊎-elim (λ h. ap (wordThere bytes) h) (λ h. none p (h .0) ∙ sym (none n (omega arith))) o
 
+-- from the start on they are the head's
+module _ (bytes : List ℕ) where
+  pub from-start : wordsFrom bytes 0 ≡ headWords bytes
+  unfolding wordsFrom headWords
+  from-start =
+      let o1 = next bytes 0 0 (inl refl) in
+      let o2 = next bytes _ _ o1 in
+      let o3 = next bytes _ _ o2 in
+      let o4 = next bytes _ _ o3 in
+      let o5 = next bytes _ _ o4 in
+      let f1 = there bytes _ _ o1 in
+      let f2 = there bytes _ _ o2 in
+      let f3 = there bytes _ _ o3 in
+      let f4 = there bytes _ _ o4 in
+      let f5 = there bytes _ _ o5 in λ i. record { mark = wordThere bytes 0; unit = f1 i; full = f2 i; «full_depth» = f3 i; partial = f4 i; «partial_depth» = f5 i }
+
 -- each word of a head
 module _ (bytes : List ℕ) (w : HeadWords) (e : w ≡ headWords bytes) where
   pub is-mark : w .mark ≡ wordThere bytes 0
@@ -84,7 +100,8 @@ module _ (bytes : List ℕ) (h : 12 ≤ length bytes) where
   after p = placeAfterWord bytes p
 
   -- the reader stands at the head's end
-  pub six-on : after (after (after (after (after (after 0))))) ≡ 12
+  pub six-on : placeAfterHead bytes 0 ≡ 12
+  unfolding placeAfterHead
   six-on =
       let a1 = one 0 (omega arith) in
       let a2 = ap after a1 ∙ one 2 (omega arith) in

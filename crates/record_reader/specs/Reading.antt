@@ -31,6 +31,24 @@ wordThere bytes at = if hasWord bytes at then Found (rules.nextWord (readerAt by
 unfoldable pub placeAfterWord : List ℕ → ℕ → ℕ
 placeAfterWord bytes at = if hasWord bytes at then rules.afterWord (readerAt bytes at) .at else at
 
+-- six words one after another from a place on, and the place after them
+unfoldable pub wordsFrom : List ℕ → ℕ → HeadWords
+wordsFrom bytes at =
+    let next = placeAfterWord bytes in
+    record {
+      mark = wordThere bytes at;
+      unit = wordThere bytes (next at);
+      full = wordThere bytes (next (next at));
+      «full_depth» = wordThere bytes (next (next (next at)));
+      partial = wordThere bytes (next (next (next (next at))));
+      «partial_depth» = wordThere bytes (next (next (next (next (next at)))));
+    }
+
+unfoldable pub placeAfterHead : List ℕ → ℕ → ℕ
+placeAfterHead bytes at =
+    let next = placeAfterWord bytes in
+    next (next (next (next (next (next at)))))
+
 -- the six words of a head
 unfoldable pub headWords : List ℕ → HeadWords
 headWords bytes = record {

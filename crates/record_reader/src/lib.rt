@@ -7,7 +7,7 @@ ghost use lib.Seq.{sets};
 ghost use Rattle.rules.specs.Record.{sizeTrits, wordAt, arrayBytes, bitsOf, headSizes};
 ghost use Rattle.record_sizes.specs.View.{viewSizes};
 ghost use Rattle.record_bits.specs.Groups.{tritsBy};
-ghost use Rattle.record_reader.specs.Reading.{wordThere, placeAfterWord, wordOf, headWords, sizesBy, tritNumbered, tritThere, placeAfterTrit, hasTrits, tritsThere, placeAfterTrits, manyTrits, manyBytes, Words};
+ghost use Rattle.record_reader.specs.Reading.{wordThere, placeAfterWord, wordsFrom, placeAfterHead, wordOf, headWords, sizesBy, tritNumbered, tritThere, placeAfterTrit, hasTrits, tritsThere, placeAfterTrits, manyTrits, manyBytes, Words};
 use record_sizes::Sizes;
 
 pub struct Reader<'a> {
@@ -80,17 +80,16 @@ pub struct HeadWords {
     pub partial_depth: Word,
 }
 
-// Reads the six words of a head, by one reader.
-pub fn head_words(bytes: &[u8]) -> HeadWords
-    ensures { λ r. ⌜ r ≡ headWords (now (bytes .entry)) ⌝ }
+// Takes the next six words: the reader goes on behind them.
+pub fn next_head<'s, 'a>(r: &'s mut Reader<'a>) -> HeadWords
+    ensures { λ w. ⌜ (w ≡ wordsFrom (now (now (r .entry) .bytes)) (now (r .entry) .at)) × (now (r .exit) .bytes ≡ now (r .entry) .bytes) × (now (r .exit) .at ≡ placeAfterHead (now (now (r .entry) .bytes)) (now (r .entry) .at)) ⌝ }
 {
-    let mut r = new(bytes);
-    let mark = next_word(&mut r);
-    let unit = next_word(&mut r);
-    let full = next_word(&mut r);
-    let full_depth = next_word(&mut r);
-    let partial = next_word(&mut r);
-    let partial_depth = next_word(&mut r);
+    let mark = next_word(r);
+    let unit = next_word(r);
+    let full = next_word(r);
+    let full_depth = next_word(r);
+    let partial = next_word(r);
+    let partial_depth = next_word(r);
     HeadWords {
         mark,
         unit,
@@ -99,6 +98,14 @@ pub fn head_words(bytes: &[u8]) -> HeadWords
         partial,
         partial_depth,
     }
+}
+
+// Reads the six words of a head, by one reader.
+pub fn head_words(bytes: &[u8]) -> HeadWords
+    ensures { λ r. ⌜ r ≡ headWords (now (bytes .entry)) ⌝ }
+{
+    let mut r = new(bytes);
+    next_head(&mut r)
 }
 
 // A word as a number; a byte that is not there counts 0.
