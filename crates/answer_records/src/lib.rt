@@ -3,6 +3,7 @@ ghost use Rattle.pieces.specs.Answered.{Answered};
 use pieces::Reply;
 use record_codec::Head;
 use record_codec::Written;
+use record_listing::Listed;
 use record_sizes::Sizes;
 
 fn sizes_at(given: &[u32], at: usize) -> Sizes {
@@ -76,11 +77,10 @@ fn list(words: &mut [u32], trits: &mut [u8], given: &[u32]) -> Reply {
     let mut first = [0; rules::MAX_RECORD];
     let k = lists::smaller(total, rules::MAX_RECORD);
     pieces::codes(&mut first, 0, pieces::part(input, 0, k));
-    let n = record_listing::list_input(trits, pieces::part_u8(&first, 0, k), total);
-    if trits.len() < n {
-        return pieces::unknown();
+    match record_listing::list_input(trits, pieces::part_u8(&first, 0, k), total) {
+        Listed::Refused(_) => pieces::unknown(),
+        Listed::Accepted(n) => bytes(words, pieces::part_u8(trits, 0, n)),
     }
-    bytes(words, pieces::part_u8(trits, 0, n))
 }
 
 fn call(words: &mut [u32], trits: &mut [u8], given: &[u32]) -> Reply {

@@ -1,7 +1,7 @@
--- `record_codec::put_trits` meets its contract.
+-- `record_reader::put_groups` meets its contract.
 use Rattle.record_bits.specs.Groups.{tritsBy}
 use Rattle.rules.specs.Record.{bitsOf}
-use Rattle.record_codec.proofs.Arrays.{trits-step, trits-none, put-next}
+use Rattle.record_reader.proofs.Arrays.{trits-step, trits-none, put-next}
 use mathlib.Core.Path.{_≡_, refl, sym, ap, _∙_}
 use Prim.Native.Nat.{ℕ, _+_, _-_, _*_, _≤_}
 use native.Mathlib.Omega.{arith}
@@ -9,8 +9,8 @@ use mathlib.Core.List.{List}
 use lib.ListN.{length, drop, getD}
 use lib.Seq.{sets}
 use borrow.Author.Needs.{needs}
-use Rattle.record_codec.proofs.put_trits.Statement.{statement}
-use Rattle.record_codec.proofs.put_trits.Tie as tie
+use Rattle.record_reader.proofs.put_groups.Statement.{statement}
+use Rattle.record_reader.proofs.put_groups.Tie as tie
 
 abbrev Inv-loop : tie.InvT-loop
 Inv-loop image₀ count ks vs left₀ j₀ image left j = (j ≤ length ks) × (length image ≡ length image₀) × (sets image (8 * j) (tritsBy left (bitsOf (drop j ks)) (bitsOf (drop j vs))) ≡ sets image₀ 0 (tritsBy count (bitsOf ks) (bitsOf vs)))
@@ -69,8 +69,8 @@ returns c =
     let a = c .before .before .before .before .before .args in
     sym (ap (sets (l .image) (8 * l .j)) (trits-none (l .left) (l .j) (a .ks .now) (a .vs .now) (omega arith))) ∙ l .inv .2
 
-pub put-trits-spec : {M : Type 1} → statement M
-put-trits-spec =
+pub put-groups-spec : {M : Type 1} → statement M
+put-groups-spec =
     tie.close
     (tie.spec
     Inv-loop
