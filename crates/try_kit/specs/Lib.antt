@@ -4,4 +4,5 @@ pub mod Build
 pub mod Nets
 pub mod Numbered
 pub mod Paint
+pub mod Sums
 pub mod Tally

@@ -4,6 +4,7 @@ pub mod nets;
 pub mod numbered;
 pub mod paint;
 pub mod samples;
+pub mod sums;
 pub mod tally;
 pub mod words;
 
