@@ -1,13 +1,17 @@
 // Trits, constants, nets and controls for callers in C and Rust: numbers, slices and `repr(C)` structs, no enums.
+// Here are the structs and what they are in the library's terms; the exported functions are in `logic` and `value`.
 ghost use mathlib.Core.Path.{_≡_};
-ghost use Rattle.rules.specs.Answers.{constIsUndefCall, constAndCall, inverseCall, filledWith};
 ghost use Rattle.net_logic.specs.View.{boolAnswer};
-ghost use Rattle.net_value.specs.View.{controlOf, controlAnswer};
-ghost use Rattle.c_net.specs.View.{flagResult, givenControl, controlStruct, controlResult};
+ghost use Rattle.net_value.specs.View.{controlOf, controlAnswer, netAnswer};
+ghost use Rattle.c_net.specs.View.{flagResult, valueResult, givenControl, flaggedControl, controlStruct, controlResult};
 use net_logic::BoolAnswer;
 use net_value::ControlAnswer;
 use net_value::ControlNet;
 use net_value::Net;
+use net_value::NetAnswer;
+
+pub mod logic;
+pub mod value;
 
 // A refusal's number, or 0 and a value.
 #[repr(C)]
@@ -29,6 +33,27 @@ pub struct ControlResult {
     pub control: Control,
 }
 
+// What drives a net: a cell of this number, or the constant of this trit code.
+#[repr(C)]
+pub struct Driver {
+    pub is_cell: u32,
+    pub value: u32,
+}
+
+// The trit code of a net that is a constant.
+#[repr(C)]
+pub struct Constant {
+    pub known: u32,
+    pub trit: u32,
+}
+
+// A refusal's number, or 0 and how many elements were stored.
+#[repr(C)]
+pub struct Count {
+    pub number: u32,
+    pub count: usize,
+}
+
 // The control that a struct gives. A polarity above 1 gives Neg(0), which is no control: calls refuse it by 4.
 pub fn control_net(c: Control) -> ControlNet
     ensures { λ r. ⌜ controlOf r ≡ givenControl c ⌝ }
@@ -40,6 +65,16 @@ pub fn control_net(c: Control) -> ControlNet
         return ControlNet::Neg(Net(c.net));
     }
     ControlNet::Neg(Net(0))
+}
+
+// The control beside a flag. A flag above 1 gives Neg(0), so that calls refuse it by 4 too.
+pub fn flagged_control(c: Control, flag: u32) -> ControlNet
+    ensures { λ r. ⌜ controlOf r ≡ flaggedControl c flag ⌝ }
+{
+    if 1 < flag {
+        return ControlNet::Neg(Net(0));
+    }
+    control_net(c)
 }
 
 pub fn control_struct(c: ControlNet) -> Control
@@ -72,6 +107,21 @@ fn flag_result(a: BoolAnswer) -> Result
     }
 }
 
+fn net_result(a: NetAnswer) -> Result
+    ensures { λ r. ⌜ r ≡ valueResult (netAnswer a) ⌝ }
+{
+    match a {
+        NetAnswer::Refused(n) => Result {
+            number: n,
+            value: 0,
+        },
+        NetAnswer::Accepted(n) => Result {
+            number: 0,
+            value: n.0,
+        },
+    }
+}
+
 fn control_result(a: ControlAnswer) -> ControlResult
     ensures { λ r. ⌜ r ≡ controlResult (controlAnswer a) ⌝ }
 {
@@ -88,25 +138,4 @@ fn control_result(a: ControlAnswer) -> ControlResult
             control: control_struct(c),
         },
     }
-}
-
-#[no_mangle]
-pub extern "C" fn tablegoose_const_is_undef(a: &[u8]) -> Result
-    ensures { λ r. ⌜ r ≡ flagResult (constIsUndefCall (now (a .entry))) ⌝ }
-{
-    flag_result(net_logic::const_is_undef(a))
-}
-
-#[no_mangle]
-pub extern "C" fn tablegoose_const_and(out: &mut [u8], a: &[u8], b: &[u8]) -> u32
-    ensures { λ r. ⌜ filledWith r (now (out .exit)) ≡ constAndCall (now (out .entry)) (now (a .entry)) (now (b .entry)) ⌝ }
-{
-    net_logic::const_and(out, a, b)
-}
-
-#[no_mangle]
-pub extern "C" fn tablegoose_control_not(c: Control) -> ControlResult
-    ensures { λ r. ⌜ r ≡ controlResult (inverseCall (givenControl c)) ⌝ }
-{
-    control_result(net_value::control_not(control_net(c)))
 }

@@ -3,20 +3,15 @@ use borrow.Author.Tests.{eq-eqb, ne-eqb}
 use Rattle.c_net.specs.View.{givenControl}
 use Rattle.c_net.proofs.control_net.Statement.{statement}
 use Rattle.c_net.proofs.control_net.Tie as tie
-use Rattle.c_net.proofs.control_net.Reads as reads
-use Rattle.c_net.proofs.control_net.Lts as lts
 
--- src/lib.rt:37:9
 returns : tie.Need-returns
 unfolding givenControl
 returns c = simp (c .if1 .taken)
 
--- src/lib.rt:40:9
 returns-2 : tie.Need-returns-2
 unfolding givenControl
 returns-2 c = rw (ne-eqb _ _ (c .before .before .if1 .left)) (rw (eq-eqb _ _ (c .if2 .taken)))
 
--- src/lib.rt:33:1
 returns-3 : tie.Need-returns-3
 unfolding givenControl
 returns-3 c = rw (ne-eqb _ _ (c .before .before .if1 .left)) (rw (ne-eqb _ _ (c .if2 .left)))

@@ -7,27 +7,19 @@ use Rattle.net_value.specs.View.{controlAnswer}
 use borrow.Author.Needs.{needs}
 use Rattle.c_net.proofs.control_result.Statement.{statement}
 use Rattle.c_net.proofs.control_result.Tie as tie
-use Rattle.c_net.proofs.control_result.Reads as reads
-use Rattle.c_net.proofs.control_result.Lts as lts
-use Rattle.c_net.proofs.control_struct.Reads as control-struct-reads
 
--- src/lib.rt:79:32
 enum-known-a : tie.Need-enum-known-a
 enum-known-a c = search needs
 
--- src/lib.rt:86:33
 enum-known-a-2 : tie.Need-enum-known-a-2
 enum-known-a-2 c = search needs
 
--- src/lib.rt:88:22
 control-struct-requires : tie.Need-control-struct-requires
 control-struct-requires c κs = search needs
 
--- src/lib.rt:75:1
 returns : tie.Need-returns
 returns c = simp (c .before .a .given .1)
 
--- src/lib.rt:75:1
 returns-2 : tie.Need-returns-2
 returns-2 c = ap (λ (x : Control). record { number = 0; control = x }) (c .control-struct .ensures) ∙ sym (ap (λ (x : ControlAnswer). controlResult (controlAnswer x)) (c .before .before .a2 .given .1))
 

@@ -2,22 +2,16 @@
 use borrow.Author.Needs.{needs}
 use Rattle.c_net.proofs.control_struct.Statement.{statement}
 use Rattle.c_net.proofs.control_struct.Tie as tie
-use Rattle.c_net.proofs.control_struct.Reads as reads
-use Rattle.c_net.proofs.control_struct.Lts as lts
 
--- src/lib.rt:49:25
 enum-known-c : tie.Need-enum-known-c
 enum-known-c c = search needs
 
--- src/lib.rt:53:25
 enum-known-c-2 : tie.Need-enum-known-c-2
 enum-known-c-2 c = search needs
 
--- src/lib.rt:45:1
 returns : tie.Need-returns
 returns c = simp (c .before .c .given .1)
 
--- src/lib.rt:45:1
 returns-2 : tie.Need-returns-2
 returns-2 c = simp (c .before .c2 .given .1)
 

@@ -2,26 +2,19 @@
 use borrow.Author.Needs.{needs}
 use Rattle.c_net.proofs.flag_result.Statement.{statement}
 use Rattle.c_net.proofs.flag_result.Tie as tie
-use Rattle.c_net.proofs.flag_result.Reads as reads
-use Rattle.c_net.proofs.flag_result.Lts as lts
 
--- src/lib.rt:64:29
 enum-known-a : tie.Need-enum-known-a
 enum-known-a c = search needs
 
--- src/lib.rt:68:30
 enum-known-a-2 : tie.Need-enum-known-a-2
 enum-known-a-2 c = search needs
 
--- src/lib.rt:70:20
 cast-t5 : tie.Need-cast-t5
 cast-t5 c = search needs
 
--- src/lib.rt:60:1
 returns : tie.Need-returns
 returns c = simp (c .before .a .given .1)
 
--- src/lib.rt:60:1
 returns-2 : tie.Need-returns-2
 returns-2 c = simp (c .before .a2 .given .1)
 
