@@ -1,0 +1,2 @@
+-- The answer of `make_data_swizzle` and its room, one by one.
+pub mod Entries
