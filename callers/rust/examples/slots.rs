@@ -20,7 +20,7 @@ fn table() -> Layout {
 
 /// Slot i is owned by i × 5 mod 8; every sixteenth is free, which is X.
 fn rows() -> Vec<Vec<Trit>> {
-    let bit = |slot: u32, place: usize| if slot * 5 >> place & 1 == 1 { Trit::One } else { Trit::Zero };
+    let bit = |slot: u32, place: usize| if ((slot * 5) >> place) & 1 == 1 { Trit::One } else { Trit::Zero };
     let row = |slot: u32| (0..BITS).map(|place| if slot % 16 == 15 { Trit::X } else { bit(slot, place) }).collect();
     (0..SLOTS).map(row).collect()
 }
