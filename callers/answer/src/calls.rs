@@ -224,7 +224,7 @@ fn write_record(words: &mut Words) -> Option<Outcome> {
 }
 
 fn read_record(words: &mut Words) -> Option<Outcome> {
-    let (room, bytes) = (words.word()?, words.bytes("bytes")?);
+    let (room, bytes) = (words.word()?, words.codes("bytes")?);
     words.end()?;
     let mut image = Lent::room("image", (room as usize).min(IMAGE_ROOM));
     let answer = ffi::read_record(image.get_mut(), bytes.get());
@@ -240,7 +240,7 @@ fn read_record(words: &mut Words) -> Option<Outcome> {
 const LINE: usize = 50;
 
 fn lister(words: &mut Words) -> Option<Outcome> {
-    let bytes = words.bytes("bytes")?;
+    let bytes = words.codes("bytes")?;
     words.end()?;
     let head = ffi::record_header(bytes.get(), bytes.get().len());
     let lines = 1 + (head.sizes.full + head.sizes.partial) as usize;

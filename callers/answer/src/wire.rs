@@ -38,15 +38,9 @@ impl<'a> Words<'a> {
         Some(Lent::of(name, self.list()?.to_vec()))
     }
 
-    /// Trit codes. A word above 255 is no better than 255.
+    /// Trit codes or bytes. A word above 255 is outside the format, and read as 255.
     pub fn codes(&mut self, name: &'static str) -> Option<Lent<u8>> {
         Some(Lent::of(name, codes(self.list()?)))
-    }
-
-    /// Bytes, none of them above 255.
-    pub fn bytes(&mut self, name: &'static str) -> Option<Lent<u8>> {
-        let bytes: Option<Vec<u8>> = self.list()?.iter().map(|&word| u8::try_from(word).ok()).collect();
-        Some(Lent::of(name, bytes?))
     }
 
     pub fn control(&mut self) -> Option<Control> {

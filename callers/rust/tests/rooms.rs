@@ -309,11 +309,12 @@ fn records() {
     // A listing has no number but 20: a refused record has a text too.
     for (bytes, text) in [(&FIRST_RECORD[..], FIRST_LIST.len()), (&FIRST_RECORD[..13], refused_text)] {
         for len in [0, text - 1, text, text + 3] {
-            let lists: [&dyn Fn(&mut [u8]) -> ffi::Count; 2] =
-                [&|out| ffi::list_record(out, bytes), &|out| ffi::list_input(out, bytes, bytes.len())];
-            for list in lists {
+            for whole in [true, false] {
                 let mut out = vec![0xA5; len];
-                let answer = list(&mut out);
+                let answer = match whole {
+                    true => ffi::list_record(&mut out, bytes),
+                    false => ffi::list_input(&mut out, bytes, bytes.len()),
+                };
                 let expected = if len < text { (20, 0) } else { (0, text) };
                 assert_eq!((answer.number, answer.count), expected, "a room of {len}");
                 assert!(out[answer.count..].iter().all(|&byte| byte == 0xA5), "a room of {len}");

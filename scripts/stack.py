@@ -1,0 +1,74 @@
+#!/usr/bin/env python3
+"""stack.py [ARCHIVE]: the stack that each exported function of the archive takes at most, in bytes, read from its code; x86-64 only.
+
+A function's own frame is its pushes and the most that it takes off the stack pointer, and eight bytes for the return address; to it comes the largest of
+what it calls. The C library's memset, memcpy and memmove are counted as EXTERNAL bytes. Code that calls by pointer, or itself, is an error.
+"""
+import re
+import subprocess
+import sys
+
+ARCHIVE = 'target/libtablegoose.a'
+EXTERNAL = 64
+KNOWN = ('memset', 'memcpy', 'memmove', 'memcmp', 'bcmp')
+
+
+def functions(text):
+    """For each function of a disassembly its own frame and what it calls."""
+    found, name, unit = {}, None, ''
+    for line in text.splitlines():
+        if member := re.match(r'^(\S+\.o):\s+file format', line):
+            unit = member[1]
+        elif head := re.match(r'^[0-9a-f]+ <(.+)>:$', line):
+            name = head[1] if head[1].startswith('tablegoose_') else f'{unit}:{head[1]}'
+            found[name] = {'pushed': 0, 'taken': 0, 'calls': set(), 'unit': unit}
+        elif name:
+            look(found[name], line)
+    return found
+
+
+def look(function, line):
+    if re.search(r'\tpush\s', line):
+        function['pushed'] += 8
+    elif taken := re.search(r'\tsub\s+\$0x([0-9a-f]+),%rsp', line):
+        # A frame with probes is taken page by page: the whole of it stands in the loop's bound, which is taken first.
+        function['taken'] += int(taken[1], 16)
+    elif lea := re.search(r'\tlea\s+-0x([0-9a-f]+)\(%rsp\),%r', line):
+        function['taken'] = max(function['taken'], int(lea[1], 16))
+    elif re.search(r'\tcall\s+\*', line):
+        function['calls'].add('*')
+    elif target := re.search(r'R_X86_64_(?:PLT32|PC32)\s+([\w.$:<>]+)-0x4', line):
+        if not target[1].startswith('.rodata') and not target[1].startswith('.L'):
+            function['calls'].add(target[1])
+    elif inside := re.search(r'\tcall\s+[0-9a-f]+ <([^+>]+)>$', line):
+        function['calls'].add(inside[1])
+
+
+def depth(found, name, on_way=()):
+    if name in on_way:
+        sys.exit(f'stack: {name} calls itself')
+    function = found[name]
+    most = 0
+    for call in function['calls']:
+        if call == '*':
+            sys.exit(f'stack: {name} calls by pointer')
+        inner = next((n for n in (call, f'{function["unit"]}:{call}', f'{function["unit"]}:{call.removeprefix(".text.")}') if n in found), None)
+        if inner:
+            most = max(most, depth(found, inner, (*on_way, name)))
+        elif call in KNOWN:
+            most = max(most, EXTERNAL)
+        elif not call.startswith('.'):
+            sys.exit(f'stack: {name} calls {call}, which is not known')
+    return 8 + function['pushed'] + function['taken'] + most
+
+
+def main():
+    archive = sys.argv[1] if len(sys.argv) > 1 else ARCHIVE
+    text = subprocess.run(['objdump', '-dr', '--no-show-raw-insn', archive], capture_output=True, text=True, check=True).stdout
+    found = functions(text)
+    for name in sorted(n for n in found if n.startswith('tablegoose_')):
+        print(f'{depth(found, name):8} {name}')
+
+
+if __name__ == '__main__':
+    main()
