@@ -108,3 +108,42 @@ impl<T: Element> Drop for Lent<T> {
         }
     }
 }
+
+#[cfg(test)]
+mod tests {
+    use super::*;
+
+    #[test]
+    fn what_is_written_may_change() {
+        let mut lent = Lent::room("out", 3);
+        lent.get_mut()[1] = 7_u32;
+        assert_eq!(lent.wrote(1..2), [7]);
+    }
+
+    #[test]
+    #[should_panic(expected = "`out` has changed at 2")]
+    fn a_change_elsewhere_is_found() {
+        let mut lent = Lent::room("out", 3);
+        lent.get_mut()[1..].fill(7_u8);
+        lent.wrote(0..2);
+    }
+
+    #[test]
+    #[should_panic(expected = "something beside `out` has changed")]
+    fn a_change_beside_is_found() {
+        let mut lent = Lent::<u32>::room("out", 3);
+        let Held::Plain(all) = &mut lent.held else { return };
+        all[SLACK + 3] = 0;
+    }
+
+    /// The last element ends where a page ends.
+    #[test]
+    fn guarded_buffers_end_at_a_page() {
+        for len in [0, 1, 1_024, 5_000] {
+            let mut pages = Pages::<u32>::new(len);
+            pages.all_mut().fill(7);
+            assert_eq!(pages.all().as_ptr_range().end as usize % 4_096, 0);
+            assert!(pages.all().iter().all(|&word| word == 7));
+        }
+    }
+}
