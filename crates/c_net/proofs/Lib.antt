@@ -1,3 +1,4 @@
--- Laws of answers with a number and of lists in lent room.
+-- Laws of answers with a number, of lists in lent room, and of what is no control.
 pub mod Codes
 pub mod Listed
+pub mod NoControl

@@ -8,7 +8,7 @@ use lib.Seq.{sets}
 use Rattle.lists.specs.Choice.{_orElse_}
 use Rattle.lists.proofs.Choice.{else-rest, leaves-refused, leaves-accepted}
 use Rattle.rules.specs.Refusals.{lentRefusal}
-use Rattle.rules.specs.Answers.{Listed, listedIn}
+use Rattle.rules.specs.Answers.{listedIn}
 use Rattle.rules.proofs.Answers.{refused, accepted}
 use Rattle.c_net.specs.View.{countStruct}
 

@@ -19,22 +19,27 @@ abbrev pub flagCode : Bool → ℕ
 flagCode true = 1
 flagCode false = 0
 
+-- the answer of a test; a refused answer has the value 0
 abbrev pub flagResult : answers.Answer Bool → Result
 flagResult (answers.Refused n) = record { number = n; value = 0 }
 flagResult (answers.Accepted b) = record { number = 0; value = flagCode b }
 
+-- the answer with a number: a net or a trit's code
 abbrev pub valueResult : answers.Answer ℕ → Result
 valueResult (answers.Refused n) = record { number = n; value = 0 }
 valueResult (answers.Accepted v) = record { number = 0; value = v }
 
+-- how many elements were stored
 abbrev pub countStruct : answers.Answer ℕ → Count
 countStruct (answers.Refused n) = record { number = n; count = 0 }
 countStruct (answers.Accepted k) = record { number = 0; count = k }
 
+-- what drives a net
 abbrev pub driverStruct : rules.Driver → Driver
 driverStruct (rules.Constant t) = record { «is_cell» = 0; value = codeOf t }
 driverStruct (rules.CellNumber c) = record { «is_cell» = 1; value = c }
 
+-- the constant that a net is, where it is one
 abbrev pub constantStruct : Option Trit → Constant
 constantStruct none = record { known = 0; trit = 0 }
 constantStruct (some t) = record { known = 1; trit = codeOf t }
@@ -51,10 +56,12 @@ givenControl c = if eqb (c .polarity) 0 then rules.Pos (c .net) else if eqb (c .
 unfoldable pub flaggedControl : Control → ℕ → rules.Control
 flaggedControl c flag = if ltb 1 flag then rules.Neg 0 else givenControl c
 
+-- a control that is given back
 abbrev pub controlStruct : rules.Control → Control
 controlStruct (rules.Pos n) = record { polarity = 0; net = n }
 controlStruct (rules.Neg n) = record { polarity = 1; net = n }
 
+-- the answer with a control
 abbrev pub controlResult : answers.Answer rules.Control → ControlResult
 controlResult (answers.Refused n) = record { number = n; control = record { polarity = 0; net = 0 } }
 controlResult (answers.Accepted c) = record { number = 0; control = controlStruct c }
