@@ -40,13 +40,8 @@ pub extern "C" fn tablegoose_make_data_swizzle(
     ensures { λ r. ⌜ r ≡ countResult (makeDataSwizzleCall (now (out .entry)) (givenOf (givenMemory m) (now (nets .entry)) (now (trits .entry))) (now (granularities .entry)) .answer) ⌝ }
     ensures { λ _. ⌜ now (out .exit) ≡ makeDataSwizzleCall (now (out .entry)) (givenOf (givenMemory m) (now (nets .entry)) (now (trits .entry))) (now (granularities .entry)) .out ⌝ }
 {
-    entries_result(swizzle_entries::make_data_swizzle(
-        out,
-        c_memory::memory_of(m),
-        nets,
-        trits,
-        granularities,
-    ))
+    let g = c_memory::memory_of(m);
+    entries_result(swizzle_entries::make_data_swizzle(out, g, nets, trits, granularities))
 }
 
 #[no_mangle]
@@ -62,16 +57,8 @@ pub extern "C" fn tablegoose_swizzle_depths(
 ) -> u32
     ensures { λ r. ⌜ filledWith r (now (out .exit)) ≡ swizzleDepthsCall (now (out .entry)) (givenOf (givenMemory m) (now (nets .entry)) (now (trits .entry))) (planOf s (now (entries .entry)) (now (writes .entry)) (now (reads .entry))) ⌝ }
 {
-    swizzle_sizes::swizzle_depths(
-        out,
-        c_memory::memory_of(m),
-        nets,
-        trits,
-        s,
-        entries,
-        writes,
-        reads,
-    )
+    let g = c_memory::memory_of(m);
+    swizzle_sizes::swizzle_depths(out, g, nets, trits, s, entries, writes, reads)
 }
 
 #[no_mangle]
@@ -87,14 +74,6 @@ pub extern "C" fn tablegoose_swizzle_mux_bits(
 ) -> MuxBits
     ensures { λ r. ⌜ r ≡ muxBitsBy (swizzleMuxBitsCall (givenOf (givenMemory m) (now (nets .entry)) (now (trits .entry))) (now (ports .entry)) (planOf s (now (entries .entry)) (now (writes .entry)) (now (reads .entry)))) ⌝ }
 {
-    swizzle_sizes::swizzle_mux_bits(
-        c_memory::memory_of(m),
-        nets,
-        trits,
-        ports,
-        s,
-        entries,
-        writes,
-        reads,
-    )
+    let g = c_memory::memory_of(m);
+    swizzle_sizes::swizzle_mux_bits(g, nets, trits, ports, s, entries, writes, reads)
 }

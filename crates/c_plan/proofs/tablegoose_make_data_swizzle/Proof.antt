@@ -26,7 +26,7 @@ returns c =
     let x = c .before .before .before in
     let v = x .before .before .before .before .before .before .before .args in
     let a = x .make-data-swizzle in
-    let q = a .ensures ∙ ap (λ (m : MachineMemory). makeDataSwizzleCall (v .out .now) (givenOf m (v .nets .now) (v .trits .now)) (v .granularities .now)) (x .before .memory-of .ensures) in
+    let q = a .ensures ∙ ap (λ (m : MachineMemory). makeDataSwizzleCall (v .out .now) (givenOf m (v .nets .now) (v .trits .now)) (v .granularities .now)) (x .before .before .memory-of .ensures) in
     (c .entries-result .ensures ∙ ap countResult (answer-alone (a .result) _ ∙ ap (λ (l : Listed). l .answer) q), room-alone (a .result) _ ∙ ap (λ (l : Listed). l .out) q)
 
 pub tablegoose-make-data-swizzle-spec : {M : Type 1} → statement M

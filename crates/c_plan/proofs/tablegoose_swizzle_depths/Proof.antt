@@ -22,7 +22,7 @@ returns c =
     let x = c .before .before in
     let v = x .before .before .before .before .before .before .before .before .before .args in
     x .swizzle-depths .ensures
-    ∙ ap (λ (m : MachineMemory). swizzleDepthsCall (v .out .now) (givenOf m (v .nets .now) (v .trits .now)) (planOf (v .s) (v .entries .now) (v .writes .now) (v .reads .now))) (x .before .memory-of .ensures)
+    ∙ ap (λ (m : MachineMemory). swizzleDepthsCall (v .out .now) (givenOf m (v .nets .now) (v .trits .now)) (planOf (v .s) (v .entries .now) (v .writes .now) (v .reads .now))) (x .before .before .memory-of .ensures)
 
 pub tablegoose-swizzle-depths-spec : {M : Type 1} → statement M
 tablegoose-swizzle-depths-spec =
