@@ -1,8 +1,9 @@
--- A list of patch calls in memory.
+-- A list of patch calls in memory, and what the code leaves as the rules' answer.
 use Prim.Native.Nat.{ℕ, zero, suc, _+_, _*_, _/_}
 use mathlib.Core.List.{List, [], _∷_}
 use lib.ListN.{length, getD, take, drop}
 use Rattle.rules.specs.Image.{Patch}
+use Rattle.rules.specs.Answers.{Patched}
 
 -- four numbers for each call: its row, where its trits start, how many they are, and its room
 unfoldable pub callAt : List ℕ → List ℕ → ℕ → Patch
@@ -20,3 +21,7 @@ callsFrom calls trits i (suc n) = callAt calls trits i ∷ callsFrom calls trits
 -- as many as there are whole groups of four
 unfoldable pub callsOf : List ℕ → List ℕ → List Patch
 callsOf calls trits = callsFrom calls trits 0 (length calls / 4)
+
+-- a number, the room for the calls' numbers and the buffer
+abbrev pub patchedTo : ℕ → List ℕ → List ℕ → Patched
+patchedTo n numbers image = record { number = n; numbers = numbers; image = image }

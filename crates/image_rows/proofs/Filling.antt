@@ -2,7 +2,7 @@
 use Prim.Native.Nat.{ℕ, zero, suc, _+_, _-_, _*_, _≤_, _<_}
 use mathlib.Core.Path.{_≡_, refl, sym, ap, _∙_, subst}
 use mathlib.Core.Logic.{_≢_}
-use mathlib.Core.Bool.{not}
+use mathlib.Core.Bool.{true, false, not}
 use mathlib.Core.Option.{none, some}
 use mathlib.Core.List.{List, _++_}
 use native.Mathlib.Omega.{arith}
@@ -15,10 +15,10 @@ use borrow.Author.Tests.{eq-eqb, ne-eqb, lt-ltb, le-ltb, eqb-true, ltb-false, no
 use Rattle.lists.specs.Choice.{leaves}
 use Rattle.lists.proofs.Choice.{if-zero, leaves-refused, leaves-accepted}
 use Rattle.rules.specs.Limits.{tritX}
-use Rattle.rules.specs.Logic.{undef}
+use Rattle.rules.specs.Logic.{undef, areTrits}
 use Rattle.rules.specs.Geometry.{Layout}
 use Rattle.rules.specs.Image.{imageSize, writeRow, rowOf, writeRows, layout, Laid}
-use Rattle.rules.specs.Conditions.{noRoom}
+use Rattle.rules.specs.Conditions.{badTrits, noRoom}
 use Rattle.rules.specs.Patch.{laidOut}
 use Rattle.rules.specs.Beside.Layouts.{fillRefusalOf, fillRefusal, filledBy, fillCall, fillRefusalBy}
 use Rattle.rules.specs.Answers.{Filled}
@@ -83,30 +83,44 @@ next-from r w from width e f = omega (arith, add-mul r 1 w, one-mul w)
 pub words-product : (a b d w : ℕ) → a ≡ d → b ≡ w → d < 4294967296 → w < 4294967296 → a * b ≤ 18446744065119617025
 words-product a b d w e f h k = mul-le-mul {n₂ = 4294967295} {m₂ = 4294967295} (omega arith) (omega arith)
 
-module _ (depth width size room len : ℕ) where
-  pub fill-2 : len ≢ depth * width → fillRefusalBy depth width size room len ≡ 2
+module _ (depth width size room : ℕ) (rows : List ℕ) where
+  pub fill-2 : length rows ≢ depth * width → fillRefusalBy depth width size room rows ≡ 2
   unfolding fillRefusalBy
-  fill-2 n = rw (ne-eqb len (depth * width) n)
+  fill-2 n = rw (ne-eqb (length rows) (depth * width) n)
 
-  pub fill-20 : len ≡ depth * width → room < size → fillRefusalBy depth width size room len ≡ 20
-  unfolding fillRefusalBy noRoom
-  fill-20 e l = rw (eq-eqb len (depth * width) e, lt-ltb room size l)
+  pub fill-4 : length rows ≡ depth * width → areTrits rows ≡ false → fillRefusalBy depth width size room rows ≡ 4
+  unfolding fillRefusalBy badTrits
+  fill-4 e t = rw (eq-eqb (length rows) (depth * width) e, t)
 
-  pub fill-0 : len ≡ depth * width → size ≤ room → fillRefusalBy depth width size room len ≡ 0
-  unfolding fillRefusalBy noRoom
-  fill-0 e l = rw (eq-eqb len (depth * width) e, le-ltb room size l)
+  pub fill-20 : length rows ≡ depth * width → areTrits rows ≡ true → room < size → fillRefusalBy depth width size room rows ≡ 20
+  unfolding fillRefusalBy badTrits noRoom
+  fill-20 e t l = rw (eq-eqb (length rows) (depth * width) e, t, lt-ltb room size l)
 
-pub fill-refusal-is : (q : Layout) (size room len : ℕ) → size ≡ imageSize q → fillRefusalBy (q .depth) (q .width) size room len ≡ fillRefusalOf q room len
+  pub fill-0 : length rows ≡ depth * width → areTrits rows ≡ true → size ≤ room → fillRefusalBy depth width size room rows ≡ 0
+  unfolding fillRefusalBy badTrits noRoom
+  fill-0 e t l = rw (eq-eqb (length rows) (depth * width) e, t, le-ltb room size l)
+
+pub fill-refusal-is : (q : Layout) (size room : ℕ) (rows : List ℕ) → size ≡ imageSize q → fillRefusalBy (q .depth) (q .width) size room rows ≡ fillRefusalOf q room rows
 unfolding fillRefusalOf
-fill-refusal-is q size room len e = ap (λ (n : ℕ). fillRefusalBy (q .depth) (q .width) n room len) e
+fill-refusal-is q size room rows e = ap (λ (n : ℕ). fillRefusalBy (q .depth) (q .width) n room rows) e
+
+-- by the state
+pub refusal-none : (l : Laid) (room : ℕ) (rows : List ℕ) → l ≡ none → 23 ≡ fillRefusal l room rows
+unfolding fillRefusal
+refusal-none l room rows e = sym (ap (λ (x : Laid). fillRefusal x room rows) e)
+
+pub refusal-some : (l : Laid) (q : Layout) (room : ℕ) (rows : List ℕ) → l ≡ some q → fillRefusalOf q room rows ≡ fillRefusal l room rows
+unfolding fillRefusal
+refusal-some l q room rows e = sym (ap (λ (x : Laid). fillRefusal x room rows) e)
 
 -- what is known where no number refuses
-pub fills : (q : Layout) (room len : ℕ) → fillRefusalOf q room len ≡ 0 → (len ≡ q .depth * q .width) × (imageSize q ≤ room)
+pub fills : (q : Layout) (room : ℕ) (rows : List ℕ) → fillRefusalOf q room rows ≡ 0 → (length rows ≡ q .depth * q .width) × (imageSize q ≤ room)
 unfolding fillRefusalOf fillRefusalBy noRoom
-fills q room len e =
-    let a = if-zero (not (eqb len (q .depth * q .width))) 1 _ e in
-    let b = if-zero (ltb room (imageSize q)) 19 0 (a .1) in
-    (eqb-true len (q .depth * q .width) (not-false _ (a .0)), ltb-false room (imageSize q) (b .0))
+fills q room rows e =
+    let a = if-zero (not (eqb (length rows) (q .depth * q .width))) 1 _ e in
+    let t = if-zero (badTrits rows) 3 _ (a .1) in
+    let b = if-zero (ltb room (imageSize q)) 19 0 (t .1) in
+    (eqb-true (length rows) (q .depth * q .width) (not-false _ (a .0)), ltb-false room (imageSize q) (b .0))
 
 -- ---- the whole answer
 module _ (l : Laid) (rows image : List ℕ) where
@@ -115,12 +129,12 @@ module _ (l : Laid) (rows image : List ℕ) where
   fill-unset e = sym (ap (λ (x : Laid). fillCall x rows image) e)
 
   module _ (q : Layout) (e : l ≡ some q) where
-    call-is : fillCall l rows image ≡ record { number = fillRefusalOf q (length image) (length rows); out = leaves (fillRefusalOf q (length image) (length rows)) image (laidOut q rows image) }
+    call-is : fillCall l rows image ≡ record { number = fillRefusalOf q (length image) rows; out = leaves (fillRefusalOf q (length image) rows) image (laidOut q rows image) }
     unfolding fillCall fillRefusal filledBy
     call-is = ap (λ (x : Laid). fillCall x rows image) e
 
-    pub fill-refused : (n : ℕ) → n ≡ fillRefusalOf q (length image) (length rows) → n ≢ 0 → _≡_ {A = Filled} (record { number = n; out = image }) (fillCall l rows image)
+    pub fill-refused : (n : ℕ) → n ≡ fillRefusalOf q (length image) rows → n ≢ 0 → _≡_ {A = Filled} (record { number = n; out = image }) (fillCall l rows image)
     fill-refused n f h = (λ i. record { number = f i; out = sym (leaves-refused _ image (laidOut q rows image) (λ z. h (f ∙ z))) i }) ∙ sym call-is
 
-    pub fill-done : (after : List ℕ) → fillRefusalOf q (length image) (length rows) ≡ 0 → after ≡ laidOut q rows image → _≡_ {A = Filled} (record { number = 0; out = after }) (fillCall l rows image)
+    pub fill-done : (after : List ℕ) → fillRefusalOf q (length image) rows ≡ 0 → after ≡ laidOut q rows image → _≡_ {A = Filled} (record { number = 0; out = after }) (fillCall l rows image)
     fill-done after f h = (λ i. record { number = sym f i; out = (h ∙ sym (leaves-accepted _ image (laidOut q rows image) f)) i }) ∙ sym call-is

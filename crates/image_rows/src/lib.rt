@@ -4,7 +4,7 @@ ghost use Prim.Native.Nat.{_+_, _*_, _≤_, _<_};
 ghost use lib.ListN.{length};
 ghost use Rattle.rules.specs.Image.{putRow, writeRow, writeRows, indexOf};
 ghost use Rattle.rules.specs.Beside.Shape.{handedOn, placeCall};
-ghost use Rattle.rules.specs.Beside.Layouts.{fillCall, readRowCall, fillRefusalBy, readRowRefusalBy};
+ghost use Rattle.rules.specs.Beside.Layouts.{fillCall, readRowCall, fillRefusalBy, fillRefusal, readRowRefusalBy};
 ghost use Rattle.rules.specs.Answers.{patchCall, filledWith};
 ghost use Rattle.rules.specs.Refusals.{patchRefusalBy};
 ghost use Rattle.image_geometry.specs.View.{layoutBy};
@@ -209,12 +209,15 @@ fn write_rows(image: &mut [u8], p: image_geometry::Params, g: Steps, entries: &[
     }
 }
 
-// Numbers 2 and 20 of a layout of `len` trits, where the image has `size`.
-fn fill_refusal(room: usize, p: image_geometry::Params, size: u64, len: usize) -> u32
-    ensures { λ r. ⌜ r ≡ fillRefusalBy (p .depth) (p .width) size room len ⌝ }
+// Numbers 2, 4 and 20 of rows to lay out, where the image has `size` trits.
+fn fill_refusal(room: usize, p: image_geometry::Params, size: u64, rows: &[u8]) -> u32
+    ensures { λ r. ⌜ r ≡ fillRefusalBy (p .depth) (p .width) size room (now (rows .entry)) ⌝ }
 {
-    if lists::u64_of_usize(len) != lists::u64_of_u32(p.depth) * lists::u64_of_u32(p.width) {
+    if lists::u64_of_usize(rows.len()) != lists::u64_of_u32(p.depth) * lists::u64_of_u32(p.width) {
         return 2;
+    }
+    if !net_logic::trits_good(rows) {
+        return 4;
     }
     if lists::u64_of_usize(room) < size {
         return 20;
@@ -222,14 +225,29 @@ fn fill_refusal(room: usize, p: image_geometry::Params, size: u64, len: usize) -
     0
 }
 
-// Lays the rows out in an image with this layout, or refuses by a number. The rows' trit codes are not looked at: number 4 is the swizzle's.
+// The number that refuses rows to lay out in so many lent trits, or 0; nothing is stored.
+pub fn fill_rows_refusal(
+    room: usize,
+    p: image_geometry::Params,
+    entries: &[u32],
+    rows: &[u8],
+) -> u32
+    ensures { λ r. ⌜ r ≡ fillRefusal (handedOn (layoutBy p (now (entries .entry)))) room (now (rows .entry)) ⌝ }
+{
+    let image_check::Checked::Good(s) = image_check::check_layout(p, entries) else {
+        return 23;
+    };
+    fill_refusal(room, p, s.image_size, rows)
+}
+
+// Lays the rows out in an image with this layout, or refuses by a number. Every code is looked at before the first trit is stored.
 pub fn fill_rows(image: &mut [u8], p: image_geometry::Params, entries: &[u32], rows: &[u8]) -> u32
     ensures { λ r. ⌜ filledWith r (now (image .exit)) ≡ fillCall (handedOn (layoutBy p (now (entries .entry)))) (now (rows .entry)) (now (image .entry)) ⌝ }
 {
     let image_check::Checked::Good(s) = image_check::check_layout(p, entries) else {
         return 23;
     };
-    let n = fill_refusal(image.len(), p, s.image_size, rows.len());
+    let n = fill_refusal(image.len(), p, s.image_size, rows);
     if n != 0 {
         return n;
     }

@@ -1,2 +1,3 @@
--- The state as the rules' layout.
+-- The state as the rules' layout, and what a private function asks.
 pub mod View
+pub mod Counts

@@ -1,4 +1,4 @@
--- The crate's structs as the rules' records.
+-- The crate's structs as the rules' records, and its answer.
 use Prim.Native.Nat.{ℕ}
 use mathlib.Core.Option.{none}
 use mathlib.Core.List.{List}
@@ -10,9 +10,14 @@ use Rattle.rules.specs.Limits.{maxRow}
 use Rattle.rules.specs.Geometry.{Layout}
 use Rattle.rules.specs.Image as rules
 use Rattle.rules.specs.Beside.Shape.{handedOn}
+use Rattle.rules.specs.Record as record-rules
+use Rattle.rules.specs.Answers.{Answer, Refused, Accepted}
+use Rattle.record_sizes.specs.View.{viewSizes}
 use Rattle.image_geometry.specs.declared.Params.{Params}
 use Rattle.image_geometry.specs.View.{layoutBy}
 use Rattle.image_state.specs.declared.Laid.{Laid}
+use Rattle.image_state.specs.declared.Sized as sizes
+use Rattle.image_state.specs.declared.Sized.{Sized}
 
 abbrev pub paramsOf : Laid → Params
 paramsOf l = record { depth = l .depth; width = l .width; «soft_mask» = l .«soft_mask»; hard = l .hard; unit = l .unit }
@@ -48,3 +53,8 @@ laidBy p es =
       len = length es;
       entries = sets (replicate maxRow 0) 0 es;
     }
+
+-- the record's sizes, or a number
+abbrev pub sizedOf : Sized → Answer record-rules.Sizes
+sizedOf (sizes.the-variants.Refused n) = Refused n
+sizedOf (sizes.the-variants.Accepted z) = Accepted (viewSizes z)

@@ -124,6 +124,25 @@ fn read(laid: image_state::Laid, image: &[u8], row: u32) {
     trits(&room);
 }
 
+// The record's sizes.
+fn record_sizes(laid: image_state::Laid) {
+    text(b"record");
+    match image_state::sizes_of(laid) {
+        image_state::Sized::Refused(n) => {
+            text(b" refused");
+            number(n as u64);
+        }
+        image_state::Sized::Accepted(z) => {
+            number(z.unit as u64);
+            number(z.full as u64);
+            number(z.full_depth as u64);
+            number(z.partial as u64);
+            number(z.partial_depth as u64);
+        }
+    }
+    line();
+}
+
 // Every row below n.
 fn read_rows(laid: image_state::Laid, image: &[u8; 40], n: u32) {
     let mut row: u32 = 0;
@@ -191,6 +210,25 @@ fn lay(laid: image_state::Laid, rows: &[u8]) -> [u8; 40] {
     image
 }
 
+// The rows laid out in five bytes that hold 7, which are too few.
+fn lay_short(laid: image_state::Laid, rows: &[u8]) {
+    let mut image = [7u8; 5];
+    text(b"fill");
+    number(image_state::fill(&mut image, laid, rows) as u64);
+    text(b" |");
+    trits(&image);
+}
+
+// Codes past X in rows of two bits: 4, but 2 where the length is wrong, and 4 where the room is short too.
+fn bad_codes(laid: image_state::Laid) {
+    lay(laid, &[1u8, 0, 2, 1, 0, 3]);
+    lay(laid, &[3u8, 0, 2, 1, 0, 0]);
+    lay(laid, &[1u8, 0, 255, 1, 0, 0]);
+    lay(laid, &[3u8, 0, 2, 1, 0]);
+    lay_short(laid, &[1u8, 0, 2, 3, 0, 0]);
+    lay_short(laid, &[1u8, 0, 2, 1, 0, 0]);
+}
+
 fn params(depth: u32, width: u32, mask: u32, hard: u32, unit: u32) -> image_geometry::Params {
     text(b"layout");
     number(depth as u64);
@@ -214,6 +252,8 @@ fn two_wide() {
     let entries = [0u32, 1];
     show(p, &entries);
     let laid = image_state::laid_out(p, &entries);
+    record_sizes(laid);
+    bad_codes(laid);
     let mut image = lay(laid, &[1u8, 0, 2, 1, 0, 0]);
     patch(&mut image, laid, 6, 1, &[0u8, 2]);
     patch(&mut image, laid, 6, 3, &[1u8, 1]);
@@ -230,6 +270,7 @@ fn three_wide() {
     let entries = [0u32, 1, 2];
     show(p, &entries);
     let laid = image_state::laid_out(p, &entries);
+    record_sizes(laid);
     let mut image = lay(laid, &[0u8, 1, 2, 1, 2, 0, 2, 0, 1]);
     patch(&mut image, laid, 10, 2, &[1u8, 1, 1]);
     patch(&mut image, laid, 10, 2, &[2u8, 0, 2]);
@@ -243,6 +284,7 @@ fn soft_above() {
     let entries = [0u32];
     show(p, &entries);
     let laid = image_state::laid_out(p, &entries);
+    record_sizes(laid);
     let image = lay(laid, &[0u8, 1, 2, 0, 1, 1, 0, 2]);
     read_rows(laid, &image, 8);
 }
@@ -253,6 +295,7 @@ fn mixed() {
     let entries = [2u32, rules::NO_BIT, 0, 1];
     show(p, &entries);
     let laid = image_state::laid_out(p, &entries);
+    record_sizes(laid);
     let mut image = lay(
         laid,
         &[0u8, 1, 2, 1, 0, 2, 2, 2, 0, 1, 1, 0, 0, 0, 1, 2, 1, 1],
@@ -263,12 +306,9 @@ fn mixed() {
     read_rows(laid, &image, 6);
 }
 
-// A list of calls: rows 0, 5, 6 (refused 15), 1 (4), 2 with too little room (20), 2, and 0 again.
-fn list() {
-    let p = params(6, 3, 1, 1, 3);
-    let entries = [2u32, rules::NO_BIT, 0, 1];
-    let laid = image_state::laid_out(p, &entries);
-    let calls = [
+// Calls on rows 0, 5, 6 (refused 15), 1 (4), 2 with too little room (20), 2, and 0 again.
+fn seven_calls() -> [u32; 28] {
+    [
         0u32,
         0,
         3,
@@ -297,23 +337,56 @@ fn list() {
         9,
         3,
         100,
-    ];
+    ]
+}
+
+// The rows laid out and the calls: the answer, the numbers and the image.
+fn list(image: &mut [u8; 40], numbers: &mut [u32], laid: image_state::Laid, rows: &[u8]) {
+    let calls = seven_calls();
     let all = [1u8, 1, 1, 0, 2, 0, 2, 1, 0, 0, 0, 0];
+    text(b"list");
+    number(image_patches::fill_and_patch(image, numbers, laid, rows, &calls, &all) as u64);
+    text(b" |");
+    words(numbers);
+    all_trits(image);
+}
+
+// The calls alone.
+fn calls(image: &mut [u8; 40], numbers: &mut [u32], laid: image_state::Laid) {
+    let calls = seven_calls();
+    let all = [1u8, 1, 1, 0, 2, 0, 2, 1, 0, 0, 0, 0];
+    text(b"calls");
+    number(image_patches::patch_all(image, numbers, laid, &calls, &all) as u64);
+    text(b" |");
+    words(numbers);
+    all_trits(image);
+}
+
+// Lists of calls with room for nine numbers and, refused, for six; and by a state that no swizzle handed on.
+fn lists_of_calls() {
+    let p = params(6, 3, 1, 1, 3);
+    let laid = image_state::laid_out(p, &[2u32, rules::NO_BIT, 0, 1]);
     let mut image = [7u8; 40];
-    text(b"list");
-    number(image_patches::fill_and_patch(&mut image, laid, &[2u8; 18], &calls, &all) as u64);
-    text(b" |");
-    all_trits(&image);
+    list(&mut image, &mut [77u32; 6], laid, &[2u8; 18]);
+    calls(&mut image, &mut [77u32; 6], laid);
+    list(&mut image, &mut [77u32; 9], laid, &[2u8; 18]);
     read_rows(laid, &image, 6);
-    text(b"list");
-    number(image_patches::fill_and_patch(&mut image, laid, &[2u8; 17], &calls, &all) as u64);
-    text(b" |");
-    all_trits(&image);
+    list(&mut image, &mut [77u32; 9], laid, &[2u8; 17]);
+    list(&mut image, &mut [77u32; 6], laid, &[3u8; 18]);
+    calls(&mut [7u8; 40], &mut [77u32; 7], laid);
+    list(
+        &mut image,
+        &mut [77u32; 6],
+        image_state::unset(),
+        &[2u8; 18],
+    );
+    calls(&mut image, &mut [77u32; 9], image_state::unset());
 }
 
 // A state that no swizzle handed on.
 fn unset() {
     let laid = image_state::unset();
+    record_sizes(laid);
     let mut image = lay(laid, &[0u8]);
     patch(&mut image, laid, 0, 0, &[0u8]);
     read_whole(laid, &image, 0);
@@ -326,7 +399,9 @@ fn long_row() {
     let mut image = lay(laid, &[]);
     patch(&mut image, laid, 0, 1, &[]);
     read_whole(laid, &image, 1);
+    record_sizes(laid);
     laid.len = 257;
+    record_sizes(laid);
     let mut image = lay(laid, &[]);
     patch(&mut image, laid, 0, 1, &[]);
     read_whole(laid, &image, 1);
@@ -367,6 +442,7 @@ fn others() {
     show(params(6, 1, 1, 2, 1), &[0u32]);
     let p = params(2, 0, 0, 1, 1);
     let laid = image_state::laid_out(p, &[]);
+    record_sizes(laid);
     let mut image = lay(laid, &[]);
     patch(&mut image, laid, 0, 1, &[]);
     patch(&mut image, laid, 0, 2, &[]);
@@ -378,7 +454,7 @@ fn main() {
     three_wide();
     soft_above();
     mixed();
-    list();
+    lists_of_calls();
     unset();
     long_row();
     numbers();

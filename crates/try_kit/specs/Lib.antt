@@ -5,3 +5,4 @@ pub mod Nets
 pub mod Numbered
 pub mod Paint
 pub mod Tally
+pub mod Spoilt

@@ -4,6 +4,7 @@ pub mod nets;
 pub mod numbered;
 pub mod paint;
 pub mod samples;
+pub mod spoilt;
 pub mod tally;
 pub mod words;
 

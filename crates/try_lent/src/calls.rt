@@ -8,37 +8,35 @@ use log_lent::NewControls;
 use log_requests::ControlsAnswer;
 use log_requests::NetAnswer;
 use net_flip_flop::Controls;
-use net_value::ControlNet;
-use net_value::Net;
-use try_kit::nets::select_of;
+use try_kit::spoilt::CONTROL;
+use try_kit::spoilt::controls_in;
+use try_kit::spoilt::select_in;
 use try_kit::words::plus;
 use try_kit::words::word;
 
 pub(crate) const STRIDE: u32 = 3;
 
-// A request by its number: its values' lengths, whether its select is Neg, whether a net of its first or its second value is bad, the log's state and
-// room, and the room for results.
+// A request by its number: its values' lengths, whether its select is Neg, what is bad and which control or trit that is, the log's state and room,
+// and the room for results.
 pub(crate) struct Case {
     pub(crate) kind: u32,
     pub(crate) n: usize,
     pub(crate) m: usize,
     pub(crate) neg: bool,
     pub(crate) bad: u32,
+    pub(crate) which: u32,
     pub(crate) used: usize,
     pub(crate) room: usize,
     pub(crate) next: u32,
     pub(crate) out: usize,
 }
 
-// Clock Pos 2, clear Pos 0, reset Neg 2, enable Pos 1, the reset over the enable where `over` says.
-fn controls(over: bool) -> Controls {
-    Controls {
-        clock: ControlNet::Pos(Net(2)),
-        clear: ControlNet::Pos(Net(0)),
-        reset: ControlNet::Neg(Net(2)),
-        enable: ControlNet::Pos(Net(1)),
-        reset_over_enable: over,
+// Which of the four controls is bad; 4 is none.
+fn bad_control(c: Case) -> u32 {
+    if c.bad == CONTROL {
+        return c.which % 4;
     }
+    4
 }
 
 // ---- on a lent state
@@ -47,7 +45,7 @@ fn lent_dff(log: &mut [u32], st: LogState, c: Case, a: &[u32], trits: &[u8]) -> 
     got::lent_nets(lent::add_dff(
         log,
         st,
-        controls(c.neg),
+        controls_in(c.neg, bad_control(c)),
         a,
         net_logic::const_slice(trits, 0, c.n),
         net_logic::const_slice(trits, 1, plus(c.n, 1)),
@@ -56,11 +54,11 @@ fn lent_dff(log: &mut [u32], st: LogState, c: Case, a: &[u32], trits: &[u8]) -> 
 }
 
 fn lent_pos(log: &mut [u32], st: LogState, c: Case) -> Got {
-    got::lent_net(lent::into_pos(log, st, select_of(c.neg)))
+    got::lent_net(lent::into_pos(log, st, select_in(c.neg, c.bad == CONTROL)))
 }
 
 fn lent_remap(log: &mut [u32], st: LogState, c: Case) -> Got {
-    let t = lent::remap_reset_over_enable(log, st, controls(c.neg));
+    let t = lent::remap_reset_over_enable(log, st, controls_in(c.neg, bad_control(c)));
     let answer = t.answer;
     match answer {
         NewControls::Refused(n) => got::refused(n, t.state),
@@ -93,7 +91,7 @@ fn lent_pair(log: &mut [u32], st: LogState, c: Case, a: &[u32], b: &[u32]) -> Go
 
 fn lent_shift(log: &mut [u32], st: LogState, c: Case, a: &[u32], b: &[u32]) -> Got {
     if c.kind == 5 {
-        return got::lent_nets(lent::add_mux(log, st, select_of(c.neg), a, b));
+        return got::lent_nets(lent::add_mux(log, st, select_in(c.neg, c.bad == CONTROL), a, b));
     }
     if c.kind == 7 {
         return got::lent_nets(lent::add_shl(log, st, STRIDE, b, a));
@@ -126,7 +124,7 @@ fn lent_merge_dff(
         log,
         st,
         out,
-        controls(c.neg),
+        controls_in(c.neg, bad_control(c)),
         a,
         net_logic::const_slice(trits, 0, c.n),
         net_logic::const_slice(trits, 1, plus(c.n, 1)),
@@ -143,7 +141,14 @@ fn lent_merge(
     b: &[u32],
 ) -> Got {
     if c.kind == 13 {
-        return got::lent_none(lent::add_dedup_mux(log, st, out, select_of(c.neg), a, b));
+        return got::lent_none(lent::add_dedup_mux(
+            log,
+            st,
+            out,
+            select_in(c.neg, c.bad == CONTROL),
+            a,
+            b,
+        ));
     }
     got::lent_none(lent::add_bitwise_mux(log, st, out, a, b, a))
 }
@@ -154,7 +159,7 @@ fn plain_dff(log: &mut [u32], st: LogState, c: Case, a: &[u32], trits: &[u8]) ->
     let r = log_requests::add_dff(
         log,
         st,
-        controls(c.neg),
+        controls_in(c.neg, bad_control(c)),
         a,
         net_logic::const_slice(trits, 0, c.n),
         net_logic::const_slice(trits, 1, plus(c.n, 1)),
@@ -164,7 +169,7 @@ fn plain_dff(log: &mut [u32], st: LogState, c: Case, a: &[u32], trits: &[u8]) ->
 }
 
 fn plain_pos(log: &mut [u32], st: LogState, c: Case) -> Got {
-    let r = log_requests::into_pos(log, st, select_of(c.neg));
+    let r = log_requests::into_pos(log, st, select_in(c.neg, c.bad == CONTROL));
     match r {
         NetAnswer::Refused(n) => got::refused(n, st),
         NetAnswer::Accepted(net, s) => got::nets(0, s, net.0, 1),
@@ -172,7 +177,7 @@ fn plain_pos(log: &mut [u32], st: LogState, c: Case) -> Got {
 }
 
 fn plain_remap(log: &mut [u32], st: LogState, c: Case) -> Got {
-    let r = log_requests::remap_reset_over_enable(log, st, controls(c.neg));
+    let r = log_requests::remap_reset_over_enable(log, st, controls_in(c.neg, bad_control(c)));
     match r {
         ControlsAnswer::Refused(n) => got::refused(n, st),
         ControlsAnswer::Accepted(k, s) => with_controls(s, k),
@@ -198,7 +203,7 @@ fn plain_pair(log: &mut [u32], st: LogState, c: Case, a: &[u32], b: &[u32]) -> G
 
 fn plain_shift(log: &mut [u32], st: LogState, c: Case, a: &[u32], b: &[u32]) -> Got {
     if c.kind == 5 {
-        let r = log_requests::add_mux(log, st, select_of(c.neg), a, b);
+        let r = log_requests::add_mux(log, st, select_in(c.neg, c.bad == CONTROL), a, b);
         return got::plain(r, st, st.next, c.n);
     }
     if c.kind == 7 {
@@ -236,7 +241,7 @@ fn plain_merge_dff(
         log,
         st,
         out,
-        controls(c.neg),
+        controls_in(c.neg, bad_control(c)),
         a,
         net_logic::const_slice(trits, 0, c.n),
         net_logic::const_slice(trits, 1, plus(c.n, 1)),
@@ -254,7 +259,7 @@ fn plain_merge(
     b: &[u32],
 ) -> Got {
     if c.kind == 13 {
-        let r = merge_mux::add_dedup_mux(log, st, out, select_of(c.neg), a, b);
+        let r = merge_mux::add_dedup_mux(log, st, out, select_in(c.neg, c.bad == CONTROL), a, b);
         return got::plain(r, st, 0, 0);
     }
     let r = merge_mux::add_bitwise_mux(log, st, out, a, b, a);

@@ -1,5 +1,6 @@
-// The cases of a request: 480 each, of five lengths, four rooms and six next free nets; with good values, with a bad net in the first or in the second
-// value, and with one value a bit longer than the other. Every other merge of good values has a room for results that is one net short.
+// The cases of a request: 720 each, of five lengths, four rooms and six next free nets; with good values, with a bad net in the first or in the second
+// value, with a bad select or control, with a bad trit code, and with one value a bit longer than the other. Every other merge has a room for results that
+// is one net short.
 use crate::calls;
 use crate::calls::Case;
 use crate::got;
@@ -14,11 +15,17 @@ use try_kit::numbered;
 use try_kit::numbered::Tally;
 use try_kit::paint::paint_words;
 use try_kit::paint::same;
+use try_kit::spoilt::FIRST;
+use try_kit::spoilt::NOTHING;
+use try_kit::spoilt::SECOND;
+use try_kit::spoilt::TRIT;
+use try_kit::spoilt::of_what;
+use try_kit::spoilt::set_trits;
 use try_kit::words::both;
 use try_kit::words::minus;
 use try_kit::words::plus;
 
-const CASES: u32 = 480;
+const CASES: u32 = 720;
 
 // The words of the entry; of a merge, those where no two bits are equal.
 fn words(kind: u32, n: usize, m: usize) -> usize {
@@ -46,15 +53,16 @@ fn results(kind: u32, n: usize) -> usize {
 
 fn case_at(kind: u32, k: u32) -> Case {
     let n = length_at(k % 5);
-    let variant = k / 120 % 4;
-    let m = if variant == 3 { plus(n, 1) } else { n };
+    let variant = k / 120 % 6;
+    let m = if variant == 5 { plus(n, 1) } else { n };
     let short = k / 20 % 2 == 1;
     Case {
         kind,
         n,
         m,
         neg: k % 2 == 1,
-        bad: variant,
+        bad: if variant == 5 { NOTHING } else { variant },
+        which: k,
         used: 3,
         room: room_at(k / 5 % 4, 3, words(kind, n, m)),
         next: next_at(k / 20 % 6, results(kind, n)),
@@ -62,20 +70,23 @@ fn case_at(kind: u32, k: u32) -> Case {
     }
 }
 
-// How many nets of a value are looked at where one is spoilt: none where another value is.
-fn spoilt(bad: u32, which: u32, n: usize) -> usize {
-    if bad == which {
-        return n;
-    }
-    0
+// The place of the trit that is bad: the first of clear, the last of reset, which is one of init too, or the last of init.
+fn bad_trit(c: Case) -> usize {
+    let places = [0usize, c.n, plus(c.n, 1)];
+    places[lists::usize_of_u32(c.which) % 3]
 }
 
 // Nets for a case.
 fn set_nets(c: Case, a: &mut [u32], b: &mut [u32]) {
     fill_nets(b, c.next, 2);
     fill_nets(a, c.next, 0);
-    spoil(a, spoilt(c.bad, 1, c.n), c.next);
-    spoil(b, spoilt(c.bad, 2, c.m), c.next);
+    spoil(a, of_what(c.bad, FIRST, c.n), c.next);
+    spoil(b, of_what(c.bad, SECOND, c.m), c.next);
+}
+
+fn set_inputs(c: Case, a: &mut [u32], b: &mut [u32], trits: &mut [u8]) {
+    set_trits(trits, c.bad == TRIT, bad_trit(c));
+    set_nets(c, a, b);
 }
 
 fn state_of(c: Case) -> LogState {
@@ -208,9 +219,9 @@ fn set_and_try(
     room: &mut [u32],
     a: &mut [u32],
     b: &mut [u32],
-    trits: &[u8],
+    trits: &mut [u8],
 ) -> Tally {
-    set_nets(c, a, b);
+    set_inputs(c, a, b, trits);
     try_case(
         t,
         c,
@@ -233,7 +244,7 @@ pub(crate) fn cases(
     room: &mut [u32],
     a: &mut [u32],
     b: &mut [u32],
-    trits: &[u8],
+    trits: &mut [u8],
 ) -> Tally {
     let mut t = numbered::start();
     let mut k: u32 = 0;

@@ -69,7 +69,7 @@ fn all_kinds(
     room: &mut [u32],
     a: &mut [u32],
     b: &mut [u32],
-    trits: &[u8],
+    trits: &mut [u8],
 ) {
     let mut kind: u32 = 1;
     while kind <= KINDS {
@@ -88,7 +88,6 @@ fn main() {
     let mut a = [0u32; NETS];
     let mut b = [0u32; NETS];
     let mut trits = [0u8; NETS];
-    try_kit::paint::fill_trits(&mut trits);
     all_kinds(
         &mut log,
         &mut want,
@@ -96,6 +95,6 @@ fn main() {
         &mut room,
         &mut a,
         &mut b,
-        &trits,
+        &mut trits,
     );
 }

@@ -1,13 +1,10 @@
-// The ten requests that log one entry: 360 cases each, of five lengths, four rooms and six next free nets, with good values, with a bad net, and
-// with one value a bit longer than the other.
+// The ten requests that log one entry: 720 cases each, of five lengths, four rooms and six next free nets; with good values, with a bad net in the first
+// or in the second value, with a bad select or control, with a bad trit code, and with one value a bit longer than the other.
 use lists::copy_u8_to_u32;
 use lists::copy_u32;
 use lists::put_u32;
 use log_entries::LogState;
 use log_requests::Answer;
-use net_flip_flop::Controls;
-use net_value::ControlNet;
-use net_value::Net;
 use rules::FIRST_CELL;
 use rules::MAX_MERGE;
 use try_kit::borders::length_at;
@@ -15,29 +12,40 @@ use try_kit::borders::next_at;
 use try_kit::borders::room_at;
 use try_kit::borders::state_number;
 use try_kit::nets::fill_nets;
-use try_kit::nets::select_of;
 use try_kit::nets::spoil;
 use try_kit::numbered;
 use try_kit::numbered::Tally;
 use try_kit::paint::paint_words;
 use try_kit::paint::same;
+use try_kit::spoilt::CONTROL;
+use try_kit::spoilt::FIRST;
+use try_kit::spoilt::NOTHING;
+use try_kit::spoilt::SECOND;
+use try_kit::spoilt::TRIT;
+use try_kit::spoilt::controls_in;
+use try_kit::spoilt::of_what;
+use try_kit::spoilt::select_in;
+use try_kit::spoilt::set_trits;
 use try_kit::words::both;
 use try_kit::words::minus;
 use try_kit::words::net_above;
 use try_kit::words::plus;
 use try_kit::words::word;
 
-// A request by its kind: its values' lengths, whether its select is Neg, whether a net is bad, and the log's state and room.
+// A request by its kind: its values' lengths, whether its select is Neg, what is bad and which control or trit that is, and the log's state and room.
 struct Case {
     kind: u32,
     n: usize,
     m: usize,
     neg: bool,
-    bad: bool,
+    bad: u32,
+    which: u32,
     used: usize,
     room: usize,
     next: u32,
 }
+
+const CASES: u32 = 720;
 
 const STRIDE: u32 = 3;
 
@@ -65,15 +73,16 @@ fn results(kind: u32, n: usize) -> usize {
 
 fn case_at(kind: u32, k: u32) -> Case {
     let n = length_at(k % 5);
-    let variant = k / 120 % 3;
-    let m = if variant == 2 { plus(n, 1) } else { n };
+    let variant = k / 120 % 6;
+    let m = if variant == 5 { plus(n, 1) } else { n };
     let words = entry_words(kind, n, m);
     Case {
         kind,
         n,
         m,
         neg: k % 2 == 1,
-        bad: variant == 1,
+        bad: if variant == 5 { NOTHING } else { variant },
+        which: k,
         used: 3,
         room: room_at(k / 5 % 4, 3, words),
         next: next_at(k / 20 % 6, results(kind, n)),
@@ -91,6 +100,56 @@ fn paired(kind: u32) -> bool {
     }
 }
 
+// A control is bad: the one that was spoilt, or one of net 2 where that is no net yet.
+fn control_bad(c: Case) -> bool {
+    if c.bad == CONTROL {
+        return true;
+    }
+    if c.kind == 9 {
+        return c.next <= FIRST_CELL;
+    }
+    if c.neg {
+        return c.next <= FIRST_CELL;
+    }
+    false
+}
+
+// A value or a trit array that this kind has is spoilt.
+fn spoilt(c: Case) -> bool {
+    let kind = c.kind;
+    match kind {
+        1 => false,
+        2 => c.bad == FIRST,
+        9 => {
+            if c.bad == TRIT {
+                return true;
+            }
+            c.bad == FIRST
+        }
+        _ => {
+            if c.bad == SECOND {
+                return true;
+            }
+            c.bad == FIRST
+        }
+    }
+}
+
+// 4 of a case.
+fn bad_number(c: Case) -> u32 {
+    if c.kind == 5 || c.kind == 9 {
+        if control_bad(c) {
+            return 4;
+        }
+    }
+    if 0 < c.n {
+        if spoilt(c) {
+            return 4;
+        }
+    }
+    0
+}
+
 // 1, 2 and 4 of a case.
 fn input_number(c: Case) -> u32 {
     if c.kind == 5 {
@@ -103,26 +162,7 @@ fn input_number(c: Case) -> u32 {
             return 2;
         }
     }
-    if c.kind == 5 {
-        if c.neg {
-            if c.next <= FIRST_CELL {
-                return 4;
-            }
-        }
-    }
-    if c.kind == 9 {
-        if c.next <= FIRST_CELL {
-            return 4;
-        }
-    }
-    if c.kind != 1 {
-        if c.bad {
-            if 0 < c.n {
-                return 4;
-            }
-        }
-    }
-    0
+    bad_number(c)
 }
 
 // The number that a case expects.
@@ -172,15 +212,12 @@ fn put_shift(want: &mut [u32], c: Case, a: &[u32], b: &[u32]) {
     put_two(want, plus(at, 2), b, a);
 }
 
-// The controls that every flip-flop here has: clock Pos 2, clear Pos 0, reset Neg 2, enable Pos 1, the reset over the enable where `neg` says.
-fn controls(over: bool) -> Controls {
-    Controls {
-        clock: ControlNet::Pos(Net(2)),
-        clear: ControlNet::Pos(Net(0)),
-        reset: ControlNet::Neg(Net(2)),
-        enable: ControlNet::Pos(Net(1)),
-        reset_over_enable: over,
+// Which of the four controls is bad; 4 is none.
+fn bad_control(c: Case) -> u32 {
+    if c.bad == CONTROL {
+        return c.which % 4;
     }
+    4
 }
 
 fn put_controls(want: &mut [u32], at: usize, over: bool) {
@@ -235,7 +272,7 @@ fn call_dff(log: &mut [u32], st: LogState, c: Case, a: &[u32], trits: &[u8]) -> 
     log_requests::add_dff(
         log,
         st,
-        controls(c.neg),
+        controls_in(c.neg, bad_control(c)),
         a,
         net_logic::const_slice(trits, 0, c.n),
         net_logic::const_slice(trits, 1, plus(c.n, 1)),
@@ -270,7 +307,7 @@ fn call(log: &mut [u32], st: LogState, c: Case, a: &[u32], b: &[u32]) -> Answer 
         return log_requests::add_or(log, st, a, b);
     }
     if c.kind == 5 {
-        return log_requests::add_mux(log, st, select_of(c.neg), a, b);
+        return log_requests::add_mux(log, st, select_in(c.neg, c.bad == CONTROL), a, b);
     }
     call_late(log, st, c, a, b)
 }
@@ -316,9 +353,14 @@ fn answered(c: Case, n: u32, r: Answer) -> bool {
 fn set_nets(c: Case, a: &mut [u32], b: &mut [u32]) {
     fill_nets(b, c.next, 2);
     fill_nets(a, c.next, 0);
-    if c.bad {
-        spoil(a, c.n, c.next);
-    }
+    spoil(a, of_what(c.bad, FIRST, c.n), c.next);
+    spoil(b, of_what(c.bad, SECOND, c.m), c.next);
+}
+
+// The place of the trit that is bad: the first of clear, the last of reset, which is one of init too, or the last of init.
+fn bad_trit(c: Case) -> usize {
+    let places = [0usize, c.n, plus(c.n, 1)];
+    places[lists::usize_of_u32(c.which) % 3]
 }
 
 // The log expected.
@@ -355,9 +397,10 @@ fn set_and_try(
     want: &mut [u32],
     a: &mut [u32],
     b: &mut [u32],
-    trits: &[u8],
+    trits: &mut [u8],
 ) -> Tally {
     set_nets(c, a, b);
+    set_trits(trits, c.bad == TRIT, bad_trit(c));
     try_case(
         t,
         c,
@@ -376,11 +419,11 @@ pub(crate) fn cases(
     want: &mut [u32],
     a: &mut [u32],
     b: &mut [u32],
-    trits: &[u8],
+    trits: &mut [u8],
 ) -> Tally {
     let mut t = numbered::start();
     let mut k: u32 = 0;
-    while k < 360 {
+    while k < CASES {
         t = set_and_try(t, case_at(kind, k), log, want, a, b, trits);
         k += 1;
     }

@@ -37,7 +37,7 @@ fn name_of(kind: u32) {
 }
 
 // The kinds of entries: void, not, and, or, mux, eq, shl, ushr, flip-flop and replace.
-fn all_cells(log: &mut [u32], want: &mut [u32], a: &mut [u32], b: &mut [u32], trits: &[u8]) {
+fn all_cells(log: &mut [u32], want: &mut [u32], a: &mut [u32], b: &mut [u32], trits: &mut [u8]) {
     let mut kind: u32 = 1;
     while kind < 11 {
         let t = cells::cases(kind, log, want, a, b, trits);
@@ -53,6 +53,5 @@ fn main() {
     let mut a = [0u32; NETS];
     let mut b = [0u32; NETS];
     let mut trits = [0u8; NETS];
-    try_kit::paint::fill_trits(&mut trits);
-    all_cells(&mut log, &mut want, &mut a, &mut b, &trits);
+    all_cells(&mut log, &mut want, &mut a, &mut b, &mut trits);
 }

@@ -1,5 +1,5 @@
-// Tries the merging muxes: five lengths, three rooms and five next free nets, with good values, with a bad net, and with one value a bit longer than
-// the other. Every lent word holds a pattern before a call, and every word of log, state and result is compared after it with what a plain computation
+// Tries the merging muxes: five lengths, three rooms and five next free nets; with good values, with a bad net in the first or in the second value, with a
+// bad select, with a room for results that is one net short, and with one value a bit longer than the other. Every lent word holds a pattern before a call, and every word of log, state and result is compared after it with what a plain computation
 // expects, which finds the distinct pairs by a plain search.
 use lists::copy_u32;
 use lists::put_u32;
@@ -13,12 +13,17 @@ use try_kit::borders::room_at;
 use try_kit::borders::state_number;
 use try_kit::nets::fill_nets;
 use try_kit::nets::net_at;
-use try_kit::nets::select_of;
 use try_kit::nets::spoil;
 use try_kit::numbered;
 use try_kit::numbered::Tally;
 use try_kit::paint::paint_words;
 use try_kit::paint::same;
+use try_kit::spoilt::CONTROL;
+use try_kit::spoilt::FIRST;
+use try_kit::spoilt::NOTHING;
+use try_kit::spoilt::SECOND;
+use try_kit::spoilt::of_what;
+use try_kit::spoilt::select_in;
 use try_kit::words::minus;
 use try_kit::words::net_above;
 use try_kit::words::plus;
@@ -28,6 +33,8 @@ use try_kit::words::word;
 const NETS: usize = 4100;
 
 const LOG_WORDS: usize = 16640;
+
+const CASES: u32 = 450;
 
 fn word_at(s: &[u32], i: usize) -> u32 {
     if i < s.len() {
@@ -191,13 +198,16 @@ fn expect_runs(
     state
 }
 
-// A merge: whether it is the bitwise one, its values' lengths, whether its select is Neg, whether a net is bad, and the next free net.
+// What is wrong in a case beside what `spoilt` lists: the room for results is one net short.
+const ROOM: u32 = 4;
+
+// A merge: whether it is the bitwise one, its values' lengths, whether its select is Neg, what is wrong, and the next free net.
 struct Case {
     bitwise: bool,
     n: usize,
     m: usize,
     neg: bool,
-    bad: bool,
+    bad: u32,
     next: u32,
 }
 
@@ -213,13 +223,13 @@ fn next_at(k: u32) -> u32 {
 
 fn case_at(bitwise: bool, k: u32) -> Case {
     let n = length_at(k % 5);
-    let variant = k / 75 % 3;
+    let variant = k / 75 % 6;
     Case {
         bitwise,
         n,
-        m: longer(n, variant == 2),
+        m: longer(n, variant == 5),
         neg: k % 2 == 1,
-        bad: variant == 1,
+        bad: if variant == 5 { NOTHING } else { variant },
         next: next_at(k / 5 % 5),
     }
 }
@@ -239,19 +249,37 @@ fn input_number(c: Case) -> u32 {
     if c.n != c.m {
         return 2;
     }
-    if !c.bitwise {
-        if c.neg {
-            if c.next <= FIRST_CELL {
-                return 4;
-            }
-        }
+    if select_bad(c) {
+        return 4;
     }
-    if c.bad {
-        if 0 < c.n {
+    if 0 < c.n {
+        if spoilt(c.bad) {
             return 4;
         }
     }
     0
+}
+
+// The select of a merging mux is bad: it is no control, or Neg of net 2, which is no net yet.
+fn select_bad(c: Case) -> bool {
+    if c.bitwise {
+        return false;
+    }
+    if c.bad == CONTROL {
+        return true;
+    }
+    if c.neg {
+        return c.next <= FIRST_CELL;
+    }
+    false
+}
+
+// A value is spoilt; the select of a bitwise mux is one.
+fn spoilt(bad: u32) -> bool {
+    if bad == NOTHING {
+        return false;
+    }
+    bad < ROOM
 }
 
 // The number that a case expects, where an accepted call would end in the state given.
@@ -259,6 +287,9 @@ fn number(c: Case, room: usize, wanted: LogState) -> u32 {
     let first = input_number(c);
     if first != 0 {
         return first;
+    }
+    if out_room(c) < c.n {
+        return 20;
     }
     state_number(room, wanted.used, c.next, wanted.next)
 }
@@ -295,6 +326,14 @@ fn paint_and_expect(
     expect(c, want, s, a, b, nets)
 }
 
+// The room for results: all nets that a buffer has, or one less than the merge makes.
+fn out_room(c: Case) -> usize {
+    if c.bad == ROOM {
+        return minus(c.n, 1);
+    }
+    NETS
+}
+
 // The call, in the room lent.
 fn call(
     c: Case,
@@ -315,7 +354,31 @@ fn call(
     if c.bitwise {
         return merge_mux::add_bitwise_mux(&mut log[..room], st, out, s, a, b);
     }
-    merge_mux::add_dedup_mux(&mut log[..room], st, out, select_of(c.neg), a, b)
+    merge_mux::add_dedup_mux(
+        &mut log[..room],
+        st,
+        out,
+        select_in(c.neg, c.bad == CONTROL),
+        a,
+        b,
+    )
+}
+
+// The same, in the room for results.
+fn call_in(
+    c: Case,
+    room: usize,
+    log: &mut [u32],
+    s: &[u32],
+    a: &[u32],
+    b: &[u32],
+    out: &mut [u32],
+) -> Answer {
+    let end = out_room(c);
+    if out.len() < end {
+        return Answer::Refused(98);
+    }
+    call(c, room, log, s, a, b, &mut out[..end])
 }
 
 // Whether an answer is the one expected.
@@ -359,7 +422,7 @@ fn compare(
 ) -> bool {
     paint_words(log);
     paint_words(out);
-    let r = call(c, room, log, s, a, b, out);
+    let r = call_in(c, room, log, s, a, b, out);
     if !answered(n, wanted, r) {
         return false;
     }
@@ -413,9 +476,9 @@ fn set_nets(c: Case, s: &mut [u32], a: &mut [u32], b: &mut [u32]) {
     fill_nets(b, c.next, 2);
     fill_selects(s, c.next);
     fill_nets(a, c.next, 0);
-    if c.bad {
-        spoil(a, c.n, c.next);
-    }
+    spoil(s, of_what(c.bad, CONTROL, c.n), c.next);
+    spoil(a, of_what(c.bad, FIRST, c.n), c.next);
+    spoil(b, of_what(c.bad, SECOND, c.m), c.next);
 }
 
 fn set_and_try(t: Tally, bitwise: bool, k: u32, log: &mut [u32], want: &mut [u32]) -> Tally {
@@ -440,7 +503,7 @@ fn set_and_try(t: Tally, bitwise: bool, k: u32, log: &mut [u32], want: &mut [u32
 fn cases(bitwise: bool, log: &mut [u32], want: &mut [u32]) -> Tally {
     let mut t = numbered::start();
     let mut k: u32 = 0;
-    while k < 225 {
+    while k < CASES {
         t = set_and_try(t, bitwise, k, log, want);
         k += 1;
     }

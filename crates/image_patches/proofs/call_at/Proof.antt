@@ -1,13 +1,11 @@
 -- `image_patches::call_at` meets its contract.
 use Prim.Native.Nat.{_*_}
 use mathlib.Core.Path.{_∙_}
-use mathlib.Core.List.{[], _∷_}
 use lib.ListN.{getD, take, drop}
 use Rattle.rules.specs.Beside.Shape.{handedOn}
-use Rattle.rules.specs.Patch.{patched}
+use Rattle.rules.specs.Answers.{callOn}
 use Rattle.image_geometry.specs.View.{layoutBy}
 use Rattle.image_patches.specs.Calls.{callAt}
-use Rattle.image_patches.proofs.Calling.{call-out}
 use borrow.Author.Needs.{needs}
 use Rattle.image_patches.proofs.call_at.Statement.{statement}
 use Rattle.image_patches.proofs.call_at.Tie as tie
@@ -18,8 +16,7 @@ returns c =
     let a = c .before .before .before .before .before .before .before .before .before .before .before .before .before .before .before .before .args in
     let l = handedOn (layoutBy (a .p) (a .entries .now)) in
     let e = c .before .before .before .before .part-u8 .ensures .0 ∙ (λ k. take (c .before .before .before .before .before .before .before .usize-of-u322 .ensures .0 k) (drop (c .before .before .before .before .before .before .before .before .before .usize-of-u32 .ensures .0 k) (a .trits .now))) in
-    call-out l _ (a .buffer .now) _ _ (c .before .before .call-one .ensures)
-    ∙ (λ k. patched l ((record { row = getD (a .calls .now) (4 * a .i) 0; trits = e k; room = c .before .before .before .before .before .usize-of-u323 .ensures .0 k }) ∷ []) (a .buffer .now))
+    c .before .before .call-one .ensures ∙ (λ k. callOn l (record { row = getD (a .calls .now) (4 * a .i) 0; trits = e k; room = c .before .before .before .before .before .usize-of-u323 .ensures .0 k }) (a .buffer .now))
 
 mul-at : tie.Need-mul-at
 mul-at c = search needs

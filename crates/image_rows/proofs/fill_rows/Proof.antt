@@ -17,7 +17,7 @@ use Rattle.image_rows.proofs.fill_rows.Tie as tie
 told : (c : tie.After-s) → some (shapeBy (c .s .given .0 .0)) ≡ laidShape (layoutBy (c .before .before .before .before .before .before .args .p) (c .before .before .before .before .before .before .args .entries .now))
 told c = sym (ap checkedOf (c .s .given .1)) ∙ c .before .before .check-layout .ensures
 
-number : (c : tie.After-fill-refusal) → c .fill-refusal .result ≡ fillRefusalOf (layoutBy (c .before .before .before .before .before .before .before .before .args .p) (c .before .before .before .before .before .before .before .before .args .entries .now)) (length (c .before .before .before .before .before .before .before .before .args .image .now)) (length (c .before .before .before .before .before .before .before .before .args .rows .now))
+number : (c : tie.After-fill-refusal) → c .fill-refusal .result ≡ fillRefusalOf (layoutBy (c .before .before .before .before .before .before .before .before .args .p) (c .before .before .before .before .before .before .before .before .args .entries .now)) (length (c .before .before .before .before .before .before .before .before .args .image .now)) (c .before .before .before .before .before .before .before .before .args .rows .now)
 number c = c .fill-refusal .ensures ∙ fill-refusal-is (layoutBy (c .before .before .before .before .before .before .before .before .args .p) (c .before .before .before .before .before .before .before .before .args .entries .now)) _ _ _ (size-is _ _ _ (told (c .before .before)))
 
 returns : tie.Need-returns
@@ -34,7 +34,7 @@ steps-of-requires : tie.Need-steps-of-requires
 steps-of-requires c κs = shallow _ _ _ (told (c .before .before .before .before .before .before .before .before .before))
 
 -- where the call is accepted
-accepted : (c : tie.Else1) → fillRefusalOf (layoutBy (c .before .before .before .before .before .before .before .before .before .args .p) (c .before .before .before .before .before .before .before .before .before .args .entries .now)) (length (c .before .before .before .before .before .before .before .before .before .args .image .now)) (length (c .before .before .before .before .before .before .before .before .before .args .rows .now)) ≡ 0
+accepted : (c : tie.Else1) → fillRefusalOf (layoutBy (c .before .before .before .before .before .before .before .before .before .args .p) (c .before .before .before .before .before .before .before .before .before .args .entries .now)) (length (c .before .before .before .before .before .before .before .before .before .args .image .now)) (c .before .before .before .before .before .before .before .before .before .args .rows .now) ≡ 0
 accepted c = sym (number (c .before)) ∙ c .if1 .left
 
 write-rows-requires : tie.Need-write-rows-requires

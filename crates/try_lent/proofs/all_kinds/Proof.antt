@@ -8,13 +8,13 @@ use Rattle.try_lent.proofs.all_kinds.Statement.{statement}
 use Rattle.try_lent.proofs.all_kinds.Tie as tie
 
 abbrev Inv-loop : tie.InvT-loop
-Inv-loop log₀ want₀ out₀ room₀ a₀ b₀ trits kind₀ log want out room a b kind = (length log ≡ length log₀) × (length want ≡ length want₀) × (length out ≡ length out₀) × (length room ≡ length room₀) × (length a ≡ length a₀) × (length b ≡ length b₀)
+Inv-loop log₀ want₀ out₀ room₀ a₀ b₀ trits₀ kind₀ log want out room a b trits kind = (length log ≡ length log₀) × (length want ≡ length want₀) × (length out ≡ length out₀) × (length room ≡ length room₀) × (length a ≡ length a₀) × (length b ≡ length b₀) × (length trits ≡ length trits₀)
 
 abbrev μ-loop : tie.MeasureT-loop
-μ-loop log₀ want₀ out₀ room₀ a₀ b₀ trits kind₀ log want out room a b kind = 16 - kind
+μ-loop log₀ want₀ out₀ room₀ a₀ b₀ trits₀ kind₀ log want out room a b trits kind = 16 - kind
 
 loop-holds : tie.Need-loop-holds Inv-loop μ-loop
-loop-holds c = (refl, refl, refl, refl, refl, refl)
+loop-holds c = (refl, refl, refl, refl, refl, refl, refl)
 
 cases-requires : tie.Need-cases-requires Inv-loop μ-loop
 cases-requires c κs = search needs
@@ -32,7 +32,7 @@ loop-less : tie.Need-loop-less Inv-loop μ-loop
 loop-less c = omega arith
 
 loop-again : tie.Need-loop-again Inv-loop μ-loop
-loop-again c = (omega arith, omega arith, omega arith, omega arith, omega arith, omega arith)
+loop-again c = (omega arith, omega arith, omega arith, omega arith, omega arith, omega arith, omega arith)
 
 same-length : tie.Need-same-length Inv-loop μ-loop
 same-length c = c .before .loop .inv .0
@@ -51,6 +51,9 @@ same-length-5 c = c .before .loop .inv .4
 
 same-length-6 : tie.Need-same-length-6 Inv-loop μ-loop
 same-length-6 c = c .before .loop .inv .5
+
+same-length-7 : tie.Need-same-length-7 Inv-loop μ-loop
+same-length-7 c = c .before .loop .inv .6
 
 returns : tie.Need-returns Inv-loop μ-loop
 returns c = tt
@@ -74,4 +77,5 @@ all-kinds-spec =
     same-length-4
     same-length-5
     same-length-6
+    same-length-7
     returns)

@@ -8,13 +8,13 @@ use Rattle.try_log.proofs.all_cells.Statement.{statement}
 use Rattle.try_log.proofs.all_cells.Tie as tie
 
 abbrev Inv-loop : tie.InvT-loop
-Inv-loop log₀ want₀ a₀ b₀ trits kind₀ log want a b kind = (length log ≡ length log₀) × (length want ≡ length want₀) × (length a ≡ length a₀) × (length b ≡ length b₀)
+Inv-loop log₀ want₀ a₀ b₀ trits₀ kind₀ log want a b trits kind = (length log ≡ length log₀) × (length want ≡ length want₀) × (length a ≡ length a₀) × (length b ≡ length b₀) × (length trits ≡ length trits₀)
 
 abbrev μ-loop : tie.MeasureT-loop
-μ-loop log₀ want₀ a₀ b₀ trits kind₀ log want a b kind = 11 - kind
+μ-loop log₀ want₀ a₀ b₀ trits₀ kind₀ log want a b trits kind = 11 - kind
 
 loop-holds : tie.Need-loop-holds Inv-loop μ-loop
-loop-holds c = (refl, refl, refl, refl)
+loop-holds c = (refl, refl, refl, refl, refl)
 
 cases-requires : tie.Need-cases-requires Inv-loop μ-loop
 cases-requires c κs = search needs
@@ -32,7 +32,7 @@ loop-less : tie.Need-loop-less Inv-loop μ-loop
 loop-less c = omega arith
 
 loop-again : tie.Need-loop-again Inv-loop μ-loop
-loop-again c = (omega arith, omega arith, omega arith, omega arith)
+loop-again c = (omega arith, omega arith, omega arith, omega arith, omega arith)
 
 same-length : tie.Need-same-length Inv-loop μ-loop
 same-length c = c .before .loop .inv .0
@@ -45,6 +45,9 @@ same-length-3 c = c .before .loop .inv .2
 
 same-length-4 : tie.Need-same-length-4 Inv-loop μ-loop
 same-length-4 c = c .before .loop .inv .3
+
+same-length-5 : tie.Need-same-length-5 Inv-loop μ-loop
+same-length-5 c = c .before .loop .inv .4
 
 returns : tie.Need-returns Inv-loop μ-loop
 returns c = tt
@@ -66,4 +69,5 @@ all-cells-spec =
     same-length-2
     same-length-3
     same-length-4
+    same-length-5
     returns)

@@ -32,8 +32,8 @@ slice-relend-prefix-add-dedup-mux c = search needs
 slice-aggregate-add-dedup-mux : tie.Need-slice-aggregate-add-dedup-mux
 slice-aggregate-add-dedup-mux c = simp length-take (omega arith)
 
-select-of-requires : tie.Need-select-of-requires
-select-of-requires c κs = search needs
+select-in-requires : tie.Need-select-in-requires
+select-in-requires c κs = search needs
 
 add-dedup-mux-requires : tie.Need-add-dedup-mux-requires
 add-dedup-mux-requires c κs = search needs
@@ -60,7 +60,7 @@ call-spec =
     returns-2
     slice-relend-prefix-add-dedup-mux
     slice-aggregate-add-dedup-mux
-    select-of-requires
+    select-in-requires
     add-dedup-mux-requires
     same-length-3
     same-length-4

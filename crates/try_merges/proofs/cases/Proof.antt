@@ -11,7 +11,7 @@ abbrev Inv-loop : tie.InvT-loop
 Inv-loop bitwise log₀ want₀ t₀ k₀ log want t k = (length log ≡ length log₀) × (length want ≡ length want₀)
 
 abbrev μ-loop : tie.MeasureT-loop
-μ-loop bitwise log₀ want₀ t₀ k₀ log want t k = 225 - k
+μ-loop bitwise log₀ want₀ t₀ k₀ log want t k = 450 - k
 
 start-requires : tie.Need-start-requires Inv-loop μ-loop
 start-requires c κs = search needs
