@@ -46,14 +46,13 @@ impl Layout {
     }
 
     /// The state that a swizzle with this layout hands on.
-    pub fn laid_out(&self) -> ffi::Laid {
-        ffi::laid_out(self.params, &self.entries)
+    pub fn laid_out(&self) -> Laid {
+        Laid(ffi::laid_out(self.params, &self.entries))
     }
 
     /// The sizes of a record of its images, or number 23.
     pub fn sizes(&self) -> Result<Sizes, Refusal> {
-        let head = ffi::sizes_of(self.laid_out());
-        Refusal::check(head.number).map(|()| head.sizes)
+        self.laid_out().sizes()
     }
 
     /// How many trits the image has, as far as the layout is within its limits.
@@ -153,5 +152,62 @@ impl Image {
     /// Its record.
     pub fn record(&self) -> Result<Record, Refusal> {
         Record::of_codes(self.layout.sizes()?, &self.trits)
+    }
+}
+
+/// The state that a swizzle hands on: it says by itself where rows go, or that there was no swizzle yet, and then every call is refused by 23.
+#[derive(Clone, Debug, PartialEq, Eq)]
+pub struct Laid(ffi::Laid);
+
+impl Laid {
+    /// The state before any swizzle.
+    pub fn unset() -> Laid {
+        Laid(ffi::unset())
+    }
+
+    /// The layout that it has; where there was no swizzle, one that is refused.
+    pub fn layout(&self) -> Layout {
+        let ffi::Laid { depth, width, soft_mask, hard, unit, len, entries } = self.0;
+        let used = entries.len().min(len as usize);
+        Layout { params: ffi::Params { depth, width, soft_mask, hard, unit }, entries: entries[..used].to_vec() }
+    }
+
+    /// The sizes of a record of its images, or number 23.
+    pub fn sizes(&self) -> Result<Sizes, Refusal> {
+        let head = ffi::sizes_of(self.0);
+        Refusal::check(head.number).map(|()| head.sizes)
+    }
+
+    /// As [`Layout::fill`].
+    pub fn fill(&self, rows: &[Trit]) -> Result<Image, Refusal> {
+        let layout = self.layout();
+        let mut trits = vec![Trit::X.code(); layout.image_len()];
+        Refusal::check(ffi::fill(&mut trits, self.0, &codes(rows)))?;
+        Ok(Image { layout, trits })
+    }
+
+    /// As [`Layout::fill_then_patch`].
+    pub fn fill_and_patch(&self, rows: &[Trit], patches: &[Patch]) -> Result<(Image, Vec<u32>), Refusal> {
+        let (layout, (calls, given)) = (self.layout(), calls_of(patches));
+        let (mut trits, mut numbers) = (vec![Trit::X.code(); layout.image_len()], vec![0; patches.len()]);
+        Refusal::check(ffi::fill_and_patch(&mut trits, &mut numbers, self.0, &codes(rows), &calls, &given))?;
+        Ok((Image { layout, trits }, numbers))
+    }
+
+    /// Exchanges one row of an image, as [`Image::patch`].
+    pub fn patch(&self, image: &mut Image, row: u32, trits: &[Trit]) -> Result<(), Refusal> {
+        Refusal::check(ffi::patch(&mut image.trits, self.0, row, &codes(trits)))
+    }
+
+    /// Exchanges rows of an image, as [`Image::patch_each`].
+    pub fn patch_all(&self, image: &mut Image, patches: &[Patch]) -> Result<Vec<u32>, Refusal> {
+        let ((calls, given), mut numbers) = (calls_of(patches), vec![0; patches.len()]);
+        Refusal::check(ffi::patch_all(&mut image.trits, &mut numbers, self.0, &calls, &given))?;
+        Ok(numbers)
+    }
+
+    /// The trits at a row's places in an image, as [`Image::row`].
+    pub fn read_row(&self, image: &Image, row: u32) -> Result<Vec<Trit>, Refusal> {
+        filled(self.0.width as usize, |room| ffi::read_laid_row(room, self.0, &image.trits, row))
     }
 }

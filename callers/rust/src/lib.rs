@@ -24,7 +24,7 @@ mod net;
 mod record;
 mod refusal;
 
-pub use image::{Image, Layout, Patch, Place, Shape};
+pub use image::{Image, Laid, Layout, Patch, Place, Shape};
 pub use log::{Cell, Controls, Entries, Entry, FlipFlop, Log};
 pub use memory::{Lowered, Memory, MuxBits, ReadPort, Relation, Swizzle, WritePort, wide_log2};
 pub use net::{

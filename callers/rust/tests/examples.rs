@@ -106,6 +106,15 @@ fn patches() {
     assert_eq!(image.row(6), Ok(vec![Trit::One]));
     let (again, numbers) = layout.fill_then_patch(&[Trit::Zero; 8], &[one(6), one(8)]).expect("an image");
     assert_eq!((&again, numbers), (&image, vec![0, 15]));
+    let laid = layout.laid_out();
+    let mut other = laid.fill(&[Trit::Zero; 8]).expect("an image");
+    assert_eq!(laid.patch_all(&mut other, &[one(8), one(5)]), Ok(vec![15, 0]));
+    assert_eq!((laid.patch(&mut other, 5, &[Trit::Zero]), laid.patch(&mut other, 6, &[Trit::One])), (Ok(()), Ok(())));
+    assert_eq!((&other, laid.read_row(&other, 6), laid.layout()), (&image, Ok(vec![Trit::One]), layout.clone()));
+    assert_eq!(laid.fill_and_patch(&[Trit::Zero; 8], &[one(6)]), Ok((other, vec![0])));
+    assert_eq!((number(Laid::unset().fill(&[])), number(Laid::unset().patch(&mut image, 6, &[Trit::One]))), (23, 23));
+    assert_eq!((number(Laid::unset().sizes()), number(Laid::unset().read_row(&image, 6))), (23, 23));
+    assert_eq!(Laid::unset().patch_all(&mut image, &[one(6)]), Ok(vec![23]));
     assert_eq!(number(image.patch(8, &[Trit::One])), 15);
     assert_eq!(again, image);
     assert_eq!(number(layout.fill(&[Trit::Zero; 7])), 2);
