@@ -8,8 +8,7 @@
  *   else is given. An accepted call writes what its text says, from the array's start, and keeps the rest.
  * - A trit is a byte: 0, 1, or 2 for X. A net is a word: 0, 1, TABLEGOOSE_NET_X, or a cell's number + 2. A control is a net or its inverse.
  * - A flag is 0 or 1; another word is refused by 4.
- * - The functions keep no state, allocate nothing and may be called from many threads at once. "Stack" is what a call needs at most, in bytes, as
- *   measured by callers/stack on x86-64. */
+ * - The functions keep no state, allocate nothing and may be called from many threads at once. A list at the end says how much stack each takes. */
 #ifndef TABLEGOOSE_H
 #define TABLEGOOSE_H
 
@@ -545,6 +544,9 @@ tablegoose_count tablegoose_list_record(uint8_t *out, size_t out_len, const uint
 
 /* The same for an input of `total` bytes, of which the first are given. */
 tablegoose_count tablegoose_list_input(uint8_t *out, size_t out_len, const uint8_t *first, size_t first_len, size_t total);
+
+/* ---- stack: what each function takes at most, in bytes, beside the structs that it is given; read from the x86-64 code by scripts/stack.py
+ */
 
 #ifdef __cplusplus
 }

@@ -1,5 +1,7 @@
 #!/usr/bin/env python3
-"""stack.py [ARCHIVE]: the stack that each exported function of the archive takes at most, in bytes, read from its code; x86-64 only.
+"""stack.py [--write]: the stack that each exported function takes at most, in bytes, read from the code of target/libtablegoose.a; x86-64 only.
+
+Without an option the header's list is checked: each function's number must be enough. With --write the list is made anew, rounded up to ROUND bytes.
 
 A function's own frame is its pushes and the most that it takes off the stack pointer, and eight bytes for the return address; to it comes the largest of
 what it calls. The C library's memset, memcpy and memmove are counted as EXTERNAL bytes. Code that calls by pointer, or itself, is an error.
@@ -9,7 +11,10 @@ import subprocess
 import sys
 
 ARCHIVE = 'target/libtablegoose.a'
+HEADER = 'callers/tablegoose.h'
 EXTERNAL = 64
+ROUND = 128
+LIST = re.compile(r'(/\* ---- stack:.*?\n)(.*?)( \*/\n)', re.S)
 KNOWN = ('memset', 'memcpy', 'memmove', 'memcmp', 'bcmp')
 
 
@@ -62,13 +67,24 @@ def depth(found, name, on_way=()):
     return 8 + function['pushed'] + function['taken'] + most
 
 
-def main():
-    archive = sys.argv[1] if len(sys.argv) > 1 else ARCHIVE
+def measured(archive):
     text = subprocess.run(['objdump', '-dr', '--no-show-raw-insn', archive], capture_output=True, text=True, check=True).stdout
     found = functions(text)
-    for name in sorted(n for n in found if n.startswith('tablegoose_')):
-        print(f'{depth(found, name):8} {name}')
+    return {name: depth(found, name) for name in sorted(found) if name.startswith('tablegoose_')}
+
+
+def main():
+    header, stack = open(HEADER).read(), measured(ARCHIVE)
+    if sys.argv[1:] == ['--write']:
+        lines = ''.join(f' * {-(-size // ROUND) * ROUND:7} {name}\n' for name, size in stack.items())
+        open(HEADER, 'w').write(LIST.sub(lambda m: m[1] + lines + m[3], header))
+        return 0
+    stated = {name: int(size) for size, name in re.findall(r'^ \* +(\d+) (tablegoose_\w+)$', LIST.search(header)[2], re.M)}
+    faults = [f'{name} takes {size} bytes, the header says {stated.get(name)}' for name, size in stack.items() if size > stated.get(name, -1)]
+    for fault in faults:
+        print('stack:', fault)
+    return 1 if faults else 0
 
 
 if __name__ == '__main__':
-    main()
+    sys.exit(main())
