@@ -7,7 +7,7 @@
 - The header's prototypes, sizes and offsets are those that the sources give: a probe redeclares each function and asserts each struct's layout, and
   must compile. The layout is computed here, by C's rules, from the fields' types.
 - ffi.rs has the same structs, field by field, and the same functions, parameter by parameter.
-- The header's limits are those of crates/rules.
+- The header's limits are those of crates/rules, and the texts of the refusal numbers are the same in C and in Rust.
 
 scripts/test_header.py tries it: a swapped field, a wrong parameter and a missing function must be found.
 """
@@ -19,6 +19,7 @@ import tempfile
 
 HEADER = 'callers/tablegoose.h'
 FFI = 'callers/rust/src/ffi.rs'
+REFUSAL = 'callers/rust/src/refusal.rs'
 ARCHIVE = 'target/libtablegoose.a'
 
 # A struct of the sources, its name in the header without the prefix, and in ffi.rs.
@@ -242,6 +243,18 @@ def ffi_faults(ffi, sources):
         yield f'ffi.rs: {name} is in no source'
 
 
+def text_faults(header, refusal):
+    """A text for each number, the same in the header and in Rust."""
+    numbers = {n: int(v) for n, v in re.findall(r'(TABLEGOOSE_\w+) = (\d+)', header)}
+    in_c = {numbers[n]: text for n, text in re.findall(r'case (TABLEGOOSE_\w+): return "(.*?)";', header)}
+    listed = re.search(r'const TEXTS.*?= \[(.*?)\];', refusal, re.S)[1]
+    in_rust = {n: text for n, text in enumerate(re.findall(r'"(.*?)",', listed), 1) if text}
+    in_c.pop(0, None)
+    for number in sorted(set(in_c) | set(in_rust) | set(range(1, 24)) - {19}):
+        if in_c.get(number) is None or in_c.get(number) != in_rust.get(number):
+            yield f'number {number} is {in_c.get(number)!r} in C and {in_rust.get(number)!r} in Rust'
+
+
 def all_faults(header, ffi, symbols, sources):
     yield from symbol_faults(header, symbols, sources)
     yield from limit_faults(header, sources)
@@ -261,7 +274,9 @@ def symbols_of(archive):
 
 
 def main():
-    faults = list(all_faults(open(HEADER).read(), open(FFI).read(), symbols_of(ARCHIVE), sources_here()))
+    header = open(HEADER).read()
+    faults = list(all_faults(header, open(FFI).read(), symbols_of(ARCHIVE), sources_here()))
+    faults += text_faults(header, open(REFUSAL).read())
     for fault in faults:
         print('header:', fault)
     return 1 if faults else 0

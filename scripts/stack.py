@@ -35,11 +35,11 @@ def functions(text):
 def look(function, line):
     if re.search(r'\tpush\s', line):
         function['pushed'] += 8
-    elif taken := re.search(r'\tsub\s+\$0x([0-9a-f]+),%rsp', line):
-        # A frame with probes is taken page by page: the whole of it stands in the loop's bound, which is taken first.
+    elif taken := re.search(r'\tsub\s+\$0x([0-9a-f]+),%r(?:sp|11)$', line):
+        # A large frame is taken page by page in a loop, whose bound is taken off r11 before.
         function['taken'] += int(taken[1], 16)
-    elif lea := re.search(r'\tlea\s+-0x([0-9a-f]+)\(%rsp\),%r', line):
-        function['taken'] = max(function['taken'], int(lea[1], 16))
+    elif re.search(r'\t(?:sub\s+%\w+|and\s+\$\S+),%rsp', line):
+        sys.exit(f'stack: a frame whose size is not in the code: {line.strip()}')
     elif re.search(r'\tcall\s+\*', line):
         function['calls'].add('*')
     elif target := re.search(r'R_X86_64_(?:PLT32|PC32)\s+([\w.$:<>]+)-0x4', line):
