@@ -1,9 +1,9 @@
 #!/usr/bin/env python3
-"""Makes the stored list of calls: crates/replay/stdin has the cases, crates/replay/stdout the oracle's answers.
+"""Makes the stored list of calls: callers/stored/cases, and the oracle's answers to them in callers/stored/answers.
 
     oracle/build && python3 scripts/stored.py target/oracle/build/release/oracle
 
-`rt ci` runs the program `replay` on the cases and compares every byte of its output with the answers. The cases are those of `oracle gen-small`,
+`callers/run` gives the cases to the driver and compares every byte of its output with the answers. The cases are those of `oracle gen-small`,
 short ones of `scripts/borders.py`, and random ones from a fixed seed; of each call and refusal number only so many are kept, evenly spread. Calls that the port
 does not answer yet are left out: oracle/OPS is the list to extend.
 """
@@ -18,6 +18,9 @@ LOGS = [6, 10, 11, 12, 13, 21, 22, 23, 29]
 MAX_LOG_ROOM = 200000
 SEED = 7
 RANDOM = 60000
+# layouts are drawn apart, so that the other random cases stay as they are
+LAYOUT = 40
+RANDOM_LAYOUTS = 6000
 # of each call and number: from the systematic list, from the random ones, from those at borders, and the most words of a random case
 KEEP_SMALL = 160
 KEEP_RANDOM = 60
@@ -25,8 +28,8 @@ KEEP_BORDER = 240
 MAX_RANDOM = 160
 # the most words of a case at a border
 MAX_BORDER = 260
-# the calls over a memory, whose cases are longer: of these a quarter; and the most words of a case that the program `replay` takes
-MEMORIES = range(20, 31)
+# the calls over a memory, whose cases are longer: of these a quarter; and the most words of a case
+MEMORIES = [*range(20, 31), LAYOUT]
 MAX_CASE = 20480
 
 
@@ -88,13 +91,14 @@ def main():
     if len(sys.argv) != 2:
         sys.exit('usage: stored.py ORACLE')
     program = sys.argv[1]
-    ops = [str(op) for op in OPS]
+    ops = [str(op) for op in OPS if op != LAYOUT]
     systematic = [p for p in answered(program, run(program, ['gen-small'])) if p[0][0] in OPS and fits(p[0])]
-    random = [p for p in answered(program, run(program, ['gen', str(SEED), str(RANDOM), *ops])) if len(p[0]) <= MAX_RANDOM and fits(p[0])]
+    drawn = run(program, ['gen', str(SEED), str(RANDOM), *ops]) + run(program, ['gen', str(SEED), str(RANDOM_LAYOUTS), str(LAYOUT)])
+    random = [p for p in answered(program, drawn) if len(p[0]) <= MAX_RANDOM and fits(p[0])]
     border = [p for p in answered(program, borders()) if p[0][0] in OPS and len(p[0]) <= MAX_BORDER]
     chosen = kept(systematic, KEEP_SMALL) + kept(border, KEEP_BORDER) + kept(random, KEEP_RANDOM)
-    for name, part in (('stdin', 0), ('stdout', 1)):
-        with open(f'crates/replay/{name}', 'wb') as out:
+    for name, part in (('cases', 0), ('answers', 1)):
+        with open(f'callers/stored/{name}', 'wb') as out:
             for pair in chosen:
                 words = pair[part][:]
                 if sys.byteorder == 'big':

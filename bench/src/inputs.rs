@@ -7,32 +7,15 @@ pub struct Plain {
 }
 
 pub struct Input {
-    pub op: u32,
     pub what: &'static str,
-    pub case: Vec<u32>,
-    /// Where there is no Rust to compare with: the bytes of a plain copy.
+    pub call: Call,
+    /// What is timed instead of the Rust: the bytes of a plain copy.
     pub plain: Option<Plain>,
 }
 
 const LOG: Log = Log { room: 200_000, used: 0, next: 1_000_000 };
 const AS_NEEDED: u32 = u32::MAX;
 const NONE: u32 = u32::MAX;
-
-pub fn log_of(call: &Call) -> Option<Log> {
-    Some(match call {
-        Call::RemapReset(c) => c.log,
-        Call::DedupMux(c) => c.log,
-        Call::DedupDff(c) => c.log,
-        Call::BitwiseMux(c) => c.log,
-        Call::TransparencyMux(c) => c.log,
-        Call::UnmapReadDff(c) => c.log,
-        Call::UnmapReadReset(c) => c.log,
-        Call::EmulateReadBeforeWrite(c) => c.log,
-        Call::Swizzle(c) => c.request.log,
-        Call::LowerFallback(c) => c.log,
-        _ => return None,
-    })
-}
 
 fn trits(n: usize) -> Trits {
     (0..n).map(|i| (i * 7 % 3) as u32).collect()
@@ -107,7 +90,7 @@ fn plan(memory: &Memory, hard: u32, unit: u32) -> Plan {
 }
 
 fn given(what: &'static str, call: Call) -> Input {
-    Input { op: call.op(), what, case: call.case(), plain: None }
+    Input { what, call, plain: None }
 }
 
 fn constants(out: &mut Vec<Input>) {
@@ -174,23 +157,22 @@ fn records(out: &mut Vec<Input>) {
     }
 }
 
-/// Call 40 of a memory, with no patch; the copy is of its trits.
-fn layout(what: &'static str, memory: &Memory, plan: &Plan) -> Input {
-    let mut case = vec![40, 0, 131_112, memory.depth, memory.width];
-    memory.init.write(&mut case);
-    plan.write(&mut case);
-    case.push(0);
-    case[1] = case.len() as u32 - 2;
-    Input { op: 40, what, case, plain: Some(Plain { bytes: vec![1; memory.init.len()] }) }
+/// Each layout beside the Rust's swizzle of a memory without ports, and beside a copy of its trits.
+fn layout(out: &mut Vec<Input>, what: [&'static str; 2], memory: &Memory, plan: Plan) {
+    let memory = Memory { write_ports: vec![], read_ports: vec![], ..memory.clone() };
+    let plain = Plain { bytes: vec![1; memory.init.len()] };
+    let call = Call::LayOut(LayOut { image_room: 131_112, memory, plan, patches: vec![] });
+    out.push(given(what[0], call.clone()));
+    out.push(Input { plain: Some(plain), ..given(what[1], call) });
 }
 
 fn layouts(out: &mut Vec<Input>) {
     let (typical, limit, deep) = (typical(), limit(), deep());
-    out.push(layout("32 × 512, beside a copy", &typical, &plan(&typical, 9, 16)));
-    out.push(layout("128 × 256, beside a copy", &limit, &plan(&limit, 8, 16)));
-    out.push(layout("1 × 32,768, beside a copy", &deep, &plan(&deep, 10, 1)));
+    layout(out, ["32 × 512", "32 × 512, beside a copy"], &typical, plan(&typical, 9, 16));
+    layout(out, ["128 × 256", "128 × 256, beside a copy"], &limit, plan(&limit, 8, 16));
+    layout(out, ["1 × 32,768", "1 × 32,768, beside a copy"], &deep, plan(&deep, 10, 1));
     let wide = Plan { entries: vec![NONE, NONE, NONE, 0], ..plan(&deep, 15, 4) };
-    out.push(layout("1 × 32,768 in rows of 4 trits, beside a copy", &deep, &wide));
+    layout(out, ["1 × 32,768 in rows of 4 trits", "1 × 32,768 in rows of 4 trits, beside a copy"], &deep, wide);
 }
 
 pub fn all() -> Vec<Input> {

@@ -9,6 +9,9 @@ use crate::image::{LaidOut, Layout};
 use crate::wire::*;
 use crate::{record, refuse, rust};
 
+/// The refusal word of a case that is not whole, or of an op that is not known.
+pub const NO_CASE: u32 = 0xFFFF_FFFF;
+
 /// The refusal word of a finding: the Rust panics on an accepted call, or differs from the rules.
 pub const FINDING: u32 = 0xFFFF_FFFE;
 
@@ -21,11 +24,11 @@ pub enum Stop {
 
 pub type Outcome = Result<Vec<u32>, Stop>;
 
-/// The answer to a case: refusal number, m, m words. Nothing where the case is not whole or its op unknown.
+/// The answer to a case: refusal number, m, m words.
 /// A finding is told on standard error, with its case.
 pub fn answer(given: &[u32]) -> Vec<u32> {
     let Some(call) = Call::from_case(given) else {
-        return vec![];
+        return vec![NO_CASE, 0];
     };
     match outcome(&call) {
         Ok(payload) => {
@@ -47,6 +50,7 @@ pub fn outcome(call: &Call) -> Outcome {
         Call::Swizzle(c) => swizzle_and_patch(c),
         Call::LowerFallback(c) => lower_fallback(c),
         Call::History(c) => history(c),
+        Call::LayOut(c) => lay_out(c),
         _ => refused(refuse::before_log(call)).and_then(|()| accepted(call)),
     }
 }
@@ -145,6 +149,15 @@ fn swizzle_and_patch(call: &Swizzle) -> Outcome {
     let mut memories = vec![];
     driven.write(&mut memories);
     Ok(log_out(&call.request.log, recorded, [memories, rest].concat()))
+}
+
+/// The image of a swizzle without ports, and the patches' numbers.
+fn lay_out(call: &LayOut) -> Outcome {
+    refused(refuse::lay_out(call))?;
+    let Swizzled { mut laid_out, .. } = swizzle(&call.swizzle())?;
+    let mut out = list(call.patches.iter().map(|p| patch(&mut laid_out, p)).collect());
+    laid_out.image.write(&mut out);
+    Ok(out)
 }
 
 fn lower_fallback(call: &LowerFallback) -> Outcome {

@@ -4,6 +4,7 @@
 pub enum Source {
     Random,
     Small,
+    Damaged,
     File(String),
 }
 
@@ -41,6 +42,7 @@ impl Run {
                 "--max-case" => run.max_case = given.next()?.parse().ok()?,
                 "--max-answer" => run.max_answer = given.next()?.parse().ok()?,
                 "--small" => run.source = Source::Small,
+                "--damaged" => run.source = Source::Damaged,
                 "--cases" => run.source = Source::File(given.next()?.to_string()),
                 "--keep" => run.keep = Some(given.next()?.to_string()),
                 "--" => run.program = given.by_ref().map(|part| part.to_string()).collect(),

@@ -2,6 +2,7 @@
 
 mod build;
 mod calls;
+pub mod damaged;
 mod edges;
 pub mod examples;
 mod memories;

@@ -20,4 +20,4 @@ pub mod stream;
 pub mod stricter;
 pub mod wire;
 
-pub use answer::{FINDING, Outcome, Stop, answer, outcome};
+pub use answer::{FINDING, NO_CASE, Outcome, Stop, answer, outcome};

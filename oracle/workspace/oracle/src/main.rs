@@ -8,10 +8,12 @@ use std::io::{self, BufReader, BufWriter, Read, Write};
 use std::process::ExitCode;
 
 use arguments::{Run, Source, numbers, word};
+use oracle::cases::damaged::damaged;
 use oracle::cases::{Calls, sample, small};
 use oracle::compare::{Difference, Program, Verdict, compare};
 use oracle::stats::Stats;
 use oracle::stream::{read_block, write_block};
+use oracle::wire::OPS;
 use oracle::{answer, show, stricter};
 
 const USAGE: &str = "\
@@ -25,7 +27,7 @@ oracle stats CASES ANSWERS       counts per op and refusal number
 oracle run [OPTION..] [-- PROGRAM [ARG..]]
                                  compares a program with the oracle; without one, only the oracle answers
     --seed S --count N --ops OP,OP,..  which random cases (1, 10000, all)
-    --small | --cases FILE             those of gen-small, or of a file, instead
+    --small | --damaged | --cases FILE those of gen-small, damaged random ones, or those of a file, instead
     --max-case WORDS --max-answer WORDS  leaves out larger cases
     --keep FILE                        writes a differing case and its smaller variant there
 status 0 equal; 1 a difference; 2 wrong call or file; 5 a finding on the oracle's own side
@@ -82,12 +84,7 @@ fn answer_all(change: impl Fn(&[u32], Vec<u32>) -> Option<Vec<u32>>) -> io::Resu
     let mut input = BufReader::new(io::stdin().lock());
     let mut output = BufWriter::new(io::stdout().lock());
     while let Some(case) = read_block(&mut input)? {
-        let answered = answer(&case);
-        if answered.is_empty() {
-            output.flush()?;
-            return Err(io::Error::other(format!("not a case: {case:?}")));
-        }
-        let Some(answered) = change(&case, answered) else { break };
+        let Some(answered) = change(&case, answer(&case)) else { break };
         write_block(&mut output, &answered)?;
     }
     output.flush()?;
@@ -162,10 +159,11 @@ fn run_all(run: &Run) -> io::Result<u8> {
     let cases: Box<dyn Iterator<Item = Vec<u32>>> = match &run.source {
         Source::Random => Box::new(Calls::new(run.seed, &run.ops).take(run.count).map(|call| call.case())),
         Source::Small => Box::new(small::all().into_iter().map(|call| call.case())),
+        Source::Damaged => Box::new(damaged(run.seed, &run.ops).take(run.count)),
         Source::File(file) => Box::new(blocks(file)?),
     };
     let cases = cases
-        .filter(|case| run.ops.is_empty() || run.ops.contains(&case[0]))
+        .filter(|case| run.ops.is_empty() || run.ops.contains(&case[0]) || !OPS.contains(&case[0]))
         .filter(|case| case.len() <= run.max_case)
         .filter(|case| run.max_answer == usize::MAX || answer(case).len() <= run.max_answer);
     let program = Program(&run.program);

@@ -53,6 +53,7 @@ part! {
         Swizzle: request.memory,
         CanLowerFallback: memory,
         LowerFallback: memory,
+        LayOut: memory,
     }
 }
 
@@ -71,6 +72,7 @@ part! {
         SwizzleDepths: plan,
         SwizzleMuxBits: plan,
         Swizzle: request.plan,
+        LayOut: plan,
     }
 }
 

@@ -195,6 +195,7 @@ pub fn before_log(call: &Call) -> u32 {
         Call::LowerFallback(c) => lower_fallback(c),
         Call::WriteRecord(c) => write_record(c),
         Call::ReadRecord(c) => read_record(c),
+        Call::LayOut(c) => lay_out(c),
         Call::History(_) | Call::Lister(_) => 0,
     }
 }
@@ -509,7 +510,28 @@ pub fn lower_fallback(call: &LowerFallback) -> u32 {
     first(&[(11, memory.write_ports.iter().any(|port| Some(port.clock) != clock)), (14, short_ports(memory))])
 }
 
-// ---- patches and records
+// ---- layouts, patches and records
+
+/// Whether some accepted swizzle has the layout; wide logs play no part.
+fn can_be_laid_out(memory: &Memory, plan: &Plan) -> bool {
+    let large = |memory: &Memory| memory.width != 0 && result_too_large(&Layout::of(memory, plan));
+    let sizes = !too_large(memory) && !plan_too_large(&Plan { write_logs: vec![], read_logs: vec![], ..plan.clone() });
+    sizes && !bad_entries(memory.width, &plan.entries) && !bad_mask(memory, plan) && !large(memory)
+}
+
+/// 23 before all others, as for a patch.
+pub fn lay_out(call: &LayOut) -> u32 {
+    let memory = &call.memory;
+    if !can_be_laid_out(memory, &call.plan) {
+        return 23;
+    }
+    first(&[
+        (2, memory.init.len() as u64 != memory.depth as u64 * memory.width as u64),
+        (4, bad_trits(&memory.init)),
+        (20, Layout::of(memory, &call.plan).image_trits() > call.image_room as u64),
+    ])
+}
+
 
 /// A patch of the laid-out state; 23 before all others.
 pub fn patch(layout: Option<&Layout>, patch: &Patch) -> u32 {

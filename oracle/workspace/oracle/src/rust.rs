@@ -45,6 +45,7 @@ pub fn run(design: &Design, call: &Call) -> Vec<u32> {
             lower_fallback(design, c);
             vec![]
         }
+        Call::LayOut(c) => words!(swizzle(design, &c.swizzle())),
         Call::History(_) | Call::WriteRecord(_) | Call::ReadRecord(_) | Call::Lister(_) => vec![],
     }
 }

@@ -2,6 +2,7 @@
 
 use std::fmt::Debug;
 
+use crate::answer::NO_CASE;
 use crate::limits::X;
 use crate::wire::*;
 
@@ -17,6 +18,7 @@ pub fn case(given: &[u32]) -> String {
 pub fn answer(op: u32, given: &[u32]) -> String {
     match given {
         [] => "no answer\n".into(),
+        [NO_CASE, ..] => "no case\n".into(),
         [0, _, payload @ ..] => format!("accepted, {} words\n{}", payload.len(), accepted(op, payload)),
         [number, ..] => format!("refused {number}\n"),
     }
@@ -56,7 +58,7 @@ fn pieces(op: u32, words: &mut Words) -> Option<String> {
         13 => out += &(piece::<Value>(words)? + &piece::<Option<Value>>(words)?),
         20..=22 => out += &(piece::<Memory>(words)? + &piece::<Value>(words)?),
         23 => out += &piece::<Memory>(words)?,
-        26 | 30 => out += &(piece::<Value>(words)? + &piece::<Value>(words)?),
+        26 | 30 | 40 => out += &(piece::<Value>(words)? + &piece::<Value>(words)?),
         27 => {
             for _ in 0..words.word()? {
                 out += &(piece::<Memory>(words)? + &piece::<Value>(words)?);

@@ -28,12 +28,14 @@ fn changed(call: &Call, change: impl Fn(&mut Call)) -> Option<Call> {
 fn shorter_lists(call: &Call) -> Vec<Call> {
     let count = match call {
         Call::Swizzle(c) => c.patches.len(),
+        Call::LayOut(c) => c.patches.len(),
         Call::History(c) => c.steps.len(),
         _ => 0,
     };
     let without = |place: usize| {
         changed(call, |call| match call {
             Call::Swizzle(c) => drop(c.patches.remove(place)),
+            Call::LayOut(c) => drop(c.patches.remove(place)),
             Call::History(c) => drop(c.steps.remove(place)),
             _ => (),
         })

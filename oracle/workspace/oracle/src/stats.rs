@@ -3,6 +3,7 @@
 use std::collections::BTreeMap;
 use std::fmt;
 
+use crate::answer::NO_CASE;
 use crate::features;
 use crate::wire::{Call, Memory, Value, Wire, Words, name};
 
@@ -10,7 +11,7 @@ use crate::wire::{Call, Memory, Value, Wire, Words, name};
 pub struct Stats {
     /// Cases by op and number.
     cases: BTreeMap<u32, BTreeMap<u32, u64>>,
-    /// Patches of op 27, steps of op 30 and records that op 33 lists, by number.
+    /// Patches of ops 27 and 40, steps of op 30 and records that op 33 lists, by number.
     parts: BTreeMap<u32, BTreeMap<u32, u64>>,
     /// Accepted calls by what they show.
     features: BTreeMap<String, u64>,
@@ -59,7 +60,7 @@ pub fn parts(op: u32, payload: &[u32]) -> Option<Vec<u32>> {
             }
             Vec::read(&mut words)
         }
-        30 => Vec::read(&mut words),
+        30 | 40 => Vec::read(&mut words),
         33 => {
             let text: String = Vec::<u32>::read(&mut words)?.into_iter().filter_map(char::from_u32).collect();
             Some(vec![text.strip_prefix("refused ").map_or(0, |number| number.trim().parse().unwrap_or(u32::MAX))])
@@ -71,14 +72,17 @@ pub fn parts(op: u32, payload: &[u32]) -> Option<Vec<u32>> {
 impl fmt::Display for Stats {
     fn fmt(&self, f: &mut fmt::Formatter) -> fmt::Result {
         let line = |f: &mut fmt::Formatter, head: String, numbers: &BTreeMap<u32, u64>| {
-            let list: Vec<String> = numbers.iter().map(|(number, count)| format!("{number}:{count}")).collect();
+            let list: Vec<String> = numbers.iter().map(|(number, count)| match number {
+                &NO_CASE => format!("no case:{count}"),
+                _ => format!("{number}:{count}"),
+            }).collect();
             writeln!(f, "{head:<42} {:>8}   {}", numbers.values().sum::<u64>(), list.join(" "))
         };
         for (op, numbers) in &self.cases {
             line(f, format!("{op:>2} {}", name(*op)), numbers)?;
             if let Some(parts) = self.parts.get(op) {
                 let what = match op {
-                    27 => "patches",
+                    27 | 40 => "patches",
                     30 => "steps",
                     _ => "listed records",
                 };

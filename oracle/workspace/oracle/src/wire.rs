@@ -294,6 +294,54 @@ record! { SwizzleDepths { room: u32, memory: Memory, plan: Plan } }
 record! { SwizzleMuxBits { memory: Memory, ports: Vec<u32>, plan: Plan } }
 record! { Swizzle { request: SwizzleRequest, patches: Vec<Patch> } }
 record! { CanLowerFallback { memory: Memory } }
+
+/// Rows under a plan, without ports and log, and patches of their image.
+#[derive(Clone, Debug, PartialEq, Eq)]
+pub struct LayOut {
+    pub image_room: u32,
+    /// It has no ports.
+    pub memory: Memory,
+    pub plan: Plan,
+    pub patches: Vec<Patch>,
+}
+
+/// Of the memory its depth, its width and its initial trits.
+impl Wire for LayOut {
+    fn read(words: &mut Words) -> Option<Self> {
+        let image_room = words.word()?;
+        let (depth, width, init) = (words.word()?, words.word()?, Trits::read(words)?);
+        let memory = Memory { depth, width, init, write_ports: vec![], read_ports: vec![] };
+        Some(LayOut { image_room, memory, plan: Plan::read(words)?, patches: Vec::read(words)? })
+    }
+
+    fn write(&self, out: &mut Vec<u32>) {
+        out.extend([self.image_room, self.memory.depth, self.memory.width]);
+        self.memory.init.write(out);
+        self.plan.write(out);
+        self.patches.write(out);
+    }
+}
+
+impl LayOut {
+    /// The layout and the patches of a swizzle.
+    pub fn of(swizzle: Swizzle) -> LayOut {
+        let SwizzleRequest { image_room, memory, plan, .. } = swizzle.request;
+        let memory = Memory { write_ports: vec![], read_ports: vec![], ..memory };
+        LayOut { image_room, memory, plan, patches: swizzle.patches }
+    }
+
+    /// A swizzle with this layout: no ports, so no wide logs, and room for the entry that depth 0 logs.
+    pub fn swizzle(&self) -> SwizzleRequest {
+        SwizzleRequest {
+            image_room: self.image_room,
+            log: Log { room: 9, used: 0, next: 2 },
+            memory: self.memory.clone(),
+            output: vec![],
+            plan: Plan { write_logs: vec![], read_logs: vec![], ..self.plan.clone() },
+        }
+    }
+}
+
 record! { History { steps: Vec<Step> } }
 record! { WriteRecord { room: u32, sizes: Sizes, image: Trits } }
 record! { ReadRecord { room: u32, bytes: Vec<u32> } }
@@ -354,6 +402,7 @@ calls! {
     31 WriteRecord(WriteRecord) "record write";
     32 ReadRecord(ReadRecord) "record read";
     33 Lister(Lister) "lister";
+    40 LayOut(LayOut) "layout";
 }
 
 impl Call {

@@ -35,6 +35,7 @@ impl Maker {
             31 => Call::WriteRecord(self.write_record()),
             32 => Call::ReadRecord(ReadRecord { room: 0, bytes: self.bytes() }),
             33 => Call::Lister(Lister { bytes: self.bytes() }),
+            40 => Call::LayOut(LayOut::of(self.swizzle())),
             _ => unreachable!("an op of docs/CALLING.md"),
         }
     }

@@ -21,6 +21,7 @@ impl Maker {
             31 => Call::WriteRecord(self.edge_record()),
             32 => Call::ReadRecord(ReadRecord { room: 0, bytes: self.edge_bytes() }),
             33 => Call::Lister(Lister { bytes: self.edge_bytes() }),
+            40 => Call::LayOut(LayOut::of(self.edge_swizzle())),
             _ => return None,
         })
     }

@@ -7,7 +7,7 @@ use crate::wire::*;
 pub type Numbered = (u32, Call);
 
 pub fn all() -> Vec<Numbered> {
-    [leaves(), merges(), memories(), ports(), plans(), fallbacks(), records(), logs()].concat()
+    [leaves(), merges(), memories(), ports(), plans(), fallbacks(), records(), logs(), layouts()].concat()
 }
 
 fn one_bit() -> Memory {
@@ -328,6 +328,37 @@ fn records() -> Vec<Numbered> {
         calls.push((0, Call::Lister(Lister { bytes })));
     }
     calls
+}
+
+/// 23 for what no accepted swizzle has, before all others; new wide logs play no part.
+fn layouts() -> Vec<Numbered> {
+    let changes: [(u32, fn(&mut LayOut)); 18] = [
+        (0, |c| c.plan.write_logs = vec![WIDE + 1]),
+        (0, |c| c.plan.read_logs = vec![9, 0]),
+        (2, |c| c.memory.init.truncate(1)),
+        (2, |c| (c.memory.init, c.image_room) = (vec![3], 0)),
+        (4, |c| (c.memory.init[1], c.image_room) = (3, 0)),
+        (20, |c| c.image_room = 1),
+        (23, |c| (c.memory.depth, c.memory.init) = (DEPTH + 1, vec![3])),
+        (23, |c| c.memory.width = WIDTH + 1),
+        (23, |c| (c.memory.depth, c.memory.width) = (257, WIDTH)),
+        (23, |c| c.plan.entries = vec![NONE; ROW + 1]),
+        (23, |c| c.plan.unit = 0),
+        (23, |c| c.plan.unit = UNIT + 1),
+        (23, |c| c.plan.hard = HARD + 1),
+        (23, |c| c.plan.entries = vec![]),
+        (23, |c| c.plan.entries = vec![0, 1]),
+        (23, |c| c.plan.entries = vec![0, 0]),
+        (23, |c| c.plan.soft_mask = 2),
+        (23, |c| (c.memory.depth, c.memory.init, c.plan.hard, c.plan.unit) = (DEPTH, vec![], HARD, UNIT)),
+    ];
+    let call = |change: fn(&mut LayOut)| {
+        let (memory, patches) = (memory(2, 1), vec![patch(2, 1, &[2]), patch(1, 1, &[1]), patch(2, 2, &[1]), patch(2, 0, &[4])]);
+        let mut call = LayOut { image_room: 2, memory, plan: plan(1, 0, 1, 1), patches };
+        change(&mut call);
+        Call::LayOut(call)
+    };
+    changes.map(|(number, change)| (number, call(change))).to_vec()
 }
 
 /// Calls that log something: one word short, a next free net that the nets pass, and one below 2.

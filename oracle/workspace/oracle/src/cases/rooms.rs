@@ -66,6 +66,11 @@ impl Maker {
             let need = payload.as_ref().map_or(3, |words| words[0]);
             *room = if self.rng.chance(20) { u32::MAX } else { self.near(need) };
         }
+        if let Call::LayOut(c) = call {
+            let layout = crate::image::Layout::of(&c.memory, &c.plan);
+            let need = if payload.is_ok() { layout.image_trits() as u32 } else { 9 };
+            c.image_room = self.near(need).min(IMAGE_ROOM);
+        }
         if let Call::Swizzle(swizzle) = call {
             let layout = crate::image::Layout::of(&swizzle.request.memory, &swizzle.request.plan);
             let need = if payload.is_ok() { layout.image_trits() as u32 } else { 9 };
@@ -98,6 +103,9 @@ pub fn widest(call: &mut Call) {
     }
     if let Call::Swizzle(swizzle) = call {
         swizzle.request.image_room = IMAGE_ROOM;
+    }
+    if let Call::LayOut(c) = call {
+        c.image_room = IMAGE_ROOM;
     }
     if let Some(log) = call.log_mut() {
         log.room = LOG_ROOM;

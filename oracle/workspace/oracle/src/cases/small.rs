@@ -29,6 +29,7 @@ pub fn all() -> Vec<Call> {
         fallbacks(),
         histories(),
         records(),
+        layouts(),
     ];
     lists.concat()
 }
@@ -272,6 +273,15 @@ fn swizzles() -> Vec<Call> {
         calls.push(swizzle(memory, plan, vec![patch(0, 1, &[]), patch(0, 2, &[]), patch(0, 0, &[0])]));
     }
     calls
+}
+
+/// The layouts of the swizzles, and of the documents' examples.
+fn layouts() -> Vec<Call> {
+    let layout = |call| match call {
+        Call::Swizzle(swizzle) => Some(Call::LayOut(LayOut::of(swizzle))),
+        _ => None,
+    };
+    [swizzles(), examples::all()].concat().into_iter().filter_map(layout).collect()
 }
 
 fn clocks() -> Vec<Call> {

@@ -23,6 +23,7 @@ fn faults(op: u32) -> Vec<Fault> {
         26 => &[plan_size, plan_entries, plan_mask, plan_logs, list_long, list_index],
         27 => &[plan_size, plan_entries, plan_mask, plan_logs, plan_large, no_rows],
         29 => &[clocks, short_addresses],
+        40 => &[plan_size, plan_entries, plan_mask, plan_large],
         _ => &[],
     };
     let output: &[Fault] = if matches!(op, 20..=22 | 27 | 29) { &OUTPUT } else { &[] };

@@ -1,0 +1,269 @@
+//! Document 01's examples through the safe types, and the values of the calls that lend no room.
+
+mod common;
+
+use common::{FIRST_LIST, FIRST_RECORD, NETS, TRITS, controls, memory, plan, pos};
+use tablegoose::*;
+
+/// A plan of a row's entries, -1 for none.
+fn split(entries: &[i32], mask: u32, hard: u32, unit: u32) -> Swizzle {
+    Swizzle {
+        data_swizzle: entries.iter().map(|&entry| u32::try_from(entry).ok()).collect(),
+        soft_addr_bits_mask: mask,
+        hard_addr_bits: hard,
+        data_width_unit: unit,
+        ..Swizzle::default()
+    }
+}
+
+fn bare(depth: u32, width: u32) -> Memory {
+    Memory { depth, width, init_value: vec![Trit::Zero; (depth * width) as usize], ..Memory::default() }
+}
+
+fn number<T>(result: Result<T, Refusal>) -> u32 {
+    result.err().map_or(0, Refusal::number)
+}
+
+/// Memory and row of a row's first entry.
+fn place(depth: u32, width: u32, plan: &Swizzle, row: u32) -> (u64, u64, u64) {
+    let place = Layout::new(depth, width, plan).place_of(row, 0).expect("a place");
+    (place.memory, place.row, place.bit)
+}
+
+#[test]
+fn depths_and_places() {
+    let plan = split(&[0, 1], 0, 1, 2);
+    assert_eq!(bare(3, 2).swizzle_depths(&plan), Ok(vec![2, 1]));
+    assert_eq!(place(3, 2, &plan, 2), (1, 0, 0));
+    let plan = split(&[0, 1, 2], 0, 1, 2);
+    assert_eq!(bare(3, 3).swizzle_depths(&plan), Ok(vec![2, 2, 1]));
+    assert_eq!(place(3, 3, &plan, 2), (1, 0, 1));
+    assert_eq!(place(4, 1, &split(&[0], 2, 1, 1), 2), (1, 0, 0));
+    let plan = split(&[0], 4, 1, 1);
+    assert_eq!((place(8, 1, &plan, 4).0, place(8, 1, &plan, 6).0), (2, 3));
+    let plan = split(&[0], 1, 2, 1);
+    assert_eq!(bare(6, 1).swizzle_depths(&plan), Ok(vec![3, 3]));
+    assert_eq!(number(bare(5, 1).swizzle_depths(&plan)), 8);
+    assert_eq!(number(bare(32_768, 1).check()), 0);
+    assert_eq!(number(bare(32_769, 1).check()), 1);
+}
+
+fn with_mask(width: u32, masks: &[&[u32]]) -> Memory {
+    let port = |mask: &&[u32]| WritePort {
+        addr: vec![Net(10)],
+        data: Net(20).run(mask.len()),
+        mask: mask.iter().map(|&net| Net(net)).collect(),
+        clock: Control::Pos(Net(5)),
+    };
+    Memory { write_ports: masks.iter().map(port).collect(), ..bare(2, width) }
+}
+
+#[test]
+fn entries_of_a_row() {
+    let bits = |list: &[i32]| Ok(split(list, 0, 0, 1).data_swizzle);
+    assert_eq!(with_mask(3, &[&[7, 7, 8]]).make_data_swizzle(&[2]), bits(&[0, 1, 2, -1]));
+    assert_eq!(with_mask(3, &[&[7, 8, 8]]).make_data_swizzle(&[2]), bits(&[0, -1, 1, 2]));
+    let twelve = [&[0, 1, 2, 3][..], &[-1; 8]].concat();
+    assert_eq!(with_mask(4, &[&[7; 4], &[7; 4]]).make_data_swizzle(&[3, 4]), bits(&twelve));
+}
+
+#[test]
+fn mux_bits() {
+    for (chunks, expected) in [(1, 0), (2, 1), (5, 3)] {
+        let memory = with_mask(1, &[&[7]]);
+        let memory = Memory { depth: chunks, init_value: vec![Trit::X; chunks as usize], ..memory };
+        let plan = Swizzle { write_wide_log2: vec![0], ..split(&[0], 0, 0, 1) };
+        assert_eq!(memory.swizzle_mux_bits(&[], &plan), Ok(MuxBits { writes: vec![expected], reads: vec![] }));
+    }
+    assert_eq!(number(with_mask(1, &[&[7]]).swizzle_mux_bits(&[0], &split(&[0], 0, 0, 1))), 9);
+}
+
+#[test]
+fn record_of_the_first_example() {
+    let layout = Layout::new(3, 2, &split(&[0, 1], 0, 1, 2));
+    let image = layout.fill(&trits("10X100").expect("trits")).expect("an image");
+    let record = image.record().expect("a record");
+    assert_eq!(record.0, FIRST_RECORD);
+    assert_eq!(record.list(), FIRST_LIST);
+    assert_eq!(list_input(&record.0, 14), FIRST_LIST);
+    assert_eq!(list_input(&record.0[..12], 40_000), "refused 16\n");
+    assert_eq!(record.read(), Ok((layout.sizes().expect("sizes"), image.trits())));
+    assert_eq!(record.header(), layout.sizes());
+    assert_eq!(number(Record(FIRST_RECORD[..13].to_vec()).read()), 16);
+    assert_eq!(number(Record::write(Sizes::default(), &[])), 17);
+    let summary = image.summary(0).expect("a memory");
+    assert_eq!((summary.index, summary.depth, summary.known, summary.ones), (0, 2, 3, 2));
+    assert_eq!(memory_summary(layout.sizes().expect("sizes"), &image.trits(), 0), Ok(summary));
+    assert_eq!(number(image.summary(2)), 15);
+}
+
+#[test]
+fn patches() {
+    let layout = Layout::new(8, 1, &split(&[0], 4, 1, 1));
+    let mut image = layout.fill(&[Trit::Zero; 8]).expect("an image");
+    let one = |row| Patch { row, trits: vec![Trit::One] };
+    assert_eq!(image.patch_each(&[one(6), one(8), Patch { row: 0, trits: vec![] }]), Ok(vec![0, 15, 4]));
+    assert_eq!(image.row(6), Ok(vec![Trit::One]));
+    let (again, numbers) = layout.fill_then_patch(&[Trit::Zero; 8], &[one(6), one(8)]).expect("an image");
+    assert_eq!((&again, numbers), (&image, vec![0, 15]));
+    let laid = layout.laid_out();
+    let mut other = laid.fill(&[Trit::Zero; 8]).expect("an image");
+    assert_eq!(laid.patch_all(&mut other, &[one(8), one(5)]), Ok(vec![15, 0]));
+    assert_eq!((laid.patch(&mut other, 5, &[Trit::Zero]), laid.patch(&mut other, 6, &[Trit::One])), (Ok(()), Ok(())));
+    assert_eq!((&other, laid.read_row(&other, 6), laid.layout()), (&image, Ok(vec![Trit::One]), layout.clone()));
+    assert_eq!(laid.fill_and_patch(&[Trit::Zero; 8], &[one(6)]), Ok((other, vec![0])));
+    assert_eq!((number(Laid::unset().fill(&[])), number(Laid::unset().patch(&mut image, 6, &[Trit::One]))), (23, 23));
+    assert_eq!((number(Laid::unset().sizes()), number(Laid::unset().read_row(&image, 6))), (23, 23));
+    assert_eq!(Laid::unset().patch_all(&mut image, &[one(6)]), Ok(vec![23]));
+    assert_eq!(number(image.patch(8, &[Trit::One])), 15);
+    assert_eq!(again, image);
+    assert_eq!(number(layout.fill(&[Trit::Zero; 7])), 2);
+    assert_eq!(number(Layout::new(8, 1, &split(&[0], 4, 1, 0)).fill(&[Trit::Zero; 8])), 23);
+    assert_eq!(number(layout.image(&[Trit::X])), 20);
+    assert_eq!(layout.image(&image.trits()), Ok(image));
+}
+
+#[test]
+fn trits_nets_and_controls() {
+    let three = [Trit::Zero, Trit::One, Trit::X];
+    assert_eq!(const_not(&three), Ok(trits("10X").expect("trits")));
+    assert_eq!(const_and(&three, &[Trit::X; 3]), Ok(trits("0XX").expect("trits")));
+    assert_eq!(const_or(&three, &[Trit::X; 3]), Ok(trits("X1X").expect("trits")));
+    assert_eq!(number(const_or(&three, &[])), 2);
+    assert_eq!((Trit::X.and(Trit::Zero), Trit::X.or(Trit::One), Trit::X.inverted()), (Trit::Zero, Trit::One, Trit::X));
+    assert!(is_undef(&[]) && is_undef(&[Trit::X]) && !is_undef(&three));
+    assert_eq!((slice(&three, 1..3), number(slice(&three, 2..4))), (Ok(&three[1..]), 15));
+    assert_eq!((Net::of_cell(3), number(Net::of_cell(u32::MAX))), (Ok(Net(5)), 4));
+    assert_eq!((Net(5).driver(), Net::X.driver()), (Driver::Cell(3), Driver::Constant(Trit::X)));
+    assert_eq!((Net::ONE.as_const(), Net(5).as_const(), Net(5).is_const()), (Some(Trit::One), None, false));
+    assert_eq!((Control::ZERO.inverse(), Control::Pos(Net(5)).inverse()), (Ok(Control::ONE), Ok(Control::Neg(Net(5)))));
+    assert_eq!((number(Control::Neg(Net::ONE).inverse()), Control::ONE.is_always(true)), (4, Ok(true)));
+    assert_eq!((value_is_undef(&[Net::X]), number(value_is_undef(&[Net(u32::MAX - 1)]))), (Ok(true), 4));
+    assert_eq!((zext(&[Net(5)], 2), number(zext(&[Net(5)], 0))), (Ok(vec![Net(5), Net::ZERO]), 2));
+    let (long, short) = (Net(5).run(3), Net(9).run(1));
+    assert_eq!(narrower_select(&long, &short, 0, 2), Ok(Net(5).run(2)));
+    assert_eq!(number(narrower_select(&short, &long, 0, 2)), 14);
+    assert_eq!((wide_log2(3, 12), number(wide_log2(3, 7))), (Ok(2), 2));
+    assert_eq!(number(trits("1?")), 4);
+}
+
+#[test]
+fn refusals_have_texts() {
+    for number in (1..=23).filter(|&number| number != 19) {
+        let refusal = Refusal::check(number).expect_err("a number");
+        assert!(refusal.text() != "no refusal number" && refusal.to_string().starts_with(&format!("refused {number}: ")));
+    }
+    assert_eq!(Refusal::check(19).expect_err("a number").text(), "no refusal number");
+}
+
+#[test]
+fn log_entries_are_read_back() {
+    let mut log = Log::new(1_000, Net(100));
+    let f = FlipFlop { controls: Controls::clocked(Control::Neg(Net(5))), clear_value: vec![Trit::X], reset_value: vec![Trit::One], init_value: vec![Trit::Zero] };
+    let (a, b) = (Net(8).run(2), Net(20).run(2));
+    assert_eq!(log.add_void(2), Ok(Net(100).run(2)));
+    assert_eq!(log.add_not(&a), Ok(Net(102).run(2)));
+    assert_eq!(log.add_and(&a, &b), Ok(Net(104).run(2)));
+    assert_eq!(log.add_or(&a, &b), Ok(Net(106).run(2)));
+    assert_eq!(log.add_mux(Control::Neg(Net(7)), &a, &b), Ok(Net(108).run(2)));
+    assert_eq!(log.add_eq(&a, &b), Ok(Net(110)));
+    assert_eq!(log.add_shl(4, &a, &b), Ok(Net(111).run(2)));
+    assert_eq!(log.add_ushr(4, &a, &b), Ok(Net(113).run(2)));
+    assert_eq!(log.add_dff(&[Net(9)], &f), Ok(Net(115).run(1)));
+    assert_eq!(log.replace_value(&a, &b), Ok(()));
+    assert_eq!(log.into_pos(Control::Neg(Net(9))), Ok(Net(116)));
+    let before = log.clone();
+    assert_eq!(number(log.add_not(&[Net(1_000)])), 4);
+    assert_eq!(number(log.add_void(u32::MAX)), 21);
+    assert_eq!(log, before);
+    let cells: Vec<Cell> = log.entries().map(|entry| entry.cell).collect();
+    let expected = [
+        Cell::Void,
+        Cell::Not(a.clone()),
+        Cell::And(a.clone(), b.clone()),
+        Cell::Or(a.clone(), b.clone()),
+        Cell::Mux { select: Net(7), then: b.clone(), other: a.clone() },
+        Cell::Eq(a.clone(), b.clone()),
+        Cell::Shl { stride: 4, select: a.clone(), value: b.clone() },
+        Cell::Ushr { stride: 4, select: a.clone(), value: b.clone() },
+        Cell::FlipFlop { data: vec![Net(9)], flip_flop: f },
+        Cell::Replace { from: a, to: b },
+        Cell::Not(vec![Net(9)]),
+    ];
+    assert_eq!(cells, expected);
+    assert_eq!(log.entries().map(|entry| entry.made.len()).sum::<usize>(), 17);
+}
+
+#[test]
+fn merges_keep_equal_bits_once() {
+    let mut log = Log::new(1_000, Net(100));
+    let (a, b) = ([Net(8), Net(9), Net(8)], [Net(1), Net(1), Net(1)]);
+    assert_eq!(log.add_dedup_mux(Control::Pos(Net(7)), &a, &b), Ok(vec![Net(100), Net(101), Net(100)]));
+    assert_eq!(log.add_bitwise_mux(&[Net(7), Net(6), Net(6)], &a, &b), Ok(vec![Net(102), Net(103), Net(104)]));
+    let f = FlipFlop {
+        controls: Controls::clocked(Control::Pos(Net(5))),
+        clear_value: vec![Trit::X; 3],
+        reset_value: vec![Trit::X; 3],
+        init_value: vec![Trit::X, Trit::X, Trit::Zero],
+    };
+    assert_eq!(log.add_dedup_dff(&a, &f), Ok(vec![Net(105), Net(106), Net(107)]));
+    let c = Controls { reset: Control::Pos(Net(6)), enable: Control::Neg(Net(7)), ..f.controls };
+    let remapped = log.remap_reset_over_enable(c).expect("controls");
+    assert_eq!(remapped, Controls { reset: Control::Pos(Net(109)), reset_over_enable: true, ..c });
+    assert_eq!(number(log.add_dedup_mux(Control::Neg(Net::X), &a, &b)), 4);
+}
+
+/// A memory with a write port and two read ports, one of them clocked.
+fn ported() -> Memory {
+    let f = FlipFlop { controls: Controls::clocked(Control::Pos(Net(5))), clear_value: vec![Trit::X], reset_value: vec![Trit::One], init_value: vec![Trit::Zero] };
+    let clocked = ReadPort { addr: vec![Net(60)], data_len: 1, flip_flop: Some(f), relations: vec![Relation::Transparent] };
+    let plain = ReadPort { addr: vec![Net(61), Net(62)], data_len: 2, flip_flop: None, relations: vec![] };
+    Memory { read_ports: vec![clocked, plain], ..with_mask(1, &[&[7]]) }
+}
+
+#[test]
+fn memories() {
+    let memory = ported();
+    assert_eq!((memory.check(), memory.output_len()), (Ok(()), Ok(3)));
+    assert_eq!((memory.read_port_output_slice(1), number(memory.read_port_output_slice(2))), (Ok(1..3), 15));
+    assert_eq!(memory.can_lower_fallback(), Ok(true));
+    assert_eq!(memory.lowered().lifted(), memory);
+    let (extracted, output) = memory.extract_read_ports(&[1, 0, 1], &Net(80).run(3)).expect("a memory");
+    let ports = [1, 0, 1].map(|port: usize| memory.read_ports[port].clone());
+    assert_eq!(extracted, Memory { read_ports: ports.to_vec(), ..memory.clone() });
+    assert_eq!(output, [81, 82, 80, 81, 82].map(Net));
+    assert_eq!(number(memory.extract_read_ports(&[2], &Net(80).run(3))), 15);
+    assert_eq!(number(memory.extract_read_ports(&[0], &Net(80).run(2))), 2);
+    let nine = Memory { read_ports: vec![memory.read_ports[1].clone(); 9], ..memory.clone() };
+    assert_eq!(number(nine.check()), 1);
+    let clocks = Memory { write_ports: vec![memory.write_ports[0].clone(), WritePort { clock: Control::Neg(Net(5)), ..memory.write_ports[0].clone() }], read_ports: vec![], ..memory };
+    assert_eq!(clocks.can_lower_fallback(), Ok(false));
+}
+
+/// Codes that the safe types do not have: 4, and every field of the answer 0.
+#[test]
+fn flags_and_polarities() {
+    let bad = ffi::Control { polarity: 2, net: 7 };
+    let refused = ffi::ControlAnswer { number: 4, control: ffi::Control::default() };
+    assert_eq!(ffi::control_not(bad), refused);
+    assert_eq!(ffi::control_is_always(pos(0), 2), ffi::Answer { number: 4, value: 0 });
+    assert_eq!(ffi::trit_and(0, 3), ffi::Answer { number: 4, value: 0 });
+    let (mut log, st) = ([7; 40], common::state());
+    let logged = ffi::remap_reset_over_enable(&mut log, st, ffi::Controls { reset_over_enable: 2, ..controls() });
+    assert_eq!((logged.number, logged.controls, logged.state, log), (4, ffi::Controls::default(), st, [7; 40]));
+    let with = |change: fn(&mut ffi::Memory)| {
+        let mut m = memory();
+        change(&mut m);
+        ffi::memory_refusal(m, &NETS, &TRITS)
+    };
+    assert_eq!(with(|_| ()), 0);
+    assert_eq!(with(|m| m.read_ports[0].clocked = 2), 4);
+    assert_eq!(with(|m| m.read_ports[0].reset_over_enable = 2), 4);
+    assert_eq!(with(|m| m.write_ports[0].clock.polarity = 2), 4);
+    assert_eq!(with(|m| m.read_ports[0].relations[0] = 3), 4);
+    assert_eq!(with(|m| m.read_ports[0].relations_len = 9), 2);
+    assert_eq!(with(|m| m.write_count = 9), 1);
+    assert_eq!(with(|m| m.write_count = u32::MAX), 1);
+    let bits = ffi::swizzle_mux_bits(memory(), &NETS, &TRITS, &[1], plan(), &[0], &[0], &[0]);
+    assert_eq!(bits, ffi::MuxBits { refusal: 15, writes: [0; 8], reads: [0; 8] });
+}
