@@ -9,23 +9,6 @@ import os
 import re
 import sys
 
-# The call format of differential runs, which typed exports will replace: what the promises of its functions leave unsaid.
-# The scratch that an answer is made in (`words`, `trits`) holds nothing that a caller reads; a `&mut` part that is handed
-# back is still lent at exit; `put_log` says only what it keeps.
-SCRATCH = ('words', 'trits')
-UNSAID = {
-    'crates/answer_layouts/src/lib.rt answer': SCRATCH,
-    'crates/answer_leaves/src/lib.rt answer': SCRATCH,
-    'crates/answer_logs/src/lib.rt answer': SCRATCH,
-    'crates/answer_memories/src/lib.rt answer': SCRATCH,
-    'crates/answer_merges/src/lib.rt answer': SCRATCH,
-    'crates/answer_records/src/lib.rt answer': SCRATCH,
-    'crates/wire/src/lib.rt tablegoose_answer': SCRATCH,
-    'crates/pieces/src/lib.rt part_mut': ('s',),
-    'crates/pieces/src/lib.rt part_u8_mut': ('s',),
-    'crates/pieces/src/lib.rt put_log': ('result',),
-}
-
 PUBLIC = re.compile(r'\bpub\b(?!\s*\()[^;{}()=]*?\bfn\s+(\w+)')
 EXPORTED = re.compile(r'#\[[^\]]*\bno_mangle\b[^\]]*\](?:\s*#\[[^\]]*\])*\s*(?:pub\s*\([^)]*\))?[^;{}()=]*?\bfn\s+(\w+)')
 QUOTED = re.compile(r'''b?r(#*)".*?"\1|"(?:\\.|[^"\\])*"|b?'(?:\\(?:x..|.)|[^'\\\n])\'''', re.S)
@@ -390,9 +373,8 @@ def strange_signs(text):
                 yield text.count('\n', 0, m.start()) + 1, name
 
 
-def text_faults(text, path='', unsaid=None, holding=()):
-    """The faults of one file, where `unsaid` lists what its functions need not say, and `holding` other files' types that hold a `&mut`."""
-    unsaid = {} if unsaid is None else unsaid
+def text_faults(text, path='', holding=()):
+    """The faults of one file, where `holding` lists other files' types that hold a `&mut`."""
     text = without_comments(text)
     holding = holders(text) | set(holding)
     for line, name in strange_signs(text):
@@ -402,30 +384,21 @@ def text_faults(text, path='', unsaid=None, holding=()):
         line = text.count('\n', 0, start) + 1
         for fault in found:
             yield f'{path}:{line}: {name} {fault}'
-        excepted = unsaid.get(f'{path} {name}', ())
         for x in missing:
-            if x not in excepted:
-                what = 'its result' if x == 'result' else f'{x} at exit'
-                yield f'{path}:{line}: no clause of {name} says {what}'
-        for x in excepted:
-            if x not in missing:
-                yield f'{path}:{line}: {name} says {x}, which scripts/contracts.py excepts: take it from the list'
+            what = 'its result' if x == 'result' else f'{x} at exit'
+            yield f'{path}:{line}: no clause of {name} says {what}'
 
 
 def faults():
-    """The faults of every library crate, and exceptions that name no function."""
+    """The faults of every library crate."""
     texts = {}
     for root in sorted(glob.glob('crates/*/src/lib.rt')):
         for path in sorted(glob.glob(os.path.join(os.path.dirname(root), '**', '*.rt'), recursive=True)):
             texts[path] = open(path, encoding='utf-8').read()
     holding = set().union(*(holders(without_comments(text)) for text in texts.values()))
-    there = set()
     for path, text in texts.items():
-        yield from text_faults(text, path, UNSAID, holding)
-        there |= {f'{path} {name}' for _, name in functions(without_comments(text))}
-    for key in sorted(set(UNSAID) - there):
-        yield f'{key} is excepted by scripts/contracts.py and is not there'
-    if not there:
+        yield from text_faults(text, path, holding)
+    if not any(functions(without_comments(text)) for text in texts.values()):
         yield 'no public function was found'
 
 

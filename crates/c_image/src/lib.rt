@@ -1,20 +1,18 @@
 // Layouts, images, patches and places for callers in C and Rust: by a layout's numbers and entries, and by the state that a swizzle hands on.
 ghost use mathlib.Core.Path.{_≡_};
-ghost use mathlib.Core.Bool.{false};
 ghost use mathlib.Core.Option.{none};
 ghost use lib.ListN.{length};
-ghost use Rattle.rules.specs.Image.{Patch};
-ghost use Rattle.rules.specs.Record.{Sizes};
-ghost use Rattle.rules.specs.Conditions.{badSizes};
 ghost use Rattle.rules.specs.Patch.{Demanded};
-ghost use Rattle.rules.specs.Answers.{Accepted, patchCall, patchesCall, sizesCall, filledWith};
+ghost use Rattle.rules.specs.Answers.{patchCall, patchesCall, sizesCall, filledWith};
 ghost use Rattle.rules.specs.Beside.Shape.{handedOn, shapeCall, placeCall};
 ghost use Rattle.rules.specs.Beside.Layouts.{fillCall, fillAndPatchCall, readRowCall};
 ghost use Rattle.image_geometry.specs.View.{layoutBy, measuredOf};
 ghost use Rattle.image_rows.specs.View.{placedOf};
 ghost use Rattle.image_state.specs.View.{laidOf, unsetLaid, laidBy, sizedOf};
 ghost use Rattle.image_patches.specs.Calls.{callsOf, patchedTo};
-ghost use Rattle.c_image.specs.View.{measuredStruct, placedStruct, headStruct};
+ghost use Rattle.c_record.specs.View.{headStruct};
+ghost use Rattle.c_image.specs.View.{measuredStruct, placedStruct};
+use c_record::Head;
 use image_geometry::Measured;
 use image_geometry::Params;
 use image_geometry::Shape;
@@ -36,13 +34,6 @@ pub struct MeasuredResult {
 pub struct PlacedResult {
     pub number: u32,
     pub place: Place,
-}
-
-// A refusal's number, or 0 and a record's sizes.
-#[repr(C)]
-pub struct SizesResult {
-    pub number: u32,
-    pub sizes: Sizes,
 }
 
 fn measured_result(a: Measured) -> MeasuredResult
@@ -82,11 +73,11 @@ fn placed_result(a: Placed) -> PlacedResult
     }
 }
 
-fn sizes_result(a: Sized) -> SizesResult
+fn sizes_result(a: Sized) -> Head
     ensures { λ r. ⌜ r ≡ headStruct (sizedOf a) ⌝ }
 {
     match a {
-        Sized::Refused(n) => SizesResult {
+        Sized::Refused(n) => Head {
             number: n,
             sizes: Sizes {
                 unit: 0,
@@ -96,7 +87,7 @@ fn sizes_result(a: Sized) -> SizesResult
                 partial_depth: 0,
             },
         },
-        Sized::Accepted(sizes) => SizesResult { number: 0, sizes },
+        Sized::Accepted(sizes) => Head { number: 0, sizes },
     }
 }
 
@@ -275,7 +266,7 @@ pub extern "C" fn tablegoose_fill_and_patch(
 
 // The record's sizes for the images of the last accepted swizzle.
 #[no_mangle]
-pub extern "C" fn tablegoose_sizes_of(laid: Laid) -> SizesResult
+pub extern "C" fn tablegoose_sizes_of(laid: Laid) -> Head
     ensures { λ r. ⌜ r ≡ headStruct (sizesCall (laidOf laid)) ⌝ }
 {
     sizes_result(image_state::sizes_of(laid))

@@ -9,22 +9,12 @@ use Rattle.rules.specs.Answers as answers
 use Rattle.net_memory.specs.View.{netsTotal, tritsTotal}
 use Rattle.port_extract.specs.declared.Extracted.{Extracted as MachineExtracted}
 use Rattle.port_extract.specs.Extract.{withPorts, extractionOf}
-use Rattle.c_net.specs.declared.Result.{Result}
 use Rattle.c_memory.specs.declared.Memory.{Memory}
-use Rattle.c_memory.specs.declared.Count.{Count}
 use Rattle.c_memory.specs.declared.Slice.{Slice}
 use Rattle.c_memory.specs.declared.Extracted.{Extracted}
 use Rattle.c_memory.specs.View.{givenMemory, memoryStruct, zeroMemory}
 
--- a number as a value, as a count, and a start and a length: 0 where the call is refused
-abbrev pub numberResult : answers.Answer ℕ → Result
-numberResult (answers.Refused n) = record { number = n; value = 0 }
-numberResult (answers.Accepted k) = record { number = 0; value = k }
-
-abbrev pub countResult : answers.Answer ℕ → Count
-countResult (answers.Refused n) = record { number = n; count = 0 }
-countResult (answers.Accepted k) = record { number = 0; count = k }
-
+-- a start and a length: 0 where the call is refused
 abbrev pub sliceResult : answers.Answer (ℕ × ℕ) → Slice
 sliceResult (answers.Refused n) = record { number = n; start = 0; size = 0 }
 sliceResult (answers.Accepted x) = record { number = 0; start = x .0; size = x .1 }

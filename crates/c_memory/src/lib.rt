@@ -6,10 +6,11 @@ ghost use Rattle.net_memory.specs.Wide.{wideOf};
 ghost use Rattle.net_memory.specs.Given.{givenOf};
 ghost use Rattle.port_outputs.specs.Calls.{lenOf, sliceOf, canOf};
 ghost use Rattle.port_extract.specs.Extract.{extractedOf};
-ghost use Rattle.c_net.specs.View.{flagResult};
+ghost use Rattle.c_net.specs.View.{flagResult, valueResult, countStruct};
 ghost use Rattle.c_memory.specs.View.{givenMemory, memoryStruct, zeroMemory};
-ghost use Rattle.c_memory.specs.Calls.{numberResult, countResult, sliceResult, extractedStruct, givenExtracted, NewMemory};
+ghost use Rattle.c_memory.specs.Calls.{sliceResult, extractedStruct, givenExtracted, NewMemory};
 use c_net::Control;
+use c_net::Count;
 use net_memory::wide::WideLog2;
 use port_outputs::CanLower;
 use port_outputs::OutputLen;
@@ -64,13 +65,7 @@ struct FlipFlop {
     reset_over_enable: u32,
 }
 
-// A refusal's number and zeros, or 0 and a count, or a part's start and size, or a memory.
-#[repr(C)]
-pub struct Count {
-    pub number: u32,
-    pub count: usize,
-}
-
+// A refusal's number and zeros, or 0 and a part's start and size, or a memory.
 #[repr(C)]
 pub struct Slice {
     pub number: u32,
@@ -133,7 +128,7 @@ fn zero_memory() -> Memory
 }
 
 fn wide_result(a: WideLog2) -> c_net::Result
-    ensures { λ r. ⌜ r ≡ numberResult (wideOf a) ⌝ }
+    ensures { λ r. ⌜ r ≡ valueResult (wideOf a) ⌝ }
 {
     match a {
         WideLog2::Refused(n) => c_net::Result {
@@ -148,7 +143,7 @@ fn wide_result(a: WideLog2) -> c_net::Result
 }
 
 fn len_result(a: OutputLen) -> Count
-    ensures { λ r. ⌜ r ≡ countResult (lenOf a) ⌝ }
+    ensures { λ r. ⌜ r ≡ countStruct (lenOf a) ⌝ }
 {
     match a {
         OutputLen::Refused(n) => Count {
@@ -213,7 +208,7 @@ fn extracted_struct(e: port_extract::Extracted) -> Extracted
 
 #[no_mangle]
 pub extern "C" fn tablegoose_wide_log2(width: u32, size: usize) -> c_net::Result
-    ensures { λ r. ⌜ r ≡ numberResult (wideLog2Call width size) ⌝ }
+    ensures { λ r. ⌜ r ≡ valueResult (wideLog2Call width size) ⌝ }
 {
     wide_result(net_memory::wide::wide_log2(width, size))
 }
@@ -227,7 +222,7 @@ pub extern "C" fn tablegoose_memory_refusal(m: Memory, nets: &[u32], trits: &[u8
 
 #[no_mangle]
 pub extern "C" fn tablegoose_output_len(m: Memory, nets: &[u32], trits: &[u8]) -> Count
-    ensures { λ r. ⌜ r ≡ countResult (outputLenCall (givenOf (givenMemory m) (now (nets .entry)) (now (trits .entry)))) ⌝ }
+    ensures { λ r. ⌜ r ≡ countStruct (outputLenCall (givenOf (givenMemory m) (now (nets .entry)) (now (trits .entry)))) ⌝ }
 {
     len_result(port_outputs::output_len(memory_of(m), nets, trits))
 }

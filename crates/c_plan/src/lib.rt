@@ -5,16 +5,16 @@ ghost use Rattle.net_memory.specs.Given.{givenOf};
 ghost use Rattle.swizzle_plan.specs.Calls.{planOf};
 ghost use Rattle.swizzle_sizes.specs.Calls.{muxBitsBy};
 ghost use Rattle.c_memory.specs.View.{givenMemory};
-ghost use Rattle.c_memory.specs.Calls.{countResult};
+ghost use Rattle.c_net.specs.View.{countStruct};
 ghost use Rattle.c_plan.specs.View.{entriesOf};
-use c_memory::Count;
 use c_memory::Memory;
+use c_net::Count;
 use swizzle_entries::DataSwizzle;
 use swizzle_plan::MemorySwizzle;
 use swizzle_sizes::MuxBits;
 
 fn entries_result(a: DataSwizzle) -> Count
-    ensures { λ r. ⌜ r ≡ countResult (entriesOf a) ⌝ }
+    ensures { λ r. ⌜ r ≡ countStruct (entriesOf a) ⌝ }
 {
     match a {
         DataSwizzle::Refused(n) => Count {
@@ -37,7 +37,7 @@ pub extern "C" fn tablegoose_make_data_swizzle(
     trits: &[u8],
     granularities: &[u32],
 ) -> Count
-    ensures { λ r. ⌜ r ≡ countResult (makeDataSwizzleCall (now (out .entry)) (givenOf (givenMemory m) (now (nets .entry)) (now (trits .entry))) (now (granularities .entry)) .answer) ⌝ }
+    ensures { λ r. ⌜ r ≡ countStruct (makeDataSwizzleCall (now (out .entry)) (givenOf (givenMemory m) (now (nets .entry)) (now (trits .entry))) (now (granularities .entry)) .answer) ⌝ }
     ensures { λ _. ⌜ now (out .exit) ≡ makeDataSwizzleCall (now (out .entry)) (givenOf (givenMemory m) (now (nets .entry)) (now (trits .entry))) (now (granularities .entry)) .out ⌝ }
 {
     let g = c_memory::memory_of(m);

@@ -1,27 +1,24 @@
 -- The record's sizes of a layout, from the sizes that its test gives; and that number 17 never refuses them.
 use Prim.Native.Nat.{ℕ, _-_}
-use mathlib.Core.Path.{_≡_, refl, sym, ap, _∙_, subst}
+use mathlib.Core.Path.{_≡_, refl, sym, ap, _∙_}
 use mathlib.Core.Logic.{_≢_}
 use mathlib.Core.Bool.{Bool, true, false}
 use mathlib.Core.Option.{none, some}
-use mathlib.Core.List.{List}
 use native.Mathlib.Omega.{arith}
 use borrow.Author.Tests.{eq-eqb, ne-eqb}
 use Rattle.lists.specs.Choice.{if_then_else_}
 use Rattle.rules.specs.Geometry.{Layout, fullMems, allMems, fullDepth, partDepth}
-use Rattle.rules.specs.Image.{Laid}
 use Rattle.rules.specs.Record.{Sizes, depthIf, sizesOf}
 use Rattle.rules.specs.Conditions.{badLayout, badSizes}
 use Rattle.rules.specs.Beside.Shape as sizes
 use Rattle.rules.specs.Beside.Shape.{shapeOf, handedOn, laidShape}
-use Rattle.rules.specs.Answers.{Answer, Refused, Accepted, sizesCall}
-use Rattle.rules.proofs.GoodLayouts.{good, good-small, handed-none, handed-some, none-told, some-told}
+use Rattle.rules.specs.Answers.{Refused, Accepted, sizesCall}
+use Rattle.rules.proofs.GoodLayouts.{good, good-small, handed-none, handed-some, none-told}
 use Rattle.rules.proofs.Extents.{all-max, deep-max, part-max}
 use Rattle.rules.proofs.Places.{full-all}
 use Rattle.rules.proofs.SwizzleSizes.{layout-sizes}
-use Rattle.image_geometry.specs.declared.Params.{Params}
 use Rattle.image_geometry.specs.declared.Shape.{Shape}
-use Rattle.image_geometry.specs.View.{layoutBy, shapeBy}
+use Rattle.image_geometry.specs.View.{shapeBy}
 use Rattle.image_state.specs.Counts.{Counted}
 
 -- ---- a depth

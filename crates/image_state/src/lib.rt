@@ -133,10 +133,10 @@ pub fn read_row(room: &mut [u8], laid: Laid, image: &[u8], row: u32) -> u32
 fn depth_if(count: u32, depth: u32) -> u32
     ensures { λ r. ⌜ r ≡ depthIf count depth ⌝ }
 {
-    if count == 0 {
-        return 0;
+    if count != 0 {
+        return depth;
     }
-    depth
+    0
 }
 
 // So many full memories and so many partial ones.

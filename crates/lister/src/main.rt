@@ -1,9 +1,9 @@
 // Lists the memories of the record that standard input holds, or the number that refuses it.
 ghost use Prim.Native.Nat.{_≤_};
-ghost use lib.ListN.{length};
 ghost use Rattle.rules.specs.Limits.{maxRecord};
 use libc::STDIN_FILENO;
 use libc::STDOUT_FILENO;
+use record_listing::Listed;
 
 // Turns of the count of a longer input, more than any run takes.
 const TURNS: usize = 1099511627776;
@@ -52,10 +52,17 @@ fn text_room() -> [u8; record_listing::MAX_TEXT] {
 }
 
 // Writes the first bytes of a text.
-fn write_front(text: &[u8], size: usize)
-    requires { ⌜ size ≤ length (now text) ⌝ }
-{
-    io::write_all(STDOUT_FILENO, &text[..size]);
+fn write_front(text: &[u8], size: usize) {
+    if size <= text.len() {
+        io::write_all(STDOUT_FILENO, &text[..size]);
+    }
+}
+
+// Writes the text of a listing. The room is the longest text's, so that 20 does not come.
+fn write_listed(text: &[u8], listed: Listed) {
+    if let Listed::Accepted(size) = listed {
+        write_front(text, size);
+    }
 }
 
 fn main() {
@@ -63,6 +70,6 @@ fn main() {
     let mut out = text_room();
     let n = io::read_full(STDIN_FILENO, &mut bytes);
     let total = total_of(n);
-    let size = record_listing::list_input(&mut out, &bytes[..n], total);
-    write_front(&out, size);
+    let listed = record_listing::list_input(&mut out, &bytes[..n], total);
+    write_listed(&out, listed);
 }

@@ -3,4 +3,5 @@ pub mod Heads
 pub mod Writing
 pub mod Arrays
 pub mod Reading
+pub mod Whole
 pub mod RoundTrips

@@ -4,12 +4,23 @@ use mathlib.Core.Logic.{_≢_}
 use mathlib.Core.Bool.{true, false}
 use Prim.Native.Nat.{ℕ, _<_, _≤_}
 use mathlib.Core.List.{List}
+use lib.Dec.{ltb}
 use lib.ListN.{length}
 use borrow.Author.Tests.{lt-ltb, le-ltb, ltb-false}
-use Rattle.lists.proofs.Choice.{if-zero, else-first, else-rest, else-zero, hit, miss}
+use Rattle.lists.proofs.Choice.{or-false, if-zero, else-first, else-rest, else-zero, hit, miss}
 use Rattle.rules.specs.Record.{sizeTrits, headSizes}
 use Rattle.rules.specs.Conditions.{badHead, badSizes, badBits, noRoom}
 use Rattle.rules.specs.Refusals.{recordNumber, readRecordRefusal, headerRefusal}
+
+-- a head that is good is there, whatever the record's length
+module _ (first : List ℕ) (total : ℕ) where
+  pub head-there : badHead first total ≡ false → 12 ≤ length first
+  unfolding badHead
+  head-there e = ltb-false (length first) 12 (or-false (ltb (length first) 12) _ e .0)
+
+  pub header-head : headerRefusal first total ≡ 0 → badHead first total ≡ false
+  unfolding headerRefusal
+  header-head e = if-zero (badHead first total) 15 _ e .0
 
 module _ (bytes : List ℕ) where
   -- a head that no number refuses

@@ -1,5 +1,6 @@
 -- For each case of an answer, document 01's number or the values.
-use Prim.Native.Nat.{ℕ}
+use Prim.Native.Nat.{ℕ, min}
+use Rattle.rules.specs.Limits.{maxImage}
 use Rattle.rules.specs.Record as rules
 use Rattle.rules.specs.Answers.{Answer, Refused, Accepted}
 use Rattle.record_sizes.specs.View.{viewSizes}
@@ -17,3 +18,8 @@ viewHead (IsHead s) = Accepted (viewSizes s)
 abbrev pub viewWritten : Written → Answer ℕ
 viewWritten (NotWritten n) = Refused n
 viewWritten (IsWritten n) = Accepted n
+
+-- the trits to take of a record: as many as its sizes say, and none of one that is refused
+abbrev pub toTake : Answer rules.Sizes → ℕ
+toTake (Refused n) = 0
+toTake (Accepted s) = min (rules.sizeTrits s) maxImage

@@ -6,14 +6,15 @@ ghost use lib.ListN.{length, drop};
 ghost use lib.Seq.{sets};
 ghost use Rattle.lists.specs.Lists.{part};
 ghost use Rattle.rules.specs.Limits.{headBytes};
-ghost use Rattle.rules.specs.Record.{sizeTrits, recordImage, word16, arrayBytes, recordHead, encodeRecord, headSizes, recordBytes, bitsOf, decodeImage};
+ghost use Rattle.rules.specs.Record.{sizeTrits, recordImage, word16, arrayBytes, recordHead, encodeRecord, headSizes, recordBytes, bitsOf};
 ghost use Rattle.rules.specs.Conditions.{badHead, badBits};
 ghost use Rattle.rules.specs.Refusals.{recordNumber, readRecordRefusal, writeRecordRefusal, headerRefusal};
 ghost use Rattle.rules.specs.Answers.{answerOf, writeRecordCall, readRecordCall, headerCall};
 ghost use Rattle.record_sizes.specs.View.{viewSizes};
-ghost use Rattle.record_bits.specs.Groups.{tritsBy, badBy};
-ghost use Rattle.record_reader.specs.Reading.{manyTrits, Words};
-ghost use Rattle.record_codec.specs.View.{viewHead, viewWritten};
+ghost use Rattle.record_bits.specs.Groups.{badBy};
+ghost use Rattle.record_reader.specs.Reading.{manyTrits, Words, headWords};
+ghost use Rattle.record_codec.specs.View.{viewHead, viewWritten, toTake};
+use record_reader::HeadWords;
 use record_sizes::Sizes;
 
 // ---- the head
@@ -32,41 +33,53 @@ fn bytes_for(trits: u64) -> u64
     (rules::HEAD_BYTES as u64) + 2 * ((trits + 7) / 8)
 }
 
-// Number 16, of a record of `total` bytes whose first are given.
-fn bad_head(first: &[u8], total: usize) -> bool
+// Number 16, of a record of `total` bytes whose first are given, by the words of its head.
+fn bad_head(first: &[u8], total: usize, words: HeadWords) -> bool
+    requires { ⌜ words ≡ headWords (now first) ⌝ }
     ensures { λ r. ⌜ r ≡ badHead (now (first .entry)) total ⌝ }
 {
     if first.len() < rules::HEAD_BYTES {
         return true;
     }
-    if record_reader::word_at(first, 0) != rules::RECORD_MARK {
+    let mark = words.mark;
+    if record_reader::word_of(mark) != rules::RECORD_MARK {
         return true;
     }
-    total as u64 != bytes_for(record_reader::head_trits(first))
+    total as u64 != bytes_for(record_reader::trits_of(words))
+}
+
+// 16, then 17, by the words of the head.
+fn head_number(first: &[u8], total: usize, words: HeadWords) -> u32
+    requires { ⌜ words ≡ headWords (now first) ⌝ }
+    ensures { λ r. ⌜ r ≡ headerRefusal (now (first .entry)) total ⌝ }
+{
+    if bad_head(first, total, words) {
+        return 16;
+    }
+    if record_sizes::bad_sizes(record_reader::sizes_of(words)) {
+        return 17;
+    }
+    0
 }
 
 // 16, then 17, of a record of `total` bytes whose first are given.
 pub fn header_refusal(first: &[u8], total: usize) -> u32
     ensures { λ r. ⌜ r ≡ headerRefusal (now (first .entry)) total ⌝ }
 {
-    if bad_head(first, total) {
-        return 16;
-    }
-    if record_sizes::bad_sizes(record_reader::head_sizes(first)) {
-        return 17;
-    }
-    0
+    let words = record_reader::head_words(first);
+    head_number(first, total, words)
 }
 
 // The sizes of a record of `total` bytes whose first are given.
 pub fn record_header(first: &[u8], total: usize) -> Head
     ensures { λ r. ⌜ viewHead r ≡ headerCall (now (first .entry)) total ⌝ }
 {
-    let n = header_refusal(first, total);
+    let words = record_reader::head_words(first);
+    let n = head_number(first, total, words);
     if n != 0 {
         return Head::Refused(n);
     }
-    Head::Accepted(record_reader::head_sizes(first))
+    Head::Accepted(record_reader::sizes_of(words))
 }
 
 // ---- writing
@@ -154,20 +167,10 @@ fn bad_arrays(count: usize, ks: &[u8], vs: &[u8]) -> bool
         if record_bits::bad_group(left, ks[j], vs[j]) {
             return true;
         }
-        left = less_eight(left);
+        left = record_reader::less_eight(left);
         j += 1;
     }
     false
-}
-
-// Eight less, or 0.
-fn less_eight(left: usize) -> usize
-    ensures { λ r. ⌜ r ≡ left - 8 ⌝ }
-{
-    if left < 8 {
-        return 0;
-    }
-    left - 8
 }
 
 // Where the second array starts.
@@ -193,74 +196,84 @@ pub fn value_array(bytes: &[u8]) -> &[u8]
     &bytes[start..]
 }
 
-// Number 18, of a record whose head is good.
-fn bad_bits(bytes: &[u8]) -> bool
-    requires { ⌜ badHead (now bytes) (length (now bytes)) ≡ false ⌝ }
+// Number 18, of a record of so many trits whose head is good.
+fn bad_bits(bytes: &[u8], count: usize) -> bool
+    requires { ⌜ (badHead (now bytes) (length (now bytes)) ≡ false) × (count ≡ sizeTrits (headSizes (now bytes))) × (count ≤ manyTrits) ⌝ }
     ensures { λ r. ⌜ r ≡ badBits (now (bytes .entry)) ⌝ }
 {
-    let count = record_reader::head_trits(bytes) as usize;
-    bad_arrays(count, known_array(bytes), value_array(bytes))
+    let middle = rules::HEAD_BYTES + (count + 7) / 8;
+    bad_arrays(count, &bytes[rules::HEAD_BYTES..middle], &bytes[middle..])
+}
+
+// 16, 17, 18, by the words of the head.
+fn number_by(bytes: &[u8], words: HeadWords) -> u32
+    requires { ⌜ words ≡ headWords (now bytes) ⌝ }
+    ensures { λ r. ⌜ r ≡ recordNumber (now (bytes .entry)) ⌝ }
+{
+    let n = head_number(bytes, bytes.len(), words);
+    if n != 0 {
+        return n;
+    }
+    if bad_bits(bytes, record_reader::trits_of(words) as usize) {
+        return 18;
+    }
+    0
 }
 
 // 16, 17, 18.
 pub fn record_number(bytes: &[u8]) -> u32
     ensures { λ r. ⌜ r ≡ recordNumber (now (bytes .entry)) ⌝ }
 {
-    let n = header_refusal(bytes, bytes.len());
-    if n != 0 {
-        return n;
-    }
-    if bad_bits(bytes) {
-        return 18;
-    }
-    0
+    let words = record_reader::head_words(bytes);
+    number_by(bytes, words)
 }
 
-// 16, 17, 18, 20.
-fn read_refusal(room: usize, bytes: &[u8]) -> u32
+// 16, 17, 18, 20, by the words of the head.
+fn read_refusal(room: usize, bytes: &[u8], words: HeadWords) -> u32
+    requires { ⌜ words ≡ headWords (now bytes) ⌝ }
     ensures { λ r. ⌜ r ≡ readRecordRefusal room (now (bytes .entry)) ⌝ }
 {
-    let n = record_number(bytes);
+    let n = number_by(bytes, words);
     if n != 0 {
         return n;
     }
-    if (room as u64) < record_reader::head_trits(bytes) {
+    if (room as u64) < record_reader::trits_of(words) {
         return 20;
     }
     0
 }
 
-// Stores the trits of two arrays.
-fn put_trits(image: &mut [u8], count: usize, ks: &[u8], vs: &[u8])
-    requires { ⌜ (length (now ks) ≡ length (now vs)) × (length (now ks) < manyTrits) ⌝ }
-    ensures { λ _. ⌜ now (image .exit) ≡ sets (now (image .entry)) 0 (tritsBy count (bitsOf (now (ks .entry))) (bitsOf (now (vs .entry)))) ⌝ }
+// The sizes of a record that is to be read into so much room, by the words of its head.
+fn head_in(room: usize, bytes: &[u8], words: HeadWords) -> Head
+    requires { ⌜ words ≡ headWords (now bytes) ⌝ }
+    ensures { λ r. ⌜ viewHead r ≡ answerOf (readRecordRefusal room (now (bytes .entry))) (headSizes (now (bytes .entry))) ⌝ }
 {
-    let mut left = count;
-    let mut j = 0;
-    while j < ks.len() {
-        record_bits::spread(image, 8 * j, left, ks[j], vs[j]);
-        left = less_eight(left);
-        j += 1;
-    }
-}
-
-// Stores the image of a record whose head is good.
-fn put_image(image: &mut [u8], bytes: &[u8])
-    requires { ⌜ badHead (now bytes) (length (now bytes)) ≡ false ⌝ }
-    ensures { λ _. ⌜ now (image .exit) ≡ sets (now (image .entry)) 0 (decodeImage (now (bytes .entry))) ⌝ }
-{
-    let count = record_reader::head_trits(bytes) as usize;
-    put_trits(image, count, known_array(bytes), value_array(bytes));
-}
-
-// Reads a record: its sizes, and its image into the lent array, whose rest is kept.
-pub fn read_record(image: &mut [u8], bytes: &[u8]) -> Head
-    ensures { λ r. ⌜ (viewHead r ≡ readRecordCall (now (image .entry)) (now (bytes .entry)) .answer) × (now (image .exit) ≡ readRecordCall (now (image .entry)) (now (bytes .entry)) .image) ⌝ }
-{
-    let n = read_refusal(image.len(), bytes);
+    let n = read_refusal(room, bytes, words);
     if n != 0 {
         return Head::Refused(n);
     }
-    put_image(image, bytes);
-    Head::Accepted(record_reader::head_sizes(bytes))
+    Head::Accepted(record_reader::sizes_of(words))
+}
+
+// The trits to take: none of a record that is refused.
+fn trits_to_take(head: Head) -> usize
+    ensures { λ r. ⌜ r ≡ toTake (viewHead head) ⌝ }
+{
+    match head {
+        Head::Refused(_) => 0,
+        Head::Accepted(s) => record_sizes::trits_within(s, rules::MAX_IMAGE) as usize,
+    }
+}
+
+// Reads a record: its sizes, and its image into the lent array, whose rest is kept. One reader takes the six words and then the trits; the numbers stand
+// between them, before the first store.
+pub fn read_record(image: &mut [u8], bytes: &[u8]) -> Head
+    ensures { λ r. ⌜ (viewHead r ≡ readRecordCall (now (image .entry)) (now (bytes .entry)) .answer) × (now (image .exit) ≡ readRecordCall (now (image .entry)) (now (bytes .entry)) .image) ⌝ }
+{
+    let mut r = record_reader::new(bytes);
+    let words = record_reader::next_head(&mut r);
+    let head = head_in(image.len(), bytes, words);
+    let count = trits_to_take(head);
+    record_reader::next_trits(image, &mut r, count);
+    head
 }

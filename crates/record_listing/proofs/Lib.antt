@@ -5,3 +5,4 @@ pub mod Digits
 pub mod Puts
 pub mod Memories
 pub mod Stored
+pub mod Rooms

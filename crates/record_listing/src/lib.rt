@@ -1,4 +1,4 @@
-// The lister's text for a record, as bytes in a lent array. What lies past the array's end is not stored; the length that is answered counts it.
+// The lister's text for a record, as bytes in a lent array. The inner functions store what fits and count all: a run on one byte gives the length.
 ghost use mathlib.Core.Path.{_≡_};
 ghost use mathlib.Core.List.{_∷_};
 ghost use Prim.Native.Nat.{_+_, _*_, _<_, _≤_};
@@ -9,9 +9,11 @@ ghost use Rattle.rules.specs.Limits.{maxImage};
 ghost use Rattle.rules.specs.Record.{sizeMems, sizeTrits, bitsOf, headSizes, decodeImage};
 ghost use Rattle.rules.specs.Refusals.{recordNumber, headerRefusal};
 ghost use Rattle.rules.specs.Lister.{decimal, space, blankText, loadText, headLine, memoryLine, refusedLine, summaryOf, summaries, listed, lister};
-ghost use Rattle.rules.specs.Beside.Stored.{listerStored};
+ghost use Rattle.rules.specs.Answers.{listRecordCall};
+ghost use Rattle.rules.specs.Beside.Stored.{listerStored, listInputCall};
 ghost use Rattle.record_sizes.specs.View.{viewSizes};
 ghost use Rattle.record_listing.specs.Summary.{viewSummary};
+ghost use Rattle.record_listing.specs.Text.{listedAs};
 ghost use Rattle.record_listing.specs.Put.{maxText, maxPlace, Put};
 ghost use Rattle.record_listing.specs.Starts.{Accepted, Starts};
 use record_sizes::Sizes;
@@ -175,7 +177,7 @@ fn put_listed(out: &mut [u8], bytes: &[u8]) -> usize
 }
 
 // Stores the lister's output for a record on its standard input, as far as the room goes; its length.
-pub fn list_record(out: &mut [u8], bytes: &[u8]) -> usize
+fn put_record(out: &mut [u8], bytes: &[u8]) -> usize
     ensures { λ r. ⌜ Put (now (out .entry)) 0 (lister (now (bytes .entry))) (now (out .exit)) r × (r ≤ maxText) ⌝ }
 {
     let n = record_codec::record_number(bytes);
@@ -197,12 +199,49 @@ fn stored_refusal(first: &[u8], total: usize) -> u32
 }
 
 // The same for an input of `total` bytes, of which the first are stored.
-pub fn list_input(out: &mut [u8], first: &[u8], total: usize) -> usize
+fn put_input(out: &mut [u8], first: &[u8], total: usize) -> usize
     ensures { λ r. ⌜ Put (now (out .entry)) 0 (listerStored (now (first .entry)) total) (now (out .exit)) r × (r ≤ maxText) ⌝ }
 {
     if first.len() == total {
-        return list_record(out, first);
+        return put_record(out, first);
     }
     let n = stored_refusal(first, total);
     put_refused(out, n)
+}
+
+// ---- in lent room
+
+// The bytes of the text, or the number that refuses the call.
+pub enum Listed {
+    Refused(u32),
+    Accepted(usize),
+}
+
+// The length of that output, by a run that keeps one byte of it.
+fn input_size(first: &[u8], total: usize) -> usize
+    ensures { λ r. ⌜ r ≡ length (listerStored (now (first .entry)) total) ⌝ }
+{
+    let mut one = [0u8; 1];
+    put_input(&mut one, first, total)
+}
+
+// Stores the lister's output for an input of `total` bytes, of which the first are given. 20 where the room is short: it is as it was then. The longest
+// text needs no run for its length.
+pub fn list_input(out: &mut [u8], first: &[u8], total: usize) -> Listed
+    ensures { λ r. ⌜ listedAs r (now (out .exit)) ≡ listInputCall (now (out .entry)) (now (first .entry)) total ⌝ }
+{
+    if MAX_TEXT <= out.len() {
+        return Listed::Accepted(put_input(out, first, total));
+    }
+    if out.len() < input_size(first, total) {
+        return Listed::Refused(20);
+    }
+    Listed::Accepted(put_input(out, first, total))
+}
+
+// The same for a record that is given whole.
+pub fn list_record(out: &mut [u8], bytes: &[u8]) -> Listed
+    ensures { λ r. ⌜ listedAs r (now (out .exit)) ≡ listRecordCall (now (out .entry)) (now (bytes .entry)) ⌝ }
+{
+    list_input(out, bytes, bytes.len())
 }

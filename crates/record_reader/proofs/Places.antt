@@ -15,11 +15,11 @@ use Rattle.lists.proofs.Pairs.{getD-pairs}
 use Rattle.rules.specs.Limits.{headBytes, recordMark, tritX}
 use Rattle.rules.specs.Numbers.{ceilDiv}
 use Rattle.rules.specs.Value.{fromUint}
-use Rattle.rules.specs.Record.{sizeTrits, wordAt, arrayBytes, tritBy, headSizes, recordBytes, knownBits, valueBits, bitPairs, decodeImage, nextWord, nextTrit, afterTrit}
+use Rattle.rules.specs.Record.{sizeTrits, wordAt, arrayBytes, tritBy, headSizes, recordBytes, knownBits, valueBits, bitPairs, decodeImage, tritAt, nextWord, nextTrit, afterTrit}
 use Rattle.rules.specs.Conditions.{badHead}
 use Rattle.rules.proofs.Written.{length-bits}
 use Rattle.record_bits.proofs.Arrays.{bits-at}
-use Rattle.record_reader.specs.Reading.{readerAt, hasWord, wordThere, hasTrit, tritThere, placeAfterTrit}
+use Rattle.record_reader.specs.Reading.{readerAt, hasWord, wordThere, hasTrit, hasTritAt, tritNumbered, tritThere, placeAfterTrit}
 use Rattle.record_reader.specs.declared.Word.the-variants.{Found, End}
 use Rattle.record_reader.specs.declared.TritFound.the-variants.{Code, End as NoTrit}
 
@@ -49,8 +49,8 @@ module _ (bytes : List ℕ) where
         bits-at (drop (12 + n) bytes) i (omega (arith, length-drop (12 + n) bytes))
         ∙ ap (λ (b : ℕ). getD (fromUint 8 b) (i % 8) 0) (getD-drop (12 + n) bytes (i / 8) 0)
 
-    pub trit-at : nextTrit (readerAt bytes i) ≡ tritBy (getD (fromUint 8 (getD bytes (12 + i / 8) 0)) (i % 8) 0) (getD (fromUint 8 (getD bytes (12 + n + i / 8) 0)) (i % 8) 0)
-    unfolding nextTrit
+    pub trit-at : tritAt bytes i ≡ tritBy (getD (fromUint 8 (getD bytes (12 + i / 8) 0)) (i % 8) 0) (getD (fromUint 8 (getD bytes (12 + n + i / 8) 0)) (i % 8) 0)
+    unfolding tritAt
     trit-at = rw (known-at, value-at)
 
 -- ---- what the code answers, with its own count of trits
@@ -59,22 +59,22 @@ module _ (bytes : List ℕ) (i count : ℕ) (e : count ≡ sizeTrits (headSizes 
   unfolding arrayBytes ceilDiv
   place = ap (λ (x : ℕ). 12 + (x + 7) / 8 + i / 8) e
 
-  pub past-trits : count ≤ i → NoTrit ≡ tritThere bytes i
-  unfolding tritThere
+  pub past-trits : count ≤ i → NoTrit ≡ tritNumbered bytes i
+  unfolding tritNumbered
   past-trits h = rw (le-ltb i (sizeTrits (headSizes bytes)) (omega arith))
 
-  pub past-bytes : length bytes ≤ 12 + (count + 7) / 8 + i / 8 → i < count → NoTrit ≡ tritThere bytes i
-  unfolding tritThere
+  pub past-bytes : length bytes ≤ 12 + (count + 7) / 8 + i / 8 → i < count → NoTrit ≡ tritNumbered bytes i
+  unfolding tritNumbered
   past-bytes h g =
       rw (lt-ltb i (sizeTrits (headSizes bytes)) (omega arith), le-ltb (12 + arrayBytes (sizeTrits (headSizes bytes)) + i / 8) (length bytes) (omega (arith, place)))
 
   module _ (g : i < count) (h : 12 + (count + 7) / 8 + i / 8 < length bytes) where
-    pub there : tritThere bytes i ≡ Code (nextTrit (readerAt bytes i))
-    unfolding tritThere
+    pub there : tritNumbered bytes i ≡ Code (tritAt bytes i)
+    unfolding tritNumbered
     there = rw (lt-ltb i (sizeTrits (headSizes bytes)) (omega arith), lt-ltb (12 + arrayBytes (sizeTrits (headSizes bytes)) + i / 8) (length bytes) (omega (arith, place)))
 
     pub taken : (k v t : ℕ) → k ≡ getD (fromUint 8 (getD bytes (12 + i / 8) 0)) (i % 8) 0 → v ≡ getD (fromUint 8 (getD bytes (12 + (count + 7) / 8 + i / 8) 0)) (i % 8) 0
-        → t ≡ tritBy k v → Code t ≡ tritThere bytes i
+        → t ≡ tritBy k v → Code t ≡ tritNumbered bytes i
     taken k v t p q r =
         let u : v ≡ getD (fromUint 8 (getD bytes (12 + arrayBytes (sizeTrits (headSizes bytes)) + i / 8) 0)) (i % 8) 0 = q ∙ ap (λ (x : ℕ). getD (fromUint 8 (getD bytes x 0)) (i % 8) 0) place in
         sym (there ∙ ap Code (trit-at bytes i (omega arith) (omega (arith, place)) ∙ sym (r ∙ ap (λ (x : ℕ). tritBy x v) p ∙ ap (tritBy (getD (fromUint 8 (getD bytes (12 + i / 8) 0)) (i % 8) 0)) u)))
@@ -93,8 +93,8 @@ module _ (bytes : List ℕ) (e : badHead bytes (length bytes) ≡ false) where
       ∙ ap (λ (k : ℕ). 8 * k) (length-take-le n (drop 12 bytes) (omega (arith, length-drop 12 bytes, whole)) ∙ sym (length-drop (12 + n) bytes ∙ omega (arith, whole)))
       ∙ sym (length-bits (drop (12 + n) bytes))
 
-  decoded-at : (i : ℕ) → i < sizeTrits (headSizes bytes) → getD (decodeImage bytes) i tritX ≡ nextTrit (readerAt bytes i)
-  unfolding decodeImage bitPairs nextTrit tritBy
+  decoded-at : (i : ℕ) → i < sizeTrits (headSizes bytes) → getD (decodeImage bytes) i tritX ≡ tritAt bytes i
+  unfolding decodeImage bitPairs tritAt tritBy
   decoded-at i h =
       let ps = pairs (knownBits bytes) (valueBits bytes) in
       let f : ℕ × ℕ → ℕ = λ p. tritBy (p .0) (p .1) in
@@ -105,12 +105,16 @@ module _ (bytes : List ℕ) (e : badHead bytes (length bytes) ≡ false) where
   unfolding arrayBytes ceilDiv
   near i h = omega (arith, whole)
 
-  pub read-at : (i : ℕ) → i < sizeTrits (headSizes bytes) → tritThere bytes i ≡ Code (getD (decodeImage bytes) i tritX)
+  pub read-at : (i : ℕ) → i < sizeTrits (headSizes bytes) → tritNumbered bytes i ≡ Code (getD (decodeImage bytes) i tritX)
   read-at i h = there bytes i (sizeTrits (headSizes bytes)) refl h (near i h) ∙ ap Code (sym (decoded-at i h))
 
 -- ---- the place after a trit, by what was found
 code-not-end : (t : ℕ) → Code t ≡ NoTrit → ⊥
 code-not-end t e = let z : _≡_ {A = ℕ} 0 1 = cc in omega arith
+
+if-false : (b x : Bool) → (if b then false else x) ≡ true → x ≡ true
+if-false true x e = let z : _≡_ {A = ℕ} 0 1 = cc in absurd (omega arith)
+if-false false x e = e
 
 has-code : (b : Bool) (t u : ℕ) → (if b then Code t else NoTrit) ≡ Code u → b ≡ true
 has-code true t u e = refl
@@ -120,21 +124,30 @@ has-none : (b : Bool) (t : ℕ) → (if b then Code t else NoTrit) ≡ NoTrit �
 has-none true t e = absurd (code-not-end t e)
 has-none false t e = refl
 
-module _ (bytes : List ℕ) (i : ℕ) where
-  has : (t : ℕ) → tritThere bytes i ≡ Code t → hasTrit bytes i ≡ true
+-- ---- by the reader's place
+module _ (bytes : List ℕ) (at : ℕ) where
+  pub before-trits : at < 12 → NoTrit ≡ tritThere bytes at
   unfolding tritThere
-  has t e = has-code (hasTrit bytes i) _ t e
+  before-trits h = rw (lt-ltb at 12 h)
 
-  pub found-below : (t : ℕ) → tritThere bytes i ≡ Code t → i < sizeTrits (headSizes bytes)
-  found-below t e = ltb-true i (sizeTrits (headSizes bytes)) (and-true (ltb i (sizeTrits (headSizes bytes))) _ (has t e) .0)
+  pub behind-head : 12 ≤ at → tritNumbered bytes (at - 12) ≡ tritThere bytes at
+  unfolding tritThere tritNumbered nextTrit
+  behind-head h = rw (le-ltb at 12 h)
 
-  pub after-found : (t : ℕ) → tritThere bytes i ≡ Code t → i + 1 ≡ placeAfterTrit bytes i
+  has : (t : ℕ) → tritThere bytes at ≡ Code t → hasTritAt bytes at ≡ true
+  unfolding tritThere
+  has t e = has-code (hasTritAt bytes at) _ t e
+
+  pub found-below : (t : ℕ) → tritThere bytes at ≡ Code t → at - 12 < sizeTrits (headSizes bytes)
+  found-below t e = ltb-true (at - 12) (sizeTrits (headSizes bytes)) (and-true (ltb (at - 12) (sizeTrits (headSizes bytes))) _ (if-false (ltb at 12) _ (has t e)) .0)
+
+  pub after-found : (t : ℕ) → tritThere bytes at ≡ Code t → at + 1 ≡ placeAfterTrit bytes at
   unfolding placeAfterTrit afterTrit
   after-found t e = rw (has t e)
 
-  pub after-none : tritThere bytes i ≡ NoTrit → i ≡ placeAfterTrit bytes i
+  pub after-none : tritThere bytes at ≡ NoTrit → at ≡ placeAfterTrit bytes at
   unfolding placeAfterTrit tritThere
-  after-none e = rw (has-none (hasTrit bytes i) _ e)
+  after-none e = rw (has-none (hasTritAt bytes at) _ e)
 
 -- ---- the word at a place, by what was found
 found-not-end : (t : ℕ) → Found t ≡ End → ⊥

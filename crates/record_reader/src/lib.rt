@@ -1,10 +1,13 @@
-// A reader holds a record's bytes and a place in them. Few functions are over it; each takes it apart.
+// A reader holds a record's bytes and a place in them, which counts bytes in the head and trits behind it: after six words it stands at trit 0. Few
+// functions are over it; each takes it apart.
 ghost use mathlib.Core.Path.{_≡_};
-ghost use Prim.Native.Nat.{_≤_};
-ghost use lib.ListN.{getD};
-ghost use Rattle.rules.specs.Record.{sizeTrits, wordAt, headSizes};
+ghost use Prim.Native.Nat.{_-_, _≤_};
+ghost use lib.ListN.{length, getD};
+ghost use lib.Seq.{sets};
+ghost use Rattle.rules.specs.Record.{sizeTrits, wordAt, arrayBytes, bitsOf, headSizes};
 ghost use Rattle.record_sizes.specs.View.{viewSizes};
-ghost use Rattle.record_reader.specs.Reading.{wordThere, placeAfterWord, tritThere, placeAfterTrit, manyTrits, Words};
+ghost use Rattle.record_bits.specs.Groups.{tritsBy};
+ghost use Rattle.record_reader.specs.Reading.{wordThere, placeAfterWord, wordsFrom, placeAfterHead, wordOf, headWords, sizesBy, tritNumbered, tritThere, placeAfterTrit, hasTrits, tritsThere, placeAfterTrits, manyTrits, manyBytes, Words};
 use record_sizes::Sizes;
 
 pub struct Reader<'a> {
@@ -57,20 +60,6 @@ pub fn new<'a>(bytes: &'a [u8]) -> Reader<'a>
     Reader { bytes, at: 0 }
 }
 
-// The reader at another place.
-pub fn moved<'a>(r: Reader<'a>, at: usize) -> Reader<'a>
-    ensures { λ q. ⌜ (q .bytes ≡ r .entry .bytes) × (q .at ≡ at) ⌝ }
-{
-    Reader { bytes: r.bytes, at }
-}
-
-// The word that is next, not taken.
-pub fn peek_word<'a>(r: Reader<'a>) -> Word
-    ensures { λ w. ⌜ w ≡ wordThere (now (r .entry .bytes)) (r .entry .at) ⌝ }
-{
-    word_there(r.bytes, r.at)
-}
-
 // Takes the next word: the reader goes on behind it.
 pub fn next_word<'s, 'a>(r: &'s mut Reader<'a>) -> Word
     ensures { λ w. ⌜ (w ≡ wordThere (now (now (r .entry) .bytes)) (now (r .entry) .at)) × (now (r .exit) .bytes ≡ now (r .entry) .bytes) × (now (r .exit) .at ≡ placeAfterWord (now (now (r .entry) .bytes)) (now (r .entry) .at)) ⌝ }
@@ -81,19 +70,51 @@ pub fn next_word<'s, 'a>(r: &'s mut Reader<'a>) -> Word
     word_there(bytes, at)
 }
 
-// The word at a place, by a reader.
-pub fn word_from(bytes: &[u8], at: usize) -> Word
-    ensures { λ r. ⌜ r ≡ wordThere (now (bytes .entry)) at ⌝ }
-{
-    peek_word(moved(new(bytes), at))
+// The six words of a head, or that there are fewer.
+pub struct HeadWords {
+    pub mark: Word,
+    pub unit: Word,
+    pub full: Word,
+    pub full_depth: Word,
+    pub partial: Word,
+    pub partial_depth: Word,
 }
 
-// The same as a number; a byte that is not there counts 0.
-pub fn word_at(bytes: &[u8], at: usize) -> u16
+// Takes the next six words: the reader goes on behind them.
+pub fn next_head<'s, 'a>(r: &'s mut Reader<'a>) -> HeadWords
+    ensures { λ w. ⌜ (w ≡ wordsFrom (now (now (r .entry) .bytes)) (now (r .entry) .at)) × (now (r .exit) .bytes ≡ now (r .entry) .bytes) × (now (r .exit) .at ≡ placeAfterHead (now (now (r .entry) .bytes)) (now (r .entry) .at)) ⌝ }
+{
+    let mark = next_word(r);
+    let unit = next_word(r);
+    let full = next_word(r);
+    let full_depth = next_word(r);
+    let partial = next_word(r);
+    let partial_depth = next_word(r);
+    HeadWords {
+        mark,
+        unit,
+        full,
+        full_depth,
+        partial,
+        partial_depth,
+    }
+}
+
+// Reads the six words of a head, by one reader.
+pub fn head_words(bytes: &[u8]) -> HeadWords
+    ensures { λ r. ⌜ r ≡ headWords (now (bytes .entry)) ⌝ }
+{
+    let mut r = new(bytes);
+    next_head(&mut r)
+}
+
+// A word as a number; a byte that is not there counts 0.
+fn word_or(bytes: &[u8], at: usize, w: Word) -> u16
+    requires { ⌜ w ≡ wordThere (now bytes) at ⌝ }
     ensures { λ r. ⌜ r ≡ wordAt (now (bytes .entry)) at ⌝ }
 {
-    match word_from(bytes, at) {
-        Word::Found(w) => w,
+    match w {
+        Word::Found(x) => x,
         Word::End => byte_at(bytes, at),
     }
 }
@@ -108,18 +129,59 @@ fn byte_at(bytes: &[u8], at: usize) -> u16
     bytes[at] as u16
 }
 
-// ---- the sizes in a record's head
+// ---- a record's head
+
+// A word that was found, else 0.
+pub fn word_of(w: Word) -> u16
+    ensures { λ r. ⌜ r ≡ wordOf w ⌝ }
+{
+    match w {
+        Word::Found(x) => x,
+        Word::End => 0,
+    }
+}
 
 // The sizes that the words after the first give.
+pub fn sizes_of(words: HeadWords) -> Sizes
+    ensures { λ r. ⌜ (viewSizes r ≡ sizesBy words) × Words r ⌝ }
+{
+    let unit = words.unit;
+    let full = words.full;
+    let full_depth = words.full_depth;
+    let partial = words.partial;
+    let partial_depth = words.partial_depth;
+    Sizes {
+        unit: lists::u32_of_u16(word_of(unit)),
+        full: lists::u32_of_u16(word_of(full)),
+        full_depth: lists::u32_of_u16(word_of(full_depth)),
+        partial: lists::u32_of_u16(word_of(partial)),
+        partial_depth: lists::u32_of_u16(word_of(partial_depth)),
+    }
+}
+
+// The trits that those sizes give.
+pub fn trits_of(words: HeadWords) -> u64
+    ensures { λ r. ⌜ (r ≡ sizeTrits (sizesBy words)) × (r ≤ manyTrits) ⌝ }
+{
+    record_sizes::trits_within(sizes_of(words), MANY)
+}
+
+// The sizes that a record's bytes give; a byte that is not there counts 0.
 pub fn head_sizes(bytes: &[u8]) -> Sizes
     ensures { λ r. ⌜ (viewSizes r ≡ headSizes (now (bytes .entry))) × Words r ⌝ }
 {
+    let words = head_words(bytes);
+    let unit = words.unit;
+    let full = words.full;
+    let full_depth = words.full_depth;
+    let partial = words.partial;
+    let partial_depth = words.partial_depth;
     Sizes {
-        unit: lists::u32_of_u16(word_at(bytes, 2)),
-        full: lists::u32_of_u16(word_at(bytes, 4)),
-        full_depth: lists::u32_of_u16(word_at(bytes, 6)),
-        partial: lists::u32_of_u16(word_at(bytes, 8)),
-        partial_depth: lists::u32_of_u16(word_at(bytes, 10)),
+        unit: lists::u32_of_u16(word_or(bytes, 2, unit)),
+        full: lists::u32_of_u16(word_or(bytes, 4, full)),
+        full_depth: lists::u32_of_u16(word_or(bytes, 6, full_depth)),
+        partial: lists::u32_of_u16(word_or(bytes, 8, partial)),
+        partial_depth: lists::u32_of_u16(word_or(bytes, 10, partial_depth)),
     }
 }
 
@@ -136,8 +198,8 @@ pub fn head_trits(bytes: &[u8]) -> u64
 // ---- trits
 
 // The trit of that number.
-pub fn trit_there(bytes: &[u8], at: usize) -> TritFound
-    ensures { λ r. ⌜ r ≡ tritThere (now (bytes .entry)) at ⌝ }
+pub fn trit_numbered(bytes: &[u8], at: usize) -> TritFound
+    ensures { λ r. ⌜ r ≡ tritNumbered (now (bytes .entry)) at ⌝ }
 {
     let count = head_trits(bytes) as usize;
     if count <= at {
@@ -153,7 +215,17 @@ pub fn trit_there(bytes: &[u8], at: usize) -> TritFound
     TritFound::Code(record_bits::trit_by(k, v))
 }
 
-// The number after that trit's, or the same where there is none.
+// The trit at a reader's place: behind the head the place counts trits.
+pub fn trit_there(bytes: &[u8], at: usize) -> TritFound
+    ensures { λ r. ⌜ r ≡ tritThere (now (bytes .entry)) at ⌝ }
+{
+    if at < rules::HEAD_BYTES {
+        return TritFound::End;
+    }
+    trit_numbered(bytes, at - rules::HEAD_BYTES)
+}
+
+// The place after that trit, or the same where there is none.
 pub fn place_after_trit(bytes: &[u8], at: usize) -> usize
     ensures { λ r. ⌜ r ≡ placeAfterTrit (now (bytes .entry)) at ⌝ }
 {
@@ -171,4 +243,80 @@ pub fn next_trit<'s, 'a>(r: &'s mut Reader<'a>) -> TritFound
     let at = r.at;
     r.at = place_after_trit(bytes, at);
     trit_there(bytes, at)
+}
+
+// ---- all the trits that are left
+
+// The bytes of an array of so many bits.
+fn array_bytes(count: usize) -> usize
+    ensures { λ r. ⌜ (r ≡ arrayBytes count) × (r ≤ manyBytes) ⌝ }
+{
+    count / 8 + (count % 8 + 7) / 8
+}
+
+// A byte of trits starts at the place, and the record is as long as so many trits take.
+fn has_trits(bytes: &[u8], at: usize, count: usize) -> bool
+    ensures { λ r. ⌜ r ≡ hasTrits count (now (bytes .entry)) at ⌝ }
+{
+    if at < rules::HEAD_BYTES {
+        return false;
+    }
+    if (at - rules::HEAD_BYTES) % 8 != 0 {
+        return false;
+    }
+    if MANY < count as u64 {
+        return false;
+    }
+    bytes.len() == rules::HEAD_BYTES + 2 * array_bytes(count)
+}
+
+// Eight less, or 0.
+pub fn less_eight(left: usize) -> usize
+    ensures { λ r. ⌜ r ≡ left - 8 ⌝ }
+{
+    if left < 8 {
+        return 0;
+    }
+    left - 8
+}
+
+// Stores the trits of two arrays, a byte of each at a time.
+fn put_groups(image: &mut [u8], count: usize, ks: &[u8], vs: &[u8])
+    requires { ⌜ (length (now ks) ≡ length (now vs)) × (length (now ks) ≤ manyBytes) ⌝ }
+    ensures { λ _. ⌜ now (image .exit) ≡ sets (now (image .entry)) 0 (tritsBy count (bitsOf (now (ks .entry))) (bitsOf (now (vs .entry)))) ⌝ }
+{
+    let mut left = count;
+    let mut j = 0;
+    while j < ks.len() {
+        record_bits::spread(image, 8 * j, left, ks[j], vs[j]);
+        left = less_eight(left);
+        j += 1;
+    }
+}
+
+// Stores the trits from a place on, all that are left of a record of `count` trits; the place after them.
+fn put_rest(image: &mut [u8], bytes: &[u8], at: usize, count: usize) -> usize
+    ensures { λ r. ⌜ (now (image .exit) ≡ sets (now (image .entry)) 0 (tritsThere count (now (bytes .entry)) at)) × (r ≡ placeAfterTrits count (now (bytes .entry)) at) ⌝ }
+{
+    if !has_trits(bytes, at, count) {
+        return at;
+    }
+    let from = at - rules::HEAD_BYTES;
+    if count <= from {
+        return at;
+    }
+    let middle = rules::HEAD_BYTES + array_bytes(count);
+    let known = rules::HEAD_BYTES + from / 8;
+    let value = middle + from / 8;
+    put_groups(image, count - from, &bytes[known..middle], &bytes[value..]);
+    rules::HEAD_BYTES + count
+}
+
+// Takes all the trits that are left of a record of `count` trits into the image: the reader goes on behind them.
+pub fn next_trits<'i, 's, 'a>(image: &'i mut [u8], r: &'s mut Reader<'a>, count: usize)
+    ensures { λ _. ⌜ (now (image .exit) ≡ sets (now (image .entry)) 0 (tritsThere count (now (now (r .entry) .bytes)) (now (r .entry) .at))) × (now (r .exit) .bytes ≡ now (r .entry) .bytes) × (now (r .exit) .at ≡ placeAfterTrits count (now (now (r .entry) .bytes)) (now (r .entry) .at)) ⌝ }
+{
+    let bytes = r.bytes;
+    let at = r.at;
+    r.at = put_rest(image, bytes, at, count);
 }

@@ -4,5 +4,6 @@ pub mod Build
 pub mod Nets
 pub mod Numbered
 pub mod Paint
+pub mod Sums
 pub mod Tally
 pub mod Spoilt

@@ -5,6 +5,7 @@ pub mod numbered;
 pub mod paint;
 pub mod samples;
 pub mod spoilt;
+pub mod sums;
 pub mod tally;
 pub mod words;
 

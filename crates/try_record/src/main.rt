@@ -1,4 +1,5 @@
-// Runs the calls on records over cases and prints each answer. Every lent array is painted before and compared after, also past the part that is used.
+// Runs the calls on records over cases and prints each answer. Every lent array is painted before and compared after, also past the part that is used, and so
+// is what the calls are given to read.
 use libc::STDOUT_FILENO;
 use record_codec::Head;
 use record_codec::Written;
@@ -52,6 +53,7 @@ fn same_sizes(a: Sizes, b: Sizes) -> bool {
 // ---- the calls
 
 fn write(out: &mut [u8], name: &[u8], s: Sizes, image: &[u8], want: &[u8]) {
+    let before = try_kit::sums::sum_of(image);
     say(name);
     try_kit::paint::paint(out);
     match record_codec::write_record(out, s, image) {
@@ -62,15 +64,25 @@ fn write(out: &mut [u8], name: &[u8], s: Sizes, image: &[u8], want: &[u8]) {
             try_kit::paint::painted(out, n),
         ),
     }
+    given(before, image);
+}
+
+// What a call was given to read is as it was.
+fn given(before: u64, input: &[u8]) {
+    if try_kit::sums::sum_of(input) != before {
+        say(b"INPUT CHANGED\n");
+    }
 }
 
 fn read(image: &mut [u8], name: &[u8], bytes: &[u8], s: Sizes, want: &[u8]) {
+    let before = try_kit::sums::sum_of(bytes);
     say(name);
     try_kit::paint::paint(image);
     match record_codec::read_record(image, bytes) {
         Head::Refused(n) => refused(n, try_kit::paint::painted(image, 0)),
         Head::Accepted(z) => read_done(same_sizes(z, s), image, want),
     }
+    given(before, bytes);
 }
 
 fn read_done(same: bool, image: &[u8], want: &[u8]) {
@@ -86,19 +98,23 @@ fn read_done(same: bool, image: &[u8], want: &[u8]) {
 }
 
 fn head(name: &[u8], first: &[u8], total: usize, s: Sizes) {
+    let before = try_kit::sums::sum_of(first);
     say(name);
     match record_codec::record_header(first, total) {
         Head::Refused(n) => refused(n, true),
         Head::Accepted(z) => done(total, same_sizes(z, s), true),
     }
+    given(before, first);
 }
 
 fn summarize(name: &[u8], s: Sizes, image: &[u8], index: usize) {
+    let before = try_kit::sums::sum_of(image);
     say(name);
     match record_listing::summary::memory_summary(s, image, index) {
         Summarized::Refused(n) => refused(n, true),
         Summarized::Accepted(y) => show(y),
     }
+    given(before, image);
 }
 
 fn show_number(n: usize) {
@@ -362,6 +378,9 @@ const IMAGE_ROOM: usize = rules::MAX_IMAGE as usize + 8;
 
 const RECORD_ROOM: usize = rules::MAX_RECORD + 10;
 
+// The sum of its record's bytes, which another program gave.
+const LARGEST_SUM: u64 = 3758585772;
+
 // One memory of the largest depth.
 fn deep_sizes() -> Sizes {
     Sizes {
@@ -373,9 +392,17 @@ fn deep_sizes() -> Sizes {
     }
 }
 
+// All its bytes are those that are wanted.
+fn whole_record(bytes: &[u8]) {
+    let sum = try_kit::sums::sum_of(lists::part_u8(bytes, 0, rules::MAX_RECORD));
+    say(b"its bytes");
+    say_if(sum == LARGEST_SUM, b" same\n", b" DIFFERENT\n");
+}
+
 fn largest(image: &mut [u8], bytes: &mut [u8], back: &mut [u8], s: Sizes) {
     try_kit::paint::fill_trits(image);
     write(bytes, b"write the largest", s, image, b"\x05\x00");
+    whole_record(bytes);
     read(
         back,
         b"read the largest",

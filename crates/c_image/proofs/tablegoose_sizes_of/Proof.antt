@@ -1,6 +1,6 @@
 -- `c_image::tablegoose_sizes_of` meets its contract.
 use mathlib.Core.Path.{_∙_, ap}
-use Rattle.c_image.specs.View.{headStruct}
+use Rattle.c_record.specs.View.{headStruct}
 use borrow.Author.Needs.{needs}
 use Rattle.c_image.proofs.tablegoose_sizes_of.Statement.{statement}
 use Rattle.c_image.proofs.tablegoose_sizes_of.Tie as tie

@@ -3,7 +3,7 @@ use mathlib.Core.Path.{ap, _∙_}
 use Rattle.rules.specs.Answers.{outputLenCall}
 use Rattle.net_memory.specs.Given.{givenOf}
 use Rattle.net_memory.specs.declared.Memory.{Memory as MachineMemory}
-use Rattle.c_memory.specs.Calls.{countResult}
+use Rattle.c_net.specs.View.{countStruct}
 use borrow.Author.Needs.{needs}
 use Rattle.c_memory.proofs.tablegoose_output_len.Statement.{statement}
 use Rattle.c_memory.proofs.tablegoose_output_len.Tie as tie
@@ -22,7 +22,7 @@ returns c =
     let v = c .before .before .before .before .before .args in
     let b = c .before in
     c .len-result .ensures
-    ∙ ap countResult (b .output-len .ensures ∙ ap (λ (m : MachineMemory). outputLenCall (givenOf m (v .nets .now) (v .trits .now))) (b .before .memory-of .ensures))
+    ∙ ap countStruct (b .output-len .ensures ∙ ap (λ (m : MachineMemory). outputLenCall (givenOf m (v .nets .now) (v .trits .now))) (b .before .memory-of .ensures))
 
 pub tablegoose-output-len-spec : {M : Type 1} → statement M
 tablegoose-output-len-spec =

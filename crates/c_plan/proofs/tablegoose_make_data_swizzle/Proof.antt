@@ -3,7 +3,7 @@ use mathlib.Core.Path.{ap, _∙_}
 use Rattle.rules.specs.Answers.{Listed, makeDataSwizzleCall}
 use Rattle.net_memory.specs.declared.Memory.{Memory as MachineMemory}
 use Rattle.net_memory.specs.Given.{givenOf}
-use Rattle.c_memory.specs.Calls.{countResult}
+use Rattle.c_net.specs.View.{countStruct}
 use Rattle.c_plan.proofs.Entries.{answer-alone, room-alone}
 use borrow.Author.Needs.{needs}
 use Rattle.c_plan.proofs.tablegoose_make_data_swizzle.Statement.{statement}
@@ -27,7 +27,7 @@ returns c =
     let v = x .before .before .before .before .before .before .before .args in
     let a = x .make-data-swizzle in
     let q = a .ensures ∙ ap (λ (m : MachineMemory). makeDataSwizzleCall (v .out .now) (givenOf m (v .nets .now) (v .trits .now)) (v .granularities .now)) (x .before .before .memory-of .ensures) in
-    (c .entries-result .ensures ∙ ap countResult (answer-alone (a .result) _ ∙ ap (λ (l : Listed). l .answer) q), room-alone (a .result) _ ∙ ap (λ (l : Listed). l .out) q)
+    (c .entries-result .ensures ∙ ap countStruct (answer-alone (a .result) _ ∙ ap (λ (l : Listed). l .answer) q), room-alone (a .result) _ ∙ ap (λ (l : Listed). l .out) q)
 
 pub tablegoose-make-data-swizzle-spec : {M : Type 1} → statement M
 tablegoose-make-data-swizzle-spec =

@@ -1,45 +1,57 @@
 -- `record_listing::list_input` meets its contract.
-use Rattle.record_listing.proofs.Puts.{put-as, stored-whole, stored-part}
-use Prim.Native.Nat.{_-_}
+use Rattle.record_listing.proofs.Rooms.{input-refused, input-accepted}
+use mathlib.Core.Path.{_≡_}
+use Prim.Native.Nat.{ℕ, _-_, _≤_, _<_}
 use native.Mathlib.Omega.{arith}
+use lib.ListN.{length}
+use Rattle.rules.specs.Beside.Stored.{listerStored}
 use borrow.Author.Needs.{needs}
 use Rattle.record_listing.proofs.list_input.Statement.{statement}
 use Rattle.record_listing.proofs.list_input.Tie as tie
 
-list-record-requires : tie.Need-list-record-requires
-list-record-requires c κs = search needs
+put-input-requires : tie.Need-put-input-requires
+put-input-requires c κs = search needs
 
 same-length : tie.Need-same-length
 same-length c = search needs
 
 returns : tie.Need-returns
 returns c =
-    let p = c .before .before in
-    (put-as _ (stored-whole _ _ (p .before .before .if1 .taken)) (p .list-record .ensures .0), p .list-record .ensures .1)
+    let a = c .before .before .before .before .before .before .before .args in
+    let p = c .before .before .put-input in
+    let h : length (listerStored (a .first .now) (a .total)) ≤ length (a .out .now) = omega (arith, p .ensures .0 .place, p .ensures .1) in
+    input-accepted (a .out .now) (a .first .now) (a .total) (p .last .0) (p .result) (p .ensures .0) h
 
-stored-refusal-requires : tie.Need-stored-refusal-requires
-stored-refusal-requires c κs = search needs
+input-size-requires : tie.Need-input-size-requires
+input-size-requires c κs = search needs
 
-put-refused-requires : tie.Need-put-refused-requires
-put-refused-requires c κs = search needs
+returns-2 : tie.Need-returns-2
+returns-2 c =
+    let a = c .before .before .before .before .before .args in
+    input-refused (a .out .now) (a .first .now) (a .total) (omega (arith, c .before .input-size .ensures))
+
+put-input-requires-2 : tie.Need-put-input-requires-2
+put-input-requires-2 c κs = search needs
 
 same-length-2 : tie.Need-same-length-2
 same-length-2 c = search needs
 
-returns-2 : tie.Need-returns-2
-returns-2 c =
-    let p = c .before .before in
-    let n = p .before .before in
-    (put-as _ (stored-part _ _ _ (n .before .if1 .left) (n .stored-refusal .ensures)) (p .put-refused .ensures .0), omega (arith, p .put-refused .ensures .1))
+returns-3 : tie.Need-returns-3
+returns-3 c =
+    let a = c .before .before .before .before .before .before .before .before .before .args in
+    let p = c .before .before .put-input2 in
+    let h : length (listerStored (a .first .now) (a .total)) ≤ length (a .out .now) = omega (arith, p .ensures .0 .place) in
+    input-accepted (a .out .now) (a .first .now) (a .total) (p .last .0) (p .result) (p .ensures .0) h
 
 pub list-input-spec : {M : Type 1} → statement M
 list-input-spec =
     tie.close
     (tie.spec
-    list-record-requires
+    put-input-requires
     same-length
     returns
-    stored-refusal-requires
-    put-refused-requires
+    input-size-requires
+    returns-2
+    put-input-requires-2
     same-length-2
-    returns-2)
+    returns-3)

@@ -1,2 +1,0 @@
--- How far a piece of an answer may be written.
-pub mod Laws

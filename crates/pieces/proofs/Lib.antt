@@ -1,2 +1,0 @@
--- What an answer leaves as it was.
-pub mod Laws

@@ -1,2 +1,0 @@
--- Laws of the pieces of a case.
-pub mod Laws
