@@ -538,8 +538,8 @@ tablegoose_head tablegoose_record_header(const uint8_t *first, size_t first_len,
 /* What stands in memory `index` of an image. Numbers 4, 15, 17, 20. */
 tablegoose_summarized tablegoose_memory_summary(tablegoose_sizes sizes, const uint8_t *image, size_t image_len, size_t index);
 
-/* What the lister prints for a record, into out: a text also for a record that is refused. count: its bytes, at most MAX_LINE for each memory and as many
- * again. Number 20. */
+/* What the lister prints for a record, into out: a text also for a record that is refused. count: its bytes; a room of MAX_LINE bytes for each memory
+ * and MAX_LINE more is always enough. Number 20. */
 tablegoose_count tablegoose_list_record(uint8_t *out, size_t out_len, const uint8_t *bytes, size_t bytes_len);
 
 /* The same for an input of `total` bytes, of which the first are given. */

@@ -4,12 +4,14 @@
     python3 scripts/borders.py target/borders
 
 Of each border the last size that is taken and the first that is not, for the calls over a memory that change nothing: extract_read_ports (20),
-make_data_swizzle (24), swizzle_depths (25), swizzle_mux_bits (26), can_lower_fallback (28). `oracle/compare` runs them.
+make_data_swizzle (24), swizzle_depths (25), swizzle_mux_bits (26), can_lower_fallback (28); and the layout alone (40). `oracle/compare` runs them.
 """
 import array
 import sys
 
 NONE = 0xFFFFFFFF
+# The largest room that a case may name.
+IMAGE_ROOM = 131112
 X = 0xFFFFFFFF
 
 
@@ -39,12 +41,14 @@ class Memory:
         """A write port is (addr, k), a read port (addr, k) or (addr, k, relations)."""
         self.depth, self.width, self.writes, self.reads = depth, width, list(writes), list(reads)
 
+    def rows(self):
+        return [self.depth, self.width, *listed([(5 * i) % 3 for i in range(self.depth * self.width)])]
+
     def outputs(self):
         return sum(self.width << r[1] for r in self.reads)
 
     def words(self):
-        init = listed([(5 * i) % 3 for i in range(self.depth * self.width)])
-        out = [self.depth, self.width, *init, len(self.writes), len(self.reads)]
+        out = [*self.rows(), len(self.writes), len(self.reads)]
         for i, (addr, k) in enumerate(self.writes):
             out += write_port(100 + 20000 * i, addr, self.width << k)
         for i, read in enumerate(self.reads):
@@ -64,7 +68,7 @@ def case(op, payload):
 
 
 def over(memory, ports=None, granularities=None, **fields):
-    """The five calls on one memory."""
+    """The five calls on one memory, and its layout with patches of the first and the last row and of the one after."""
     ports = list(range(min(len(memory.reads), 8))) if ports is None else ports
     granularities = [1] * len(memory.writes) if granularities is None else granularities
     m, p = memory.words(), plan(memory, **fields)
@@ -74,6 +78,9 @@ def over(memory, ports=None, granularities=None, **fields):
     yield case(25, [NONE] + m + p)
     yield case(26, m + listed(ports) + p)
     yield case(28, m)
+    rows = (0, max(memory.depth, 1) - 1, memory.depth)
+    patches = [word for row in rows for word in (IMAGE_ROOM, row, *listed([2, 1, 0] * (memory.width // 3) + [1] * (memory.width % 3)))]
+    yield case(40, [IMAGE_ROOM] + memory.rows() + p + [len(rows)] + patches)
 
 
 def memories():

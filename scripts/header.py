@@ -38,7 +38,6 @@ STRUCTS = [
     ('c_memory::WritePort', 'write_port', 'WritePort'),
     ('c_memory::ReadPort', 'read_port', 'ReadPort'),
     ('c_memory::Memory', 'memory', 'Memory'),
-    ('c_memory::Count', 'count', 'Count'),
     ('c_memory::Slice', 'slice', 'Slice'),
     ('c_memory::Extracted', 'extracted', 'Extracted'),
     ('swizzle_plan::MemorySwizzle', 'memory_swizzle', 'MemorySwizzle'),
@@ -49,12 +48,10 @@ STRUCTS = [
     ('image_state::Laid', 'laid', 'Laid'),
     ('c_image::MeasuredResult', 'measured', 'Measured'),
     ('c_image::PlacedResult', 'placed', 'Placed'),
-    ('c_image::SizesResult', 'head', 'Head'),
     ('record_sizes::Sizes', 'sizes', 'Sizes'),
     ('record_listing::Summary', 'summary', 'Summary'),
-    ('c_record::Count', 'count', 'Count'),
     ('c_record::Head', 'head', 'Head'),
-    ('c_record::Summarized', 'summarized', 'Summarized'),
+    ('c_record::SummaryResult', 'summarized', 'Summarized'),
 ]
 IN_HEADER = {source: name for source, name, _ in STRUCTS}
 IN_FFI = {source: name for source, _, name in STRUCTS}
@@ -264,8 +261,7 @@ def all_faults(header, ffi, symbols, sources):
 
 def sources_here():
     crates = re.findall(r'^(\w+):', open('crates.txt').read(), re.M)
-    # The call format's own export is no function for callers.
-    return Sources([(c, open(path).read()) for c in crates if c != 'wire' for path in sorted(glob.glob(f'crates/{c}/src/**/*.rt', recursive=True))])
+    return Sources([(c, open(path).read()) for c in crates for path in sorted(glob.glob(f'crates/{c}/src/**/*.rt', recursive=True))])
 
 
 def symbols_of(archive):

@@ -2,8 +2,7 @@
 """Fails where the stored output of a program says that a case was wrong, or that none was tried.
 
 `rt ci` holds a program to its file `stdout`, whatever that says. The forms: 'N compared, M wrong', 'N of M: …', 'same' or 'DIFFERENT',
-'kept' or 'CHANGED', and 'changed N M' with M bytes changed past the image. Output that is no text (`replay`) is compared with the
-answers of the Rust elsewhere (`scripts/stored.py`).
+'kept' or 'CHANGED', and 'changed N M' with M bytes changed past the image.
 """
 import glob
 import os

@@ -107,14 +107,19 @@ fn constants(out: &mut Vec<Input>) {
 }
 
 fn merges(out: &mut Vec<Input>) {
-    let kinds: [(&'static str, usize, u32); 4] =
-        [("32 bits, different", 32, 32), ("4,096 equal bits", 4_096, 1), ("4,096 different bits", 4_096, 4_096), ("2,048 mixed bits, 512 kept", 2_048, 512)];
+    let kinds: [(&'static str, usize, u32); 4] = [
+        ("32 bits, different", 32, 32),
+        ("4,096 equal bits", 4_096, 1),
+        ("4,096 different bits", 4_096, 4_096),
+        ("2,048 mixed bits, 512 kept", 2_048, 512),
+    ];
     for (what, n, kept) in kinds {
         let (then, other) = (mixed(10, n, kept), mixed(10_000, n, kept));
         let select = Control::neg(5);
         out.push(given(what, Call::DedupMux(DedupMux { log: LOG, select, then: then.clone(), other: other.clone() })));
         let codes = vec![1; n];
-        let flip_flop = FlipFlop { data: then.clone(), controls: controls(), clear_value: codes.clone(), reset_value: codes.clone(), init_value: codes };
+        let flip_flop =
+            FlipFlop { data: then.clone(), controls: controls(), clear_value: codes.clone(), reset_value: codes.clone(), init_value: codes };
         out.push(given(what, Call::DedupDff(DedupDff { log: LOG, flip_flop })));
         let one = vec![5; n];
         out.push(given(what, Call::BitwiseMux(BitwiseMux { log: LOG, select: one, then, other })));
@@ -151,7 +156,11 @@ fn records(out: &mut Vec<Input>) {
         for call in [write, read] {
             out.push(given(what, call.clone()));
             let plain = Plain { bytes: vec![1; n] };
-            out.push(Input { what: if n < 20_000 { "16,384 trits, beside a copy" } else { "131,072 trits, beside a copy" }, plain: Some(plain), ..given(what, call) });
+            out.push(Input {
+                what: if n < 20_000 { "16,384 trits, beside a copy" } else { "131,072 trits, beside a copy" },
+                plain: Some(plain),
+                ..given(what, call)
+            });
         }
         out.push(given(what, list));
     }

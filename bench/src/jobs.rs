@@ -50,6 +50,16 @@ pub fn rust(call: &Call) -> Job {
             let control = to_control(&c.control);
             job(move || !black_box(control))
         }
+        Call::WriteRecord(c) => job(move || oracle::record::write(&c.sizes, &c.image)),
+        Call::ReadRecord(c) => job(move || oracle::record::read(&c.bytes)),
+        Call::Lister(c) => job(move || oracle::record::list(&c.bytes)),
+        Call::RemapReset(_) | Call::DedupMux(_) | Call::DedupDff(_) | Call::BitwiseMux(_) => rust_on_log(call.clone()),
+        other => rust_over_memory(other),
+    }
+}
+
+fn rust_on_log(call: Call) -> Job {
+    match call {
         Call::RemapReset(c) => {
             let mut given = FlipFlop::new(Value::new(), ControlNet::ZERO);
             (given.reset, given.enable) = (to_control(&c.reset), to_control(&c.enable));
@@ -72,10 +82,7 @@ pub fn rust(call: &Call) -> Job {
             let (select, then, other) = (to_value(&c.select), to_value(&c.then), to_value(&c.other));
             on_log(c.log, move |design| open::add_bitwise_mux(design, select.clone(), then.clone(), other.clone()))
         }
-        Call::WriteRecord(c) => job(move || oracle::record::write(&c.sizes, &c.image)),
-        Call::ReadRecord(c) => job(move || oracle::record::read(&c.bytes)),
-        Call::Lister(c) => job(move || oracle::record::list(&c.bytes)),
-        other => rust_over_memory(other),
+        _ => unreachable!("a request"),
     }
 }
 
@@ -145,6 +152,27 @@ pub fn port(call: &Call) -> Job {
             job(move || ffi::const_is_undef(&a))
         }
         Call::ControlInverse(c) => job(move || ffi::control_not(black_box(control(c.control)))),
+        Call::LayOut(c) => port_layout(c),
+        Call::WriteRecord(c) => {
+            let (mut out, image, z) = (vec![0; c.room as usize], bytes(&c.image), c.sizes);
+            let sizes = ffi::Sizes { unit: z.unit, full: z.full, full_depth: z.full_depth, partial: z.partial, partial_depth: z.partial_depth };
+            job(move || ffi::write_record(&mut out, sizes, &image))
+        }
+        Call::ReadRecord(c) => {
+            let (mut image, record) = (vec![0; c.room as usize], bytes(&c.bytes));
+            job(move || ffi::read_record(&mut image, &record))
+        }
+        Call::Lister(c) => {
+            let (mut out, record) = (vec![0; 2_000_000], bytes(&c.bytes));
+            job(move || ffi::list_record(&mut out, &record))
+        }
+        Call::RemapReset(_) | Call::DedupMux(_) | Call::DedupDff(_) | Call::BitwiseMux(_) => port_on_log(call.clone()),
+        other => port_over_memory(other),
+    }
+}
+
+fn port_on_log(call: Call) -> Job {
+    match call {
         Call::RemapReset(c) => {
             let (mut words, st) = log(c.log);
             let given = ffi::Controls {
@@ -169,21 +197,7 @@ pub fn port(call: &Call) -> Job {
             let ((mut words, st), mut out) = (log(c.log), vec![0; c.then.len()]);
             job(move || ffi::add_bitwise_mux(&mut words, st, &mut out, &c.select, &c.then, &c.other))
         }
-        Call::LayOut(c) => port_layout(c),
-        Call::WriteRecord(c) => {
-            let (mut out, image, z) = (vec![0; c.room as usize], bytes(&c.image), c.sizes);
-            let sizes = ffi::Sizes { unit: z.unit, full: z.full, full_depth: z.full_depth, partial: z.partial, partial_depth: z.partial_depth };
-            job(move || ffi::write_record(&mut out, sizes, &image))
-        }
-        Call::ReadRecord(c) => {
-            let (mut image, record) = (vec![0; c.room as usize], bytes(&c.bytes));
-            job(move || ffi::read_record(&mut image, &record))
-        }
-        Call::Lister(c) => {
-            let (mut out, record) = (vec![0; 2_000_000], bytes(&c.bytes));
-            job(move || ffi::list_record(&mut out, &record))
-        }
-        other => port_over_memory(other),
+        _ => unreachable!("a request"),
     }
 }
 
@@ -206,9 +220,9 @@ fn port_over_memory(call: Call) -> Job {
     let (entries, writes, reads) = plan.map_or_else(Default::default, |p| (p.entries, p.write_logs, p.read_logs));
     let (mut room, mut codes, mut output) = (vec![0; 100_000], vec![0; 100_000], vec![0; 100_000]);
     match call {
-        Call::ExtractReadPorts(c) => job(move || {
-            ffi::extract_read_ports(&mut room, &mut codes, &mut output, numbers, &nets, &trits, &c.ports, &c.output)
-        }),
+        Call::ExtractReadPorts(c) => {
+            job(move || ffi::extract_read_ports(&mut room, &mut codes, &mut output, numbers, &nets, &trits, &c.ports, &c.output))
+        }
         Call::MakeDataSwizzle(c) => job(move || ffi::make_data_swizzle(&mut room, numbers, &nets, &trits, &c.granularities)),
         Call::SwizzleDepths(_) => job(move || ffi::swizzle_depths(&mut room, numbers, &nets, &trits, s, &entries, &writes, &reads)),
         Call::SwizzleMuxBits(c) => job(move || ffi::swizzle_mux_bits(numbers, &nets, &trits, &c.ports, s, &entries, &writes, &reads)),

@@ -112,11 +112,7 @@ fn remap_reset_over_enable(words: &mut Words) -> Option<Outcome> {
 }
 
 /// A merge of so many bits: the room for their nets is exactly as long.
-fn merge(
-    (mut log, st): (Lent<u32>, LogState),
-    bits: usize,
-    call: impl FnOnce(&mut [u32], LogState, &mut [u32]) -> ffi::Logged,
-) -> Outcome {
+fn merge((mut log, st): (Lent<u32>, LogState), bits: usize, call: impl FnOnce(&mut [u32], LogState, &mut [u32]) -> ffi::Logged) -> Outcome {
     let mut out = Lent::room("out", bits);
     let answer = call(log.get_mut(), st, out.get_mut());
     unless(logged(answer.number, st, answer.state), |to| {
@@ -136,9 +132,7 @@ fn add_dedup_dff(words: &mut Words) -> Option<Outcome> {
     let (log, bits, c) = (words.log()?, words.words("bits")?, words.controls()?);
     let (clear, reset, init) = (words.codes("clear")?, words.codes("reset")?, words.codes("init")?);
     words.end()?;
-    Some(merge(log, bits.get().len(), |log, st, out| {
-        ffi::add_dedup_dff(log, st, out, c, bits.get(), clear.get(), reset.get(), init.get())
-    }))
+    Some(merge(log, bits.get().len(), |log, st, out| ffi::add_dedup_dff(log, st, out, c, bits.get(), clear.get(), reset.get(), init.get())))
 }
 
 fn add_bitwise_mux(words: &mut Words) -> Option<Outcome> {
@@ -162,8 +156,14 @@ fn extract_read_ports(words: &mut Words) -> Option<Outcome> {
     let (mut room_nets, mut room_trits) = (Lent::room("room_nets", nets), Lent::room("room_trits", trits));
     let mut room_output = Lent::room("room_output", outputs);
     let answer = ffi::extract_read_ports(
-        room_nets.get_mut(), room_trits.get_mut(), room_output.get_mut(),
-        m.numbers, m.nets.get(), m.trits.get(), list.get(), output.get(),
+        room_nets.get_mut(),
+        room_trits.get_mut(),
+        room_output.get_mut(),
+        m.numbers,
+        m.nets.get(),
+        m.trits.get(),
+        list.get(),
+        output.get(),
     );
     Some(unless(answer.number, |to| {
         put_memory(to, &answer.memory, room_nets.wrote(0..nets), room_trits.wrote(0..trits));

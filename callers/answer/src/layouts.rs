@@ -29,12 +29,10 @@ pub fn layout(words: &mut Words) -> Option<Outcome> {
     let (calls, trits) = patches(words)?;
     words.end()?;
     let asked = Asked { room, params, entries: plan.entries, rows, calls: Lent::of("calls", calls), trits: Lent::of("trits", trits) };
-    let found = asked.at_once(|image, numbers, a| {
-        ffi::fill_then_patch(image, numbers, a.params, a.entries.get(), a.rows.get(), a.calls.get(), a.trits.get())
-    });
+    let found = asked
+        .at_once(|image, numbers, a| ffi::fill_then_patch(image, numbers, a.params, a.entries.get(), a.rows.get(), a.calls.get(), a.trits.get()));
     let laid = ffi::laid_out(params, asked.entries.get());
-    let by_state =
-        asked.at_once(|image, numbers, a| ffi::fill_and_patch(image, numbers, laid, a.rows.get(), a.calls.get(), a.trits.get()));
+    let by_state = asked.at_once(|image, numbers, a| ffi::fill_and_patch(image, numbers, laid, a.rows.get(), a.calls.get(), a.trits.get()));
     assert!(found == by_state, "finding: fill_then_patch and fill_and_patch differ: {found:?}, {by_state:?}");
     let one_by_one = asked.one_by_one();
     assert!(found == one_by_one, "finding: fill_then_patch and single calls differ: {found:?}, {one_by_one:?}");

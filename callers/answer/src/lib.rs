@@ -19,9 +19,11 @@ pub fn begin(number: usize, op: u32) {
 
 /// The answer to a case: refusal number, m, m words.
 pub fn answer(case: &[u32]) -> Vec<u32> {
-    let outcome = case.split_first_chunk().and_then(|(&[op, length], payload)| {
-        if payload.len() == length as usize { calls::outcome(op, &mut Words(payload)) } else { None }
-    });
+    let outcome = case.split_first_chunk().and_then(
+        |(&[op, length], payload)| {
+            if payload.len() == length as usize { calls::outcome(op, &mut Words(payload)) } else { None }
+        },
+    );
     match outcome {
         Some(Ok(payload)) => [&[0, payload.len() as u32], &payload[..]].concat(),
         Some(Err(number)) => vec![number, 0],

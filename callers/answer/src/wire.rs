@@ -65,13 +65,7 @@ impl<'a> Words<'a> {
     }
 
     pub fn sizes(&mut self) -> Option<Sizes> {
-        Some(Sizes {
-            unit: self.word()?,
-            full: self.word()?,
-            full_depth: self.word()?,
-            partial: self.word()?,
-            partial_depth: self.word()?,
-        })
+        Some(Sizes { unit: self.word()?, full: self.word()?, full_depth: self.word()?, partial: self.word()?, partial_depth: self.word()? })
     }
 
     pub fn plan(&mut self) -> Option<Plan> {

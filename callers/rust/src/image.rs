@@ -18,13 +18,7 @@ pub struct Layout {
 impl Layout {
     /// The layout of a memory of this depth and width under a plan, whose wide logs play no part.
     pub fn new(depth: u32, width: u32, plan: &Swizzle) -> Layout {
-        let params = ffi::Params {
-            depth,
-            width,
-            soft_mask: plan.soft_addr_bits_mask,
-            hard: plan.hard_addr_bits,
-            unit: plan.data_width_unit,
-        };
+        let params = ffi::Params { depth, width, soft_mask: plan.soft_addr_bits_mask, hard: plan.hard_addr_bits, unit: plan.data_width_unit };
         Layout { params, entries: entry_words(&plan.data_swizzle) }
     }
 

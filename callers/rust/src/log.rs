@@ -101,11 +101,7 @@ impl Log {
     }
 
     /// The same for a merge, which stores the net of each bit.
-    fn merged(
-        &mut self,
-        count: usize,
-        call: impl FnOnce(&mut [u32], ffi::LogState, &mut [u32]) -> ffi::Logged,
-    ) -> Result<Vec<Net>, Refusal> {
+    fn merged(&mut self, count: usize, call: impl FnOnce(&mut [u32], ffi::LogState, &mut [u32]) -> ffi::Logged) -> Result<Vec<Net>, Refusal> {
         let (words, state) = (&mut self.words, self.state);
         let (nets, state) = nets_filled(count, |out| {
             let logged = call(words, state, out);
@@ -280,17 +276,10 @@ impl Cell {
         let (data, rest) = operands.split_at_checked(width)?;
         let (&words, trits) = rest.split_first_chunk::<9>()?;
         let control = |at: usize| ffi::Control { polarity: words[at], net: words[at + 1] };
-        let controls = ffi::Controls {
-            clock: control(0),
-            clear: control(2),
-            reset: control(4),
-            enable: control(6),
-            reset_over_enable: words[8],
-        };
+        let controls = ffi::Controls { clock: control(0), clear: control(2), reset: control(4), enable: control(6), reset_over_enable: words[8] };
         let codes: Vec<u8> = trits.iter().map(|&word| word as u8).collect();
         let value = |at: usize| Some(trits_of(codes.get(at * width..(at + 1) * width)?));
-        let flip_flop =
-            FlipFlop { controls: Controls::lifted(controls), clear_value: value(0)?, reset_value: value(1)?, init_value: value(2)? };
+        let flip_flop = FlipFlop { controls: Controls::lifted(controls), clear_value: value(0)?, reset_value: value(1)?, init_value: value(2)? };
         Some(Cell::FlipFlop { data: nets_of(data), flip_flop })
     }
 }

@@ -182,13 +182,7 @@ impl Lowered {
 }
 
 fn lifted_flip_flop(p: &ffi::ReadPort, trits: &mut Parts<u8>) -> FlipFlop {
-    let controls = ffi::Controls {
-        clock: p.clock,
-        clear: p.clear,
-        reset: p.reset,
-        enable: p.enable,
-        reset_over_enable: p.reset_over_enable,
-    };
+    let controls = ffi::Controls { clock: p.clock, clear: p.clear, reset: p.reset, enable: p.enable, reset_over_enable: p.reset_over_enable };
     FlipFlop {
         controls: Controls::lifted(controls),
         clear_value: trits_of(trits.next(p.clear_len)),
@@ -268,9 +262,7 @@ impl Memory {
         let mut room_nets = vec![0; writes + ports().map(|port| port.addr.len()).sum::<usize>()];
         let mut room_trits = vec![0; self.init_value.len() + ports().map(trits).sum::<usize>()];
         let mut room_output = vec![0; ports().map(|port| port.data_len).sum()];
-        let answer = ffi::extract_read_ports(
-            &mut room_nets, &mut room_trits, &mut room_output, l.memory, &l.nets, &l.trits, list, &numbers(output),
-        );
+        let answer = ffi::extract_read_ports(&mut room_nets, &mut room_trits, &mut room_output, l.memory, &l.nets, &l.trits, list, &numbers(output));
         Refusal::check(answer.number)?;
         let extracted = Lowered { memory: answer.memory, nets: room_nets, trits: room_trits };
         Ok((extracted.lifted(), nets_of(&room_output)))
@@ -290,18 +282,15 @@ impl Memory {
         let measured = ffi::measure(plan.params(self.depth, self.width), &entries);
         let count = measured.shape.all_mems.min(crate::MAX_COLUMNS) as usize;
         let mut out = vec![0; count];
-        let number = ffi::swizzle_depths(
-            &mut out, l.memory, &l.nets, &l.trits, plan.lowered(), &entries, &plan.write_wide_log2, &plan.read_wide_log2,
-        );
+        let number =
+            ffi::swizzle_depths(&mut out, l.memory, &l.nets, &l.trits, plan.lowered(), &entries, &plan.write_wide_log2, &plan.read_wide_log2);
         Refusal::check(number).map(|()| out)
     }
 
     /// The address bits that the write ports and the listed read ports would decode with muxes.
     pub fn swizzle_mux_bits(&self, ports: &[u32], plan: &Swizzle) -> Result<MuxBits, Refusal> {
         let (l, entries) = (self.lowered(), entry_words(&plan.data_swizzle));
-        let bits = ffi::swizzle_mux_bits(
-            l.memory, &l.nets, &l.trits, ports, plan.lowered(), &entries, &plan.write_wide_log2, &plan.read_wide_log2,
-        );
+        let bits = ffi::swizzle_mux_bits(l.memory, &l.nets, &l.trits, ports, plan.lowered(), &entries, &plan.write_wide_log2, &plan.read_wide_log2);
         Refusal::check(bits.refusal)?;
         Ok(MuxBits { writes: bits.writes[..self.write_ports.len()].to_vec(), reads: bits.reads[..ports.len()].to_vec() })
     }

@@ -159,7 +159,12 @@ fn refusals_have_texts() {
 #[test]
 fn log_entries_are_read_back() {
     let mut log = Log::new(1_000, Net(100));
-    let f = FlipFlop { controls: Controls::clocked(Control::Neg(Net(5))), clear_value: vec![Trit::X], reset_value: vec![Trit::One], init_value: vec![Trit::Zero] };
+    let f = FlipFlop {
+        controls: Controls::clocked(Control::Neg(Net(5))),
+        clear_value: vec![Trit::X],
+        reset_value: vec![Trit::One],
+        init_value: vec![Trit::Zero],
+    };
     let (a, b) = (Net(8).run(2), Net(20).run(2));
     assert_eq!(log.add_void(2), Ok(Net(100).run(2)));
     assert_eq!(log.add_not(&a), Ok(Net(102).run(2)));
@@ -215,7 +220,12 @@ fn merges_keep_equal_bits_once() {
 
 /// A memory with a write port and two read ports, one of them clocked.
 fn ported() -> Memory {
-    let f = FlipFlop { controls: Controls::clocked(Control::Pos(Net(5))), clear_value: vec![Trit::X], reset_value: vec![Trit::One], init_value: vec![Trit::Zero] };
+    let f = FlipFlop {
+        controls: Controls::clocked(Control::Pos(Net(5))),
+        clear_value: vec![Trit::X],
+        reset_value: vec![Trit::One],
+        init_value: vec![Trit::Zero],
+    };
     let clocked = ReadPort { addr: vec![Net(60)], data_len: 1, flip_flop: Some(f), relations: vec![Relation::Transparent] };
     let plain = ReadPort { addr: vec![Net(61), Net(62)], data_len: 2, flip_flop: None, relations: vec![] };
     Memory { read_ports: vec![clocked, plain], ..with_mask(1, &[&[7]]) }
@@ -236,7 +246,11 @@ fn memories() {
     assert_eq!(number(memory.extract_read_ports(&[0], &Net(80).run(2))), 2);
     let nine = Memory { read_ports: vec![memory.read_ports[1].clone(); 9], ..memory.clone() };
     assert_eq!(number(nine.check()), 1);
-    let clocks = Memory { write_ports: vec![memory.write_ports[0].clone(), WritePort { clock: Control::Neg(Net(5)), ..memory.write_ports[0].clone() }], read_ports: vec![], ..memory };
+    let clocks = Memory {
+        write_ports: vec![memory.write_ports[0].clone(), WritePort { clock: Control::Neg(Net(5)), ..memory.write_ports[0].clone() }],
+        read_ports: vec![],
+        ..memory
+    };
     assert_eq!(clocks.can_lower_fallback(), Ok(false));
 }
 

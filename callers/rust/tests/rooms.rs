@@ -4,11 +4,11 @@
 mod common;
 
 use common::*;
-use tablegoose::ffi::{self, Control, Sizes};
+use tablegoose::ffi::{self, Control, Laid, Sizes};
 
 /// Runs a call on rooms of these lengths: its number, and the rooms after it.
 fn run(call: &Call, like: &[Room], lens: &[usize]) -> (u32, Vec<Room>) {
-    let mut rooms: Vec<Room> = like.iter().zip(lens).map(|(room, &len)| room.of_len(len)).collect();
+    let mut rooms = fresh(like, lens);
     let number = call(&mut rooms);
     (number, rooms)
 }
@@ -18,7 +18,7 @@ fn fresh(like: &[Room], lens: &[usize]) -> Vec<Room> {
     like.iter().zip(lens).map(|(room, &len)| room.of_len(len)).collect()
 }
 
-fn sweep(case: &Case) {
+fn sweep(case: Case) {
     let (name, like) = (case.name, &case.rooms);
     let need: Vec<usize> = like.iter().map(Room::len).collect();
     let (number, exact) = run(&case.accepted, like, &need);
@@ -47,152 +47,88 @@ fn sweep(case: &Case) {
     }
 }
 
-fn one(rooms: &mut [Room]) -> &mut Room {
-    &mut rooms[0]
+/// A call with one room of bytes: its need, an accepted input, and a number with an input that it refuses.
+fn byte_room(name: &'static str, need: usize, good: impl Fn(&mut [u8]) -> u32 + 'static, number: u32, bad: impl Fn(&mut [u8]) -> u32 + 'static) {
+    sweep(case(name, vec![bytes(need)], move |r| good(r[0].bytes()), number, move |r| bad(r[0].bytes())));
+}
+
+/// The same with a room of words.
+fn word_room(name: &'static str, need: usize, good: impl Fn(&mut [u32]) -> u32 + 'static, number: u32, bad: impl Fn(&mut [u32]) -> u32 + 'static) {
+    sweep(case(name, vec![words(need)], move |r| good(r[0].words()), number, move |r| bad(r[0].words())));
 }
 
 #[test]
 fn constants_and_values() {
-    let cases = [
-        case("const_not", vec![bytes(3)], |r| ffi::const_not(one(r).bytes(), &[0, 1, 2]), 4, |r| ffi::const_not(one(r).bytes(), &[3])),
-        case(
-            "const_and",
-            vec![bytes(2)],
-            |r| ffi::const_and(one(r).bytes(), &[0, 1], &[2, 1]),
-            2,
-            |r| ffi::const_and(one(r).bytes(), &[3], &[0, 1]),
-        ),
-        case(
-            "const_or",
-            vec![bytes(2)],
-            |r| ffi::const_or(one(r).bytes(), &[0, 1], &[2, 1]),
-            4,
-            |r| ffi::const_or(one(r).bytes(), &[0, 0], &[0, 255]),
-        ),
-        case("zext", vec![words(3)], |r| ffi::zext(one(r).words(), &[9, 8], 3), 2, |r| ffi::zext(one(r).words(), &[9, 8], 1)),
-        case(
-            "narrower_select",
-            vec![words(2)],
-            |r| ffi::narrower_select(one(r).words(), &[7, 8, 9], &[1], 0, 2).number,
-            14,
-            |r| ffi::narrower_select(one(r).words(), &[7], &[1], 0, 2).number,
-        ),
-    ];
-    cases.iter().for_each(sweep);
+    byte_room("const_not", 3, |out| ffi::const_not(out, &[0, 1, 2]), 4, |out| ffi::const_not(out, &[3]));
+    byte_room("const_and", 2, |out| ffi::const_and(out, &[0, 1], &[2, 1]), 2, |out| ffi::const_and(out, &[3], &[0, 1]));
+    byte_room("const_or", 2, |out| ffi::const_or(out, &[0, 1], &[2, 1]), 4, |out| ffi::const_or(out, &[0, 0], &[0, 255]));
+    word_room("zext", 3, |out| ffi::zext(out, &[9, 8], 3), 2, |out| ffi::zext(out, &[9, 8], 1));
+    let select = |waddr: &'static [u32]| move |out: &mut [u32]| ffi::narrower_select(out, waddr, &[1], 0, 2).number;
+    word_room("narrower_select", 2, select(&[7, 8, 9]), 14, select(&[7]));
 }
 
 #[test]
-fn requests() {
-    let (st, bad, long) = (state(), 100, [9; 4_097]);
-    let neg = Control { polarity: 1, net: 7 };
-    let cases = [
-        case("add_void", vec![words(4)], move |r| ffi::add_void(one(r).words(), st, 3).number, 21, move |r| {
-            // With room for the words; without it 20 comes first.
-            let mut log = [0; 4];
-            let number = ffi::add_void(&mut log, st, u32::MAX).number;
-            assert_eq!(log, [0; 4]);
-            assert!(r.len() == 1);
-            number
-        }),
-        case("add_not", vec![words(6)], move |r| ffi::add_not(one(r).words(), st, &[8, 9]).number, 4, move |r| {
-            ffi::add_not(one(r).words(), st, &[bad]).number
-        }),
-        case("add_and", vec![words(8)], move |r| ffi::add_and(one(r).words(), st, &[8, 9], &[1, 2]).number, 2, move |r| {
-            ffi::add_and(one(r).words(), st, &[8, 9], &[1]).number
-        }),
-        case("add_or", vec![words(8)], move |r| ffi::add_or(one(r).words(), st, &[8, 9], &[1, 2]).number, 4, move |r| {
-            ffi::add_or(one(r).words(), st, &[8], &[bad]).number
-        }),
-        case("add_eq", vec![words(8)], move |r| ffi::add_eq(one(r).words(), st, &[8, 9], &[1, 2]).number, 2, move |r| {
-            ffi::add_eq(one(r).words(), st, &[], &[1]).number
-        }),
-        case("replace_value", vec![words(8)], move |r| ffi::replace_value(one(r).words(), st, &[8, 9], &[1, 2]).number, 2, move |r| {
-            ffi::replace_value(one(r).words(), st, &[], &[1]).number
-        }),
-        case("add_shl", vec![words(9)], move |r| ffi::add_shl(one(r).words(), st, 4, &[8], &[9, 1]).number, 4, move |r| {
-            ffi::add_shl(one(r).words(), st, 4, &[bad], &[9, 1]).number
-        }),
-        case("add_ushr", vec![words(9)], move |r| ffi::add_ushr(one(r).words(), st, 4, &[8], &[9, 1]).number, 4, move |r| {
-            ffi::add_ushr(one(r).words(), st, 4, &[8], &[bad]).number
-        }),
-        case("add_mux", vec![words(9)], move |r| ffi::add_mux(one(r).words(), st, neg, &[8, 9], &[1, 2]).number, 1, move |r| {
-            ffi::add_mux(one(r).words(), st, neg, &long, &[]).number
-        }),
-        case(
-            "add_dff",
-            vec![words(17)],
-            move |r| ffi::add_dff(one(r).words(), st, controls(), &[8], &[0], &[1], &[2]).number,
-            2,
-            move |r| ffi::add_dff(one(r).words(), st, controls(), &[8], &[0], &[], &[2]).number,
-        ),
-        case("into_pos", vec![words(5)], move |r| ffi::into_pos(one(r).words(), st, neg).number, 4, move |r| {
-            ffi::into_pos(one(r).words(), st, Control { polarity: 2, net: 7 }).number
-        }),
-        case(
-            "remap_reset_over_enable",
-            vec![words(16)],
-            move |r| {
-                let c = ffi::Controls { reset: neg, enable: Control { net: 8, ..neg }, ..controls() };
-                ffi::remap_reset_over_enable(one(r).words(), st, c).number
-            },
-            4,
-            move |r| ffi::remap_reset_over_enable(one(r).words(), st, ffi::Controls { reset_over_enable: 2, ..controls() }).number,
-        ),
-    ];
-    cases.iter().for_each(sweep);
+fn requests_of_values() {
+    let (st, bad) = (state(), 100);
+    word_room("add_not", 6, move |log| ffi::add_not(log, st, &[8, 9]).number, 4, move |log| ffi::add_not(log, st, &[bad]).number);
+    let and = move |b: &'static [u32]| move |log: &mut [u32]| ffi::add_and(log, st, &[8, 9], b).number;
+    word_room("add_and", 8, and(&[1, 2]), 2, and(&[1]));
+    let or = move |b: [u32; 2]| move |log: &mut [u32]| ffi::add_or(log, st, &[8, 9], &b).number;
+    word_room("add_or", 8, or([1, 2]), 4, or([1, bad]));
+    let eq = move |b: &'static [u32]| move |log: &mut [u32]| ffi::add_eq(log, st, &[8, 9], b).number;
+    word_room("add_eq", 8, eq(&[1, 2]), 2, eq(&[]));
+    let replace = move |to: &'static [u32]| move |log: &mut [u32]| ffi::replace_value(log, st, &[8, 9], to).number;
+    word_room("replace_value", 8, replace(&[1, 2]), 2, replace(&[1, 2, 3]));
+    let shl = move |select: u32| move |log: &mut [u32]| ffi::add_shl(log, st, 4, &[select], &[9, 1]).number;
+    word_room("add_shl", 9, shl(8), 4, shl(bad));
+    let ushr = move |net: u32| move |log: &mut [u32]| ffi::add_ushr(log, st, 4, &[8], &[9, net]).number;
+    word_room("add_ushr", 9, ushr(1), 4, ushr(bad));
+    word_room(
+        "add_void",
+        4,
+        move |log| ffi::add_void(log, st, 3).number,
+        20,
+        move |log| {
+            // It has no number for its input: a log that is used past its end.
+            ffi::add_void(log, ffi::LogState { used: 1_000, ..st }, 3).number
+        },
+    );
 }
 
-/// The log and the room of the result.
-fn two(rooms: &mut [Room]) -> (&mut [u32], &mut [u32]) {
-    let [log, out] = rooms else { panic!("two rooms") };
-    (log.words(), out.words())
+#[test]
+fn requests_with_controls() {
+    let st = state();
+    let neg = |net: u32| Control { polarity: 1, net };
+    let mux = move |a: &'static [u32]| move |log: &mut [u32]| ffi::add_mux(log, st, neg(7), a, &[1, 2]).number;
+    word_room("add_mux", 9, mux(&[8, 9]), 1, mux(&[9; 4_097]));
+    let dff = move |reset: &'static [u8]| move |log: &mut [u32]| ffi::add_dff(log, st, controls(), &[8], &[0], reset, &[2]).number;
+    word_room("add_dff", 17, dff(&[1]), 2, dff(&[]));
+    let into_pos = move |c: Control| move |log: &mut [u32]| ffi::into_pos(log, st, c).number;
+    word_room("into_pos", 5, into_pos(neg(7)), 4, into_pos(Control { polarity: 2, net: 7 }));
+    let remap = move |reset_over_enable: u32| {
+        let c = ffi::Controls { reset: neg(7), enable: neg(8), reset_over_enable, ..controls() };
+        move |log: &mut [u32]| ffi::remap_reset_over_enable(log, st, c).number
+    };
+    word_room("remap_reset_over_enable", 16, remap(0), 4, remap(2));
+}
+
+/// A merge with its log and the room of its result.
+fn two(call: impl Fn(&mut [u32], &mut [u32]) -> u32 + 'static) -> impl Fn(&mut [Room]) -> u32 + 'static {
+    move |rooms| {
+        let [log, out] = rooms else { panic!("two rooms") };
+        call(log.words(), out.words())
+    }
 }
 
 #[test]
 fn merges() {
     let st = state();
-    let cases = [
-        case(
-            "add_dedup_mux",
-            vec![words(9), words(3)],
-            move |r| {
-                let (log, out) = two(r);
-                ffi::add_dedup_mux(log, st, out, pos(7), &[8, 9, 8], &[1, 2, 1]).number
-            },
-            2,
-            move |r| {
-                let (log, out) = two(r);
-                ffi::add_dedup_mux(log, st, out, pos(7), &[8, 9], &[1]).number
-            },
-        ),
-        case(
-            "add_dedup_dff",
-            vec![words(17), words(2)],
-            move |r| {
-                let (log, out) = two(r);
-                ffi::add_dedup_dff(log, st, out, controls(), &[8, 8], &[0, 0], &[1, 1], &[2, 2]).number
-            },
-            4,
-            move |r| {
-                let (log, out) = two(r);
-                ffi::add_dedup_dff(log, st, out, controls(), &[8], &[3], &[1], &[2]).number
-            },
-        ),
-        case(
-            "add_bitwise_mux",
-            vec![words(14), words(3)],
-            move |r| {
-                let (log, out) = two(r);
-                ffi::add_bitwise_mux(log, st, out, &[7, 7, 6], &[8, 8, 8], &[1, 1, 1]).number
-            },
-            4,
-            move |r| {
-                let (log, out) = two(r);
-                ffi::add_bitwise_mux(log, st, out, &[100], &[8], &[1]).number
-            },
-        ),
-    ];
-    cases.iter().for_each(sweep);
+    let mux = move |b: &'static [u32]| two(move |log, out| ffi::add_dedup_mux(log, st, out, pos(7), &[8, 9, 8], b).number);
+    sweep(case("add_dedup_mux", vec![words(9), words(3)], mux(&[1, 2, 1]), 2, mux(&[1])));
+    let dff = move |clear: [u8; 2]| two(move |log, out| ffi::add_dedup_dff(log, st, out, controls(), &[8, 8], &clear, &[1, 1], &[2, 2]).number);
+    sweep(case("add_dedup_dff", vec![words(17), words(2)], dff([0, 0]), 4, dff([0, 3])));
+    let bitwise = move |s: [u32; 3]| two(move |log, out| ffi::add_bitwise_mux(log, st, out, &s, &[8, 8, 8], &[1, 1, 1]).number);
+    sweep(case("add_bitwise_mux", vec![words(14), words(3)], bitwise([7, 7, 6]), 4, bitwise([7, 7, 100])));
 }
 
 #[test]
@@ -203,46 +139,35 @@ fn memories_and_plans() {
             ffi::extract_read_ports(nets.words(), trits.bytes(), output.words(), memory(), &NETS, &TRITS, list, &[80]).number
         }
     };
-    let entries = |granularities: &'static [u32]| {
-        move |r: &mut [Room]| ffi::make_data_swizzle(one(r).words(), memory(), &NETS, &TRITS, granularities).number
-    };
-    let depths = |entries: &'static [u32]| {
-        move |r: &mut [Room]| ffi::swizzle_depths(one(r).words(), memory(), &NETS, &TRITS, plan(), entries, &[0], &[0])
-    };
-    let cases = [
-        case("extract_read_ports", vec![words(5), bytes(8), words(2)], extract(&[0, 0]), 15, extract(&[1])),
-        case("make_data_swizzle", vec![words(4)], entries(&[4]), 5, entries(&[])),
-        case("swizzle_depths", vec![words(2)], depths(&[0]), 7, depths(&[1])),
-    ];
-    cases.iter().for_each(sweep);
+    sweep(case("extract_read_ports", vec![words(5), bytes(8), words(2)], extract(&[0, 0]), 15, extract(&[1])));
+    let entries = |granularities: &'static [u32]| move |out: &mut [u32]| ffi::make_data_swizzle(out, memory(), &NETS, &TRITS, granularities).number;
+    word_room("make_data_swizzle", 4, entries(&[4]), 5, entries(&[]));
+    let depths = |entries: &'static [u32]| move |out: &mut [u32]| ffi::swizzle_depths(out, memory(), &NETS, &TRITS, plan(), entries, &[0], &[0]);
+    word_room("swizzle_depths", 2, depths(&[0]), 7, depths(&[1]));
+}
+
+fn laid() -> Laid {
+    ffi::laid_out(first(), &FIRST_ENTRIES)
 }
 
 #[test]
 fn images() {
     let (p, e) = (first(), &FIRST_ENTRIES);
-    let laid = move || ffi::laid_out(first(), &FIRST_ENTRIES);
-    let image = FIRST_ROWS;
-    let cases = [
-        case("fill_rows", vec![bytes(6)], move |r| ffi::fill_rows(one(r).bytes(), p, e, &FIRST_ROWS), 2, move |r| {
-            ffi::fill_rows(one(r).bytes(), p, e, &FIRST_ROWS[..5])
-        }),
-        case("patch_row", vec![bytes(6)], move |r| ffi::patch_row(one(r).bytes(), p, e, 2, &[2, 1]), 15, move |r| {
-            ffi::patch_row(one(r).bytes(), p, e, 3, &[2, 1])
-        }),
-        case("read_row", vec![bytes(2)], move |r| ffi::read_row(one(r).bytes(), p, e, &image, 1), 15, move |r| {
-            ffi::read_row(one(r).bytes(), p, e, &image, 3)
-        }),
-        case("fill", vec![bytes(6)], move |r| ffi::fill(one(r).bytes(), laid(), &FIRST_ROWS), 23, |r| {
-            ffi::fill(one(r).bytes(), ffi::unset(), &FIRST_ROWS)
-        }),
-        case("patch", vec![bytes(6)], move |r| ffi::patch(one(r).bytes(), laid(), 2, &[2, 1]), 23, |r| {
-            ffi::patch(one(r).bytes(), ffi::unset(), 2, &[2, 1])
-        }),
-        case("read_laid_row", vec![bytes(2)], move |r| ffi::read_laid_row(one(r).bytes(), laid(), &image, 1), 23, move |r| {
-            ffi::read_laid_row(one(r).bytes(), ffi::unset(), &image, 1)
-        }),
-    ];
-    cases.iter().for_each(sweep);
+    let fill_rows = move |len: usize| move |image: &mut [u8]| ffi::fill_rows(image, p, e, &FIRST_ROWS[..len]);
+    byte_room("fill_rows", 6, fill_rows(6), 2, fill_rows(5));
+    let patch_row = move |row: u32| move |image: &mut [u8]| ffi::patch_row(image, p, e, row, &[2, 1]);
+    byte_room("patch_row", 6, patch_row(2), 15, patch_row(3));
+    let read_row = move |row: u32| move |room: &mut [u8]| ffi::read_row(room, p, e, &FIRST_ROWS, row);
+    byte_room("read_row", 2, read_row(1), 15, read_row(3));
+    let fill = |laid: Laid| move |image: &mut [u8]| ffi::fill(image, laid, &FIRST_ROWS);
+    byte_room("fill", 6, fill(laid()), 23, fill(ffi::unset()));
+    let patch = |laid: Laid| move |image: &mut [u8]| ffi::patch(image, laid, 2, &[2, 1]);
+    byte_room("patch", 6, patch(laid()), 23, patch(ffi::unset()));
+    let read_laid_row = |laid: Laid| move |room: &mut [u8]| ffi::read_laid_row(room, laid, &FIRST_ROWS, 1);
+    byte_room("read_laid_row", 2, read_laid_row(laid()), 23, read_laid_row(ffi::unset()));
+    // An image that is too short to read from.
+    assert_eq!(ffi::read_row(&mut [0; 2], p, e, &FIRST_ROWS[..5], 1), 20);
+    assert_eq!(ffi::read_laid_row(&mut [0; 2], laid(), &FIRST_ROWS[..5], 1), 20);
 }
 
 /// Two patches: row 2 becomes X 1, and row 3 is not there.
@@ -250,75 +175,77 @@ const CALLS: [u32; 8] = [2, 0, 2, 6, 3, 0, 2, 6];
 const PATCHES: [u8; 2] = [2, 1];
 
 #[test]
-fn lists_of_patches() {
-    let (p, e) = (first(), &FIRST_ENTRIES);
-    let laid = move || ffi::laid_out(first(), &FIRST_ENTRIES);
-    let at_once = move |rows: &'static [u8]| {
+fn rows_and_patches_at_once() {
+    let by_layout = |rows: &'static [u8]| {
         move |r: &mut [Room]| {
             let [image, numbers] = r else { panic!("two rooms") };
-            ffi::fill_then_patch(image.bytes(), numbers.words(), p, e, rows, &CALLS, &PATCHES)
+            ffi::fill_then_patch(image.bytes(), numbers.words(), first(), &FIRST_ENTRIES, rows, &CALLS, &PATCHES)
         }
     };
-    let by_state = move |rows: &'static [u8]| {
+    sweep(case("fill_then_patch", vec![bytes(6), words(2)], by_layout(&FIRST_ROWS), 4, by_layout(&[1, 0, 2, 1, 0, 3])));
+    let by_state = |rows: &'static [u8]| {
         move |r: &mut [Room]| {
             let [image, numbers] = r else { panic!("two rooms") };
             ffi::fill_and_patch(image.bytes(), numbers.words(), laid(), rows, &CALLS, &PATCHES)
         }
     };
-    let cases = [
-        case("fill_then_patch", vec![bytes(6), words(2)], at_once(&FIRST_ROWS), 4, at_once(&[1, 0, 2, 1, 0, 3])),
-        case("fill_and_patch", vec![bytes(6), words(2)], by_state(&FIRST_ROWS), 2, by_state(&[])),
-    ];
-    cases.iter().for_each(sweep);
-    for by_laid in [false, true] {
-        let each = |buffer: &mut [u8], numbers: &mut [u32], laid: ffi::Laid, p| match by_laid {
-            false => ffi::patch_each(buffer, numbers, p, e, &CALLS, &PATCHES),
-            true => ffi::patch_all(buffer, numbers, laid, &CALLS, &PATCHES),
-        };
-        let (mut image, mut numbers) = (FIRST_ROWS, [9; 3]);
-        assert_eq!(each(&mut image, &mut numbers, laid(), p), 0);
-        assert_eq!((image, numbers), ([1, 0, 2, 1, 2, 1], [0, 15, 9]));
-        // Short rooms for the numbers, a buffer without room for the image, and no swizzle.
-        for len in [0, 1] {
-            let (mut image, mut numbers) = (FIRST_ROWS, [9; 3]);
-            assert_eq!(each(&mut image, &mut numbers[..len], laid(), p), 20);
-            assert_eq!((image, numbers), (FIRST_ROWS, [9; 3]));
+    sweep(case("fill_and_patch", vec![bytes(6), words(2)], by_state(&FIRST_ROWS), 2, by_state(&[])));
+}
+
+/// The list on an image that holds the first example, by the layout or by the state: its number, the image and the numbers after it.
+fn patched(by_state: bool, set: bool, image_len: usize, room: usize) -> (u32, [u8; 6], [u32; 3]) {
+    let (mut image, mut numbers) = (FIRST_ROWS, [9; 3]);
+    let (buffer, out) = (&mut image[..image_len], &mut numbers[..room]);
+    let p = if set { first() } else { ffi::Params { unit: 0, ..first() } };
+    let number = match by_state {
+        false => ffi::patch_each(buffer, out, p, &FIRST_ENTRIES, &CALLS, &PATCHES),
+        true => ffi::patch_all(buffer, out, if set { laid() } else { ffi::unset() }, &CALLS, &PATCHES),
+    };
+    (number, image, numbers)
+}
+
+#[test]
+fn lists_of_patches() {
+    for by_state in [false, true] {
+        for room in [2, 3] {
+            assert_eq!(patched(by_state, true, 6, room), (0, [1, 0, 2, 1, 2, 1], [0, 15, 9]));
         }
-        let (mut image, mut numbers) = (FIRST_ROWS, [9; 3]);
-        assert_eq!(each(&mut image[..5], &mut numbers, laid(), p), 0);
-        assert_eq!((image, numbers), (FIRST_ROWS, [20, 15, 9]));
-        let (mut image, mut numbers) = (FIRST_ROWS, [9; 3]);
-        assert_eq!(each(&mut image, &mut numbers, ffi::unset(), ffi::Params { unit: 0, ..p }), 0);
-        assert_eq!((image, numbers), (FIRST_ROWS, [23, 23, 9]));
+        for room in [0, 1] {
+            assert_eq!(patched(by_state, true, 6, room), (20, FIRST_ROWS, [9; 3]));
+        }
+        // A buffer without room for the image, and no swizzle: each call has its own number.
+        for len in [5, 0] {
+            assert_eq!(patched(by_state, true, len, 3), (0, FIRST_ROWS, [20, 15, 9]));
+        }
+        assert_eq!(patched(by_state, false, 6, 3), (0, FIRST_ROWS, [23, 23, 9]));
     }
 }
 
 #[test]
 fn records() {
     let sizes = Sizes { unit: 2, full: 1, full_depth: 2, partial: 1, partial_depth: 1 };
-    let refused_text = "refused 16\n".len();
-    let cases = [
-        case("write_record", vec![bytes(14)], move |r| ffi::write_record(one(r).bytes(), sizes, &FIRST_ROWS).number, 17, |r| {
-            ffi::write_record(one(r).bytes(), Sizes::default(), &FIRST_ROWS).number
-        }),
-        case("read_record", vec![bytes(6)], |r| ffi::read_record(one(r).bytes(), &FIRST_RECORD).number, 16, |r| {
-            ffi::read_record(one(r).bytes(), &FIRST_RECORD[1..]).number
-        }),
-    ];
-    cases.iter().for_each(sweep);
-    // A listing has no number but 20: a refused record has a text too.
-    for (bytes, text) in [(&FIRST_RECORD[..], FIRST_LIST.len()), (&FIRST_RECORD[..13], refused_text)] {
-        for len in [0, text - 1, text, text + 3] {
-            for whole in [true, false] {
-                let mut out = vec![0xA5; len];
-                let answer = match whole {
-                    true => ffi::list_record(&mut out, bytes),
-                    false => ffi::list_input(&mut out, bytes, bytes.len()),
-                };
-                let expected = if len < text { (20, 0) } else { (0, text) };
-                assert_eq!((answer.number, answer.count), expected, "a room of {len}");
-                assert!(out[answer.count..].iter().all(|&byte| byte == 0xA5), "a room of {len}");
-            }
+    let write = |sizes: Sizes| move |out: &mut [u8]| ffi::write_record(out, sizes, &FIRST_ROWS).number;
+    byte_room("write_record", 14, write(sizes), 17, write(Sizes::default()));
+    let read = |from: usize| move |image: &mut [u8]| ffi::read_record(image, &FIRST_RECORD[from..]).number;
+    byte_room("read_record", 6, read(0), 16, read(1));
+    // An image that is too short to write from.
+    assert_eq!(ffi::write_record(&mut [0; 14], sizes, &FIRST_ROWS[..5]).number, 20);
+    assert_eq!(ffi::memory_summary(sizes, &FIRST_ROWS[..5], 0).number, 20);
+}
+
+/// A listing has no number but 20: a refused record has a text too.
+#[test]
+fn listings() {
+    for (bytes, text) in [(&FIRST_RECORD[..], FIRST_LIST), (&FIRST_RECORD[..13], "refused 16\n")] {
+        for (len, whole) in [0, text.len() - 1, text.len(), text.len() + 3].into_iter().flat_map(|len| [(len, true), (len, false)]) {
+            let mut out = vec![0xA5; len];
+            let answer = match whole {
+                true => ffi::list_record(&mut out, bytes),
+                false => ffi::list_input(&mut out, bytes, bytes.len()),
+            };
+            let expected = if len < text.len() { (20, "") } else { (0, text) };
+            assert_eq!((answer.number, &out[..answer.count]), (expected.0, expected.1.as_bytes()), "a room of {len}");
+            assert!(out[answer.count..].iter().all(|&byte| byte == 0xA5), "a room of {len}");
         }
     }
 }

@@ -532,7 +532,6 @@ pub fn lay_out(call: &LayOut) -> u32 {
     ])
 }
 
-
 /// A patch of the laid-out state; 23 before all others.
 pub fn patch(layout: Option<&Layout>, patch: &Patch) -> u32 {
     let Some(layout) = layout else {

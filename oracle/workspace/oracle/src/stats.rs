@@ -72,10 +72,13 @@ pub fn parts(op: u32, payload: &[u32]) -> Option<Vec<u32>> {
 impl fmt::Display for Stats {
     fn fmt(&self, f: &mut fmt::Formatter) -> fmt::Result {
         let line = |f: &mut fmt::Formatter, head: String, numbers: &BTreeMap<u32, u64>| {
-            let list: Vec<String> = numbers.iter().map(|(number, count)| match number {
-                &NO_CASE => format!("no case:{count}"),
-                _ => format!("{number}:{count}"),
-            }).collect();
+            let list: Vec<String> = numbers
+                .iter()
+                .map(|(number, count)| match number {
+                    &NO_CASE => format!("no case:{count}"),
+                    _ => format!("{number}:{count}"),
+                })
+                .collect();
             writeln!(f, "{head:<42} {:>8}   {}", numbers.values().sum::<u64>(), list.join(" "))
         };
         for (op, numbers) in &self.cases {

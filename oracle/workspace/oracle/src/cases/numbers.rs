@@ -353,7 +353,8 @@ fn layouts() -> Vec<Numbered> {
         (23, |c| (c.memory.depth, c.memory.init, c.plan.hard, c.plan.unit) = (DEPTH, vec![], HARD, UNIT)),
     ];
     let call = |change: fn(&mut LayOut)| {
-        let (memory, patches) = (memory(2, 1), vec![patch(2, 1, &[2]), patch(1, 1, &[1]), patch(2, 2, &[1]), patch(2, 0, &[4])]);
+        let (memory, patches) =
+            (memory(2, 1), vec![patch(2, 1, &[2]), patch(1, 1, &[1]), patch(2, 2, &[1]), patch(2, 0, &[4])]);
         let mut call = LayOut { image_room: 2, memory, plan: plan(1, 0, 1, 1), patches };
         change(&mut call);
         Call::LayOut(call)
