@@ -546,6 +546,68 @@ tablegoose_count tablegoose_list_record(uint8_t *out, size_t out_len, const uint
 tablegoose_count tablegoose_list_input(uint8_t *out, size_t out_len, const uint8_t *first, size_t first_len, size_t total);
 
 /* ---- stack: what each function takes at most, in bytes, beside the structs that it is given; read from the x86-64 code by scripts/stack.py
+ *     512 tablegoose_add_and
+ *   70656 tablegoose_add_bitwise_mux
+ *   83072 tablegoose_add_dedup_dff
+ *   54144 tablegoose_add_dedup_mux
+ *     640 tablegoose_add_dff
+ *     512 tablegoose_add_eq
+ *     512 tablegoose_add_mux
+ *     512 tablegoose_add_not
+ *     512 tablegoose_add_or
+ *     512 tablegoose_add_shl
+ *     512 tablegoose_add_ushr
+ *     512 tablegoose_add_void
+ *    2816 tablegoose_can_lower_fallback
+ *     128 tablegoose_cell_of_net
+ *     128 tablegoose_const_and
+ *     128 tablegoose_const_is_undef
+ *     128 tablegoose_const_not
+ *     128 tablegoose_const_or
+ *     128 tablegoose_control_is_always
+ *     128 tablegoose_control_not
+ *    6144 tablegoose_extract_read_ports
+ *    1920 tablegoose_fill
+ *    2176 tablegoose_fill_and_patch
+ *     768 tablegoose_fill_rows
+ *    1024 tablegoose_fill_then_patch
+ *     512 tablegoose_into_pos
+ *    1152 tablegoose_laid_out
+ *     512 tablegoose_list_input
+ *     512 tablegoose_list_record
+ *    2816 tablegoose_make_data_swizzle
+ *     256 tablegoose_measure
+ *    2816 tablegoose_memory_refusal
+ *     128 tablegoose_memory_summary
+ *     128 tablegoose_narrower_select
+ *     128 tablegoose_net_as_const
+ *     128 tablegoose_net_is_const
+ *     128 tablegoose_net_of_cell
+ *    2816 tablegoose_output_len
+ *    1792 tablegoose_patch
+ *    1792 tablegoose_patch_all
+ *     768 tablegoose_patch_each
+ *     768 tablegoose_patch_row
+ *     256 tablegoose_place_of
+ *    1792 tablegoose_read_laid_row
+ *    3584 tablegoose_read_port_output_slice
+ *     384 tablegoose_read_record
+ *     768 tablegoose_read_row
+ *     256 tablegoose_record_header
+ *     768 tablegoose_remap_reset_over_enable
+ *     512 tablegoose_replace_value
+ *    1664 tablegoose_sizes_of
+ *     128 tablegoose_slice_refusal
+ *    3840 tablegoose_swizzle_depths
+ *    6272 tablegoose_swizzle_mux_bits
+ *     128 tablegoose_trit_and
+ *     128 tablegoose_trit_not
+ *     128 tablegoose_trit_or
+ *     128 tablegoose_unset
+ *     128 tablegoose_value_is_undef
+ *     128 tablegoose_wide_log2
+ *     128 tablegoose_write_record
+ *     128 tablegoose_zext
  */
 
 #ifdef __cplusplus
