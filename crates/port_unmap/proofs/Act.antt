@@ -33,7 +33,7 @@ use Rattle.net_memory.proofs.Ports.{read-of-view, reads-at}
 use Rattle.net_memory.proofs.Changes.{withRead, read-changed}
 use Rattle.port_overlay.proofs.Bounds.{chains-unmap}
 use Rattle.port_unmap.specs.Ready.{ownFlipFlop, Ready}
-use Rattle.port_unmap.specs.Call.{without, unclocking, driving, drivenOf}
+use Rattle.port_unmap.specs.Call.{without, unclocking, driving, drivenOf, NewStruct}
 use Rattle.port_unmap.proofs.Port.{data-is}
 
 -- ---- the two ways an answer is made
@@ -117,3 +117,11 @@ module _ (m : Memory) (nets trits : List ℕ) (i : ℕ) (c : Controls) (g : Read
       (eo ∙ (λ k. sets output (es k) (upFrom (st .next) (d k))) ∙ sym (unmap-output M i output (ownFlipFlop m trits i c) (st .next)))
       (ap (λ (x : Lent). x .log) q)
       (ap (λ (x : Lent). x .state) q)
+
+-- ---- the struct itself
+pub struct-kept : (m : Memory) (st : machine.LogState) (i n : ℕ) → n ≢ 0 → NewStruct m st i (record { refusal = n; memory = m; state = st })
+struct-kept m st i n h = record { struct-is = sym (leaves-refused n m (unclocking m i) h); state-kept = λ _. refl }
+
+pub struct-done : (m : Memory) (st : machine.LogState) (i : ℕ) (m′ : Memory) (st′ : machine.LogState) → m′ ≡ unclocking m i
+    → NewStruct m st i (record { refusal = 0; memory = m′; state = st′ })
+struct-done m st i m′ st′ e = record { struct-is = e ∙ sym (leaves-accepted 0 m (unclocking m i) refl); state-kept = λ h. absurd (h refl) }

@@ -8,6 +8,7 @@ use mathlib.Core.Bool.{Bool, true, false, not, _||_}
 use mathlib.Core.Option.{Option, none, some}
 use mathlib.Core.List.{List, []}
 use lib.ListN.{length, getD}
+use lib.Seq.{set-getD}
 use lib.Dec.{eqb, leb}
 use borrow.Author.Tests.{leb-false, eqb-true, not-false}
 use Rattle.lists.specs.Choice.{if_then_else_, _orElse_, leaves}
@@ -28,13 +29,14 @@ use Rattle.net_flip_flop.specs.declared.Controls.{Controls}
 use Rattle.log_entries.specs.View.{stateOf}
 use Rattle.log_entries.specs.declared.LogState as machine
 use Rattle.net_memory.specs.declared.Memory.{Memory}
+use Rattle.net_memory.specs.declared.MemoryReadPort.{MemoryReadPort}
 use Rattle.net_memory.specs.declared.MemoryReadFlipFlop.the-variants.{None, Some}
-use Rattle.net_memory.specs.View.{memoryOf, readsOf, writesOf, readPort, readBy, flipFlopBy, readStart, tritStart, addrSize, tritSize, readTrits}
+use Rattle.net_memory.specs.View.{noReadPort, withReadPort, memoryOf, readsOf, writesOf, readPort, readBy, flipFlopBy, readStart, tritStart, addrSize, tritSize, readTrits}
 use Rattle.net_memory.proofs.Ports.{read-of-view, reads-at, trits-at}
 use Rattle.net_check.proofs.Accept.{Valid, valid, sizes}
 use Rattle.net_memory.specs.Given.{givenOf}
 use Rattle.port_unmap.specs.Ready.{ownFlipFlop, Ready}
-use Rattle.port_unmap.specs.Call.{driving, roomsOf, drivenOf}
+use Rattle.port_unmap.specs.Call.{without, unclocking, driving, roomsOf, drivenOf, NewStruct}
 use Rattle.port_unmap.proofs.Act.{driven-refused}
 
 module _ (m : Memory) (nets trits : List ℕ) (i : ℕ) (h : i < min maxPorts (m .«read_count»)) where
@@ -146,6 +148,28 @@ done-driven n d log s = λ k. record {
   log = sym (same n log) k;
   memory = sym (same n (d .memory)) k;
   output = sym (same n (d .output)) k;
+}
+
+-- a port without a flip-flop stays as it is
+without-same : (p : MemoryReadPort) → p .«flip_flop» ≡ None → without p ≡ p
+without-same p e = λ k. record {
+  «addr_len» = p .«addr_len»;
+  «data_len» = p .«data_len»;
+  «clear_len» = p .«clear_len»;
+  «reset_len» = p .«reset_len»;
+  «init_len» = p .«init_len»;
+  «relations_len» = p .«relations_len»;
+  relations = p .relations;
+  «flip_flop» = sym e k;
+}
+
+port-same : (m : Memory) (i : ℕ) → withReadPort m i (readPort m i) ≡ m
+port-same m i = ap (λ (ps : List MemoryReadPort). record { depth = m .depth; width = m .width; «init_len» = m .«init_len»; «write_count» = m .«write_count»; «read_count» = m .«read_count»; «write_ports» = m .«write_ports»; «read_ports» = ps }) (set-getD (m .«read_ports») i noReadPort)
+
+pub struct-none : (m : Memory) (st : machine.LogState) (i n : ℕ) → readPort m i .«flip_flop» ≡ None → NewStruct m st i (record { refusal = n; memory = m; state = st })
+struct-none m st i n e = record {
+  struct-is = sym (same n m) ∙ ap (leaves n m) (sym (ap (withReadPort m i) (without-same (readPort m i) e) ∙ port-same m i));
+  state-kept = λ _. refl;
 }
 
 module _ (m : Memory) (nets trits : List ℕ) (i : ℕ) (output log : List ℕ) (st : machine.LogState) where

@@ -1,10 +1,14 @@
 -- `unmap_read_dff` on a machine's memory: the struct after it, and its whole answer as the rules have it.
+use mathlib.Core.Path.{_≡_}
+use mathlib.Core.Logic.{_≢_}
 use Prim.Native.Nat.{ℕ}
 use mathlib.Core.List.{List}
 use lib.ListN.{length}
+use Rattle.lists.specs.Choice.{leaves}
 use Rattle.rules.specs.Ports.{Driving}
 use Rattle.rules.specs.Refusals.{Rooms}
 use Rattle.rules.specs.Answers as rules
+use Rattle.log_entries.specs.declared.LogState.{LogState}
 use Rattle.log_entries.specs.View.{stateOf}
 use Rattle.net_memory.specs.declared.MemoryReadFlipFlop.the-variants.{None}
 use Rattle.net_memory.specs.declared.MemoryReadPort.{MemoryReadPort}
@@ -44,3 +48,8 @@ drivenOf r nets trits output log = record {
   memory = memoryOf (r .memory) nets trits;
   output = output;
 }
+
+-- the struct itself: nothing but the port's flip-flop changes; a refused call gives memory and state back as they were
+pub record NewStruct (m : Memory) (st : LogState) (i : ℕ) (r : Driven) : Type 0 where
+  pub struct-is : r .memory ≡ leaves (r .refusal) m (unclocking m i)
+  pub state-kept : r .refusal ≢ 0 → r .state ≡ st

@@ -17,7 +17,7 @@ ghost use Rattle.log_entries.specs.View.{stateOf, lent};
 ghost use Rattle.net_memory.specs.View.{memoryOf, readPort};
 ghost use Rattle.net_memory.specs.Given.{givenOf};
 ghost use Rattle.port_unmap.specs.Ready.{ownFlipFlop, Ready};
-ghost use Rattle.port_unmap.specs.Call.{unclocking, driving, roomsOf, drivenOf};
+ghost use Rattle.port_unmap.specs.Call.{unclocking, driving, roomsOf, drivenOf, NewStruct};
 use log_entries::LogState;
 use net_flip_flop::Controls;
 use net_memory::Memory;
@@ -249,6 +249,7 @@ fn unmap_clocked(
 ) -> Driven
     requires { ⌜ Ready m (now nets) (now trits) i c × (p ≡ readPort m i) ⌝ }
     ensures { λ r. ⌜ drivenOf r (now (nets .entry)) (now (trits .entry)) (now (output .exit)) (now (log .exit)) ≡ driven (logRefusal (length (now (log .entry))) (stateOf st) (unmapDff (memoryOf m (now (nets .entry)) (now (trits .entry))) i (now (output .entry)) (ownFlipFlop m (now (trits .entry)) i c))) (now (log .entry)) (stateOf st) (driving m (now (nets .entry)) (now (trits .entry)) (now (output .entry))) (unmapDff (memoryOf m (now (nets .entry)) (now (trits .entry))) i (now (output .entry)) (ownFlipFlop m (now (trits .entry)) i c)) ⌝ }
+    ensures { λ r. ⌜ NewStruct m st i r ⌝ }
 {
     let mut under = [0u32; rules::MAX_MERGE];
     let mut bits = [0u32; rules::MAX_MERGE];
@@ -327,6 +328,7 @@ fn unmap_port(
 ) -> Driven
     requires { ⌜ (unmapReadDffNumber (st .next) (givenOf m (now nets) (now trits)) i (now output) ≡ 0) × (p ≡ readPort m i) ⌝ }
     ensures { λ r. ⌜ drivenOf r (now (nets .entry)) (now (trits .entry)) (now (output .exit)) (now (log .exit)) ≡ driven (logRefusal (length (now (log .entry))) (stateOf st) (unmapReadDff (memoryOf m (now (nets .entry)) (now (trits .entry))) i (now (output .entry)))) (now (log .entry)) (stateOf st) (driving m (now (nets .entry)) (now (trits .entry)) (now (output .entry))) (unmapReadDff (memoryOf m (now (nets .entry)) (now (trits .entry))) i (now (output .entry))) ⌝ }
+    ensures { λ r. ⌜ NewStruct m st i r ⌝ }
 {
     let f = p.flip_flop;
     let n = log_entries::room_refusal(log.len(), st, 0, 0);
@@ -351,6 +353,7 @@ pub fn unmap_read_dff(
     port: usize,
 ) -> Driven
     ensures { λ r. ⌜ drivenOf r (now (nets .entry)) (now (trits .entry)) (now (output .exit)) (now (log .exit)) ≡ unmapReadDffCall (roomsOf (now (nets .entry)) (now (trits .entry)) (now (output .entry))) (now (log .entry)) (stateOf st) (givenOf m (now (nets .entry)) (now (trits .entry))) port (now (output .entry)) ⌝ }
+    ensures { λ r. ⌜ NewStruct m st port r ⌝ }
 {
     let n = unmap_number(m, nets, trits, port, output, st.next);
     if n != 0 {

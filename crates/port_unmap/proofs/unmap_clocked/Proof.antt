@@ -1,7 +1,7 @@
 -- `port_unmap::unmap_clocked` meets its contract.
 use mathlib.Core.Path.{_≡_, sym, _∙_}
 use native.Mathlib.Omega.{arith}
-use Rattle.port_unmap.proofs.Act.{clocked-refused, clocked-done}
+use Rattle.port_unmap.proofs.Act.{clocked-refused, clocked-done, struct-kept, struct-done}
 use borrow.Author.Needs.{needs}
 use Rattle.port_unmap.proofs.unmap_clocked.Statement.{statement}
 use Rattle.port_unmap.proofs.unmap_clocked.Tie as tie
@@ -15,7 +15,7 @@ same-length c = search needs
 returns : tie.Need-returns
 returns c =
     let v = c .before .before .before .before .before .before .before .before .before .before .before .before .before .before .before .args in
-    clocked-refused (v .m) (v .nets .now) (v .trits .now) (v .i) (v .c) (c .before .before .before .before .before .before .before .before .before .before .before .before .before .before .before .pre .0) (v .output .now) (v .log .now) (v .st) (c .before .dry-number .result) (c .before .dry-number .ensures) (c .if1 .taken)
+    (clocked-refused (v .m) (v .nets .now) (v .trits .now) (v .i) (v .c) (c .before .before .before .before .before .before .before .before .before .before .before .before .before .before .before .pre .0) (v .output .now) (v .log .now) (v .st) (c .before .dry-number .result) (c .before .dry-number .ensures) (c .if1 .taken), struct-kept (v .m) (v .st) (v .i) (c .before .dry-number .result) (c .if1 .taken))
 
 emit-port-requires : tie.Need-emit-port-requires
 emit-port-requires c κs = search needs
@@ -39,7 +39,7 @@ returns-2 : tie.Need-returns-2
 returns-2 c =
     let v = c .before .before .before .before .before .before .before .before .before .before .before .before .before .before .before .before .before .before .before .before .before .before .before .before .before .before .before .before .before .before .before .before .before .before .before .args in
     let u = c .before .before .before .before .before .before .before .before .before .emit-port in
-    clocked-done (v .m) (v .nets .now) (v .trits .now) (v .i) (v .c) (c .before .before .before .before .before .before .before .before .before .before .before .before .before .before .before .before .before .before .before .before .before .before .before .before .before .before .before .before .before .before .before .before .before .before .before .pre .0) (v .output .now) (v .log .now) (v .st) (c .before .before .before .before .before .before .before .before .before .before .before .before .before .before .before .before .before .before .before .before .before .dry-number .result) (u .result .last) (c .before .before .before .before .before .output-start .result) (c .unclock .result) (u .result .state) (c .before .before .before .fresh-nets .last .0) (u .last .0) (c .before .before .before .before .before .before .before .before .before .before .before .before .before .before .before .before .before .before .before .before .before .dry-number .ensures) (c .before .before .before .before .before .before .before .before .before .before .before .before .before .before .before .before .before .before .before .before .if1 .left) (u .ensures .0) (u .ensures .1) (c .before .before .before .before .before .output-start .ensures .0 (v .nets .now) (v .trits .now)) (c .before .before .before .fresh-nets .ensures) (c .unclock .ensures)
+    (clocked-done (v .m) (v .nets .now) (v .trits .now) (v .i) (v .c) (c .before .before .before .before .before .before .before .before .before .before .before .before .before .before .before .before .before .before .before .before .before .before .before .before .before .before .before .before .before .before .before .before .before .before .before .pre .0) (v .output .now) (v .log .now) (v .st) (c .before .before .before .before .before .before .before .before .before .before .before .before .before .before .before .before .before .before .before .before .before .dry-number .result) (u .result .last) (c .before .before .before .before .before .output-start .result) (c .unclock .result) (u .result .state) (c .before .before .before .fresh-nets .last .0) (u .last .0) (c .before .before .before .before .before .before .before .before .before .before .before .before .before .before .before .before .before .before .before .before .before .dry-number .ensures) (c .before .before .before .before .before .before .before .before .before .before .before .before .before .before .before .before .before .before .before .before .if1 .left) (u .ensures .0) (u .ensures .1) (c .before .before .before .before .before .output-start .ensures .0 (v .nets .now) (v .trits .now)) (c .before .before .before .fresh-nets .ensures) (c .unclock .ensures), struct-done (v .m) (v .st) (v .i) (c .unclock .result) (u .result .state) (c .unclock .ensures))
 
 pub unmap-clocked-spec : {M : Type 1} → statement M
 unmap-clocked-spec =

@@ -3,6 +3,7 @@ use mathlib.Core.Path.{_≡_, sym, _∙_}
 use native.Mathlib.Omega.{arith}
 use Rattle.net_memory.proofs.Sized.{reads-length, writes-length}
 use Rattle.port_unmap.proofs.Passed.{is-there, call-refused, call-passed}
+use Rattle.port_unmap.proofs.Act.{struct-kept}
 use Rattle.rules.specs.Log.{startNet}
 use Rattle.log_entries.specs.View.{stateOf}
 use Rattle.port_unmap.proofs.Rooms.{unmap-fits}
@@ -19,7 +20,7 @@ same-length c = search needs
 returns : tie.Need-returns
 returns c =
     let v = c .before .before .before .before .before .before .before .args in
-    call-refused (v .t4) (v .nets .now) (v .trits .now) (v .port) (v .output .now) (v .log .now) (v .st) (c .before .unmap-number .result) (c .before .unmap-number .ensures) (c .if1 .taken)
+    (call-refused (v .t4) (v .nets .now) (v .trits .now) (v .port) (v .output .now) (v .log .now) (v .st) (c .before .unmap-number .result) (c .before .unmap-number .ensures) (c .if1 .taken), struct-kept (v .t4) (v .st) (v .port) (c .before .unmap-number .result) (c .if1 .taken))
 
 mul-p : tie.Need-mul-p
 mul-p c =
@@ -45,7 +46,7 @@ returns-2 c =
     let v = c .before .before .before .before .before .before .before .before .before .before .before .before .before .before .before .args in
     let z = sym (c .before .before .before .before .before .before .before .before .before .unmap-number .ensures) ∙ c .before .before .before .before .before .before .before .before .if1 .left in
     let h = is-there (v .st .next) (v .t4) (v .nets .now) (v .trits .now) (v .port) (v .output .now) z (reads-length (v .t4) _ (c .before .before .before .before .before .before .before .before .before .before .before .before .before .before .before .good .1 .1 .1 .0) (v .nets .now) (v .trits .now)) (writes-length (v .t4) _ (c .before .before .before .before .before .before .before .before .before .before .before .before .before .before .before .good .1 .1 .1 .0) (v .nets .now)) in
-    call-passed (v .t4) (v .nets .now) (v .trits .now) (v .port) (v .output .now) (v .log .now) (v .st) _ z (unmap-fits (v .t4) (v .nets .now) (v .trits .now) (v .output .now) (v .port) h (startNet (stateOf (v .st)))) (c .before .before .before .before .unmap-port .ensures)
+    (call-passed (v .t4) (v .nets .now) (v .trits .now) (v .port) (v .output .now) (v .log .now) (v .st) _ z (unmap-fits (v .t4) (v .nets .now) (v .trits .now) (v .output .now) (v .port) h (startNet (stateOf (v .st)))) (c .before .before .before .before .unmap-port .ensures .0), c .before .before .before .before .unmap-port .ensures .1)
 
 pub unmap-read-dff-spec : {M : Type 1} → statement M
 unmap-read-dff-spec =
