@@ -13,6 +13,8 @@ import sys
 # The scratch that an answer is made in (`words`, `trits`) holds nothing that a caller reads; a `&mut` part that is handed
 # back is still lent at exit; `put_log` says only what it keeps.
 SCRATCH = ('words', 'trits')
+# Emissions without numbers, inside other calls: scratch that the call clears once and that nobody reads afterwards.
+KEYS = ('kx', 'ky', 'at')
 UNSAID = {
     'crates/answer_layouts/src/lib.rt answer': SCRATCH,
     'crates/answer_leaves/src/lib.rt answer': SCRATCH,
@@ -24,6 +26,10 @@ UNSAID = {
     'crates/pieces/src/lib.rt part_mut': ('s',),
     'crates/pieces/src/lib.rt part_u8_mut': ('s',),
     'crates/pieces/src/lib.rt put_log': ('result',),
+    'crates/merge_mux/src/emit.rt emit_dedup_mux_with': KEYS,
+    'crates/merge_mux/src/emit.rt emit_bitwise_mux_with': KEYS,
+    'crates/port_transparency/src/lib.rt emit_transparency': ('bits', 'mask', 'sel', 'nets') + KEYS,
+    'crates/port_overlay/src/lib.rt emit_unmap': ('under', 'bits', 'mask', 'sel', 'spare') + KEYS,
 }
 
 PUBLIC = re.compile(r'\bpub\b(?!\s*\()[^;{}()=]*?\bfn\s+(\w+)')

@@ -34,6 +34,7 @@ pub fn fresh_nets(out: &mut [u32], to: usize, first: u32, last: u32)
     }
 }
 
+// The larger of the two.
 fn higher(a: usize, b: usize) -> usize
     ensures { λ r. ⌜ r ≡ max a b ⌝ }
 {
@@ -47,10 +48,7 @@ fn higher(a: usize, b: usize) -> usize
 fn less(a: u32, b: u32) -> usize
     ensures { λ r. ⌜ r ≡ a - b ⌝ }
 {
-    if a < b {
-        return 0;
-    }
-    (a - b) as usize
+    lists::usize_of_u32(lists::minus(a, b))
 }
 
 // An address without the bits that select a part of the wider port's data: `k` is the other port's.
