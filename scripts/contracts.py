@@ -9,6 +9,15 @@ import os
 import re
 import sys
 
+# Emissions inside other calls, with scratch that the call clears once: what it holds afterwards is open, and nobody reads it.
+KEYS = ('kx', 'ky', 'at')
+OPEN = {
+    'crates/merge_mux/src/emit.rt emit_dedup_mux_with': KEYS,
+    'crates/merge_mux/src/emit.rt emit_bitwise_mux_with': KEYS,
+    'crates/port_transparency/src/lib.rt emit_transparency': ('bits', 'mask', 'sel', 'nets') + KEYS,
+    'crates/port_overlay/src/lib.rt emit_unmap': ('under', 'bits', 'mask', 'sel', 'spare') + KEYS,
+}
+
 PUBLIC = re.compile(r'\bpub\b(?!\s*\()[^;{}()=]*?\bfn\s+(\w+)')
 EXPORTED = re.compile(r'#\[[^\]]*\bno_mangle\b[^\]]*\](?:\s*#\[[^\]]*\])*\s*(?:pub\s*\([^)]*\))?[^;{}()=]*?\bfn\s+(\w+)')
 QUOTED = re.compile(r'''b?r(#*)".*?"\1|"(?:\\.|[^"\\])*"|b?'(?:\\(?:x..|.)|[^'\\\n])\'''', re.S)
@@ -373,8 +382,9 @@ def strange_signs(text):
                 yield text.count('\n', 0, m.start()) + 1, name
 
 
-def text_faults(text, path='', holding=()):
-    """The faults of one file, where `holding` lists other files' types that hold a `&mut`."""
+def text_faults(text, path='', left_open=None, holding=()):
+    """The faults of one file, where `left_open` lists its functions' scratch, and `holding` other files' types that hold a `&mut`."""
+    left_open = {} if left_open is None else left_open
     text = without_comments(text)
     holding = holders(text) | set(holding)
     for line, name in strange_signs(text):
@@ -384,9 +394,14 @@ def text_faults(text, path='', holding=()):
         line = text.count('\n', 0, start) + 1
         for fault in found:
             yield f'{path}:{line}: {name} {fault}'
+        scratch = left_open.get(f'{path} {name}', ())
         for x in missing:
-            what = 'its result' if x == 'result' else f'{x} at exit'
-            yield f'{path}:{line}: no clause of {name} says {what}'
+            if x not in scratch:
+                what = 'its result' if x == 'result' else f'{x} at exit'
+                yield f'{path}:{line}: no clause of {name} says {what}'
+        for x in scratch:
+            if x not in missing:
+                yield f'{path}:{line}: {name} says {x}, which scripts/contracts.py has as open: take it from the list'
 
 
 def faults():
@@ -396,9 +411,13 @@ def faults():
         for path in sorted(glob.glob(os.path.join(os.path.dirname(root), '**', '*.rt'), recursive=True)):
             texts[path] = open(path, encoding='utf-8').read()
     holding = set().union(*(holders(without_comments(text)) for text in texts.values()))
+    there = set()
     for path, text in texts.items():
-        yield from text_faults(text, path, holding)
-    if not any(functions(without_comments(text)) for text in texts.values()):
+        yield from text_faults(text, path, OPEN, holding)
+        there |= {f'{path} {name}' for _, name in functions(without_comments(text))}
+    for key in sorted(set(OPEN) - there):
+        yield f'{key} has scratch in scripts/contracts.py and is not there'
+    if not there:
         yield 'no public function was found'
 
 

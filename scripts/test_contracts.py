@@ -10,6 +10,9 @@ import stdouts  # noqa: E402
 EQUATION = '{ λ r. ⌜ r ≡ sum (now (a .entry)) ⌝ }'
 FILLED = '{ λ r. ⌜ filledWith r (now (out .exit)) ≡ fillCall (now (out .entry)) n ⌝ }'
 
+# A function with scratch: found, unless the list has it.
+WITH_SCRATCH = 'pub fn f(out: &mut [u8], n: u32) -> u32 ensures { λ r. ⌜ r ≡ n ⌝ } { n }'
+
 # A function's text, and a part of what contracts.py must say of it.
 TRICKS = [
     ('pub fn f(x: u32) -> u32 { x }', 'has no ensures'),
@@ -56,7 +59,7 @@ TRICKS = [
     ('pub fn f(x: u32) -> u32 ensures { λ r. let r = x in ⌜ r ≡ x ⌝ } { x }', 'binds r anew'),
     ('pub fn f(x: u32) -> u32 ensures { λ r. ⌜ x ≡ 3 ⌝ -- r ≡ 3\n } { x }', 'comment in a clause'),
     ('pub fn f(x: u32) -> u32 ensures { λ r. ⌜ x ≡ "r" ⌝ } { x }', 'says its result'),
-    ('pub fn f(out: &mut [u8], n: u32) -> u32 ensures { λ r. ⌜ r ≡ n ⌝ } { n }', 'says out at exit'),
+    (WITH_SCRATCH, 'says out at exit'),
     ('pub fn f(out: &mut [u8], n: u32) ensures { λ _. ⌜ now (out .entry) ≡ g n ⌝ } { }', 'says out at exit'),
     ('pub fn f(out: &mut [u8]) ensures { λ _. ⌜ length (now (out .exit)) ≡ length (now (out .entry)) ⌝ } { }', 'says out at exit'),
     ('pub fn f(a: &mut [u8], b: &\'a mut S) ensures { λ _. ⌜ now (a .exit) ≡ g ⌝ } { }', 'says b at exit'),
@@ -131,6 +134,10 @@ def main():
     for text in GOOD:
         for fault in contracts.text_faults(text, 'f.rt'):
             failed.append(f'found in a good text: {text!r}: {fault}')
+    left_open = list(contracts.text_faults(WITH_SCRATCH, 'f.rt', {'f.rt f': ('out',)}))
+    needless = list(contracts.text_faults(GOOD[2], 'f.rt', {'f.rt f': ('out',)}))
+    if left_open or not needless:
+        failed.append(f'scratch: {left_open}, {needless}')
     failed += [f'output passes: {text!r}' for text in WRONG_OUTPUT if not list(stdouts.text_faults(text))]
     failed += [f'output fails: {text!r}' for text in RIGHT_OUTPUT if list(stdouts.text_faults(text))]
     failed += [f'edit does not count: {log!r}' for log in FACT_LOGS if edits.fault(log, 'target/must-fail/c/e')]

@@ -123,6 +123,24 @@ pub fn emit_dedup_mux(
     dedup_mux_in(log, st, out, 0, &mut kx, &mut ky, &mut at, select, a, b)
 }
 
+// The same with lent scratch, so that a caller with many merges clears it once.
+pub fn emit_dedup_mux_with(
+    log: &mut [u32],
+    st: LogState,
+    out: &mut [u32],
+    kx: &mut [u32; rules::MAX_MERGE],
+    ky: &mut [u32; rules::MAX_MERGE],
+    at: &mut [u32; rules::MAX_MERGE],
+    select: ControlNet,
+    a: &[u32],
+    b: &[u32],
+) -> LogState
+    ensures { λ r. ⌜ lent r (now (log .exit)) ≡ run (addDedupMux (controlOf select) (limited (now (a .entry))) (limited (now (b .entry)))) (lent st (now (log .entry))) ⌝ }
+    ensures { λ r. ⌜ now (out .exit) ≡ results (isOver (stateOf r)) (now (out .entry)) 0 (addDedupMux (controlOf select) (limited (now (a .entry))) (limited (now (b .entry))) (st .next) .value) ⌝ }
+{
+    dedup_mux_in(log, st, out, 0, kx, ky, at, select, a, b)
+}
+
 // The end of the run of equal neighbours that starts at i.
 fn run_end(s: &[u32], i: usize) -> usize
     requires { ⌜ i < length (now s) ⌝ }
@@ -242,4 +260,23 @@ pub fn emit_bitwise_mux(
     }
     lists::copy_u32(out, 0, &nets[..n]);
     after
+}
+
+// The same with lent scratch; the result nets go to `nets`, which is left open where the emission overflowed.
+pub fn emit_bitwise_mux_with(
+    log: &mut [u32],
+    st: LogState,
+    nets: &mut [u32],
+    kx: &mut [u32; rules::MAX_MERGE],
+    ky: &mut [u32; rules::MAX_MERGE],
+    at: &mut [u32; rules::MAX_MERGE],
+    s: &[u32],
+    a: &[u32],
+    b: &[u32],
+) -> LogState
+    ensures { λ r. ⌜ lent r (now (log .exit)) ≡ run (bitwiseOf (now (s .entry)) (now (a .entry)) (now (b .entry))) (lent st (now (log .entry))) ⌝ }
+    ensures { λ r. ⌜ (isOver (stateOf r) ≡ false → now (nets .exit) ≡ sets (now (nets .entry)) 0 (bitwiseOf (now (s .entry)) (now (a .entry)) (now (b .entry)) (st .next) .value)) ⌝ }
+{
+    let n = bits_of(s, a, b);
+    bitwise_in(log, st, nets, kx, ky, at, &s[..n], &a[..n], &b[..n])
 }

@@ -1,0 +1,22 @@
+-- `port_transparency::like_wide` meets its contract.
+use mathlib.Core.Path.{_≡_, sym, ap, _∙_}
+use borrow.Author.Tests.{lt-ltb, le-ltb}
+use Rattle.port_transparency.specs.Pairs.{likeWide}
+use borrow.Author.Needs.{needs}
+use Rattle.port_transparency.proofs.like_wide.Statement.{statement}
+use Rattle.port_transparency.proofs.like_wide.Tie as tie
+
+returns : tie.Need-returns
+unfolding likeWide
+returns c = rw (lt-ltb _ _ (c .if1 .taken))
+
+returns-2 : tie.Need-returns-2
+unfolding likeWide
+returns-2 c = rw (le-ltb _ _ (c .before .if1 .left), lt-ltb _ _ (c .if2 .taken))
+
+returns-3 : tie.Need-returns-3
+unfolding likeWide
+returns-3 c = rw (le-ltb _ _ (c .before .if1 .left), le-ltb _ _ (c .if2 .left))
+
+pub like-wide-spec : {M : Type 1} → statement M
+like-wide-spec = tie.close (tie.spec returns returns-2 returns-3)

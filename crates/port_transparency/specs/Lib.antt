@@ -1,0 +1,3 @@
+-- The definitions that the contracts of port_transparency cite.
+pub mod Gave
+pub mod Pairs
