@@ -1,21 +1,21 @@
 -- An unmapping is in sequence and gives few nets, so that a run without a log never reaches X.
 use mathlib.Core.Path.{_≡_, refl, sym, ap, _∙_, subst}
-use Prim.Native.Nat.{ℕ, zero, suc, _+_, _-_, _*_, _<_, _≤_, min, max}
+use Prim.Native.Nat.{ℕ, suc, _+_, _-_, _*_, _≤_}
 use native.Mathlib.Omega.{arith}
 use mathlib.Core.Bool.{Bool, true, false}
 use mathlib.Core.Option.{none}
 use mathlib.Core.List.{List, [], _∷_, _++_, map, append-nil}
-use lib.ListN.{length, take, drop, getD, replicate, length-map, length-take, length-drop, length-append, length-replicate}
+use lib.ListN.{length, take, drop, getD, replicate, length-map, length-take, length-drop, length-append}
 use lib.Dec.{ltb}
 use Rattle.lists.specs.Choice.{if_then_else_}
-use Rattle.lists.specs.Lists.{any, pairs, upFrom}
+use Rattle.lists.specs.Lists.{pairs, upFrom}
 use Rattle.lists.specs.Distinct.{kept, places}
 use Rattle.lists.proofs.UpFrom.{length-up}
 use Rattle.lists.proofs.Distinct.{length-kept}
 use Rattle.lists.proofs.Pairs.{pairs-size}
 use Rattle.rules.specs.Limits.{X}
 use Rattle.rules.specs.Value.{Value, Control, Pos, zext}
-use Rattle.rules.specs.Cell.{FlipFlop, WritePort, ReadPort, ReadFlipFlop, Mem, writeWideLog2, readWideLog2, writeAt, readAt, isTransparent, transparentFrom, transparentPorts, flipFlopOf, outputSlice, withFlipFlop, withOutput}
+use Rattle.rules.specs.Cell.{FlipFlop, WritePort, ReadPort, ReadFlipFlop, Mem, writeWideLog2, readWideLog2, writeAt, readAt, isTransparent, transparentFrom, transparentPorts, flipFlopOf, outputSlice}
 use Rattle.rules.specs.Log.{Trace, _>>=_, _>>_, done, request, addMux, addShl, addUshr, addEq, addVoid, addDff, replaceValue}
 use Rattle.rules.specs.Beside.Chain.{Chains}
 use Rattle.rules.specs.Merge.{same2, spread, addDedupMux, muxRuns, runs, addBitwiseMux}
@@ -23,7 +23,7 @@ use Rattle.rules.specs.Ports.{Seen, seen, seenWider, seenNarrower, Overlay, ove
 use Rattle.rules.proofs.Chain.{chains-void, chains-dff, chains-replace, chains-eq, chains-bind, chains-then, chains-done, chains-dedup-mux, chains-bitwise-mux}
 use Rattle.rules.proofs.Counted.{AtMost, most-counted, most-done, most-bind, most-if, counted-mux, counted-shl, counted-ushr, counted-eq, counted-void, counted-dff, counted-replace}
 use Rattle.log_entries.specs.Emission.{Lent, emit, run}
-use Rattle.port_transparency.specs.Pairs.{reading, plain}
+use Rattle.port_transparency.specs.Pairs.{plain}
 use Rattle.port_transparency.proofs.Covered.{chains-seen, dedup-length, zext-length}
 use Rattle.port_overlay.specs.Laid.{laidFrom, behind, unmapped}
 use Rattle.port_overlay.proofs.Laid.{chains-overlaid}

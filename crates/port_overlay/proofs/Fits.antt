@@ -1,12 +1,11 @@
 -- The ports of a memory that numbers 1 and 2 pass fit each other, and the rules' traces are those of the code.
-use mathlib.Core.Path.{_≡_, refl, sym, ap, _∙_}
-use Prim.Native.Nat.{ℕ, zero, suc, _+_, _-_, _*_, _^_, _<_, _≤_}
+use mathlib.Core.Path.{_≡_, refl, ap, _∙_}
+use Prim.Native.Nat.{ℕ, suc, _+_, _-_, _*_, _^_, _<_, _≤_}
 use native.Mathlib.Nat.{mul-le-mul, le-refl}
 use native.Mathlib.Omega.{arith}
-use mathlib.Core.Bool.{Bool, true, false, not, _||_}
-use mathlib.Core.Option.{none}
+use mathlib.Core.Bool.{Bool, true, false, not}
 use mathlib.Core.List.{List, [], _∷_}
-use lib.ListN.{length, getD}
+use lib.ListN.{length}
 use lib.Dec.{eqb, ltb, leb}
 use lib.Pow.{pow-mono}
 use borrow.Author.Tests.{lt-ltb, le-ltb, le-leb, ltb-false, eqb-true, eq-eqb, not-false}
@@ -16,9 +15,9 @@ use Rattle.lists.proofs.Choice.{or-false, cases-le}
 use Rattle.lists.proofs.All.{any-at}
 use Rattle.rules.specs.Limits.{maxMerge}
 use Rattle.rules.specs.Value.{Value}
-use Rattle.rules.specs.Cell.{FlipFlop, WritePort, ReadPort, ReadFlipFlop, Mem, wideLog2, writeWideLog2, readWideLog2, writeAt, readAt, isTransparent, transparentFrom, held}
+use Rattle.rules.specs.Cell.{WritePort, ReadPort, Mem, wideLog2, writeWideLog2, readWideLog2, writeAt, readAt, isTransparent, transparentFrom}
 use Rattle.rules.specs.Log.{Trace, _>>=_, done}
-use Rattle.rules.specs.Conditions.{unequal, badDataLen, badAddrLen, badWriteShape, badReadShape, badShape, tooFewBits, shortPair}
+use Rattle.rules.specs.Conditions.{unequal, badDataLen, badAddrLen, badWriteShape, badReadShape, tooFewBits, shortPair}
 use Rattle.rules.specs.Ports.{Overlay, transparencyMux, transparencies, seen, seenWider, seenNarrower}
 use Rattle.port_transparency.specs.Pairs.{reading, laidOver, laidIf, likeWide, fitting}
 use Rattle.port_overlay.specs.Laid.{laidBy, laidAs, laidFrom}

@@ -1,7 +1,6 @@
 -- Write ports laid over what a port reads: one by its values, and the loop over the relations.
 use mathlib.Core.Path.{_≡_, refl, sym, ap, _∙_}
 use Prim.Native.Nat.{ℕ, suc, _+_, _-_, _<_, _≤_}
-use native.Mathlib.Omega.{arith}
 use native.Mathlib.Numerals.{add-one}
 use mathlib.Core.Bool.{Bool, true, false}
 use mathlib.Core.Option.{Option, none, some}
@@ -12,16 +11,16 @@ use Rattle.rules.specs.Limits.{maxMerge}
 use Rattle.net_memory.specs.View.{memoryOf}
 use Rattle.net_memory.specs.declared.Memory.{Memory}
 use Rattle.log_entries.proofs.Emission.{run-done}
-use lib.ListN.{length, take, drop, getD, replicate, drop-of-length-le}
+use lib.ListN.{length, take, drop, getD, drop-of-length-le}
 use lib.Seq.{sets, drop-cons}
 use Rattle.lists.specs.Choice.{if_then_else_}
 use Rattle.lists.specs.Lists.{upFrom}
-use Rattle.rules.specs.Value.{Value, Pos, zext}
+use Rattle.rules.specs.Value.{Value}
 use Rattle.rules.specs.Cell.{FlipFlop, WritePort, ReadPort, Mem, wideLog2, writeWideLog2, writeAt, isTransparent}
 use Rattle.rules.specs.Log.{Dff, Void, Trace, _>>=_, done, request, addVoid, addDff, replaceValue}
 use Rattle.rules.specs.Beside.Chain.{Chains}
 use Rattle.rules.specs.Ports.{Overlay, overlaidMask, seen, seenWider, seenNarrower}
-use Rattle.rules.proofs.Chain.{chains-void, chains-dff, chains-replace, chains-eq, chains-or, chains-bind, chains-done, chains-if, chains-dedup-mux, chains-bitwise-mux}
+use Rattle.rules.proofs.Chain.{chains-void, chains-dff, chains-eq, chains-or, chains-bind, chains-done, chains-if, chains-dedup-mux, chains-bitwise-mux}
 use Rattle.log_entries.specs.Emission.{Lent, isOver, run}
 use Rattle.port_transparency.specs.Gave.{Gave}
 use Rattle.port_transparency.specs.Pairs.{writing, reading, plain, laidOver, laidIf, fitting}

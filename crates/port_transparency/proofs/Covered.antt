@@ -5,10 +5,10 @@ use native.Mathlib.Omega.{arith}
 use mathlib.Core.Bool.{Bool, true, false}
 use mathlib.Core.Option.{none}
 use mathlib.Core.List.{List, []}
-use lib.ListN.{length, take, drop, replicate, length-append, length-replicate, length-take, length-drop}
+use lib.ListN.{length, take, drop, replicate, length-append, length-replicate, length-drop}
 use lib.Seq.{sets, take-all, length-take-le}
-use lib.Dec.{ltb, leb, eqb}
-use borrow.Author.Tests.{lt-ltb, le-ltb, ltb-false, eqb-true, leb-true, ne-eqb, eq-eqb}
+use lib.Dec.{ltb, eqb}
+use borrow.Author.Tests.{lt-ltb, le-ltb, ltb-false, eqb-true, leb-true}
 use Rattle.lists.specs.Choice.{if_then_else_}
 use Rattle.lists.specs.Lists.{pairs}
 use Rattle.lists.specs.Distinct.{places}
@@ -19,7 +19,7 @@ use Rattle.rules.specs.Limits.{maxMerge}
 use Rattle.rules.specs.Value.{Value, zext, Control, Pos}
 use Rattle.rules.specs.Cell.{WritePort, ReadPort}
 use Rattle.rules.specs.Log.{Trace, _>>=_, done, addEq}
-use Rattle.rules.specs.Merge.{same2, spread, addDedupMux, addBitwiseMux}
+use Rattle.rules.specs.Merge.{same2, addDedupMux, addBitwiseMux}
 use Rattle.rules.specs.Ports.{Seen, seen, overlaidMask}
 use Rattle.rules.proofs.Chain.{chains-dedup-mux, chains-bitwise-mux, chains-eq, chains-bind, chains-done, chains-shl, chains-ushr, chains-if}
 use Rattle.rules.specs.Beside.Chain.{Chains}

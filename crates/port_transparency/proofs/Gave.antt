@@ -1,9 +1,8 @@
 -- Runs with the values that they give: one after the other, and of one request.
 use mathlib.Core.Path.{_≡_, refl, sym, ap, _∙_}
 use Prim.Native.Nat.{ℕ, _+_, _-_, _<_, _≤_}
-use native.Mathlib.Omega.{arith}
-use mathlib.Core.Bool.{Bool, false}
-use mathlib.Core.List.{List, [], _∷_, _++_, append-assoc}
+use mathlib.Core.Bool.{false}
+use mathlib.Core.List.{List, _++_, append-assoc}
 use lib.ListN.{length, take, set}
 use lib.Seq.{sets}
 use Rattle.lists.specs.Lists.{upFrom}
@@ -11,7 +10,6 @@ use Rattle.lists.proofs.UpFrom.{length-up, count-step, count-end}
 use Rattle.lists.proofs.Stores.{take-stored}
 use Rattle.lists.proofs.Store.{sets-out}
 use native.Mathlib.Numerals.{add-one}
-use Rattle.rules.specs.Value.{Value}
 use Rattle.rules.specs.Log.{Entry, Trace, _>>=_, done, request}
 use Rattle.rules.specs.Beside.Chain.{Chains}
 use Rattle.rules.proofs.Traces.{bind-value}

@@ -1,22 +1,18 @@
 -- A write port as a read port sees it: the shifts and the three cases.
-use mathlib.Core.Path.{_≡_, refl, sym, ap, _∙_}
+use mathlib.Core.Path.{_≡_, sym, ap, _∙_}
 use Prim.Native.Nat.{ℕ, _-_, _<_, _≤_}
 use native.Mathlib.Omega.{arith}
-use mathlib.Core.Bool.{Bool, true, false, _||_}
 use mathlib.Core.List.{List, []}
 use lib.ListN.{length, take, drop, replicate, length-append, length-replicate}
 use lib.Seq.{sets, take-take}
-use lib.Dec.{ltb}
-use borrow.Author.Tests.{lt-ltb, le-ltb, ltb-false, eqb-true, leb-true}
-use Rattle.lists.specs.Choice.{if_then_else_}
+use borrow.Author.Tests.{lt-ltb, le-ltb}
 use Rattle.lists.specs.Lists.{upFrom}
 use Rattle.lists.proofs.Stores.{take-stored}
-use Rattle.rules.specs.Limits.{maxMerge}
 use Rattle.rules.specs.Value.{Value, zext}
 use Rattle.rules.specs.Cell.{WritePort, ReadPort}
 use Rattle.rules.specs.Log.{Shl, Ushr, done, addShl, addUshr}
 use Rattle.rules.specs.Conditions.{tooFewBits}
-use Rattle.rules.specs.Ports.{Seen, narrowerSelect, seenWider, seenNarrower, seen}
+use Rattle.rules.specs.Ports.{narrowerSelect, seenWider, seenNarrower, seen}
 use Rattle.rules.specs.Refusals.{narrowerSelectRefusal}
 use Rattle.rules.specs.Answers.{narrowerSelectCall}
 use Rattle.rules.proofs.Chain.{chains-shl, chains-ushr}
@@ -24,7 +20,7 @@ use Rattle.net_logic.specs.View.{givenPart}
 use Rattle.net_logic.proofs.Parts.{part-given}
 use Rattle.log_entries.specs.Emission.{Lent, run}
 use Rattle.port_transparency.specs.Gave.{Gave}
-use Rattle.port_transparency.specs.Pairs.{writing, reading, likeWide, fitting, Fit}
+use Rattle.port_transparency.specs.Pairs.{writing, reading}
 use Rattle.port_transparency.proofs.Gave.{gave-done, gave-bind, gave-fresh}
 
 -- ---- values filled up

@@ -10,7 +10,7 @@ ghost use Rattle.lists.specs.Lists.{upFrom};
 ghost use Rattle.rules.specs.Limits.{maxMerge};
 ghost use Rattle.rules.specs.Value.{zext};
 ghost use Rattle.rules.specs.Log.{addEq, addShl, addUshr};
-ghost use Rattle.rules.specs.Ports.{Seen, seen, seenWider, seenNarrower};
+ghost use Rattle.rules.specs.Ports.{seen, seenWider, seenNarrower};
 ghost use Rattle.log_entries.specs.View.{lent};
 ghost use Rattle.port_transparency.specs.Gave.{Gave};
 ghost use Rattle.port_transparency.specs.Pairs.{writing, reading, plain, covered, laidOver, laidIf, likeWide, fitting, Fit, Sized};

@@ -1,13 +1,12 @@
 -- How the number, the struct, the outputs, the log and the state join to the whole answer.
 use mathlib.Core.Path.{_≡_, refl, sym, ap, _∙_}
 use mathlib.Core.Logic.{_≢_}
-use Prim.Native.Nat.{ℕ, _+_, _-_, _<_, _≤_, min}
-use native.Mathlib.Nat.{le-refl}
+use Prim.Native.Nat.{ℕ, _+_, _-_, _<_, min}
 use native.Mathlib.Omega.{arith}
-use mathlib.Core.Bool.{Bool, false}
+use mathlib.Core.Bool.{false}
 use mathlib.Core.Option.{none}
 use mathlib.Core.List.{List}
-use lib.ListN.{length, set, drop, take}
+use lib.ListN.{length}
 use lib.Seq.{sets}
 use Rattle.lists.specs.Lists.{part, upFrom}
 use Rattle.lists.proofs.Choice.{leaves-refused, leaves-accepted}
@@ -20,15 +19,13 @@ use Rattle.rules.specs.Refusals.{logRefusal}
 use Rattle.rules.specs.Answers as rules
 use Rattle.rules.specs.Answers.{Refused, Accepted, answerOf, driven}
 use Rattle.rules.proofs.Answers.{answer-refused, answer-accepted}
-use Rattle.rules.specs.Beside.Chain.{Chains}
 use Rattle.net_flip_flop.specs.declared.Controls.{Controls}
 use Rattle.log_entries.specs.Emission.{Lent, isOver, run}
 use Rattle.log_entries.specs.View.{stateOf, lent}
 use Rattle.log_entries.specs.declared.LogState as machine
 use Rattle.log_entries.proofs.Emission.{accepted-run, accepted-held}
 use Rattle.net_memory.specs.declared.Memory.{Memory}
-use Rattle.net_memory.specs.declared.MemoryReadPort.{MemoryReadPort}
-use Rattle.net_memory.specs.View.{memoryOf, readPort, withReadPort, readBy, readStart, tritStart, addrSize, tritSize}
+use Rattle.net_memory.specs.View.{memoryOf, readPort, readBy, readStart, tritStart, addrSize, tritSize}
 use Rattle.net_memory.proofs.Ports.{read-of-view, reads-at}
 use Rattle.net_memory.proofs.Changes.{withRead, read-changed}
 use Rattle.port_overlay.proofs.Bounds.{chains-unmap}

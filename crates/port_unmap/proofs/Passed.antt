@@ -1,19 +1,19 @@
 -- What is known of a call that numbers 1 to 4, 14 and 15 pass, and the call by its number.
 use mathlib.Core.Path.{_≡_, refl, sym, ap, _∙_}
 use mathlib.Core.Logic.{_≢_}
-use Prim.Native.Nat.{ℕ, _+_, _-_, _*_, _<_, _≤_, min}
+use Prim.Native.Nat.{ℕ, _-_, _*_, _<_, min}
 use native.Mathlib.Nat.{add-zero}
 use native.Mathlib.Omega.{arith}
-use mathlib.Core.Bool.{Bool, true, false, not, _||_}
+use mathlib.Core.Bool.{Bool, true, false, not}
 use mathlib.Core.Option.{Option, none, some}
-use mathlib.Core.List.{List, []}
-use lib.ListN.{length, getD}
+use mathlib.Core.List.{List}
+use lib.ListN.{length}
 use lib.Seq.{set-getD}
 use lib.Dec.{eqb, leb}
 use borrow.Author.Tests.{leb-false, eqb-true, not-false}
-use Rattle.lists.specs.Choice.{if_then_else_, _orElse_, leaves}
-use Rattle.lists.specs.Lists.{any, part}
-use Rattle.lists.proofs.Choice.{or-false, refused-not, else-zero, else-first, else-rest, leaves-refused, leaves-accepted}
+use Rattle.lists.specs.Choice.{if_then_else_, leaves}
+use Rattle.lists.specs.Lists.{any}
+use Rattle.lists.proofs.Choice.{or-false, refused-not, else-zero, else-first, else-rest}
 use Rattle.lists.proofs.All.{any-at}
 use Rattle.rules.specs.Limits.{maxPorts}
 use Rattle.rules.specs.Value.{Value}
@@ -31,12 +31,12 @@ use Rattle.log_entries.specs.declared.LogState as machine
 use Rattle.net_memory.specs.declared.Memory.{Memory}
 use Rattle.net_memory.specs.declared.MemoryReadPort.{MemoryReadPort}
 use Rattle.net_memory.specs.declared.MemoryReadFlipFlop.the-variants.{None, Some}
-use Rattle.net_memory.specs.View.{noReadPort, withReadPort, memoryOf, readsOf, writesOf, readPort, readBy, flipFlopBy, readStart, tritStart, addrSize, tritSize, readTrits}
+use Rattle.net_memory.specs.View.{noReadPort, withReadPort, memoryOf, readsOf, writesOf, readPort, flipFlopBy, readTrits}
 use Rattle.net_memory.proofs.Ports.{read-of-view, reads-at, trits-at}
 use Rattle.net_check.proofs.Accept.{Valid, valid, sizes}
 use Rattle.net_memory.specs.Given.{givenOf}
 use Rattle.port_unmap.specs.Ready.{ownFlipFlop, Ready}
-use Rattle.port_unmap.specs.Call.{without, unclocking, driving, roomsOf, drivenOf, NewStruct}
+use Rattle.port_unmap.specs.Call.{without, driving, roomsOf, drivenOf, NewStruct}
 use Rattle.port_unmap.proofs.Act.{driven-refused}
 
 module _ (m : Memory) (nets trits : List ℕ) (i : ℕ) (h : i < min maxPorts (m .«read_count»)) where

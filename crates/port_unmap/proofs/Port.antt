@@ -1,39 +1,36 @@
 -- The values that the code reads of port i are the view's, and its trace is the rules'.
 use mathlib.Core.Path.{_≡_, refl, sym, ap, _∙_}
-use Prim.Native.Nat.{ℕ, _+_, _-_, _*_, _^_, _<_, _≤_, min}
+use Prim.Native.Nat.{ℕ, _+_, _-_, _^_, _<_, _≤_}
 use native.Mathlib.Nat.{mul-le-mul, le-refl}
 use lib.Seq.{take-take}
 use native.Mathlib.Omega.{arith}
 use lib.Pow.{pow-mono}
-use mathlib.Core.Bool.{Bool, true, false}
-use mathlib.Core.Option.{Option, none, some}
+use mathlib.Core.Bool.{false}
+use mathlib.Core.Option.{some}
 use mathlib.Core.List.{List, []}
-use lib.ListN.{length, take, drop, getD, List·getD-eq-default}
+use lib.ListN.{length, drop, List·getD-eq-default}
 use borrow.Author.Tests.{le-ltb}
-use Rattle.lists.specs.Choice.{if_then_else_}
 use Rattle.lists.specs.Lists.{any, part}
 use Rattle.lists.proofs.All.{any-at}
 use Rattle.lists.proofs.Choice.{cases-le}
-use Rattle.rules.specs.Limits.{maxPorts, maxMerge, X, maxNets}
+use Rattle.rules.specs.Limits.{maxMerge, X}
 use Rattle.rules.specs.Value.{Value, Pos}
-use Rattle.rules.specs.Cell.{FlipFlop, ReadFlipFlop, ReadPort, WritePort, Mem, readAt, writeAt, wideLog2, readWideLog2, flipFlopOf, outputSlice, outputStart, transparentFrom, transparentPorts}
-use Rattle.rules.specs.Log.{Trace, LogState, startNet}
+use Rattle.rules.specs.Cell.{FlipFlop, ReadFlipFlop, ReadPort, Mem, readAt, writeAt, wideLog2, readWideLog2, flipFlopOf, outputSlice, outputStart, transparentFrom, transparentPorts}
+use Rattle.rules.specs.Log.{LogState, startNet}
 use Rattle.rules.specs.Conditions.{shortPair, badWriteShape}
 use Rattle.rules.specs.Ports.{Overlay, transparencies, unmapDff}
-use Rattle.rules.proofs.Counted.{AtMost, start-le}
+use Rattle.rules.proofs.Counted.{start-le}
 use Rattle.net_flip_flop.specs.declared.Controls.{Controls}
 use Rattle.net_flip_flop.specs.View.{controlsOf, flipFlop}
 use Rattle.log_entries.specs.Emission.{Lent, run}
 use Rattle.net_memory.specs.declared.Memory.{Memory}
 use Rattle.net_memory.specs.declared.MemoryReadPort.{MemoryReadPort}
-use Rattle.net_memory.specs.declared.MemoryReadFlipFlop.{MemoryReadFlipFlop}
-use Rattle.net_memory.specs.declared.MemoryReadFlipFlop.the-variants.{None, Some}
-use Rattle.net_memory.specs.View.{memoryOf, readPort, readStart, tritStart, addrSize, tritSize, readNets, readTrits, readBy, clockedBy, flipFlopBy}
-use Rattle.net_memory.proofs.Ports.{noRead, reads-at, read-of-view, nets-at, trits-at}
-use Rattle.port_transparency.specs.Pairs.{reading, plain}
+use Rattle.net_memory.specs.View.{memoryOf, readPort, readStart, tritStart, addrSize, tritSize, readNets, readTrits, readBy, flipFlopBy}
+use Rattle.net_memory.proofs.Ports.{reads-at, read-of-view, nets-at, trits-at}
+use Rattle.port_transparency.specs.Pairs.{reading}
 use Rattle.port_overlay.specs.Laid.{laidFrom, unmapped, unmappedIf}
-use Rattle.port_overlay.proofs.Fits.{Shaped, Writes, Reads, writes-shaped, reads-shaped, from-is}
-use Rattle.port_overlay.proofs.Bounds.{Small, chains-unmap, most-unmap, unmap-runs}
+use Rattle.port_overlay.proofs.Fits.{Shaped, Reads, writes-shaped, reads-shaped, from-is}
+use Rattle.port_overlay.proofs.Bounds.{Small, most-unmap, unmap-runs}
 use Rattle.port_unmap.specs.Ready.{ownFlipFlop, Ready}
 
 size-few : (width size k : ℕ) → width ≤ 128 → Shaped width size k → size ≤ 2048

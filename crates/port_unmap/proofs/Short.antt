@@ -2,16 +2,15 @@
 use mathlib.Core.Path.{_≡_, refl, sym, ap, _∙_}
 use mathlib.Core.Logic.{_≢_}
 use Prim.Native.Nat.{ℕ, suc, _+_, _-_, _<_, _≤_, min}
-use native.Mathlib.Omega.{arith}
 use native.Mathlib.Numerals.{add-one}
 use mathlib.Core.Bool.{Bool, true, false, not, _&&_, _||_}
 use mathlib.Core.Option.{none, some}
-use mathlib.Core.List.{List, [], _∷_}
+use mathlib.Core.List.{List, _∷_}
 use lib.ListN.{length, drop, getD, drop-of-length-le}
 use lib.Seq.{drop-cons}
 use lib.Dec.{eqb, leb}
 use borrow.Author.Tests.{le-leb, lt-leb, ne-eqb, eq-eqb}
-use Rattle.lists.specs.Choice.{if_then_else_, _orElse_}
+use Rattle.lists.specs.Choice.{if_then_else_}
 use Rattle.lists.specs.Lists.{any, part}
 use Rattle.lists.proofs.Choice.{else-first, else-rest, hit, miss}
 use Rattle.rules.specs.Limits.{maxPorts}
@@ -26,7 +25,7 @@ use Rattle.net_flip_flop.specs.declared.Controls.{Controls}
 use Rattle.net_memory.specs.declared.MemoryReadPort.{MemoryReadPort}
 use Rattle.net_memory.specs.declared.MemoryReadFlipFlop.the-variants.{None, Some}
 use Rattle.net_memory.specs.View.{memoryOf, readsOf, readPort, readBy, flipFlopBy, clockedBy, readStart, tritStart, addrSize, tritSize, readNets}
-use Rattle.net_memory.proofs.Ports.{noRead, read-of-view, reads-none, reads-at, nets-at}
+use Rattle.net_memory.proofs.Ports.{read-of-view, reads-none, reads-at, nets-at}
 use Rattle.net_memory.specs.Given.{givenOf}
 
 -- a number that is 0 where a test fails

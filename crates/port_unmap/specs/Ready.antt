@@ -4,13 +4,12 @@ use Prim.Native.Nat.{ℕ, _<_, _≤_, min}
 use mathlib.Core.Bool.{false}
 use mathlib.Core.List.{List}
 use lib.ListN.{length}
-use Rattle.lists.specs.Lists.{any, part}
+use Rattle.lists.specs.Lists.{any}
 use Rattle.rules.specs.Limits.{maxPorts}
 use Rattle.rules.specs.Cell.{ReadFlipFlop, readAt, transparentPorts}
 use Rattle.rules.specs.Conditions.{badWriteShape, badReadShape, shortPair}
 use Rattle.net_flip_flop.specs.declared.Controls.{Controls}
 use Rattle.net_memory.specs.declared.Memory.{Memory}
-use Rattle.net_memory.specs.declared.MemoryReadPort.{MemoryReadPort}
 use Rattle.net_memory.specs.declared.MemoryReadFlipFlop.the-variants.{Some}
 use Rattle.net_memory.specs.View.{memoryOf, readPort, readTrits, clockedBy}
 

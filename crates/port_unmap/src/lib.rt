@@ -1,9 +1,9 @@
 // memory/src/lib.rs, unmap_read_dff: a read port reads at once, and its flip-flop stands behind it as a cell of its own.
 ghost use mathlib.Core.Path.{_≡_};
 ghost use mathlib.Core.Bool.{false};
-ghost use mathlib.Core.List.{List, []};
-ghost use Prim.Native.Nat.{ℕ, _+_, _<_, _≤_, min};
-ghost use lib.ListN.{length, getD};
+ghost use mathlib.Core.List.{List};
+ghost use Prim.Native.Nat.{ℕ, _+_, _<_, min};
+ghost use lib.ListN.{length};
 ghost use Rattle.lists.specs.Lists.{any};
 ghost use Rattle.rules.specs.Limits.{maxPorts};
 ghost use mathlib.Core.Bool.{_&&_};

@@ -1,5 +1,4 @@
 -- `port_overlay::emit_unmap` meets its contract.
-use mathlib.Core.Path.{_≡_, ap, _∙_}
 use native.Mathlib.Omega.{arith}
 use Rattle.rules.specs.Value.{Value}
 use Rattle.rules.specs.Cell.{FlipFlop, wideLog2}

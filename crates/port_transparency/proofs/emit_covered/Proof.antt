@@ -1,8 +1,6 @@
 -- `port_transparency::emit_covered` meets its contract.
-use mathlib.Core.Path.{_≡_, sym, ap, _∙_}
-use Prim.Native.Nat.{_≤_}
+use mathlib.Core.Path.{sym, _∙_}
 use native.Mathlib.Omega.{arith}
-use lib.ListN.{length, take}
 use lib.Seq.{length-take-le}
 use Rattle.log_entries.specs.View.{lent}
 use Rattle.port_transparency.proofs.Covered.{covered-all}

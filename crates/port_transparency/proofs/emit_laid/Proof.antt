@@ -1,8 +1,8 @@
 -- `port_transparency::emit_laid` meets its contract.
-use mathlib.Core.Path.{_≡_, sym, _∙_}
-use Prim.Native.Nat.{_-_, _≤_}
+use mathlib.Core.Path.{sym, _∙_}
+use Prim.Native.Nat.{_-_}
 use native.Mathlib.Omega.{arith}
-use lib.ListN.{length, take}
+use lib.ListN.{take}
 use lib.Seq.{length-take-le}
 use Rattle.log_entries.specs.View.{lent}
 use Rattle.port_transparency.proofs.Covered.{laid-all, rest-short}

@@ -1,6 +1,6 @@
 -- `port_transparency::emit_same` meets its contract.
-use mathlib.Core.Path.{_≡_, sym, ap, _∙_}
-use Prim.Native.Nat.{_≤_, max}
+use mathlib.Core.Path.{_≡_, sym, _∙_}
+use Prim.Native.Nat.{max}
 use native.Mathlib.Omega.{arith}
 use lib.ListN.{length, take}
 use lib.Seq.{length-take-le}

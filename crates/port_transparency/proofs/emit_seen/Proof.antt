@@ -1,8 +1,8 @@
 -- `port_transparency::emit_seen` meets its contract.
-use mathlib.Core.Path.{_≡_, sym, ap, _∙_}
-use Prim.Native.Nat.{_-_, _<_, _≤_}
+use mathlib.Core.Path.{_≡_, _∙_}
+use Prim.Native.Nat.{_-_, _≤_}
 use native.Mathlib.Omega.{arith}
-use lib.ListN.{length, take}
+use lib.ListN.{take}
 use Rattle.log_entries.specs.View.{lent}
 use Rattle.port_transparency.proofs.Seen.{select-is, case-wider, case-narrower, case-even}
 use Rattle.port_transparency.proofs.Covered.{copied}

@@ -1,10 +1,9 @@
 -- `port_transparency::fresh_nets` meets its contract.
 use mathlib.Core.Path.{_≡_, refl}
-use Prim.Native.Nat.{_-_, _≤_}
+use Prim.Native.Nat.{_-_}
 use native.Mathlib.Omega.{arith}
 use lib.ListN.{length, length-set}
 use Rattle.port_transparency.proofs.Gave.{Storing, store-turn, store-full, store-end}
-use borrow.Author.Needs.{needs}
 use Rattle.port_transparency.proofs.fresh_nets.Statement.{statement}
 use Rattle.port_transparency.proofs.fresh_nets.Tie as tie
 

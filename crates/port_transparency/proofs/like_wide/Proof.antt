@@ -1,8 +1,6 @@
 -- `port_transparency::like_wide` meets its contract.
-use mathlib.Core.Path.{_≡_, sym, ap, _∙_}
 use borrow.Author.Tests.{lt-ltb, le-ltb}
 use Rattle.port_transparency.specs.Pairs.{likeWide}
-use borrow.Author.Needs.{needs}
 use Rattle.port_transparency.proofs.like_wide.Statement.{statement}
 use Rattle.port_transparency.proofs.like_wide.Tie as tie
 

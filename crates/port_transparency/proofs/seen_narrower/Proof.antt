@@ -1,7 +1,4 @@
 -- `port_transparency::seen_narrower` meets its contract.
-use mathlib.Core.Path.{_≡_, sym, _∙_}
-use Prim.Native.Nat.{_≤_}
-use native.Mathlib.Omega.{arith}
 use lib.ListN.{length, take}
 use Rattle.log_entries.specs.View.{lent}
 use Rattle.rules.specs.Log.{addUshr}

@@ -1,5 +1,4 @@
 -- `port_transparency::ushr_into` meets its contract.
-use native.Mathlib.Omega.{arith}
 use Rattle.log_entries.specs.View.{lent}
 use Rattle.port_transparency.proofs.Seen.{ushr-fresh}
 use borrow.Author.Needs.{needs}

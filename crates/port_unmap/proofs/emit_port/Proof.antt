@@ -1,8 +1,7 @@
 -- `port_unmap::emit_port` meets its contract.
 use Rattle.net_memory.proofs.Sized.{relations-8}
-use mathlib.Core.Path.{_≡_, sym, ap, _∙_}
-use Prim.Native.Nat.{ℕ, _+_, _≤_}
-use native.Mathlib.Omega.{arith}
+use mathlib.Core.Path.{sym, ap, _∙_}
+use Prim.Native.Nat.{_+_, _≤_}
 use Rattle.log_entries.specs.View.{lent}
 use Rattle.rules.specs.Limits.{maxMerge}
 use Rattle.net_memory.specs.declared.MemoryReadPort.{MemoryReadPort}

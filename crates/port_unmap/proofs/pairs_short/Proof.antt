@@ -1,6 +1,6 @@
 -- `port_unmap::pairs_short` meets its contract.
 use mathlib.Core.Path.{_≡_, refl, sym, _∙_}
-use Prim.Native.Nat.{ℕ, _-_, _<_}
+use Prim.Native.Nat.{ℕ, _-_}
 use native.Mathlib.Omega.{arith}
 use mathlib.Core.List.{List}
 use lib.ListN.{length}

@@ -1,5 +1,4 @@
 -- `port_unmap::port_short_at` meets its contract.
-use mathlib.Core.Path.{_≡_, _∙_}
 use Rattle.port_unmap.proofs.Short.{at-none, at-some}
 use borrow.Author.Needs.{needs}
 use Rattle.port_unmap.proofs.port_short_at.Statement.{statement}

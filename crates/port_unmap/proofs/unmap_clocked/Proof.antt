@@ -1,5 +1,4 @@
 -- `port_unmap::unmap_clocked` meets its contract.
-use mathlib.Core.Path.{_≡_, sym, _∙_}
 use native.Mathlib.Omega.{arith}
 use Rattle.port_unmap.proofs.Act.{clocked-refused, clocked-done, struct-kept, struct-done}
 use borrow.Author.Needs.{needs}

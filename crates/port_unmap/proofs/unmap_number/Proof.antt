@@ -1,5 +1,5 @@
 -- `port_unmap::unmap_number` meets its contract.
-use mathlib.Core.Path.{_≡_, sym, _∙_}
+use mathlib.Core.Path.{sym, _∙_}
 use native.Mathlib.Omega.{arith}
 use Rattle.net_memory.proofs.Sized.{reads-length}
 use Rattle.port_unmap.proofs.Short.{num-first, num-14, num-15, num-0}

@@ -1,5 +1,5 @@
 -- `port_unmap::unmap_port` meets its contract.
-use mathlib.Core.Path.{_≡_, sym, ap, _∙_}
+use mathlib.Core.Path.{sym, ap, _∙_}
 use lib.ListN.{length}
 use Rattle.log_entries.specs.View.{stateOf}
 use Rattle.net_memory.specs.View.{memoryOf}

@@ -1,5 +1,5 @@
 -- `port_unmap::unmap_read_dff` meets its contract.
-use mathlib.Core.Path.{_≡_, sym, _∙_}
+use mathlib.Core.Path.{sym, _∙_}
 use native.Mathlib.Omega.{arith}
 use Rattle.net_memory.proofs.Sized.{reads-length, writes-length}
 use Rattle.port_unmap.proofs.Passed.{is-there, call-refused, call-passed}
