@@ -15,6 +15,7 @@ use Rattle.record_reader.specs.declared.Word.{Word}
 use Rattle.record_reader.specs.declared.Word.the-variants.{Found, End}
 use Rattle.record_reader.specs.declared.HeadWords.{HeadWords}
 use Rattle.record_reader.specs.declared.TritFound.{TritFound}
+use Rattle.record_reader.specs.declared.FirstTrits.{FirstTrits}
 use Rattle.record_reader.specs.declared.TritFound.the-variants.{Code, End as NoTrit}
 
 abbrev pub readerAt : List ℕ → ℕ → rules.Reader
@@ -93,6 +94,10 @@ tritThere bytes at = if hasTritAt bytes at then Code (rules.nextTrit (readerAt b
 
 unfoldable pub placeAfterTrit : List ℕ → ℕ → ℕ
 placeAfterTrit bytes at = if hasTritAt bytes at then rules.afterTrit (readerAt bytes at) .at else at
+
+-- a record's first two trits, at the two places behind the head
+unfoldable pub firstTrits : List ℕ → FirstTrits
+firstTrits bytes = record { first = tritThere bytes headBytes; second = tritThere bytes (headBytes + 1) }
 
 -- above the trits of any five 16-bit sizes
 abbrev pub manyTrits : ℕ

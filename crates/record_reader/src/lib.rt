@@ -7,7 +7,7 @@ ghost use lib.Seq.{sets};
 ghost use Rattle.rules.specs.Record.{sizeTrits, wordAt, arrayBytes, bitsOf, headSizes};
 ghost use Rattle.record_sizes.specs.View.{viewSizes};
 ghost use Rattle.record_bits.specs.Groups.{tritsBy};
-ghost use Rattle.record_reader.specs.Reading.{wordThere, placeAfterWord, wordsFrom, placeAfterHead, wordOf, headWords, sizesBy, tritNumbered, tritThere, placeAfterTrit, hasTrits, tritsThere, placeAfterTrits, manyTrits, manyBytes, Words};
+ghost use Rattle.record_reader.specs.Reading.{wordThere, placeAfterWord, wordsFrom, placeAfterHead, wordOf, headWords, sizesBy, tritNumbered, tritThere, placeAfterTrit, firstTrits, hasTrits, tritsThere, placeAfterTrits, manyTrits, manyBytes, Words};
 use record_sizes::Sizes;
 
 pub struct Reader<'a> {
@@ -243,6 +243,23 @@ pub fn next_trit<'s, 'a>(r: &'s mut Reader<'a>) -> TritFound
     let at = r.at;
     r.at = place_after_trit(bytes, at);
     trit_there(bytes, at)
+}
+
+// The first two trits of a record, or that there are fewer.
+pub struct FirstTrits {
+    pub first: TritFound,
+    pub second: TritFound,
+}
+
+// Reads a record's first two trits, by one reader: it goes over the head, and then takes one trit and the next.
+pub fn first_trits(bytes: &[u8]) -> FirstTrits
+    ensures { λ r. ⌜ r ≡ firstTrits (now (bytes .entry)) ⌝ }
+{
+    let mut r = new(bytes);
+    next_head(&mut r);
+    let first = next_trit(&mut r);
+    let second = next_trit(&mut r);
+    FirstTrits { first, second }
 }
 
 // ---- all the trits that are left

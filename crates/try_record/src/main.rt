@@ -5,6 +5,7 @@ use record_codec::Head;
 use record_codec::Written;
 use record_listing::summary::Summarized;
 use record_listing::summary::Summary;
+use record_reader::TritFound;
 use record_sizes::Sizes;
 
 // ---- answers
@@ -128,6 +129,25 @@ fn show(y: Summary) {
     show_number(y.known);
     show_number(y.ones);
     say(b"\n");
+}
+
+fn show_trit(t: TritFound) {
+    match t {
+        TritFound::Code(c) => show_number(c as usize),
+        TritFound::End => say(b" end"),
+    }
+}
+
+fn take_two(name: &[u8], bytes: &[u8]) {
+    let before = try_kit::sums::sum_of(bytes);
+    say(name);
+    let taken = record_reader::first_trits(bytes);
+    let first = taken.first;
+    let second = taken.second;
+    show_trit(first);
+    show_trit(second);
+    say(b"\n");
+    given(before, bytes);
 }
 
 // ---- small cases: document 01's record, and records that break one rule
@@ -329,6 +349,38 @@ fn head_more() {
     );
 }
 
+// Two trits, one, and none because the sizes give none or the bytes end in the arrays or in the head.
+fn trit_cases() {
+    take_two(
+        b"trits of the first",
+        b"\x05\x00\x02\x00\x01\x00\x02\x00\x01\x00\x01\x00\x3B\x09",
+    );
+    take_two(
+        b"trits of two, the first unknown",
+        b"\x05\x00\x02\x00\x01\x00\x01\x00\x00\x00\x00\x00\x02\x02",
+    );
+    take_two(
+        b"trits of one",
+        b"\x05\x00\x01\x00\x01\x00\x01\x00\x00\x00\x00\x00\x01\x01",
+    );
+}
+
+fn trit_ends() {
+    take_two(
+        b"trits of no memories",
+        b"\x05\x00\x01\x00\x00\x00\x00\x00\x00\x00\x00\x00",
+    );
+    take_two(
+        b"trits of a short one",
+        b"\x05\x00\x02\x00\x01\x00\x02\x00\x01\x00\x01\x00\x3B",
+    );
+    take_two(
+        b"trits of eleven bytes",
+        b"\x05\x00\x02\x00\x01\x00\x02\x00\x01\x00\x01",
+    );
+    take_two(b"trits of nothing", b"");
+}
+
 fn summary_cases() {
     let image = b"\x01\x00\x02\x01\x00\x00\x09";
     summarize(b"memory 0", first_sizes(), image, 0);
@@ -434,6 +486,8 @@ fn main() {
     short_rooms();
     head_cases();
     head_more();
+    trit_cases();
+    trit_ends();
     summary_cases();
     summary_more();
     summary_sizes();
