@@ -1,7 +1,7 @@
 -- What a write port leaves is what the rules give: the same entries, and the data and the mask in the order of the memories.
 use mathlib.Core.Path.{_≡_, refl, sym, ap, _∙_}
-use mathlib.Core.Bool.{Bool, true, false}
-use Prim.Native.Nat.{ℕ, _+_, _*_, _^_, _/_, _%_}
+use Prim.Native.Nat.{ℕ, zero, suc, _+_, _*_, _^_, _<_}
+use native.Mathlib.Omega.{arith}
 use mathlib.Core.List.{List, [], _∷_, map}
 use lib.ListN.{length, replicate}
 use Rattle.lists.specs.Lists.{upFrom}
@@ -9,47 +9,52 @@ use Rattle.rules.specs.Limits.{X}
 use Rattle.rules.specs.Value.{Value}
 use Rattle.rules.specs.Cell.{WritePort}
 use Rattle.rules.specs.Log.{Made, Entry, Trace, _>>=_, done}
-use Rattle.rules.specs.Geometry.{Layout, rowLen, allMems, columns, Spot, under}
-use Rattle.rules.specs.Swizzle.{Role, Soft, Wide, Row, High, isChunk, spotBy, Split, pieceStart, oldRows, sources, arrange, repeating, blank, maskPieces, storeEach, WideWrite, swizzleWrite}
+use Rattle.rules.specs.Geometry.{Layout, rowLen, allMems, columns}
+use Rattle.rules.specs.Swizzle.{Split, pieceStart, oldRows, sources, arrange, repeating, blank, maskPieces, storeEach, WideWrite, swizzleWrite}
 use Rattle.log_entries.specs.Emission.{Lent, emit, run}
 use Rattle.log_entries.proofs.Emission.{run-same}
 use Rattle.swizzle_laws.specs.Order.{ordered}
-use Rattle.swizzle_laws.specs.Stores.{startBy, startsOf, spillEach, spillMasks}
+use Rattle.swizzle_laws.specs.Stores.{startsOf, spillAt, spillEach, pieceBy, spillMasks}
 use Rattle.swizzle_laws.proofs.Stores.{blank-whole, order-blank, order-each, order-masks, inOrder}
-use Rattle.swizzle_write.specs.Rows.{roleOfKind, startOf, startsBy, rowSources, sourcesFrom, allSources}
-
--- ---- a spot goes by which bits are a chunk's
-spotBits : List Bool → ℕ → Spot
-spotBits [] x = record { chunk = 0; row = 0 }
-spotBits (b ∷ bs) x = under b (x % 2) (spotBits bs (x / 2))
-
-spot-bits : (rs : List Role) (x : ℕ) → spotBy rs x ≡ spotBits (map isChunk rs) x
-unfolding spotBy spotBits
-spot-bits [] x = refl
-spot-bits (r ∷ rs) x = ap (under (isChunk r) (x % 2)) (spot-bits rs (x / 2))
-
-same-start : (rs rs′ : List Role) (C L n : ℕ) → map isChunk rs ≡ map isChunk rs′ → startBy rs C L n ≡ startBy rs′ C L n
-unfolding startBy
-same-start rs rs′ C L n e =
-    ap (λ (p : Spot). p .row * C + p .chunk * L) (spot-bits rs n ∙ ap (λ (bs : List Bool). spotBits bs n) e ∙ sym (spot-bits rs′ n))
+use Rattle.swizzle_write.specs.Rows.{startOf, startsBy, rowSources, sourcesFrom, allSources}
 
 -- ---- the rows' entries
 pub sources-are : (q : Layout) (s : Split) → allSources (2 ^ s .old) (q .width) (q .entries) ≡ sources q s
 unfolding allSources sourcesFrom rowSources sources oldRows
 sources-are q s = refl
 
-map-same : (f g : ℕ → ℕ) (l : List ℕ) → ((x : ℕ) → f x ≡ g x) → map f l ≡ map g l
-map-same f g [] e = refl
-map-same f g (x ∷ l) e = λ i. e x i ∷ map-same f g l e i
+-- ---- stores go by the starts of the pieces in use alone
+map-up : (f g : ℕ → ℕ) (a n : ℕ) → ((j : ℕ) → j < a + n → f j ≡ g j) → map f (upFrom a n) ≡ map g (upFrom a n)
+map-up f g a zero e = refl
+map-up f g a (suc n) e =
+    let h : f a ≡ g a = e a (omega arith) in
+    let r = map-up f g (suc a) n (λ j k. e j (omega arith)) in
+    λ i. h i ∷ r i
 
-module _ (q : Layout) (s : Split) (kinds : List ℕ) (k : map isChunk (map roleOfKind kinds) ≡ map isChunk (s .pieceRoles)) where
-  start-is : (x j : ℕ) → startOf kinds (columns q) (rowLen q) (j + 2 ^ s .old * x) ≡ pieceStart q s x j
-  unfolding startOf startBy pieceStart
-  start-is x j = same-start (map roleOfKind kinds) (s .pieceRoles) (columns q) (rowLen q) (j + 2 ^ s .old * x) k
+pub each-starts : (M R U L : ℕ) (f g : ℕ → List ℕ) (v : List ℕ) (a n : ℕ) (l : List ℕ) → ((x : ℕ) → x < a + n → f x ≡ g x)
+    → spillEach M R U L f (upFrom a n) v l ≡ spillEach M R U L g (upFrom a n) v l
+unfolding spillEach
+each-starts M R U L f g v a zero l e = refl
+each-starts M R U L f g v a (suc n) l e =
+    let h : f a ≡ g a = e a (omega arith) in
+    each-starts M R U L f g v (suc a) n (spillAt M R U L (f a) v l) (λ x k. e x (omega arith))
+    ∙ ap (λ (ss : List ℕ). spillEach M R U L g (upFrom (suc a) n) v (spillAt M R U L ss v l)) h
 
-  pub starts-are : (x : ℕ) → startsBy kinds (columns q) (rowLen q) (2 ^ s .old) x ≡ startsOf q s x
+masks-starts : (M R U L : ℕ) (f g : ℕ → List ℕ) (mux mask : Value) (a n : ℕ) (l : List ℕ) → ((x : ℕ) → x < a + n → f x ≡ g x)
+    → spillMasks M R U L f mux mask (upFrom a n) l ≡ spillMasks M R U L g mux mask (upFrom a n) l
+unfolding spillMasks
+masks-starts M R U L f g mux mask a zero l e = refl
+masks-starts M R U L f g mux mask a (suc n) l e =
+    let h : f a ≡ g a = e a (omega arith) in
+    let r : (l′ : List ℕ) → spillMasks M R U L f mux mask (upFrom (suc a) n) l′ ≡ spillMasks M R U L g mux mask (upFrom (suc a) n) l′ =
+    λ l′. masks-starts M R U L f g mux mask (suc a) n l′ (λ x k. e x (omega arith)) in
+    (λ i. pieceBy mux mask a >>= λ k. r (spillAt M R U L (f a) k l) i)
+    ∙ (λ i. pieceBy mux mask a >>= λ k. spillMasks M R U L g mux mask (upFrom (suc a) n) (spillAt M R U L (h i) k l))
+
+module _ (q : Layout) (s : Split) (chunks : ℕ) (k : (x j : ℕ) → x < s .pieces → j < 2 ^ s .old → startOf chunks (columns q) (rowLen q) (j + 2 ^ s .old * x) ≡ pieceStart q s x j) where
+  pub starts-are : (x : ℕ) → x < s .pieces → startsBy chunks (columns q) (rowLen q) (2 ^ s .old) x ≡ startsOf q s x
   unfolding startsBy startsOf oldRows
-  starts-are x = map-same _ _ (upFrom 0 (2 ^ s .old)) (start-is x)
+  starts-are x h = map-up _ _ 0 (2 ^ s .old) (λ j g. k x j h (omega arith))
 
   module _ (p : WritePort) where
     abbrev M : ℕ
@@ -72,16 +77,20 @@ module _ (q : Layout) (s : Split) (kinds : List ℕ) (k : map isChunk (map roleO
 
     -- what the code leaves
     abbrev pub codeMasks : Trace (List ℕ)
-    codeMasks = spillMasks M R U L (startsBy kinds (columns q) L (2 ^ s .old)) (s .muxAddr) (repeating X (allSources (2 ^ s .old) (q .width) (q .entries)) (p .mask)) (upFrom 0 (s .pieces)) (replicate (R * (M * U)) 0)
+    codeMasks = spillMasks M R U L (startsBy chunks (columns q) L (2 ^ s .old)) (s .muxAddr) (repeating X (allSources (2 ^ s .old) (q .width) (q .entries)) (p .mask)) (upFrom 0 (s .pieces)) (replicate (R * (M * U)) 0)
 
     abbrev pub codeBits : List ℕ
-    codeBits = spillEach M R U L (startsBy kinds (columns q) L (2 ^ s .old)) (upFrom 0 (s .pieces)) (arrange X (allSources (2 ^ s .old) (q .width) (q .entries)) (p .bits)) (replicate (R * (M * U)) X)
+    codeBits = spillEach M R U L (startsBy chunks (columns q) L (2 ^ s .old)) (upFrom 0 (s .pieces)) (arrange X (allSources (2 ^ s .old) (q .width) (q .entries)) (p .bits)) (replicate (R * (M * U)) X)
 
     same-masks : codeMasks ≡ spillMasks M R U L (startsOf q s) (s .muxAddr) mask (upFrom 0 (s .pieces)) (ordered q s (blank q s 0))
-    same-masks = λ i. spillMasks M R U L (λ x. starts-are x i) (s .muxAddr) (repeating X (sources-are q s i) (p .mask)) (upFrom 0 (s .pieces)) (sym (order-blank q s 0) i)
+    same-masks =
+        masks-starts M R U L _ (startsOf q s) (s .muxAddr) (repeating X (allSources (2 ^ s .old) (q .width) (q .entries)) (p .mask)) 0 (s .pieces) _ (λ x h. starts-are x (omega arith))
+        ∙ (λ i. spillMasks M R U L (startsOf q s) (s .muxAddr) (repeating X (sources-are q s i) (p .mask)) (upFrom 0 (s .pieces)) (sym (order-blank q s 0) i))
 
     same-bits : codeBits ≡ spillEach M R U L (startsOf q s) (upFrom 0 (s .pieces)) bits (ordered q s (blank q s X))
-    same-bits = λ i. spillEach M R U L (λ x. starts-are x i) (upFrom 0 (s .pieces)) (arrange X (sources-are q s i) (p .bits)) (sym (order-blank q s X) i)
+    same-bits =
+        each-starts M R U L _ (startsOf q s) (arrange X (allSources (2 ^ s .old) (q .width) (q .entries)) (p .bits)) 0 (s .pieces) _ (λ x h. starts-are x (omega arith))
+        ∙ (λ i. spillEach M R U L (startsOf q s) (upFrom 0 (s .pieces)) (arrange X (sources-are q s i) (p .bits)) (sym (order-blank q s X) i))
 
     abbrev pieces : Trace Value
     pieces = maskPieces q s mask (upFrom 0 (s .pieces)) (blank q s 0)

@@ -1,30 +1,17 @@
 -- What the functions over pieces ask.
 use mathlib.Core.Path.{_≡_}
-use Prim.Native.Nat.{ℕ, _+_, _*_, _/_, _%_, _≤_}
+use Prim.Native.Nat.{ℕ, _+_, _*_, _≤_}
 use mathlib.Core.List.{List}
 use lib.ListN.{length, replicate}
-use lib.Dec.{eqb}
 use Rattle.rules.specs.Limits.{maxMerge}
-use Rattle.lists.specs.Choice.{if_then_else_}
 use Rattle.swizzle_write.specs.declared.Grid.{Grid}
-use Rattle.swizzle_write.specs.declared.Walk.{Walk}
 use Rattle.swizzle_write.specs.Steps.{Good}
 use Rattle.swizzle_write.specs.Rows.{Kept}
 
-abbrev pub stepOf : ℕ → Walk → Walk
-stepOf kind w =
-    if eqb kind 0
-    then record { start = w .start + w .left % 2 * w .rows; left = w .left / 2; rows = w .rows * 2; chunks = w .chunks }
-    else record { start = w .start + w .left % 2 * w .chunks; left = w .left / 2; rows = w .rows; chunks = w .chunks * 2 }
-
--- the weights of the bits that are left stay among numbers that can be counted
-pub record Light (w : Walk) : Type 0 where
-  pub sum : w .start + (w .rows + w .chunks) ≤ 4611686018427387904
-
--- so do those of the pieces' numbers
+-- the numbers of the pieces' rows are 32-bit numbers, and their starts can be counted
 pub record Narrow (olds columns entries x : ℕ) : Type 0 where
   pub sum : (olds + olds * x) * (columns + entries) ≤ 4611686018427387904
-  pub numbers : olds + olds * x ≤ 4611686018427387904
+  pub numbers : olds + olds * x ≤ 4294967296
 
 -- a port's rows and mux address, its mask's kept nets, and arrays of the right lengths: for the piece's number, its starts, its mask, and the two rooms
 pub record Job (g : Grid) (mux mask bits kx ky at : List ℕ) (nl sl pl bl ml : ℕ) : Type 0 where

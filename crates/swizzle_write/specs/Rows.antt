@@ -7,11 +7,10 @@ use lib.Dec.{eqb}
 use Rattle.lists.specs.Choice.{if_then_else_}
 use Rattle.lists.specs.Lists.{pairs, upFrom, concatMap}
 use Rattle.lists.specs.Distinct.{kept, places}
-use Rattle.rules.specs.Limits.{X, None}
+use Rattle.rules.specs.Limits.{X, None, addrBits}
 use Rattle.rules.specs.Merge.{Key2, same2}
-use Rattle.rules.specs.Swizzle.{Role, Soft, Wide}
+use Rattle.rules.specs.Geometry.{walk}
 use Rattle.merge_keys.specs.Keys.{firsts, seconds}
-use Rattle.swizzle_laws.specs.Stores.{startBy}
 
 -- the entries of an old row whose bits start at base
 abbrev pub sourceOf : ℕ → ℕ → ℕ
@@ -46,12 +45,9 @@ pub record Kept (mask kx ky at : List ℕ) : Type 0 where
   pub second : ky ≡ seconds (kept same2 (pairs mask (replicate (length mask) 0)))
   pub placed : at ≡ places same2 (pairs mask (replicate (length mask) 0))
 
--- where a piece starts, by which bits are a chunk's: 0 for those of a row
-abbrev pub roleOfKind : ℕ → Role
-roleOfKind k = if eqb k 0 then Wide else Soft
+-- where a piece starts, by the bits of its number that are chunk bits
+unfoldable pub startOf : ℕ → ℕ → ℕ → ℕ → ℕ
+startOf chunks C L n = walk addrBits chunks addrBits n .row * C + walk addrBits chunks addrBits n .chunk * L
 
-unfoldable pub startOf : List ℕ → ℕ → ℕ → ℕ → ℕ
-startOf kinds C L n = startBy (map roleOfKind kinds) C L n
-
-unfoldable pub startsBy : List ℕ → ℕ → ℕ → ℕ → ℕ → List ℕ
-startsBy kinds C L olds x = map (λ j. startOf kinds C L (j + olds * x)) (upFrom 0 olds)
+unfoldable pub startsBy : ℕ → ℕ → ℕ → ℕ → ℕ → List ℕ
+startsBy chunks C L olds x = map (λ j. startOf chunks C L (j + olds * x)) (upFrom 0 olds)

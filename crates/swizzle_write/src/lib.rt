@@ -20,7 +20,7 @@ ghost use Rattle.swizzle_write.specs.Matches.{Matches, Laid};
 ghost use Rattle.rules.specs.Cell.{WritePort};
 ghost use Rattle.rules.specs.Geometry.{Layout};
 ghost use Rattle.rules.specs.Swizzle.{Split, swizzleWrite, constColumns};
-ghost use Rattle.swizzle_write.specs.Jobs.{stepOf, Light, Narrow, Job, Rooms, Row, Port};
+ghost use Rattle.swizzle_write.specs.Jobs.{Narrow, Job, Rooms, Row, Port};
 ghost use lib.Dec.{eqb};
 ghost use Rattle.lists.specs.Choice.{if_then_else_};
 ghost use Rattle.rules.specs.Limits.{None};
@@ -336,68 +336,24 @@ fn emit_piece(
     )
 }
 
-// A walk over the bits of a piece's number: the start so far, the bits left, and the weights of the next row bit and of the next chunk bit.
-struct Walk {
-    start: usize,
-    left: usize,
-    rows: usize,
-    chunks: usize,
-}
-
-// One bit more.
-fn step(w: Walk, kind: u8) -> Walk
-    requires { ⌜ Light w ⌝ }
-    ensures { λ r. ⌜ r ≡ stepOf kind w ⌝ }
-{
-    let bit = w.left % 2;
-    let left = w.left / 2;
-    if kind == 0 {
-        return Walk {
-            start: w.start + bit * w.rows,
-            left,
-            rows: w.rows * 2,
-            chunks: w.chunks,
-        };
-    }
-    Walk {
-        start: w.start + bit * w.chunks,
-        left,
-        rows: w.rows,
-        chunks: w.chunks * 2,
-    }
-}
-
-// Where the piece of a number starts among the columns, by the kinds of its bits.
-fn start_of(kinds: &[u8], columns: usize, entries: usize, n: usize) -> usize
+// Where the piece of a number starts among the columns, by the bits of the number that are chunk bits.
+fn start_of(chunks: u32, columns: usize, entries: usize, n: u32) -> usize
     requires { ⌜ n * (columns + entries) ≤ 4611686018427387904 ⌝ }
-    ensures { λ r. ⌜ r ≡ startOf (now (kinds .entry)) columns entries n ⌝ }
+    ensures { λ r. ⌜ r ≡ startOf chunks columns entries n ⌝ }
 {
-    let mut w = Walk {
-        start: 0,
-        left: n,
-        rows: columns,
-        chunks: entries,
-    };
-    let mut i: usize = 0;
-    while i < kinds.len() {
-        if w.left == 0 {
-            return w.start;
-        }
-        w = step(w, kinds[i]);
-        i += 1;
-    }
-    w.start
+    let spot = image_geometry::walk_row(chunks, rules::ADDR_BITS, n);
+    lists::usize_of_u32(spot.row) * columns + lists::usize_of_u32(spot.chunk) * entries
 }
 
 // Where piece x starts for each old row.
-fn piece_starts(starts: &mut [usize], kinds: &[u8], columns: usize, entries: usize, x: usize)
+fn piece_starts(starts: &mut [usize], chunks: u32, columns: usize, entries: usize, x: usize)
     requires { ⌜ Narrow (length (now starts)) columns entries x ⌝ }
-    ensures { λ _. ⌜ now (starts .exit) ≡ startsBy (now (kinds .entry)) columns entries (length (now (starts .entry))) x ⌝ }
+    ensures { λ _. ⌜ now (starts .exit) ≡ startsBy chunks columns entries (length (now (starts .entry))) x ⌝ }
 {
     let first = starts.len() * x;
     let mut j: usize = 0;
     while j < starts.len() {
-        starts[j] = start_of(kinds, columns, entries, j + first);
+        starts[j] = start_of(chunks, columns, entries, (j + first) as u32);
         j += 1;
     }
 }
@@ -408,7 +364,7 @@ fn one_piece(
     st: LogState,
     g: Grid,
     columns: usize,
-    kinds: &[u8],
+    chunks: u32,
     mux: &[u32],
     mask: &[u32],
     bits: &[u32],
@@ -426,12 +382,12 @@ fn one_piece(
     requires { ⌜ Narrow (length (now starts)) columns (g .entries) x ⌝ }
     ensures { λ r. ⌜ lent r (now (log .exit)) ≡ run (pieceBy (now (mux .entry)) (now (mask .entry)) x) (lent st (now (log .entry))) ⌝ }
     ensures { λ r. ⌜ (isOver (stateOf r) ≡ false → now (piece .exit) ≡ pieceBy (now (mux .entry)) (now (mask .entry)) x (st .next) .value) ⌝ }
-    ensures { λ _. ⌜ now («bits_to» .exit) ≡ spillAt (g .mems) (g .rows) (g .unit) (g .entries) (startsBy (now (kinds .entry)) columns (g .entries) (length (now (starts .entry))) x) (now (bits .entry)) (now («bits_to» .entry)) ⌝ }
-    ensures { λ _. ⌜ now («mask_to» .exit) ≡ spillAt (g .mems) (g .rows) (g .unit) (g .entries) (startsBy (now (kinds .entry)) columns (g .entries) (length (now (starts .entry))) x) (now (piece .exit)) (now («mask_to» .entry)) ⌝ }
+    ensures { λ _. ⌜ now («bits_to» .exit) ≡ spillAt (g .mems) (g .rows) (g .unit) (g .entries) (startsBy chunks columns (g .entries) (length (now (starts .entry))) x) (now (bits .entry)) (now («bits_to» .entry)) ⌝ }
+    ensures { λ _. ⌜ now («mask_to» .exit) ≡ spillAt (g .mems) (g .rows) (g .unit) (g .entries) (startsBy chunks columns (g .entries) (length (now (starts .entry))) x) (now (piece .exit)) (now («mask_to» .entry)) ⌝ }
 {
     number_bits(number, x);
     let after = emit_piece(log, st, mux, number, kx, ky, at, mask, piece, x);
-    piece_starts(starts, kinds, columns, g.entries, x);
+    piece_starts(starts, chunks, columns, g.entries, x);
     store_piece(bits_to, mask_to, g, starts, bits, piece);
     after
 }
@@ -443,7 +399,7 @@ fn write_pieces(
     g: Grid,
     columns: usize,
     pieces: usize,
-    kinds: &[u8],
+    chunks: u32,
     mux: &[u32],
     mask: &[u32],
     bits: &[u32],
@@ -458,9 +414,9 @@ fn write_pieces(
 ) -> LogState
     requires { ⌜ Job g (now mux) (now mask) (now bits) (now kx) (now ky) (now at) (length (now number)) (length (now starts)) (length (now piece)) (length (now «bits_to»)) (length (now «mask_to»)) ⌝ }
     requires { ⌜ Narrow (length (now starts)) columns (g .entries) pieces ⌝ }
-    ensures { λ r. ⌜ lent r (now (log .exit)) ≡ run (spillMasks (g .mems) (g .rows) (g .unit) (g .entries) (startsBy (now (kinds .entry)) columns (g .entries) (length (now (starts .entry)))) (now (mux .entry)) (now (mask .entry)) (upFrom 0 pieces) (now («mask_to» .entry))) (lent st (now (log .entry))) ⌝ }
-    ensures { λ r. ⌜ (isOver (stateOf r) ≡ false → now («mask_to» .exit) ≡ spillMasks (g .mems) (g .rows) (g .unit) (g .entries) (startsBy (now (kinds .entry)) columns (g .entries) (length (now (starts .entry)))) (now (mux .entry)) (now (mask .entry)) (upFrom 0 pieces) (now («mask_to» .entry)) (st .next) .value) ⌝ }
-    ensures { λ _. ⌜ now («bits_to» .exit) ≡ spillEach (g .mems) (g .rows) (g .unit) (g .entries) (startsBy (now (kinds .entry)) columns (g .entries) (length (now (starts .entry)))) (upFrom 0 pieces) (now (bits .entry)) (now («bits_to» .entry)) ⌝ }
+    ensures { λ r. ⌜ lent r (now (log .exit)) ≡ run (spillMasks (g .mems) (g .rows) (g .unit) (g .entries) (startsBy chunks columns (g .entries) (length (now (starts .entry)))) (now (mux .entry)) (now (mask .entry)) (upFrom 0 pieces) (now («mask_to» .entry))) (lent st (now (log .entry))) ⌝ }
+    ensures { λ r. ⌜ (isOver (stateOf r) ≡ false → now («mask_to» .exit) ≡ spillMasks (g .mems) (g .rows) (g .unit) (g .entries) (startsBy chunks columns (g .entries) (length (now (starts .entry)))) (now (mux .entry)) (now (mask .entry)) (upFrom 0 pieces) (now («mask_to» .entry)) (st .next) .value) ⌝ }
+    ensures { λ _. ⌜ now («bits_to» .exit) ≡ spillEach (g .mems) (g .rows) (g .unit) (g .entries) (startsBy chunks columns (g .entries) (length (now (starts .entry)))) (upFrom 0 pieces) (now (bits .entry)) (now («bits_to» .entry)) ⌝ }
 {
     let mut state = st;
     let mut x: usize = 0;
@@ -470,7 +426,7 @@ fn write_pieces(
             state,
             g,
             columns,
-            kinds,
+            chunks,
             mux,
             mask,
             bits,
@@ -496,7 +452,7 @@ fn write_merged(
     g: Grid,
     columns: usize,
     pieces: usize,
-    kinds: &[u8],
+    chunks: u32,
     mux: &[u32],
     mask: &[u32],
     bits: &[u32],
@@ -512,9 +468,9 @@ fn write_merged(
 ) -> LogState
     requires { ⌜ Rooms g (now mux) (now mask) (now bits) (now zeros) (length (now kx)) (length (now ky)) (length (now at)) (length (now number)) (length (now starts)) (length (now piece)) (length (now «bits_to»)) (length (now «mask_to»)) ⌝ }
     requires { ⌜ Narrow (length (now starts)) columns (g .entries) pieces ⌝ }
-    ensures { λ r. ⌜ lent r (now (log .exit)) ≡ run (spillMasks (g .mems) (g .rows) (g .unit) (g .entries) (startsBy (now (kinds .entry)) columns (g .entries) (length (now (starts .entry)))) (now (mux .entry)) (now (mask .entry)) (upFrom 0 pieces) (now («mask_to» .entry))) (lent st (now (log .entry))) ⌝ }
-    ensures { λ r. ⌜ (isOver (stateOf r) ≡ false → now («mask_to» .exit) ≡ spillMasks (g .mems) (g .rows) (g .unit) (g .entries) (startsBy (now (kinds .entry)) columns (g .entries) (length (now (starts .entry)))) (now (mux .entry)) (now (mask .entry)) (upFrom 0 pieces) (now («mask_to» .entry)) (st .next) .value) ⌝ }
-    ensures { λ _. ⌜ now («bits_to» .exit) ≡ spillEach (g .mems) (g .rows) (g .unit) (g .entries) (startsBy (now (kinds .entry)) columns (g .entries) (length (now (starts .entry)))) (upFrom 0 pieces) (now (bits .entry)) (now («bits_to» .entry)) ⌝ }
+    ensures { λ r. ⌜ lent r (now (log .exit)) ≡ run (spillMasks (g .mems) (g .rows) (g .unit) (g .entries) (startsBy chunks columns (g .entries) (length (now (starts .entry)))) (now (mux .entry)) (now (mask .entry)) (upFrom 0 pieces) (now («mask_to» .entry))) (lent st (now (log .entry))) ⌝ }
+    ensures { λ r. ⌜ (isOver (stateOf r) ≡ false → now («mask_to» .exit) ≡ spillMasks (g .mems) (g .rows) (g .unit) (g .entries) (startsBy chunks columns (g .entries) (length (now (starts .entry)))) (now (mux .entry)) (now (mask .entry)) (upFrom 0 pieces) (now («mask_to» .entry)) (st .next) .value) ⌝ }
+    ensures { λ _. ⌜ now («bits_to» .exit) ≡ spillEach (g .mems) (g .rows) (g .unit) (g .entries) (startsBy chunks columns (g .entries) (length (now (starts .entry)))) (upFrom 0 pieces) (now (bits .entry)) (now («bits_to» .entry)) ⌝ }
 {
     let n = mask.len();
     let k = merge_keys::merge(kx, ky, at, mask, zeros);
@@ -524,7 +480,7 @@ fn write_merged(
         g,
         columns,
         pieces,
-        kinds,
+        chunks,
         mux,
         mask,
         bits,
@@ -547,7 +503,7 @@ fn write_row(
     columns: usize,
     pieces: usize,
     olds: usize,
-    kinds: &[u8],
+    chunks: u32,
     mux: &[u32],
     mask: &[u32],
     bits: &[u32],
@@ -556,9 +512,9 @@ fn write_row(
 ) -> LogState
     requires { ⌜ Row g olds (length (now mux)) (length (now mask)) (length (now bits)) (length (now «bits_to»)) (length (now «mask_to»)) ⌝ }
     requires { ⌜ Narrow olds columns (g .entries) pieces ⌝ }
-    ensures { λ r. ⌜ lent r (now (log .exit)) ≡ run (spillMasks (g .mems) (g .rows) (g .unit) (g .entries) (startsBy (now (kinds .entry)) columns (g .entries) olds) (now (mux .entry)) (now (mask .entry)) (upFrom 0 pieces) (now («mask_to» .entry))) (lent st (now (log .entry))) ⌝ }
-    ensures { λ r. ⌜ (isOver (stateOf r) ≡ false → now («mask_to» .exit) ≡ spillMasks (g .mems) (g .rows) (g .unit) (g .entries) (startsBy (now (kinds .entry)) columns (g .entries) olds) (now (mux .entry)) (now (mask .entry)) (upFrom 0 pieces) (now («mask_to» .entry)) (st .next) .value) ⌝ }
-    ensures { λ _. ⌜ now («bits_to» .exit) ≡ spillEach (g .mems) (g .rows) (g .unit) (g .entries) (startsBy (now (kinds .entry)) columns (g .entries) olds) (upFrom 0 pieces) (now (bits .entry)) (now («bits_to» .entry)) ⌝ }
+    ensures { λ r. ⌜ lent r (now (log .exit)) ≡ run (spillMasks (g .mems) (g .rows) (g .unit) (g .entries) (startsBy chunks columns (g .entries) olds) (now (mux .entry)) (now (mask .entry)) (upFrom 0 pieces) (now («mask_to» .entry))) (lent st (now (log .entry))) ⌝ }
+    ensures { λ r. ⌜ (isOver (stateOf r) ≡ false → now («mask_to» .exit) ≡ spillMasks (g .mems) (g .rows) (g .unit) (g .entries) (startsBy chunks columns (g .entries) olds) (now (mux .entry)) (now (mask .entry)) (upFrom 0 pieces) (now («mask_to» .entry)) (st .next) .value) ⌝ }
+    ensures { λ _. ⌜ now («bits_to» .exit) ≡ spillEach (g .mems) (g .rows) (g .unit) (g .entries) (startsBy chunks columns (g .entries) olds) (upFrom 0 pieces) (now (bits .entry)) (now («bits_to» .entry)) ⌝ }
 {
     let n = mask.len();
     let m = mux.len();
@@ -575,7 +531,7 @@ fn write_row(
         g,
         columns,
         pieces,
-        kinds,
+        chunks,
         mux,
         mask,
         bits,
@@ -599,7 +555,7 @@ fn write_blank(
     columns: usize,
     pieces: usize,
     olds: usize,
-    kinds: &[u8],
+    chunks: u32,
     mux: &[u32],
     width: usize,
     entries: &[u32],
@@ -610,9 +566,9 @@ fn write_blank(
 ) -> LogState
     requires { ⌜ Port g olds width (length (now entries)) (length (now mux)) (length (now «bits_to»)) (length (now «mask_to»)) ⌝ }
     requires { ⌜ Narrow olds columns (g .entries) pieces ⌝ }
-    ensures { λ r. ⌜ lent r (now (log .exit)) ≡ run (spillMasks (g .mems) (g .rows) (g .unit) (g .entries) (startsBy (now (kinds .entry)) columns (g .entries) olds) (now (mux .entry)) (repeating X (allSources olds width (now (entries .entry))) (now (mask .entry))) (upFrom 0 pieces) (replicate (length (now («mask_to» .entry))) 0)) (lent st (now (log .entry))) ⌝ }
-    ensures { λ r. ⌜ (isOver (stateOf r) ≡ false → now («mask_to» .exit) ≡ spillMasks (g .mems) (g .rows) (g .unit) (g .entries) (startsBy (now (kinds .entry)) columns (g .entries) olds) (now (mux .entry)) (repeating X (allSources olds width (now (entries .entry))) (now (mask .entry))) (upFrom 0 pieces) (replicate (length (now («mask_to» .entry))) 0) (st .next) .value) ⌝ }
-    ensures { λ _. ⌜ now («bits_to» .exit) ≡ spillEach (g .mems) (g .rows) (g .unit) (g .entries) (startsBy (now (kinds .entry)) columns (g .entries) olds) (upFrom 0 pieces) (arrange X (allSources olds width (now (entries .entry))) (now (bits .entry))) (replicate (length (now («bits_to» .entry))) X) ⌝ }
+    ensures { λ r. ⌜ lent r (now (log .exit)) ≡ run (spillMasks (g .mems) (g .rows) (g .unit) (g .entries) (startsBy chunks columns (g .entries) olds) (now (mux .entry)) (repeating X (allSources olds width (now (entries .entry))) (now (mask .entry))) (upFrom 0 pieces) (replicate (length (now («mask_to» .entry))) 0)) (lent st (now (log .entry))) ⌝ }
+    ensures { λ r. ⌜ (isOver (stateOf r) ≡ false → now («mask_to» .exit) ≡ spillMasks (g .mems) (g .rows) (g .unit) (g .entries) (startsBy chunks columns (g .entries) olds) (now (mux .entry)) (repeating X (allSources olds width (now (entries .entry))) (now (mask .entry))) (upFrom 0 pieces) (replicate (length (now («mask_to» .entry))) 0) (st .next) .value) ⌝ }
+    ensures { λ _. ⌜ now («bits_to» .exit) ≡ spillEach (g .mems) (g .rows) (g .unit) (g .entries) (startsBy chunks columns (g .entries) olds) (upFrom 0 pieces) (arrange X (allSources olds width (now (entries .entry))) (now (bits .entry))) (replicate (length (now («bits_to» .entry))) X) ⌝ }
 {
     let n = olds * g.entries;
     let mut row_bits = [0u32; rules::MAX_MERGE];
@@ -628,7 +584,7 @@ fn write_blank(
         columns,
         pieces,
         olds,
-        kinds,
+        chunks,
         mux,
         &row_mask[..n],
         &row_bits[..n],
@@ -645,7 +601,7 @@ fn write_port(
     columns: usize,
     pieces: usize,
     olds: usize,
-    kinds: &[u8],
+    chunks: u32,
     mux: &[u32],
     width: usize,
     entries: &[u32],
@@ -656,9 +612,9 @@ fn write_port(
 ) -> LogState
     requires { ⌜ Port g olds width (length (now entries)) (length (now mux)) (length (now «bits_to»)) (length (now «mask_to»)) ⌝ }
     requires { ⌜ Narrow olds columns (g .entries) pieces ⌝ }
-    ensures { λ r. ⌜ ((q : Layout) (s : Split) (p : WritePort) → Matches g columns pieces olds (now (kinds .entry)) (now (mux .entry)) width (now (entries .entry)) (now (bits .entry)) (now (mask .entry)) q s p → lent r (now (log .exit)) ≡ run (swizzleWrite q s p) (lent st (now (log .entry)))) ⌝ }
-    ensures { λ r. ⌜ ((q : Layout) (s : Split) (p : WritePort) → Matches g columns pieces olds (now (kinds .entry)) (now (mux .entry)) width (now (entries .entry)) (now (bits .entry)) (now (mask .entry)) q s p → isOver (stateOf r) ≡ false → now («mask_to» .exit) ≡ ordered q s (swizzleWrite q s p (st .next) .value .port .mask)) ⌝ }
-    ensures { λ _. ⌜ ((q : Layout) (s : Split) (p : WritePort) → Matches g columns pieces olds (now (kinds .entry)) (now (mux .entry)) width (now (entries .entry)) (now (bits .entry)) (now (mask .entry)) q s p → now («bits_to» .exit) ≡ ordered q s (swizzleWrite q s p (st .next) .value .port .bits)) ⌝ }
+    ensures { λ r. ⌜ ((q : Layout) (s : Split) (p : WritePort) → Matches g columns pieces olds chunks (now (mux .entry)) width (now (entries .entry)) (now (bits .entry)) (now (mask .entry)) q s p → lent r (now (log .exit)) ≡ run (swizzleWrite q s p) (lent st (now (log .entry)))) ⌝ }
+    ensures { λ r. ⌜ ((q : Layout) (s : Split) (p : WritePort) → Matches g columns pieces olds chunks (now (mux .entry)) width (now (entries .entry)) (now (bits .entry)) (now (mask .entry)) q s p → isOver (stateOf r) ≡ false → now («mask_to» .exit) ≡ ordered q s (swizzleWrite q s p (st .next) .value .port .mask)) ⌝ }
+    ensures { λ _. ⌜ ((q : Layout) (s : Split) (p : WritePort) → Matches g columns pieces olds chunks (now (mux .entry)) width (now (entries .entry)) (now (bits .entry)) (now (mask .entry)) q s p → now («bits_to» .exit) ≡ ordered q s (swizzleWrite q s p (st .next) .value .port .bits)) ⌝ }
 {
     write_blank(
         log,
@@ -667,7 +623,7 @@ fn write_port(
         columns,
         pieces,
         olds,
-        kinds,
+        chunks,
         mux,
         width,
         entries,
@@ -770,17 +726,17 @@ fn trit_pieces(
     g: Grid,
     columns: usize,
     pieces: usize,
-    kinds: &[u8],
+    chunks: u32,
     starts: &mut [usize],
     v: &[u8],
 )
     requires { ⌜ Good g (length (now to)) × (length (now to) ≤ 4611686018427387903) ⌝ }
     requires { ⌜ (length (now v) ≡ length (now starts) * g .entries) × Narrow (length (now starts)) columns (g .entries) pieces ⌝ }
-    ensures { λ _. ⌜ now (to .exit) ≡ spillEach (g .mems) (g .rows) (g .unit) (g .entries) (startsBy (now (kinds .entry)) columns (g .entries) (length (now (starts .entry)))) (upFrom 0 pieces) (now (v .entry)) (now (to .entry)) ⌝ }
+    ensures { λ _. ⌜ now (to .exit) ≡ spillEach (g .mems) (g .rows) (g .unit) (g .entries) (startsBy chunks columns (g .entries) (length (now (starts .entry)))) (upFrom 0 pieces) (now (v .entry)) (now (to .entry)) ⌝ }
 {
     let mut x: usize = 0;
     while x < pieces {
-        piece_starts(starts, kinds, columns, g.entries, x);
+        piece_starts(starts, chunks, columns, g.entries, x);
         store_trits_piece(to, g, starts, v);
         x += 1;
     }
@@ -793,14 +749,14 @@ fn trit_columns(
     columns: usize,
     pieces: usize,
     olds: usize,
-    kinds: &[u8],
+    chunks: u32,
     width: usize,
     entries: &[u32],
     v: &[u8],
 )
     requires { ⌜ Port g olds width (length (now entries)) 0 (length (now to)) (length (now to)) × (length (now to) ≤ 4611686018427387903) ⌝ }
     requires { ⌜ Narrow olds columns (g .entries) pieces ⌝ }
-    ensures { λ _. ⌜ ((q : Layout) (s : Split) → Laid g columns pieces olds (now (kinds .entry)) width (now (entries .entry)) q s → now (to .exit) ≡ ordered q s (constColumns q s (now (v .entry)))) ⌝ }
+    ensures { λ _. ⌜ ((q : Layout) (s : Split) → Laid g columns pieces olds chunks width (now (entries .entry)) q s → now (to .exit) ≡ ordered q s (constColumns q s (now (v .entry)))) ⌝ }
 {
     let n = olds * g.entries;
     let mut row = [0u8; rules::MAX_MERGE];
@@ -812,7 +768,7 @@ fn trit_columns(
         g,
         columns,
         pieces,
-        kinds,
+        chunks,
         &mut starts[..olds],
         &row[..n],
     );

@@ -18,7 +18,7 @@ number-bits-requires c κs = search needs
 
 emit-piece-requires : tie.Need-emit-piece-requires
 emit-piece-requires c κs =
-    let k = c .before .before .before .before .before .before .before .before .before .before .before .before .before .before .before .before .before .before .before .before in
+    let k = c .before .before .before .before .before .before .before .before .before .before .before .before .before .before .before .before .before .before .before in
     let v = k .args in
     (k .pre .0 .kept, c .before .before .before .before .before .number-bits .ensures ∙ ap (λ (n : ℕ). fromUint n (v .x)) (k .pre .0 .number-len))
 
@@ -27,7 +27,7 @@ piece-starts-requires c κs = search needs
 
 store-piece-requires : tie.Need-store-piece-requires
 store-piece-requires c κs =
-    let k = c .before .before .before .before .before .before .before .before .before .before .before .before .before .before .before .before .before .before .before .before .before .before .before .before .before .before .before .before .before .before .before .before .before in
+    let k = c .before .before .before .before .before .before .before .before .before .before .before .before .before .before .before .before .before .before .before .before .before .before .before .before .before .before .before .before .before .before .before .before in
     let v = k .args in
     let j = k .pre .0 in
     let e = c .before .before .before .before .before .before .before .before .before .before .before .before .emit-piece in
@@ -56,7 +56,7 @@ same-length-6 c = search needs
 
 returns : tie.Need-returns
 returns c =
-    let k = c .before .before .before .before .before .before .before .before .before .before .before .before .before .before .before .before .before .before .before .before .before .before .before .before .before .before .before .before .before .before .before .before .before .before .before .before .before .before in
+    let k = c .before .before .before .before .before .before .before .before .before .before .before .before .before .before .before .before .before .before .before .before .before .before .before .before .before .before .before .before .before .before .before .before .before .before .before .before .before in
     let v = k .args in
     let g = v .g in
     let j = k .pre .0 in

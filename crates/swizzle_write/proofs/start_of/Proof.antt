@@ -1,56 +1,67 @@
--- `write_ports::start_of` meets its contract.
-use mathlib.Core.Path.{_≡_, refl, sym, ap, _∙_}
-use Prim.Native.Nat.{ℕ, _+_, _-_, _*_, _<_, _≤_, min}
+-- `swizzle_write::start_of` meets its contract.
+use mathlib.Core.Path.{_≡_, ap, _∙_}
+use Prim.Native.Nat.{ℕ, _+_, _*_, _≤_}
 use native.Mathlib.Omega.{arith}
-use mathlib.Core.List.{List, _++_}
-use lib.ListN.{length, take, drop, getD, length-set}
-use lib.Seq.{sets}
-use Rattle.rules.specs.Limits.{X}
-use Rattle.swizzle_write.proofs.Walks.{Walking, walk-starts, walk-light, walk-none, walk-ends, walk-turn}
+use Rattle.rules.specs.Geometry.{Spot}
+use Rattle.image_geometry.specs.View.{viewSpot}
+use Rattle.swizzle_write.proofs.Walks.{start-fits, start-by}
+use borrow.Author.Needs.{needs}
 use Rattle.swizzle_write.proofs.start_of.Statement.{statement}
 use Rattle.swizzle_write.proofs.start_of.Tie as tie
 
-abbrev Inv-loop : tie.InvT-loop
-Inv-loop kinds columns entries n w₀ i₀ w i = (i ≤ length kinds) × Walking kinds columns entries n w i
+walk-row-requires : tie.Need-walk-row-requires
+walk-row-requires c κs = search needs
 
-abbrev μ-loop : tie.MeasureT-loop
-μ-loop kinds columns entries n w₀ i₀ w i = length kinds - i
+usize-of-u32-requires : tie.Need-usize-of-u32-requires
+usize-of-u32-requires c κs = search needs
 
-loop-holds : tie.Need-loop-holds Inv-loop μ-loop
-loop-holds c = let v = c .before .args in (omega arith, walk-starts (v .kinds .now) (v .columns) (v .entries) (v .n))
+mul-result : tie.Need-mul-result
+mul-result c =
+    let k = c .before .before in
+    let v = k .args in
+    let w = c .before .walk-row in
+    let r = ap (λ (p : Spot). p .row) (w .ensures) in
+    let d = ap (λ (p : Spot). p .chunk) (w .ensures) in
+    omega (arith, start-fits (v .chunks) (v .columns) (v .entries) (v .n) (c .usize-of-u32 .result) (w .result .chunk) (c .usize-of-u32 .ensures .0 ∙ r) d (k .pre))
 
-returns : tie.Need-returns Inv-loop μ-loop
-returns c = let h = c .before .before .before in let v = c .before .before .before .before .before .args in walk-none (v .kinds .now) (v .columns) (v .entries) (v .n) (h .loop .w) (h .loop .i) (h .loop .inv .1) (c .if1 .taken)
+usize-of-u32-requires-2 : tie.Need-usize-of-u32-requires-2
+usize-of-u32-requires-2 c κs = search needs
 
-shared-slice-read-step : tie.Need-shared-slice-read-step Inv-loop μ-loop
-shared-slice-read-step c = omega arith
+mul-result-2 : tie.Need-mul-result-2
+mul-result-2 c =
+    let k = c .before .before .before in
+    let v = k .args in
+    let w = c .before .before .walk-row in
+    let r = ap (λ (p : Spot). p .row) (w .ensures) in
+    let d = ap (λ (p : Spot). p .chunk) (w .ensures) in
+    omega (arith, start-fits (v .chunks) (v .columns) (v .entries) (v .n) (w .result .row) (c .usize-of-u322 .result) r (c .usize-of-u322 .ensures .0 ∙ d) (k .pre))
 
-step-requires : tie.Need-step-requires Inv-loop μ-loop
-step-requires c κs = let h = c .before .before .before .before in let k = c .before .before .before .before .before .before in let v = k .args in walk-light (v .kinds .now) (v .columns) (v .entries) (v .n) (h .loop .w) (h .loop .i) (h .loop .inv .1) (k .pre) (c .before .if1 .left)
+add-result : tie.Need-add-result
+add-result c =
+    let k = c .before .before .before in
+    let v = k .args in
+    let w = c .before .before .walk-row in
+    let r = ap (λ (p : Spot). p .row) (w .ensures) in
+    let d = ap (λ (p : Spot). p .chunk) (w .ensures) in
+    omega (arith, start-fits (v .chunks) (v .columns) (v .entries) (v .n) (c .before .usize-of-u32 .result) (c .usize-of-u322 .result) (c .before .usize-of-u32 .ensures .0 ∙ r) (c .usize-of-u322 .ensures .0 ∙ d) (k .pre))
 
-add-i : tie.Need-add-i Inv-loop μ-loop
-add-i c = omega arith
-
-loop-less : tie.Need-loop-less Inv-loop μ-loop
-loop-less c = omega arith
-
-loop-again : tie.Need-loop-again Inv-loop μ-loop
-loop-again c = let h = c .before .before .before .before .before in let v = c .before .before .before .before .before .before .before .args in (omega arith, walk-turn (v .kinds .now) (v .columns) (v .entries) (v .n) (h .loop .w) (h .loop .i) (h .loop .inv .1) (c .step .result) (c .before .before .before .before .loop-test .taken) (c .step .ensures))
-
-returns-2 : tie.Need-returns-2 Inv-loop μ-loop
-returns-2 c = let h = c .before in let v = c .before .before .before .args in walk-ends (v .kinds .now) (v .columns) (v .entries) (v .n) (h .loop .w) (h .loop .i) (h .loop .inv .1) (c .loop-test .left)
+returns : tie.Need-returns
+returns c =
+    let k = c .before .before .before in
+    let v = k .args in
+    let w = c .before .before .walk-row in
+    let r = ap (λ (p : Spot). p .row) (w .ensures) in
+    let d = ap (λ (p : Spot). p .chunk) (w .ensures) in
+    start-by (v .chunks) (v .columns) (v .entries) (v .n) (c .before .usize-of-u32 .result) (c .usize-of-u322 .result) (c .before .usize-of-u32 .ensures .0 ∙ r) (c .usize-of-u322 .ensures .0 ∙ d)
 
 pub start-of-spec : {M : Type 1} → statement M
 start-of-spec =
     tie.close
     (tie.spec
-    Inv-loop
-    μ-loop
-    loop-holds
-    returns
-    shared-slice-read-step
-    step-requires
-    add-i
-    loop-less
-    loop-again
-    returns-2)
+    walk-row-requires
+    usize-of-u32-requires
+    mul-result
+    usize-of-u32-requires-2
+    mul-result-2
+    add-result
+    returns)

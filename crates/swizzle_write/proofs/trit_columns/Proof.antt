@@ -26,7 +26,7 @@ slice-aggregate-trit-rows : tie.Need-slice-aggregate-trit-rows
 slice-aggregate-trit-rows c = search needs
 
 trit-rows-requires : tie.Need-trit-rows-requires
-trit-rows-requires c κs = let k = c .before .before .before .before .before .before in record { low = k .pre .0 .0 .low; enough = few-entries (k .args .olds) _ _ 4096 (k .pre .0 .0 .entries-are) (k .pre .0 .0 .few) }
+trit-rows-requires c κs = let k = c .before .before .before .before .before in record { low = k .pre .0 .0 .low; enough = few-entries (k .args .olds) _ _ 4096 (k .pre .0 .0 .entries-are) (k .pre .0 .0 .few) }
 
 fill-u8-requires : tie.Need-fill-u8-requires
 fill-u8-requires c κs = search needs
@@ -35,17 +35,17 @@ array-borrow-prefix-starts : tie.Need-array-borrow-prefix-starts
 array-borrow-prefix-starts c = search needs
 
 slice-aggregate-trit-pieces : tie.Need-slice-aggregate-trit-pieces
-slice-aggregate-trit-pieces c = sym (length-take-le (c .before .before .before .before .before .before .before .before .before .before .before .before .before .before .args .olds) (replicate 16 0) (c .before .before .before .before .before .before .before .before .before .before .before .before .before .before .pre .0 .0 .few-olds))
+slice-aggregate-trit-pieces c = sym (length-take-le (c .before .before .before .before .before .before .before .before .before .before .before .before .before .args .olds) (replicate 16 0) (c .before .before .before .before .before .before .before .before .before .before .before .before .before .pre .0 .0 .few-olds))
 
 array-share-prefix-row : tie.Need-array-share-prefix-row
 array-share-prefix-row c = search needs
 
 slice-aggregate-trit-pieces-2 : tie.Need-slice-aggregate-trit-pieces-2
-slice-aggregate-trit-pieces-2 c = let v = c .before .before .before .before .before .before .before .before .before .before .before .before .before .before .before .args in sym (length-take-le (v .olds * v .g .entries) (c .before .before .before .before .before .before .before .before .trit-rows .last .0) (omega (arith, c .before .before .before .before .before .before .before .before .before .before .before .before .before .before .before .pre .0 .0 .few, c .before .before .before .before .before .before .before .before .trit-rows .kept .0)))
+slice-aggregate-trit-pieces-2 c = let v = c .before .before .before .before .before .before .before .before .before .before .before .before .before .before .args in sym (length-take-le (v .olds * v .g .entries) (c .before .before .before .before .before .before .before .before .trit-rows .last .0) (omega (arith, c .before .before .before .before .before .before .before .before .before .before .before .before .before .before .pre .0 .0 .few, c .before .before .before .before .before .before .before .before .trit-rows .kept .0)))
 
 trit-pieces-requires : tie.Need-trit-pieces-requires
 trit-pieces-requires c κs =
-    let k = c .before .before .before .before .before .before .before .before .before .before .before .before .before .before .before in
+    let k = c .before .before .before .before .before .before .before .before .before .before .before .before .before .before in
     let v = k .args in
     let r = k .pre .0 .0 in
     let n = v .olds * v .g .entries in
@@ -62,7 +62,7 @@ same-length c = search needs
 
 returns : tie.Need-returns
 returns c =
-    let k = c .before .before .before .before .before .before .before .before .before .before .before .before .before .before .before .before .before .before .before in
+    let k = c .before .before .before .before .before .before .before .before .before .before .before .before .before .before .before .before .before .before in
     let v = k .args in
     let g = v .g in
     let r = k .pre .0 .0 in
@@ -74,13 +74,13 @@ returns c =
     let p = c .before .before .before .trit-pieces in
     let tr = trits-row (v .olds) (v .width) (g .entries) n (v .entries .now) (v .v .now) y (a .last .0) (r .entries-are) refl (r .few) (a .ensures) in
     let bl = blank-room (v .to .now) (c .before .before .before .before .before .before .before .before .before .fill-u8 .last .0) tritX (c .before .before .before .before .before .before .before .before .before .fill-u8 .ensures) in
-    let f = startsBy (v .kinds .now) (v .columns) (g .entries) in
+    let f = startsBy (v .chunks) (v .columns) (g .entries) in
     λ q w m.
     p .ensures
     ∙ ap (λ (i : ℕ). spillEach (g .mems) (g .rows) (g .unit) (g .entries) (f i) (upFrom 0 (v .pieces)) (take n (a .last .0)) (c .before .before .before .before .before .before .before .before .before .fill-u8 .last .0)) s
     ∙ ap (λ (l : List ℕ). spillEach (g .mems) (g .rows) (g .unit) (g .entries) (f (v .olds)) (upFrom 0 (v .pieces)) l (c .before .before .before .before .before .before .before .before .before .fill-u8 .last .0)) tr
     ∙ ap (λ (l : List ℕ). spillEach (g .mems) (g .rows) (g .unit) (g .entries) (f (v .olds)) (upFrom 0 (v .pieces)) (arrange tritX (allSources (v .olds) (v .width) (v .entries .now)) (v .v .now)) l) bl
-    ∙ laid-trits g (v .columns) (v .pieces) (v .olds) (v .kinds .now) (v .width) (v .entries .now) (v .v .now) q w m (length (v .to .now)) (r .good)
+    ∙ laid-trits g (v .columns) (v .pieces) (v .olds) (v .chunks) (v .width) (v .entries .now) (v .v .now) q w m (length (v .to .now)) (r .good)
 
 pub trit-columns-spec : {M : Type 1} → statement M
 trit-columns-spec =

@@ -26,13 +26,13 @@ slice-aggregate-arrange-rows : tie.Need-slice-aggregate-arrange-rows
 slice-aggregate-arrange-rows c = search needs
 
 arrange-rows-requires : tie.Need-arrange-rows-requires
-arrange-rows-requires c κs = let k = c .before .before .before .before .before .before .before .before .before .before in record { low = k .pre .0 .low; enough = few-entries (k .args .olds) _ _ 4096 (k .pre .0 .entries-are) (k .pre .0 .few) }
+arrange-rows-requires c κs = let k = c .before .before .before .before .before .before .before .before .before in record { low = k .pre .0 .low; enough = few-entries (k .args .olds) _ _ 4096 (k .pre .0 .entries-are) (k .pre .0 .few) }
 
 slice-aggregate-repeat-rows : tie.Need-slice-aggregate-repeat-rows
 slice-aggregate-repeat-rows c = search needs
 
 repeat-rows-requires : tie.Need-repeat-rows-requires
-repeat-rows-requires c κs = let k = c .before .before .before .before .before .before .before .before .before .before .before .before .before in record { low = k .pre .0 .low; enough = few-entries (k .args .olds) _ _ 4096 (k .pre .0 .entries-are) (k .pre .0 .few) }
+repeat-rows-requires c κs = let k = c .before .before .before .before .before .before .before .before .before .before .before .before in record { low = k .pre .0 .low; enough = few-entries (k .args .olds) _ _ 4096 (k .pre .0 .entries-are) (k .pre .0 .few) }
 
 fill-u32-requires : tie.Need-fill-u32-requires
 fill-u32-requires c κs = search needs
@@ -44,17 +44,17 @@ array-share-prefix-row-mask : tie.Need-array-share-prefix-row-mask
 array-share-prefix-row-mask c = search needs
 
 slice-aggregate-write-row : tie.Need-slice-aggregate-write-row
-slice-aggregate-write-row c = let v = c .before .before .before .before .before .before .before .before .before .before .before .before .before .before .before .before .before .before .before .before .before .before .before .before .before .args in sym (length-take-le (v .olds * v .g .entries) (c .before .before .before .before .before .before .before .before .before .before .before .repeat-rows .last .0) (omega (arith, c .before .before .before .before .before .before .before .before .before .before .before .before .before .before .before .before .before .before .before .before .before .before .before .before .before .pre .0 .few, c .before .before .before .before .before .before .before .before .before .before .before .repeat-rows .kept .0)))
+slice-aggregate-write-row c = let v = c .before .before .before .before .before .before .before .before .before .before .before .before .before .before .before .before .before .before .before .before .before .before .before .before .args in sym (length-take-le (v .olds * v .g .entries) (c .before .before .before .before .before .before .before .before .before .before .before .repeat-rows .last .0) (omega (arith, c .before .before .before .before .before .before .before .before .before .before .before .before .before .before .before .before .before .before .before .before .before .before .before .before .pre .0 .few, c .before .before .before .before .before .before .before .before .before .before .before .repeat-rows .kept .0)))
 
 array-share-prefix-row-bits : tie.Need-array-share-prefix-row-bits
-array-share-prefix-row-bits c = omega (arith, c .before .before .before .before .before .before .before .before .before .before .before .before .before .before .before .before .before .before .before .before .before .before .before .before .before .pre .0 .few, c .before .before .before .before .before .before .before .before .before .before .before .before .before .before .arrange-rows .kept .0)
+array-share-prefix-row-bits c = omega (arith, c .before .before .before .before .before .before .before .before .before .before .before .before .before .before .before .before .before .before .before .before .before .before .before .before .pre .0 .few, c .before .before .before .before .before .before .before .before .before .before .before .before .before .before .arrange-rows .kept .0)
 
 slice-aggregate-write-row-2 : tie.Need-slice-aggregate-write-row-2
-slice-aggregate-write-row-2 c = let v = c .before .before .before .before .before .before .before .before .before .before .before .before .before .before .before .before .before .before .before .before .before .before .before .before .before .before .args in sym (length-take-le (v .olds * v .g .entries) (c .before .before .before .before .before .before .before .before .before .before .before .before .before .before .before .arrange-rows .last .0) (omega (arith, c .before .before .before .before .before .before .before .before .before .before .before .before .before .before .before .before .before .before .before .before .before .before .before .before .before .before .pre .0 .few, c .before .before .before .before .before .before .before .before .before .before .before .before .before .before .before .arrange-rows .kept .0)))
+slice-aggregate-write-row-2 c = let v = c .before .before .before .before .before .before .before .before .before .before .before .before .before .before .before .before .before .before .before .before .before .before .before .before .before .args in sym (length-take-le (v .olds * v .g .entries) (c .before .before .before .before .before .before .before .before .before .before .before .before .before .before .before .arrange-rows .last .0) (omega (arith, c .before .before .before .before .before .before .before .before .before .before .before .before .before .before .before .before .before .before .before .before .before .before .before .before .before .pre .0 .few, c .before .before .before .before .before .before .before .before .before .before .before .before .before .before .before .arrange-rows .kept .0)))
 
 write-row-requires : tie.Need-write-row-requires
 write-row-requires c κs =
-    let k = c .before .before .before .before .before .before .before .before .before .before .before .before .before .before .before .before .before .before .before .before .before .before .before .before .before .before .before .before in
+    let k = c .before .before .before .before .before .before .before .before .before .before .before .before .before .before .before .before .before .before .before .before .before .before .before .before .before .before .before in
     let v = k .args in
     let r = k .pre .0 in
     let n = v .olds * v .g .entries in
@@ -85,7 +85,7 @@ same-length-3 c = search needs
 
 returns : tie.Need-returns
 returns c =
-    let k = c .before .before .before .before .before .before .before .before .before .before .before .before .before .before .before .before .before .before .before .before .before .before .before .before .before .before .before .before .before .before .before .before .before .before .before in
+    let k = c .before .before .before .before .before .before .before .before .before .before .before .before .before .before .before .before .before .before .before .before .before .before .before .before .before .before .before .before .before .before .before .before .before .before in
     let v = k .args in
     let g = v .g in
     let r = k .pre .0 in
@@ -98,7 +98,7 @@ returns c =
     let br = bits-row (v .olds) (v .width) (g .entries) n (v .entries .now) (v .bits .now) z (a .last .0) (r .entries-are) refl (r .few) (a .ensures) in
     let mb = blank-room (v .mask-to .now) (c .before .before .before .before .before .before .before .before .before .before .before .before .before .before .fill-u322 .last .0) 0 (c .before .before .before .before .before .before .before .before .before .before .before .before .before .before .fill-u322 .ensures) in
     let bb = blank-room (v .bits-to .now) (c .before .before .before .before .before .before .before .before .before .before .before .before .before .before .before .before .before .before .fill-u32 .last .0) X (c .before .before .before .before .before .before .before .before .before .before .before .before .before .before .before .before .before .before .fill-u32 .ensures) in
-    let f = startsBy (v .kinds .now) (v .columns) (g .entries) (v .olds) in (
+    let f = startsBy (v .chunks) (v .columns) (g .entries) (v .olds) in (
       p .ensures .0
           ∙ ap (λ (m : List ℕ). run (spillMasks (g .mems) (g .rows) (g .unit) (g .entries) f (v .mux .now) m (upFrom 0 (v .pieces)) (c .before .before .before .before .before .before .before .before .before .before .before .before .before .before .fill-u322 .last .0)) (lent (v .st) (v .log .now))) mr
           ∙ ap (λ (l : List ℕ). run (spillMasks (g .mems) (g .rows) (g .unit) (g .entries) f (v .mux .now) (repeating X (allSources (v .olds) (v .width) (v .entries .now)) (v .mask .now)) (upFrom 0 (v .pieces)) l) (lent (v .st) (v .log .now))) mb,

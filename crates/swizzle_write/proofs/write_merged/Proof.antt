@@ -17,7 +17,7 @@ merge-requires c κs = search needs
 
 slice-reshare-prefix-write-pieces : tie.Need-slice-reshare-prefix-write-pieces
 slice-reshare-prefix-write-pieces c =
-    let k = c .before .before .before .before .before .before .before .before .before .before .before .before .before .before .before .before .before .before .before .before .before .before .before .before .before in
+    let k = c .before .before .before .before .before .before .before .before .before .before .before .before .before .before .before .before .before .before .before .before .before .before .before .before in
     let v = k .args in
     let r = k .pre .0 in
     let d = c .before .before .before .before .before .before .before .merge in
@@ -26,7 +26,7 @@ slice-reshare-prefix-write-pieces c =
 
 slice-aggregate-write-pieces : tie.Need-slice-aggregate-write-pieces
 slice-aggregate-write-pieces c =
-    let k = c .before .before .before .before .before .before .before .before .before .before .before .before .before .before .before .before .before .before .before .before .before .before .before .before .before .before in
+    let k = c .before .before .before .before .before .before .before .before .before .before .before .before .before .before .before .before .before .before .before .before .before .before .before .before .before in
     let v = k .args in
     let r = k .pre .0 in
     let d = c .before .before .before .before .before .before .before .before .merge in
@@ -35,7 +35,7 @@ slice-aggregate-write-pieces c =
 
 slice-reshare-prefix-write-pieces-2 : tie.Need-slice-reshare-prefix-write-pieces-2
 slice-reshare-prefix-write-pieces-2 c =
-    let k = c .before .before .before .before .before .before .before .before .before .before .before .before .before .before .before .before .before .before .before .before .before .before .before .before .before .before in
+    let k = c .before .before .before .before .before .before .before .before .before .before .before .before .before .before .before .before .before .before .before .before .before .before .before .before .before in
     let v = k .args in
     let r = k .pre .0 in
     let d = c .before .before .before .before .before .before .before .before .merge in
@@ -44,7 +44,7 @@ slice-reshare-prefix-write-pieces-2 c =
 
 slice-aggregate-write-pieces-2 : tie.Need-slice-aggregate-write-pieces-2
 slice-aggregate-write-pieces-2 c =
-    let k = c .before .before .before .before .before .before .before .before .before .before .before .before .before .before .before .before .before .before .before .before .before .before .before .before .before .before .before in
+    let k = c .before .before .before .before .before .before .before .before .before .before .before .before .before .before .before .before .before .before .before .before .before .before .before .before .before .before in
     let v = k .args in
     let r = k .pre .0 in
     let d = c .before .before .before .before .before .before .before .before .before .merge in
@@ -56,7 +56,7 @@ slice-reshare-prefix-write-pieces-3 c = search needs
 
 slice-aggregate-write-pieces-3 : tie.Need-slice-aggregate-write-pieces-3
 slice-aggregate-write-pieces-3 c =
-    let k = c .before .before .before .before .before .before .before .before .before .before .before .before .before .before .before .before .before .before .before .before .before .before .before .before .before .before .before .before in
+    let k = c .before .before .before .before .before .before .before .before .before .before .before .before .before .before .before .before .before .before .before .before .before .before .before .before .before .before .before in
     let v = k .args in
     let r = k .pre .0 in
     let d = c .before .before .before .before .before .before .before .before .before .before .merge in
@@ -65,7 +65,7 @@ slice-aggregate-write-pieces-3 c =
 
 write-pieces-requires : tie.Need-write-pieces-requires
 write-pieces-requires c κs =
-    let k = c .before .before .before .before .before .before .before .before .before .before .before .before .before .before .before .before .before .before .before .before .before .before .before .before .before .before .before .before .before .before .before .before .before in
+    let k = c .before .before .before .before .before .before .before .before .before .before .before .before .before .before .before .before .before .before .before .before .before .before .before .before .before .before .before .before .before .before .before .before in
     let v = k .args in
     let r = k .pre .0 in
     let d = c .before .before .before .before .before .before .before .before .before .before .before .before .before .before .before .merge in

@@ -27,16 +27,16 @@ same-length-3 c = search needs
 
 returns : tie.Need-returns
 returns c =
-    let k = c .before .before .before .before .before .before .before .before .before .before .before .before .before .before .before .before .before .before in
+    let k = c .before .before .before .before .before .before .before .before .before .before .before .before .before .before .before .before .before in
     let v = k .args in
     let g = v .g in
     let r = k .pre .0 in
     let p = c .before .before .before .before .before .before .write-blank in
     let o : Good g (length (v .mask-to .now)) = subst (λ (n : ℕ). Good g n) (sym (r .same-room)) (r .good) in (
-      (λ q s w m. p .ensures .0 ∙ matched-run g (v .columns) (v .pieces) (v .olds) (v .kinds .now) (v .mux .now) (v .width) (v .entries .now) (v .bits .now) (v .mask .now) q s w m (length (v .mask-to .now)) o (lent (v .st) (v .log .now))),
+      (λ q s w m. p .ensures .0 ∙ matched-run g (v .columns) (v .pieces) (v .olds) (v .chunks) (v .mux .now) (v .width) (v .entries .now) (v .bits .now) (v .mask .now) q s w m (length (v .mask-to .now)) o (lent (v .st) (v .log .now))),
       (
-        (λ q s w m h. p .ensures .1 .0 h ∙ matched-mask g (v .columns) (v .pieces) (v .olds) (v .kinds .now) (v .mux .now) (v .width) (v .entries .now) (v .bits .now) (v .mask .now) q s w m (length (v .mask-to .now)) o (v .st .next)),
-        (λ q s w m. p .ensures .1 .1 ∙ matched-bits g (v .columns) (v .pieces) (v .olds) (v .kinds .now) (v .mux .now) (v .width) (v .entries .now) (v .bits .now) (v .mask .now) q s w m (length (v .bits-to .now)) (r .good) (v .st .next)),
+        (λ q s w m h. p .ensures .1 .0 h ∙ matched-mask g (v .columns) (v .pieces) (v .olds) (v .chunks) (v .mux .now) (v .width) (v .entries .now) (v .bits .now) (v .mask .now) q s w m (length (v .mask-to .now)) o (v .st .next)),
+        (λ q s w m. p .ensures .1 .1 ∙ matched-bits g (v .columns) (v .pieces) (v .olds) (v .chunks) (v .mux .now) (v .width) (v .entries .now) (v .bits .now) (v .mask .now) q s w m (length (v .bits-to .now)) (r .good) (v .st .next)),
       ),
     )
 

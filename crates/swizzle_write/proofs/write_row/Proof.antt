@@ -23,7 +23,7 @@ array-share-prefix-zeros : tie.Need-array-share-prefix-zeros
 array-share-prefix-zeros c = search needs
 
 slice-aggregate-write-merged : tie.Need-slice-aggregate-write-merged
-slice-aggregate-write-merged c = sym (length-take-le (length (c .before .before .before .before .before .before .before .before .before .args .mask .now)) (replicate 4096 0) (c .before .before .before .before .before .before .before .before .before .pre .0 .few))
+slice-aggregate-write-merged c = sym (length-take-le (length (c .before .before .before .before .before .before .before .before .args .mask .now)) (replicate 4096 0) (c .before .before .before .before .before .before .before .before .pre .0 .few))
 
 slice-aggregate-write-merged-2 : tie.Need-slice-aggregate-write-merged-2
 slice-aggregate-write-merged-2 c = search needs
@@ -38,23 +38,23 @@ array-borrow-prefix-number : tie.Need-array-borrow-prefix-number
 array-borrow-prefix-number c = search needs
 
 slice-aggregate-write-merged-5 : tie.Need-slice-aggregate-write-merged-5
-slice-aggregate-write-merged-5 c = sym (length-take-le (length (c .before .before .before .before .before .before .before .before .before .before .before .before .before .args .mux .now)) (replicate 64 0) (c .before .before .before .before .before .before .before .before .before .before .before .before .before .pre .0 .short))
+slice-aggregate-write-merged-5 c = sym (length-take-le (length (c .before .before .before .before .before .before .before .before .before .before .before .before .args .mux .now)) (replicate 64 0) (c .before .before .before .before .before .before .before .before .before .before .before .before .pre .0 .short))
 
 array-borrow-prefix-starts : tie.Need-array-borrow-prefix-starts
 array-borrow-prefix-starts c = search needs
 
 slice-aggregate-write-merged-6 : tie.Need-slice-aggregate-write-merged-6
-slice-aggregate-write-merged-6 c = sym (length-take-le (c .before .before .before .before .before .before .before .before .before .before .before .before .before .before .args .olds) (replicate 16 0) (c .before .before .before .before .before .before .before .before .before .before .before .before .before .before .pre .0 .few-olds))
+slice-aggregate-write-merged-6 c = sym (length-take-le (c .before .before .before .before .before .before .before .before .before .before .before .before .before .args .olds) (replicate 16 0) (c .before .before .before .before .before .before .before .before .before .before .before .before .before .pre .0 .few-olds))
 
 array-borrow-prefix-piece : tie.Need-array-borrow-prefix-piece
 array-borrow-prefix-piece c = search needs
 
 slice-aggregate-write-merged-7 : tie.Need-slice-aggregate-write-merged-7
-slice-aggregate-write-merged-7 c = sym (length-take-le (length (c .before .before .before .before .before .before .before .before .before .before .before .before .before .before .before .args .mask .now)) (replicate 4096 0) (c .before .before .before .before .before .before .before .before .before .before .before .before .before .before .before .pre .0 .few))
+slice-aggregate-write-merged-7 c = sym (length-take-le (length (c .before .before .before .before .before .before .before .before .before .before .before .before .before .before .args .mask .now)) (replicate 4096 0) (c .before .before .before .before .before .before .before .before .before .before .before .before .before .before .pre .0 .few))
 
 write-merged-requires : tie.Need-write-merged-requires
 write-merged-requires c κs =
-    let k = c .before .before .before .before .before .before .before .before .before .before .before .before .before .before .before .before .before in
+    let k = c .before .before .before .before .before .before .before .before .before .before .before .before .before .before .before .before in
     let v = k .args in
     let r = k .pre .0 in
     let z : List ℕ = replicate 16 0 in
@@ -86,13 +86,13 @@ same-length-3 c = search needs
 
 returns : tie.Need-returns
 returns c =
-    let k = c .before .before .before .before .before .before .before .before .before .before .before .before .before .before .before .before .before .before .before .before .before .before .before .before .before .before .before .before .before .before in
+    let k = c .before .before .before .before .before .before .before .before .before .before .before .before .before .before .before .before .before .before .before .before .before .before .before .before .before .before .before .before .before in
     let v = k .args in
     let g = v .g in
     let p = c .before .before .before .before .before .before .before .before .before .before .before .before .write-merged in
     let z : List ℕ = replicate 16 0 in
     let s : length (take (v .olds) z) ≡ v .olds = length-take-le (v .olds) z (k .pre .0 .few-olds) in
-    let f = startsBy (v .kinds .now) (v .columns) (g .entries) in (
+    let f = startsBy (v .chunks) (v .columns) (g .entries) in (
       p .ensures .0 ∙ ap (λ (n : ℕ). run (spillMasks (g .mems) (g .rows) (g .unit) (g .entries) (f n) (v .mux .now) (v .mask .now) (upFrom 0 (v .pieces)) (v .mask-to .now)) (lent (v .st) (v .log .now))) s,
       (
         (λ o. p .ensures .1 .0 o ∙ ap (λ (n : ℕ). spillMasks (g .mems) (g .rows) (g .unit) (g .entries) (f n) (v .mux .now) (v .mask .now) (upFrom 0 (v .pieces)) (v .mask-to .now) (v .st .next) .value) s),
