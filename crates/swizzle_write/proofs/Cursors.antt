@@ -18,7 +18,7 @@ use Rattle.swizzle_laws.specs.Stores.{spillFit}
 use Rattle.swizzle_laws.proofs.Order.{home-lt, turned}
 use Rattle.swizzle_write.specs.declared.Grid.{Grid}
 use Rattle.swizzle_write.specs.declared.Cursor.{Cursor}
-use Rattle.swizzle_write.specs.Steps.{Small, Good, At, nextOf, Steppable, Twins}
+use Rattle.swizzle_write.specs.Steps.{Good, At, nextOf, Steppable, Twins}
 
 -- ---- the digits of the next number
 module _ (U i : ℕ) (pos : 0 < U) where
@@ -155,15 +155,6 @@ module _ (g : Grid) (size : ℕ) (o : Good g size) where
 
     pub in-room : i < size → c .index < size
     in-room h = omega (arith, index-lt i h, a .index-is)
-
--- the products of a grid are no more than its columns
-pub grid-low : (M R U : ℕ) → Small M R U → (R * U ≤ 4611686018427387903) × ((R - 1) * U ≤ R * U) × ((M - 1) * (R * U) ≤ 4611686018427387903)
-grid-low M R U s =
-    let a : 1 * (R * U) ≤ M * (R * U) = mul-le-mul-right (R * U) (s .mems-pos) in
-    let b : (R - 1) * U ≤ R * U = mul-le-mul-right U (omega arith) in
-    let d : (M - 1) * (R * U) ≤ M * (R * U) = mul-le-mul-right (R * U) (omega arith) in
-    let e = mul-left-comm M R U in
-    (omega (arith, s .low, one-mul (R * U)), b, omega (arith, s .low))
 
 -- ---- the run: what is left from i on gives the whole
 module _ (g : Grid) where

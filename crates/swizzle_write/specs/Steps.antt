@@ -19,13 +19,6 @@ pub record Good (g : Grid) (size : ℕ) : Type 0 where
   pub hop-is : g .hop ≡ (g .rows - 1) * g .unit
   pub back-is : g .back ≡ (g .mems - 1) * (g .rows * g .unit)
 
--- some memories, rows and columns, few enough to be counted
-pub record Small (mems rows unit : ℕ) : Type 0 where
-  pub mems-pos : 0 < mems
-  pub rows-pos : 0 < rows
-  pub unit-pos : 0 < unit
-  pub low : rows * (mems * unit) ≤ 4611686018427387903
-
 -- the cursor at index i
 pub record At (g : Grid) (i : ℕ) (c : Cursor) : Type 0 where
   pub index-is : c .index ≡ home (g .mems) (g .rows) (g .unit) i

@@ -12,14 +12,10 @@ ghost use Rattle.rules.specs.Value.{fromUint};
 ghost use Rattle.rules.specs.Swizzle.{arrange, repeating};
 ghost use Rattle.log_entries.specs.Emission.{isOver, run};
 ghost use Rattle.log_entries.specs.View.{stateOf, lent};
-ghost use Rattle.swizzle_laws.specs.Order.{ordered};
 ghost use Rattle.swizzle_laws.specs.Stores.{spillFit, spillAt, spillEach, pieceBy, spillMasks};
-ghost use Rattle.swizzle_write.specs.Steps.{Small, Good, At, nextOf, Steppable, Twins, Rowed};
+ghost use Rattle.swizzle_write.specs.Steps.{Good, At, nextOf, Steppable, Twins, Rowed};
 ghost use Rattle.swizzle_write.specs.Rows.{sourceOf, rowSources, allSources, lastOf, Based, Bases, startOf, startsBy, Kept};
-ghost use Rattle.swizzle_write.specs.Matches.{Matches, Laid};
-ghost use Rattle.rules.specs.Cell.{WritePort};
-ghost use Rattle.rules.specs.Geometry.{Layout};
-ghost use Rattle.rules.specs.Swizzle.{Split, swizzleWrite, constColumns};
+ghost use Rattle.swizzle_write.specs.Wide.{sizesFit, rowsFit, canWrite, PortFits, Writes, gridOf, portMasks, portBits, portTrits, writeOf, bitsOf, tritsOf};
 ghost use Rattle.swizzle_write.specs.Jobs.{Narrow, Job, Rooms, Row, Port};
 ghost use lib.Dec.{eqb};
 ghost use Rattle.lists.specs.Choice.{if_then_else_};
@@ -39,20 +35,81 @@ pub struct Grid {
     pub back: usize,
 }
 
-// The grid of so many memories, rows and columns of a memory, with entries to a row.
-fn grid_of(mems: usize, rows: usize, unit: usize, entries: usize) -> Grid
-    requires { ⌜ Small mems rows unit ⌝ }
-    ensures { λ r. ⌜ Good r (rows * (mems * unit)) ⌝ }
-    ensures { λ r. ⌜ (r .mems ≡ mems) × (r .rows ≡ rows) × (r .unit ≡ unit) × (r .entries ≡ entries) ⌝ }
+// A wide port's numbers: so many memories, columns of each, new rows; old rows of so many bits each; the bits of a piece's number that are chunk
+// bits, and the pieces.
+pub struct WidePort {
+    pub mems: u32,
+    pub unit: u32,
+    pub rows: u32,
+    pub olds: u32,
+    pub width: u32,
+    pub chunks: u32,
+    pub pieces: u32,
+}
+
+// The rows of a port with the largest wide log.
+const MAX_ROWS: u32 = 16;
+
+// The nets of a mux address that a port has room for.
+const MUX_ROOM: usize = 64;
+
+// Whether a port's columns are within the limits, and `size` counts those of all new rows.
+fn sizes_fit(p: WidePort, size: usize) -> bool
+    ensures { λ r. ⌜ r ≡ sizesFit p size ⌝ }
 {
+    if MAX_ROWS < p.rows {
+        return false;
+    }
+    let columns = lists::usize_of_u32(p.mems) * lists::usize_of_u32(p.unit);
+    if lists::usize_of_u64(rules::MAX_COLUMNS) < columns {
+        return false;
+    }
+    if size == 0 {
+        return false;
+    }
+    size == lists::usize_of_u32(p.rows) * columns
+}
+
+// Whether a port's old rows and pieces are within the limits; each piece takes a net at least.
+fn rows_fit(p: WidePort, len: usize) -> bool
+    ensures { λ r. ⌜ r ≡ rowsFit p len ⌝ }
+{
+    if rules::MAX_ROW < len {
+        return false;
+    }
+    if MAX_ROWS < p.olds {
+        return false;
+    }
+    if rules::MAX_WIDTH < p.width {
+        return false;
+    }
+    p.pieces <= rules::MAX_NETS
+}
+
+// The grid of a port, with entries to a row.
+fn grid_of(p: WidePort, len: usize, size: usize) -> Grid
+    requires { ⌜ PortFits p len size ⌝ }
+    ensures { λ r. ⌜ r ≡ gridOf p len ⌝ }
+{
+    let mems = lists::usize_of_u32(p.mems);
+    let rows = lists::usize_of_u32(p.rows);
+    let unit = lists::usize_of_u32(p.unit);
     Grid {
         mems,
         rows,
         unit,
-        entries,
+        entries: len,
         hop: (rows - 1) * unit,
         back: (mems - 1) * (rows * unit),
     }
+}
+
+// The columns of one new row.
+fn columns_of(p: WidePort, len: usize, size: usize) -> usize
+    requires { ⌜ PortFits p len size ⌝ }
+    ensures { λ r. ⌜ r ≡ p .mems * p .unit ⌝ }
+{
+    lists::usize_of_u32(p.mems) * lists::usize_of_u32(p.unit)
 }
 
 // A column on the way: its place memory after memory, its bit and its memory.
@@ -593,29 +650,45 @@ fn write_blank(
     )
 }
 
-// A write port of a swizzle: the trace of the rules, and the port's data and mask in the order of the memories.
-fn write_port(
+// Whether a write port is within the limits, its mux address not long, and its two rooms as large as all its columns.
+fn can_write(p: WidePort, len: usize, short: usize, size: usize, other: usize) -> bool
+    ensures { λ r. ⌜ r ≡ canWrite p len short size other ⌝ }
+{
+    if !sizes_fit(p, size) {
+        return false;
+    }
+    if !rows_fit(p, len) {
+        return false;
+    }
+    if other != size {
+        return false;
+    }
+    short <= MUX_ROOM
+}
+
+// The same from a port within the limits.
+fn write_in(
     log: &mut [u32],
     st: LogState,
-    g: Grid,
-    columns: usize,
-    pieces: usize,
-    olds: usize,
-    chunks: u32,
+    bits_to: &mut [u32],
+    mask_to: &mut [u32],
+    p: WidePort,
     mux: &[u32],
-    width: usize,
     entries: &[u32],
     bits: &[u32],
     mask: &[u32],
-    bits_to: &mut [u32],
-    mask_to: &mut [u32],
 ) -> LogState
-    requires { ⌜ Port g olds width (length (now entries)) (length (now mux)) (length (now «bits_to»)) (length (now «mask_to»)) ⌝ }
-    requires { ⌜ Narrow olds columns (g .entries) pieces ⌝ }
-    ensures { λ r. ⌜ ((q : Layout) (s : Split) (p : WritePort) → Matches g columns pieces olds chunks (now (mux .entry)) width (now (entries .entry)) (now (bits .entry)) (now (mask .entry)) q s p → lent r (now (log .exit)) ≡ run (swizzleWrite q s p) (lent st (now (log .entry)))) ⌝ }
-    ensures { λ r. ⌜ ((q : Layout) (s : Split) (p : WritePort) → Matches g columns pieces olds chunks (now (mux .entry)) width (now (entries .entry)) (now (bits .entry)) (now (mask .entry)) q s p → isOver (stateOf r) ≡ false → now («mask_to» .exit) ≡ ordered q s (swizzleWrite q s p (st .next) .value .port .mask)) ⌝ }
-    ensures { λ _. ⌜ ((q : Layout) (s : Split) (p : WritePort) → Matches g columns pieces olds chunks (now (mux .entry)) width (now (entries .entry)) (now (bits .entry)) (now (mask .entry)) q s p → now («bits_to» .exit) ≡ ordered q s (swizzleWrite q s p (st .next) .value .port .bits)) ⌝ }
+    requires { ⌜ Writes p (length (now entries)) (length (now mux)) (length (now «bits_to»)) (length (now «mask_to»)) ⌝ }
+    ensures { λ r. ⌜ lent r (now (log .exit)) ≡ run (portMasks p (now (mux .entry)) (now (entries .entry)) (now (mask .entry)) (length (now («mask_to» .entry)))) (lent st (now (log .entry))) ⌝ }
+    ensures { λ r. ⌜ (isOver (stateOf r) ≡ false → now («mask_to» .exit) ≡ portMasks p (now (mux .entry)) (now (entries .entry)) (now (mask .entry)) (length (now («mask_to» .entry))) (st .next) .value) ⌝ }
+    ensures { λ _. ⌜ now («bits_to» .exit) ≡ portBits p (now (entries .entry)) (now (bits .entry)) (length (now («bits_to» .entry))) ⌝ }
 {
+    let size = bits_to.len();
+    let g = grid_of(p, entries.len(), size);
+    let columns = columns_of(p, entries.len(), size);
+    let pieces = lists::usize_of_u32(p.pieces);
+    let olds = lists::usize_of_u32(p.olds);
+    let width = lists::usize_of_u32(p.width);
     write_blank(
         log,
         st,
@@ -623,7 +696,7 @@ fn write_port(
         columns,
         pieces,
         olds,
-        chunks,
+        p.chunks,
         mux,
         width,
         entries,
@@ -632,6 +705,35 @@ fn write_port(
         bits_to,
         mask_to,
     )
+}
+
+// A write port of a swizzle: logs its comparisons and merging muxes, and stores its data and its mask in the order of the memories. Nothing is
+// done where the port passes the limits or a room is not as large as its columns. After an overflow the mask's room is left open.
+pub fn write_port(
+    log: &mut [u32],
+    st: LogState,
+    bits_to: &mut [u32],
+    mask_to: &mut [u32],
+    p: WidePort,
+    mux: &[u32],
+    entries: &[u32],
+    bits: &[u32],
+    mask: &[u32],
+) -> LogState
+    ensures { λ r. ⌜ lent r (now (log .exit)) ≡ run (writeOf p (now (mux .entry)) (now (entries .entry)) (now (mask .entry)) (length (now («bits_to» .entry))) (now («mask_to» .entry))) (lent st (now (log .entry))) ⌝ }
+    ensures { λ r. ⌜ (isOver (stateOf r) ≡ false → now («mask_to» .exit) ≡ writeOf p (now (mux .entry)) (now (entries .entry)) (now (mask .entry)) (length (now («bits_to» .entry))) (now («mask_to» .entry)) (st .next) .value) ⌝ }
+    ensures { λ _. ⌜ now («bits_to» .exit) ≡ bitsOf p (now (mux .entry)) (now (entries .entry)) (now (bits .entry)) (length (now («mask_to» .entry))) (now («bits_to» .entry)) ⌝ }
+{
+    if !can_write(
+        p,
+        entries.len(),
+        mux.len(),
+        bits_to.len(),
+        mask_to.len(),
+    ) {
+        return st;
+    }
+    write_in(log, st, bits_to, mask_to, p, mux, entries, bits, mask)
 }
 
 // The trit of a bit; X where there is none.
@@ -743,7 +845,7 @@ fn trit_pieces(
 }
 
 // A read port's trits of one kind, in the order of the memories: their row, blank columns, then each piece.
-fn trit_columns(
+fn trit_blank(
     to: &mut [u8],
     g: Grid,
     columns: usize,
@@ -756,7 +858,7 @@ fn trit_columns(
 )
     requires { ⌜ Port g olds width (length (now entries)) 0 (length (now to)) (length (now to)) × (length (now to) ≤ 4611686018427387903) ⌝ }
     requires { ⌜ Narrow olds columns (g .entries) pieces ⌝ }
-    ensures { λ _. ⌜ ((q : Layout) (s : Split) → Laid g columns pieces olds chunks width (now (entries .entry)) q s → now (to .exit) ≡ ordered q s (constColumns q s (now (v .entry)))) ⌝ }
+    ensures { λ _. ⌜ now (to .exit) ≡ spillEach (g .mems) (g .rows) (g .unit) (g .entries) (startsBy chunks columns (g .entries) olds) (upFrom 0 pieces) (arrange tritX (allSources olds width (now (entries .entry))) (now (v .entry))) (replicate (length (now (to .entry))) tritX) ⌝ }
 {
     let n = olds * g.entries;
     let mut row = [0u8; rules::MAX_MERGE];
@@ -772,4 +874,34 @@ fn trit_columns(
         &mut starts[..olds],
         &row[..n],
     );
+}
+
+// The same from a port within the limits.
+fn trit_in(to: &mut [u8], p: WidePort, entries: &[u32], v: &[u8])
+    requires { ⌜ PortFits p (length (now entries)) (length (now to)) ⌝ }
+    ensures { λ _. ⌜ now (to .exit) ≡ portTrits p (now (entries .entry)) (now (v .entry)) (length (now (to .entry))) ⌝ }
+{
+    let size = to.len();
+    let g = grid_of(p, entries.len(), size);
+    let columns = columns_of(p, entries.len(), size);
+    let pieces = lists::usize_of_u32(p.pieces);
+    let olds = lists::usize_of_u32(p.olds);
+    let width = lists::usize_of_u32(p.width);
+    trit_blank(
+        to, g, columns, pieces, olds, p.chunks, width, entries, v,
+    );
+}
+
+// A clocked read port's trits of one kind in the order of the memories. Nothing is done where the port passes the limits or the room is not as
+// large as its columns.
+pub fn trit_columns(to: &mut [u8], p: WidePort, entries: &[u32], v: &[u8])
+    ensures { λ _. ⌜ now (to .exit) ≡ tritsOf p (now (entries .entry)) (now (v .entry)) (now (to .entry)) ⌝ }
+{
+    if !sizes_fit(p, to.len()) {
+        return;
+    }
+    if !rows_fit(p, entries.len()) {
+        return;
+    }
+    trit_in(to, p, entries, v);
 }

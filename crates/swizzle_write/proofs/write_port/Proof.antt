@@ -1,20 +1,36 @@
--- `write_ports::write_port` meets its contract.
+-- `swizzle_write::write_port` meets its contract.
 use mathlib.Core.Path.{_≡_, refl, sym, ap, _∙_, subst}
-use Prim.Native.Nat.{ℕ, _+_, _-_, _*_, _<_, _≤_, min}
+use Prim.Native.Nat.{ℕ, _+_, _-_, _*_, _<_, _≤_}
 use native.Mathlib.Omega.{arith}
-use mathlib.Core.List.{List, _++_}
-use lib.ListN.{length, take, drop, getD, length-set}
-use lib.Seq.{sets}
-use Rattle.rules.specs.Limits.{X}
+use mathlib.Core.List.{List}
+use lib.ListN.{length}
+use Rattle.swizzle_write.proofs.Fits.{can-say, write-not, write-can, write-kept, bits-not, bits-can}
+use borrow.Author.Tests.{not-true, not-false}
+use Rattle.rules.specs.Log.{Trace}
+use Rattle.log_entries.specs.Emission.{run}
 use Rattle.log_entries.specs.View.{lent}
-use Rattle.swizzle_write.specs.Steps.{Good}
-use Rattle.swizzle_write.proofs.Matched.{matched-run, matched-mask, matched-bits}
+use Rattle.log_entries.proofs.Emission.{run-done}
 use borrow.Author.Needs.{needs}
 use Rattle.swizzle_write.proofs.write_port.Statement.{statement}
 use Rattle.swizzle_write.proofs.write_port.Tie as tie
 
-write-blank-requires : tie.Need-write-blank-requires
-write-blank-requires c κs = search needs
+can-write-requires : tie.Need-can-write-requires
+can-write-requires c κs = search needs
+
+returns : tie.Need-returns
+returns c =
+    let v = c .before .before .before .before .before .before .before .before .before .args in
+    let e = sym (c .before .can-write .ensures) ∙ not-true _ (c .if1 .taken) in
+    let l = lent (v .st) (v .log .now) in (
+      sym (ap (λ (t : Trace (List ℕ)). run t l) (write-not (v .p) (v .mux .now) (v .entries .now) (v .mask .now) (length (v .bits-to .now)) (v .mask-to .now) e) ∙ run-done (v .mask-to .now) l),
+      ((λ h. write-kept (v .p) (v .mux .now) (v .entries .now) (v .mask .now) (length (v .bits-to .now)) (v .mask-to .now) (v .st .next) e),
+      bits-not (v .p) (v .mux .now) (v .entries .now) (v .bits .now) (length (v .mask-to .now)) (v .bits-to .now) e),
+    )
+
+write-in-requires : tie.Need-write-in-requires
+write-in-requires c κs =
+    let v = c .before .before .before .before .before .before .before .before .before .before .before .before .args in
+    can-say (v .p) (length (v .entries .now)) (length (v .mux .now)) (length (v .bits-to .now)) (length (v .mask-to .now)) (sym (c .before .before .before .before .can-write .ensures) ∙ not-false _ (c .before .before .before .if1 .left))
 
 same-length : tie.Need-same-length
 same-length c = search needs
@@ -25,21 +41,26 @@ same-length-2 c = search needs
 same-length-3 : tie.Need-same-length-3
 same-length-3 c = search needs
 
-returns : tie.Need-returns
-returns c =
-    let k = c .before .before .before .before .before .before .before .before .before .before .before .before .before .before .before .before .before in
-    let v = k .args in
-    let g = v .g in
-    let r = k .pre .0 in
-    let p = c .before .before .before .before .before .before .write-blank in
-    let o : Good g (length (v .mask-to .now)) = subst (λ (n : ℕ). Good g n) (sym (r .same-room)) (r .good) in (
-      (λ q s w m. p .ensures .0 ∙ matched-run g (v .columns) (v .pieces) (v .olds) (v .chunks) (v .mux .now) (v .width) (v .entries .now) (v .bits .now) (v .mask .now) q s w m (length (v .mask-to .now)) o (lent (v .st) (v .log .now))),
-      (
-        (λ q s w m h. p .ensures .1 .0 h ∙ matched-mask g (v .columns) (v .pieces) (v .olds) (v .chunks) (v .mux .now) (v .width) (v .entries .now) (v .bits .now) (v .mask .now) q s w m (length (v .mask-to .now)) o (v .st .next)),
-        (λ q s w m. p .ensures .1 .1 ∙ matched-bits g (v .columns) (v .pieces) (v .olds) (v .chunks) (v .mux .now) (v .width) (v .entries .now) (v .bits .now) (v .mask .now) q s w m (length (v .bits-to .now)) (r .good) (v .st .next)),
-      ),
+returns-2 : tie.Need-returns-2
+returns-2 c =
+    let v = c .before .before .before .before .before .before .before .before .before .before .before .before .before .before .before .before .before .before .before .args in
+    let e = sym (c .before .before .before .before .before .before .before .before .before .before .before .can-write .ensures) ∙ not-false _ (c .before .before .before .before .before .before .before .before .before .before .if1 .left) in
+    let z = c .before .before .before .before .before .before .write-in .ensures in
+    let l = lent (v .st) (v .log .now) in
+    let t = write-can (v .p) (v .mux .now) (v .entries .now) (v .mask .now) (length (v .bits-to .now)) (v .mask-to .now) e in (
+      z .0 ∙ sym (ap (λ (t : Trace (List ℕ)). run t l) t),
+      ((λ h. z .1 .0 h ∙ sym (ap (λ (t : Trace (List ℕ)). t (v .st .next) .value) t)),
+      z .1 .1 ∙ sym (bits-can (v .p) (v .mux .now) (v .entries .now) (v .bits .now) (length (v .mask-to .now)) (v .bits-to .now) e)),
     )
 
 pub write-port-spec : {M : Type 1} → statement M
 write-port-spec =
-    tie.close (tie.spec write-blank-requires same-length same-length-2 same-length-3 returns)
+    tie.close
+    (tie.spec
+    can-write-requires
+    returns
+    write-in-requires
+    same-length
+    same-length-2
+    same-length-3
+    returns-2)
