@@ -1,0 +1,15 @@
+-- Laws of values side by side, of the mux tree, and of what a read port adds to the log.
+pub mod Cutting
+pub mod Pairs
+pub mod Tree
+pub mod ReadCounts
+pub mod Masking
+pub mod Loading
+pub mod Within
+pub mod Places
+pub mod WriteCounts
+pub mod Order
+pub mod Stores
+pub mod Parts
+pub mod WritesCounts
+pub mod Whole
