@@ -113,7 +113,7 @@ fn emit_read_in(
     let addressed = mux_addr(log, voided, clocked, clock, enable, mux, &mut bits);
     swizzle_pieces::load(scratch, entries, n);
     let m = mux.len();
-    let muxed = swizzle_tree::emit_tree(log, addressed, &bits[..m], scratch, n.count, width);
+    let muxed = swizzle_tree::emit_tree(log, addressed, scratch, &bits[..m], n.count, width);
     let w = width as usize;
     log_entries::emit_replace(log, muxed, output, &scratch[..w])
 }
@@ -139,6 +139,7 @@ fn holds_pieces(count: u32, width: u32, room: usize) -> bool
 pub fn emit_read(
     log: &mut [u32],
     st: LogState,
+    scratch: &mut [u32],
     n: Pieces,
     voids: u32,
     clocked: bool,
@@ -148,7 +149,6 @@ pub fn emit_read(
     entries: &[u32],
     output: &[u32],
     width: u32,
-    scratch: &mut [u32],
 ) -> LogState
     ensures { λ r. ⌜ lent r (now (log .exit)) ≡ run (readOf n voids clocked (controlOf clock) (controlOf enable) (now (mux .entry)) (now (entries .entry)) (now (output .entry)) width (now (scratch .entry))) (lent st (now (log .entry))) ⌝ }
     ensures { λ r. ⌜ drop (n .count * width) (now (scratch .exit)) ≡ drop (n .count * width) (scratchOf n (now (mux .entry)) (now (entries .entry)) width (now (scratch .entry)) (st .next)) ⌝ }

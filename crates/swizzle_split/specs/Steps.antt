@@ -7,7 +7,7 @@ use mathlib.Core.List.{List}
 use lib.ListN.{length, take, set}
 use lib.Seq.{sets}
 use Rattle.lists.specs.Choice.{if_then_else_}
-use Rattle.rules.specs.Limits.{addrBits}
+use Rattle.rules.specs.Limits.{addrBits, maxWide, maxColumns}
 use Rattle.rules.specs.Numbers.{softs}
 use Rattle.rules.specs.Value.{Value}
 use Rattle.rules.specs.Geometry.{Layout, allChunks, soft}
@@ -17,7 +17,7 @@ use Rattle.swizzle_split.specs.declared.Taking.{Taking}
 use Rattle.swizzle_split.specs.declared.Low.{Low}
 use Rattle.swizzle_split.specs.declared.Split.{Split}
 use Rattle.swizzle_split.specs.declared.Outcome.{Outcome}
-use Rattle.swizzle_split.specs.declared.Outcome.the-variants.{Refused, Done}
+use Rattle.swizzle_split.specs.declared.Outcome.the-variants.{Refused, Accepted}
 
 -- what a bit of this role leaves
 abbrev pub taken : Role → Taking → Taking
@@ -89,13 +89,13 @@ startBy mask hard old new = record {
 
 -- ---- the whole split
 pub record Fits (q : Layout) (old new len : ℕ) : Type 0 where
-  pub old-max : old ≤ 4
-  pub new-max : new ≤ 4
+  pub old-max : old ≤ maxWide
+  pub new-max : new ≤ maxWide
   pub new-hard : new ≤ q .hard
-  pub hard-max : q .hard ≤ 32
+  pub hard-max : q .hard ≤ addrBits
   pub enough : old - softs old (q .softMask) ≤ new
   pub short : old + len ≤ addrBits
-  pub few : allChunks q * 2 ^ soft q ≤ 32768
+  pub few : allChunks q * 2 ^ soft q ≤ maxColumns
 
 -- the bits of a piece's number that select a row
 abbrev pub rowBits : Layout → ℕ → ℕ → Value → ℕ
@@ -117,8 +117,8 @@ pub record Splits (q : Layout) (old new : ℕ) (addr hw₀ hw mux₀ mux : Value
 -- the limits within which an address is split
 unfoldable pub canSplit : Layout → ℕ → ℕ → ℕ → Bool
 canSplit q old new len =
-    leb old 4 && (leb new 4 && (leb new (q .hard) && (leb (q .hard) 32
-    && (leb (old - softs old (q .softMask)) new && (leb (old + len) addrBits && leb (allChunks q * 2 ^ soft q) 32768)))))
+    leb old maxWide && (leb new maxWide && (leb new (q .hard) && (leb (q .hard) addrBits
+    && (leb (old - softs old (q .softMask)) new && (leb (old + len) addrBits && leb (allChunks q * 2 ^ soft q) maxColumns)))))
 
 -- what a split gives and leaves: nothing is changed where it is refused
 pub record Refuses (q : Layout) (old new : ℕ) (addr hw₀ hw mux₀ mux : Value) : Type 0 where
@@ -132,4 +132,4 @@ pub record Gives (q : Layout) (old new : ℕ) (addr hw₀ hw mux₀ mux : Value)
 
 abbrev pub Answers : Layout → ℕ → ℕ → Value → Value → Value → Value → Value → Outcome → Type 0
 Answers q old new addr hw₀ hw mux₀ mux Refused = Refuses q old new addr hw₀ hw mux₀ mux
-Answers q old new addr hw₀ hw mux₀ mux (Done r) = Gives q old new addr hw₀ hw mux₀ mux r
+Answers q old new addr hw₀ hw mux₀ mux (Accepted r) = Gives q old new addr hw₀ hw mux₀ mux r

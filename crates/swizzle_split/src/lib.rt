@@ -5,6 +5,7 @@ ghost use Prim.Native.Nat.{_+_, _-_, _*_, _/_, _^_, _<_, _≤_};
 ghost use lib.ListN.{length, set};
 ghost use Rattle.rules.specs.Swizzle.{roleOf};
 ghost use Rattle.swizzle_split.specs.Steps.{startBy, taken, toRow, toMux, Roomy, Starts, Took, lowBy, Fits, Splits, canSplit, Answers};
+ghost use Rattle.rules.specs.Limits.{addrBits};
 ghost use Rattle.rules.specs.Numbers.{bitsFor, softs};
 ghost use mathlib.Core.List.{List};
 ghost use Prim.Native.Nat.{ℕ};
@@ -28,7 +29,7 @@ pub struct Split {
 // A split, or none where the numbers pass their limits.
 pub enum Outcome {
     Refused,
-    Done(Split),
+    Accepted(Split),
 }
 
 // A walk over an address on its way: what is left of the mask, the wide bits and the row bits; the nets so far; the bits that double the pieces;
@@ -179,7 +180,7 @@ fn row_weight(bit: u32, weight: u64) -> u64
 
 // The bits that a wide port leaves out of its address.
 fn low_bits(old: u32, mask: u32) -> Low
-    requires { ⌜ old ≤ 32 ⌝ }
+    requires { ⌜ old ≤ addrBits ⌝ }
     ensures { λ r. ⌜ r ≡ lowBy old mask ⌝ }
 {
     let mut rest = mask;
@@ -210,7 +211,7 @@ fn wide64(x: u32) -> u64
 }
 
 fn pow2(k: u32) -> u64
-    requires { ⌜ k ≤ 32 ⌝ }
+    requires { ⌜ k ≤ addrBits ⌝ }
     ensures { λ r. ⌜ r ≡ 2 ^ k ⌝ }
 {
     let mut power: u64 = 1;
@@ -224,7 +225,7 @@ fn pow2(k: u32) -> u64
 
 // The chunks of a layout, whatever its entries are.
 fn all_chunks(p: Params) -> u64
-    requires { ⌜ p .hard ≤ 32 ⌝ }
+    requires { ⌜ p .hard ≤ addrBits ⌝ }
     ensures { λ r. ⌜ ((es : List ℕ) → r ≡ allChunks (layoutBy p es)) ⌝ }
 {
     let deep = pow2(p.hard);
@@ -260,7 +261,7 @@ fn bits_for(n: u32) -> u32
 
 // Where the walk over an address starts.
 fn start_of(p: Params, old: u32, new: u32) -> Taking
-    requires { ⌜ (old ≤ 32) × (old - softs old (p .«soft_mask») ≤ new) × (new ≤ p .hard) ⌝ }
+    requires { ⌜ (old ≤ addrBits) × (old - softs old (p .«soft_mask») ≤ new) × (new ≤ p .hard) ⌝ }
     ensures { λ r. ⌜ r ≡ startBy (p .«soft_mask») (p .hard) old new ⌝ }
 {
     let low = low_bits(old, p.soft_mask);
@@ -299,40 +300,40 @@ fn split_in(p: Params, old: u32, new: u32, addr: &[u32], hw: &mut [u32], mux: &m
 fn can_split(p: Params, old: u32, new: u32, len: usize) -> bool
     ensures { λ r. ⌜ ((es : List ℕ) → r ≡ canSplit (layoutBy p es) old new len) ⌝ }
 {
-    if 4 < old {
+    if rules::MAX_WIDE < old {
         return false;
     }
-    if 4 < new {
+    if rules::MAX_WIDE < new {
         return false;
     }
     if p.hard < new {
         return false;
     }
-    if 32 < p.hard {
+    if rules::ADDR_BITS < p.hard {
         return false;
     }
     let low = low_bits(old, p.soft_mask);
     if new < old - low.softs {
         return false;
     }
-    if 32 - index(old) < len {
+    if index(rules::ADDR_BITS - old) < len {
         return false;
     }
     let chunks = all_chunks(p);
-    if 32768 < chunks {
+    if rules::MAX_COLUMNS < chunks {
         return false;
     }
-    chunks * pow2(image_geometry::soft_bits(p.soft_mask)) <= 32768
+    chunks * pow2(image_geometry::soft_bits(p.soft_mask)) <= rules::MAX_COLUMNS
 }
 
 // The split of an address; its two parts go to the front of the lent rooms, whose rest is kept.
 pub fn split_addr(
+    hw: &mut [u32],
+    mux: &mut [u32],
     p: Params,
     old: u32,
     new: u32,
     addr: &[u32],
-    hw: &mut [u32],
-    mux: &mut [u32],
 ) -> Outcome
     ensures { λ r. ⌜ ((es : List ℕ) → Answers (layoutBy p es) old new (now (addr .entry)) (now (hw .entry)) (now (hw .exit)) (now (mux .entry)) (now (mux .exit)) r) ⌝ }
 {
@@ -340,5 +341,5 @@ pub fn split_addr(
         return Outcome::Refused;
     }
     let s = split_in(p, old, new, addr, hw, mux);
-    Outcome::Done(s)
+    Outcome::Accepted(s)
 }

@@ -154,8 +154,8 @@ fn tree(
 pub fn emit_tree(
     log: &mut [u32],
     st: LogState,
-    bits: &[u32],
     pieces: &mut [u32],
+    bits: &[u32],
     count: u32,
     width: u32,
 ) -> LogState

@@ -28,8 +28,8 @@ array-share-prefix-bits c = search needs
 
 slice-aggregate-emit-tree : tie.Need-slice-aggregate-emit-tree
 slice-aggregate-emit-tree c =
-    let k = c .before .before .before .before .before .before .before .before .before .before .before .before .before .before .before .before .before .before .before .before .before in
-    sym (length-take-le _ _ (omega (arith, k .pre .short, c .before .before .before .before .before .before .before .before .before .mux-addr .kept .1 .1 .1 .1 .1 .1 .0)))
+    let k = c .before .before .before .before .before .before .before .before .before .before .before .before .before .before .before .before .before .before .before .before .before .before in
+    sym (length-take-le _ _ (omega (arith, k .pre .short, c .before .before .before .before .before .before .before .before .before .before .mux-addr .kept .1 .1 .1 .1 .1 .1 .0)))
 
 emit-tree-requires : tie.Need-emit-tree-requires
 emit-tree-requires c κs = search needs
@@ -37,12 +37,12 @@ emit-tree-requires c κs = search needs
 slice-reshare-prefix-emit-replace : tie.Need-slice-reshare-prefix-emit-replace
 slice-reshare-prefix-emit-replace c =
     let k = c .before .before .before .before .before .before .before .before .before .before .before .before .before .before .before .before .before .before .before .before .before .before .before .before .before .before .before .before in
-    omega (arith, k .pre .whole, c .before .before .before .before .before .emit-tree .kept .1 .1 .1 .0, c .before .before .before .before .before .before .before .before .before .before .before .load .kept .0)
+    omega (arith, k .pre .whole, c .before .before .before .before .before .emit-tree .kept .1 .1 .0, c .before .before .before .before .before .before .before .before .before .before .before .load .kept .0)
 
 slice-aggregate-emit-replace : tie.Need-slice-aggregate-emit-replace
 slice-aggregate-emit-replace c =
     let k = c .before .before .before .before .before .before .before .before .before .before .before .before .before .before .before .before .before .before .before .before .before .before .before .before .before .before .before .before .before in
-    sym (length-take-le _ _ (omega (arith, k .pre .whole, c .before .before .before .before .before .before .emit-tree .kept .1 .1 .1 .0, c .before .before .before .before .before .before .before .before .before .before .before .before .load .kept .0)))
+    sym (length-take-le _ _ (omega (arith, k .pre .whole, c .before .before .before .before .before .before .emit-tree .kept .1 .1 .0, c .before .before .before .before .before .before .before .before .before .before .before .before .load .kept .0)))
 
 emit-replace-requires : tie.Need-emit-replace-requires
 emit-replace-requires c κs = search needs
@@ -62,7 +62,7 @@ returns c =
     let z = c .before .before .before .before .before .before .before .before .before .before .before .before .before .before .before .load in
     let t = c .before .before .before .before .before .before .before .before .before .emit-tree in
     let r = c .before .before .emit-replace in
-    (read-run (v .n) (v .voids) (v .clocked) (controlOf (v .clock)) (controlOf (v .enable)) (v .mux .now) (v .entries .now) (v .output .now) (v .width) (v .scratch .now) (z .last .0) (t .last .1 .1 .1 .0) _ (y .last .1 .1 .1 .1 .1 .1 .0) (lent (v .st) (v .log .now)) (lent (x .result) (x .last .0)) (lent (y .result) (y .last .0)) (lent (t .result) (t .last .0)) (lent (r .result) (r .last .0)) (k .pre) refl (x .ensures) (y .ensures) (z .ensures) (z .kept .0) (t .ensures) (r .ensures), t .ensures .kept ∙ ap (drop (v .n .count * v .width)) (z .ensures))
+    (read-run (v .n) (v .voids) (v .clocked) (controlOf (v .clock)) (controlOf (v .enable)) (v .mux .now) (v .entries .now) (v .output .now) (v .width) (v .scratch .now) (z .last .0) (t .last .1 .1 .0) _ (y .last .1 .1 .1 .1 .1 .1 .0) (lent (v .st) (v .log .now)) (lent (x .result) (x .last .0)) (lent (y .result) (y .last .0)) (lent (t .result) (t .last .0)) (lent (r .result) (r .last .0)) (k .pre) refl (x .ensures) (y .ensures) (z .ensures) (z .kept .0) (t .ensures) (r .ensures), t .ensures .kept ∙ ap (drop (v .n .count * v .width)) (z .ensures))
 
 pub emit-read-in-spec : {M : Type 1} → statement M
 emit-read-in-spec =

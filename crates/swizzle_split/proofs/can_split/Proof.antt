@@ -47,11 +47,11 @@ returns-5 c =
     let e : c .before .before .low-bits .result .softs ≡ softs (v .old) (v .p .«soft_mask») = ap (λ (x : Low). x .softs) (c .before .before .low-bits .ensures) in
     λ es. no-rows (layoutBy (v .p) es) (v .old) (v .new) (v .len) (c .before .before .before .before .before .before .before .before .if1 .left) (c .before .before .before .before .before .before .before .if2 .left) (c .before .before .before .before .before .if3 .left) (c .before .before .before .if4 .left) (omega (arith, e, c .if5 .taken))
 
+sub-index : tie.Need-sub-index
+sub-index c = search needs
+
 index-requires : tie.Need-index-requires
 index-requires c κs = search needs
-
-sub-if6 : tie.Need-sub-if6
-sub-if6 c = search needs
 
 returns-6 : tie.Need-returns-6
 returns-6 c =
@@ -99,8 +99,8 @@ can-split-spec =
     low-bits-requires
     sub-if5
     returns-5
+    sub-index
     index-requires
-    sub-if6
     returns-6
     all-chunks-requires
     returns-7
