@@ -724,13 +724,7 @@ pub fn write_port(
     ensures { λ r. ⌜ (isOver (stateOf r) ≡ false → now («mask_to» .exit) ≡ writeOf p (now (mux .entry)) (now (entries .entry)) (now (mask .entry)) (length (now («bits_to» .entry))) (now («mask_to» .entry)) (st .next) .value) ⌝ }
     ensures { λ _. ⌜ now («bits_to» .exit) ≡ bitsOf p (now (mux .entry)) (now (entries .entry)) (now (bits .entry)) (length (now («mask_to» .entry))) (now («bits_to» .entry)) ⌝ }
 {
-    if !can_write(
-        p,
-        entries.len(),
-        mux.len(),
-        bits_to.len(),
-        mask_to.len(),
-    ) {
+    if !can_write(p, entries.len(), mux.len(), bits_to.len(), mask_to.len()) {
         return st;
     }
     write_in(log, st, bits_to, mask_to, p, mux, entries, bits, mask)
@@ -887,9 +881,7 @@ fn trit_in(to: &mut [u8], p: WidePort, entries: &[u32], v: &[u8])
     let pieces = lists::usize_of_u32(p.pieces);
     let olds = lists::usize_of_u32(p.olds);
     let width = lists::usize_of_u32(p.width);
-    trit_blank(
-        to, g, columns, pieces, olds, p.chunks, width, entries, v,
-    );
+    trit_blank(to, g, columns, pieces, olds, p.chunks, width, entries, v);
 }
 
 // A clocked read port's trits of one kind in the order of the memories. Nothing is done where the port passes the limits or the room is not as

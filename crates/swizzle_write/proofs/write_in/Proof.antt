@@ -56,8 +56,10 @@ returns c =
     let o = c .before .before .before .before .before .before .before .before .before .before .before .usize-of-u322 .ensures .0 in
     let d = c .before .before .before .before .before .before .before .before .before .before .usize-of-u323 .ensures .0 in (
       z .0 ∙ masks-by (v .p) (v .entries .now) _ _ _ _ _ g cs n o d (v .mux .now) (v .mask .now) (length (v .mask-to .now)) (lent (v .st) (v .log .now)),
-      ((λ h. z .1 .0 h ∙ value-by (v .p) (v .entries .now) _ _ _ _ _ g cs n o d (v .mux .now) (v .mask .now) (length (v .mask-to .now)) (v .st .next)),
-      z .1 .1 ∙ bits-by (v .p) (v .entries .now) _ _ _ _ _ g cs n o d (v .bits .now) (length (v .bits-to .now))),
+      (
+        (λ h. z .1 .0 h ∙ value-by (v .p) (v .entries .now) _ _ _ _ _ g cs n o d (v .mux .now) (v .mask .now) (length (v .mask-to .now)) (v .st .next)),
+        z .1 .1 ∙ bits-by (v .p) (v .entries .now) _ _ _ _ _ g cs n o d (v .bits .now) (length (v .bits-to .now)),
+      ),
     )
 
 pub write-in-spec : {M : Type 1} → statement M

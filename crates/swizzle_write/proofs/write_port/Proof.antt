@@ -23,8 +23,10 @@ returns c =
     let e = sym (c .before .can-write .ensures) ∙ not-true _ (c .if1 .taken) in
     let l = lent (v .st) (v .log .now) in (
       sym (ap (λ (t : Trace (List ℕ)). run t l) (write-not (v .p) (v .mux .now) (v .entries .now) (v .mask .now) (length (v .bits-to .now)) (v .mask-to .now) e) ∙ run-done (v .mask-to .now) l),
-      ((λ h. write-kept (v .p) (v .mux .now) (v .entries .now) (v .mask .now) (length (v .bits-to .now)) (v .mask-to .now) (v .st .next) e),
-      bits-not (v .p) (v .mux .now) (v .entries .now) (v .bits .now) (length (v .mask-to .now)) (v .bits-to .now) e),
+      (
+        (λ h. write-kept (v .p) (v .mux .now) (v .entries .now) (v .mask .now) (length (v .bits-to .now)) (v .mask-to .now) (v .st .next) e),
+        bits-not (v .p) (v .mux .now) (v .entries .now) (v .bits .now) (length (v .mask-to .now)) (v .bits-to .now) e,
+      ),
     )
 
 write-in-requires : tie.Need-write-in-requires
@@ -49,8 +51,10 @@ returns-2 c =
     let l = lent (v .st) (v .log .now) in
     let t = write-can (v .p) (v .mux .now) (v .entries .now) (v .mask .now) (length (v .bits-to .now)) (v .mask-to .now) e in (
       z .0 ∙ sym (ap (λ (t : Trace (List ℕ)). run t l) t),
-      ((λ h. z .1 .0 h ∙ sym (ap (λ (t : Trace (List ℕ)). t (v .st .next) .value) t)),
-      z .1 .1 ∙ sym (bits-can (v .p) (v .mux .now) (v .entries .now) (v .bits .now) (length (v .mask-to .now)) (v .bits-to .now) e)),
+      (
+        (λ h. z .1 .0 h ∙ sym (ap (λ (t : Trace (List ℕ)). t (v .st .next) .value) t)),
+        z .1 .1 ∙ sym (bits-can (v .p) (v .mux .now) (v .entries .now) (v .bits .now) (length (v .mask-to .now)) (v .bits-to .now) e),
+      ),
     )
 
 pub write-port-spec : {M : Type 1} → statement M
