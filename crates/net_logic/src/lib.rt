@@ -1,6 +1,6 @@
 // logic.rs: trits and constants. A constant is a slice of trit codes: 0, 1, and 2 for X.
 ghost use mathlib.Core.Path.{_≡_};
-ghost use Prim.Native.Nat.{_≤_};
+ghost use Prim.Native.Nat.{_≤_, max};
 ghost use lib.ListN.{length};
 ghost use lib.Seq.{sets};
 ghost use Rattle.rules.specs.Logic.{tritOf, codeOf, tritNot, tritAnd, tritOr, constNot, tritwise, areTrits, isUndef};
@@ -124,18 +124,26 @@ pub fn trit_or(a: Trit, b: Trit) -> Trit
     }
 }
 
-// Every code is a trit's.
+fn larger(a: u8, b: u8) -> u8
+    ensures { λ r. ⌜ r ≡ max a b ⌝ }
+{
+    if a < b {
+        return b;
+    }
+    a
+}
+
+// Every code is a trit's: the largest is. All codes are looked at, without a way out of the loop, so that many are compared at once.
 pub fn trits_good(a: &[u8]) -> bool
     ensures { λ r. ⌜ r ≡ areTrits (now (a .entry)) ⌝ }
 {
+    let mut most: u8 = 0;
     let mut i = 0;
     while i < a.len() {
-        if rules::TRIT_X < a[i] {
-            return false;
-        }
+        most = larger(most, a[i]);
         i += 1;
     }
-    true
+    most <= rules::TRIT_X
 }
 
 // Every trit is X. An empty constant is undef.
@@ -186,10 +194,53 @@ pub fn const_slice(a: &[u8], start: usize, end: usize) -> &[u8]
     &a[start..end]
 }
 
+// The tables on codes: each a few comparisons that the compiler makes for many trits at once.
 fn code_not(x: u8) -> u8
     ensures { λ r. ⌜ r ≡ codeOf (tritNot (tritOf x)) ⌝ }
 {
-    trit_code(trit_not(trit_at(x)))
+    if x == 0 {
+        return 1;
+    }
+    if x == 1 {
+        return 0;
+    }
+    rules::TRIT_X
+}
+
+fn code_and(x: u8, y: u8) -> u8
+    ensures { λ r. ⌜ r ≡ codeOf (tritAnd (tritOf x) (tritOf y)) ⌝ }
+{
+    if x == 0 {
+        return 0;
+    }
+    if y == 0 {
+        return 0;
+    }
+    if x != 1 {
+        return rules::TRIT_X;
+    }
+    if y != 1 {
+        return rules::TRIT_X;
+    }
+    1
+}
+
+fn code_or(x: u8, y: u8) -> u8
+    ensures { λ r. ⌜ r ≡ codeOf (tritOr (tritOf x) (tritOf y)) ⌝ }
+{
+    if x == 1 {
+        return 1;
+    }
+    if y == 1 {
+        return 1;
+    }
+    if x != 0 {
+        return rules::TRIT_X;
+    }
+    if y != 0 {
+        return rules::TRIT_X;
+    }
+    0
 }
 
 fn const_not_refusal(room: usize, a: &[u8]) -> u32
@@ -230,11 +281,9 @@ pub fn const_not(out: &mut [u8], a: &[u8]) -> u32
 fn code_gate(g: Gate, x: u8, y: u8) -> u8
     ensures { λ r. ⌜ r ≡ codeOf (gateOf g (tritOf x) (tritOf y)) ⌝ }
 {
-    let a = trit_at(x);
-    let b = trit_at(y);
     match g {
-        Gate::And => trit_code(trit_and(a, b)),
-        Gate::Or => trit_code(trit_or(a, b)),
+        Gate::And => code_and(x, y),
+        Gate::Or => code_or(x, y),
     }
 }
 

@@ -1,22 +1,16 @@
 -- `net_logic::code_not` meets its contract.
-use mathlib.Core.Path.{ap, _∙_}
-use Rattle.rules.specs.Logic.{codeOf, tritNot}
-use borrow.Author.Needs.{needs}
+use Rattle.net_logic.proofs.Codes.{not-0, not-1, not-X}
 use Rattle.net_logic.proofs.code_not.Statement.{statement}
 use Rattle.net_logic.proofs.code_not.Tie as tie
 
-trit-at-requires : tie.Need-trit-at-requires
-trit-at-requires c κs = search needs
-
-trit-not-requires : tie.Need-trit-not-requires
-trit-not-requires c κs = search needs
-
-trit-code-requires : tie.Need-trit-code-requires
-trit-code-requires c κs = search needs
-
 returns : tie.Need-returns
-returns c =
-    c .trit-code .ensures ∙ ap codeOf (c .before .trit-not .ensures ∙ ap tritNot (c .before .before .trit-at .ensures))
+returns c = not-0 _ (c .if1 .taken)
+
+returns-2 : tie.Need-returns-2
+returns-2 c = not-1 _ (c .if2 .taken)
+
+returns-3 : tie.Need-returns-3
+returns-3 c = not-X _ (c .before .if1 .left) (c .if2 .left)
 
 pub code-not-spec : {M : Type 1} → statement M
-code-not-spec = tie.close (tie.spec trit-at-requires trit-not-requires trit-code-requires returns)
+code-not-spec = tie.close (tie.spec returns returns-2 returns-3)
