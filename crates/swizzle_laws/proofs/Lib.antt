@@ -1,4 +1,4 @@
--- Laws of values side by side, of the mux tree, and of what a read port adds to the log.
+-- Laws of values side by side, of the mux tree, of pieces among columns, of the order of the memories, and of what ports add to the log.
 pub mod Cutting
 pub mod Pairs
 pub mod Tree

@@ -1,4 +1,4 @@
--- Values side by side in one list.
+-- Values side by side, the bits that select a row, pieces loaded from columns, and columns in the order of the memories.
 pub mod Cuts
 pub mod Masks
 pub mod Loads

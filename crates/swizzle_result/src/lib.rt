@@ -18,7 +18,7 @@ pub struct WideReadPort {
     pub wide: u32,
     pub first: u32,
     pub relations_len: u32,
-    pub relations: [u8; 8],
+    pub relations: [u8; rules::MAX_PORTS],
     pub flip_flop: MemoryReadFlipFlop,
 }
 
@@ -31,8 +31,8 @@ pub struct WideMemory {
     pub unit: u32,
     pub write_count: u32,
     pub read_count: u32,
-    pub write_ports: [WideWritePort; 8],
-    pub read_ports: [WideReadPort; 8],
+    pub write_ports: [WideWritePort; rules::MAX_PORTS],
+    pub read_ports: [WideReadPort; rules::MAX_PORTS],
 }
 
 // How many memories there are.

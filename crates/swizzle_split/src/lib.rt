@@ -53,17 +53,11 @@ struct Low {
     row_mask: u64,
 }
 
-fn index(x: u32) -> usize
-    ensures { λ r. ⌜ r ≡ x ⌝ }
-{
-    x as usize
-}
-
 // Stores a net, unless it lies past the end.
 fn put(to: &mut [u32], at: u32, net: u32)
     ensures { λ _. ⌜ now (to .exit) ≡ set (now (to .entry)) at net ⌝ }
 {
-    let i = index(at);
+    let i = lists::usize_of_u32(at);
     if i < to.len() {
         to[i] = net;
     }
@@ -204,12 +198,6 @@ fn low_bits(old: u32, mask: u32) -> Low
     }
 }
 
-fn wide64(x: u32) -> u64
-    ensures { λ r. ⌜ r ≡ x ⌝ }
-{
-    x as u64
-}
-
 fn pow2(k: u32) -> u64
     requires { ⌜ k ≤ addrBits ⌝ }
     ensures { λ r. ⌜ r ≡ 2 ^ k ⌝ }
@@ -229,7 +217,7 @@ fn all_chunks(p: Params) -> u64
     ensures { λ r. ⌜ ((es : List ℕ) → r ≡ allChunks (layoutBy p es)) ⌝ }
 {
     let deep = pow2(p.hard);
-    let base = wide64(p.depth) / pow2(image_geometry::soft_bits(p.soft_mask));
+    let base = lists::u64_of_u32(p.depth) / pow2(image_geometry::soft_bits(p.soft_mask));
     let full = base / deep;
     if base % deep == 0 {
         return full;
@@ -245,7 +233,12 @@ fn pad(to: &mut [u32], len: u32, want: u32) -> u32
     if want <= len {
         return len;
     }
-    lists::fill_u32(to, index(len), index(want - len), 0);
+    lists::fill_u32(
+        to,
+        lists::usize_of_u32(len),
+        lists::usize_of_u32(want - len),
+        0,
+    );
     want
 }
 
@@ -316,7 +309,7 @@ fn can_split(p: Params, old: u32, new: u32, len: usize) -> bool
     if new < old - low.softs {
         return false;
     }
-    if index(rules::ADDR_BITS - old) < len {
+    if lists::usize_of_u32(rules::ADDR_BITS - old) < len {
         return false;
     }
     let chunks = all_chunks(p);

@@ -1,4 +1,4 @@
--- `read_pieces::is_held` meets its contract.
+-- `swizzle_pieces::is_held` meets its contract.
 use native.Mathlib.Omega.{arith}
 use Prim.Native.Nat.{_*_}
 use mathlib.Core.Path.{_≡_}

@@ -1,4 +1,4 @@
--- `read_pieces::load` meets its contract.
+-- `swizzle_pieces::load` meets its contract.
 use mathlib.Core.Path.{sym, _∙_}
 use lib.ListN.{length}
 use borrow.Author.Tests.{not-true, not-false}

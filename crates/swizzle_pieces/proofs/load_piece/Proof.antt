@@ -1,4 +1,4 @@
--- `read_pieces::load_piece` meets its contract.
+-- `swizzle_pieces::load_piece` meets its contract.
 use mathlib.Core.Path.{ap, _∙_}
 use Prim.Native.Nat.{ℕ}
 use lib.ListN.{replicate}

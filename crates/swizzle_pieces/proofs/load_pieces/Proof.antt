@@ -1,4 +1,4 @@
--- `read_pieces::load_pieces` meets its contract.
+-- `swizzle_pieces::load_pieces` meets its contract.
 use native.Mathlib.Nat.{sub-zero}
 use Rattle.lists.specs.Lists.{upFrom}
 use Rattle.swizzle_pieces.specs.Steps.{sizeOf, loadEach}

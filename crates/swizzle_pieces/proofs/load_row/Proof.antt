@@ -1,4 +1,4 @@
--- `read_pieces::load_row` meets its contract.
+-- `swizzle_pieces::load_row` meets its contract.
 use Rattle.swizzle_laws.specs.Loads.{restoreFrom}
 use Rattle.swizzle_pieces.proofs.Loaded.{row-turn, row-end, guard-not, guard-is}
 use mathlib.Core.Path.{_≡_, refl, _∙_}

@@ -1,4 +1,4 @@
--- `read_pieces::piece_size` meets its contract.
+-- `swizzle_pieces::piece_size` meets its contract.
 use native.Mathlib.Omega.{arith}
 use Prim.Native.Nat.{_*_}
 use Rattle.swizzle_pieces.proofs.Loaded.{product-fits}

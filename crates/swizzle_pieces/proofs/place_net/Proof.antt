@@ -1,4 +1,4 @@
--- `read_pieces::place_net` meets its contract.
+-- `swizzle_pieces::place_net` meets its contract.
 use native.Mathlib.Omega.{arith}
 use mathlib.Core.Path.{ap, _∙_}
 use Prim.Native.Nat.{ℕ, _+_}

@@ -1,4 +1,4 @@
--- `read_pieces::row_first` meets its contract.
+-- `swizzle_pieces::row_first` meets its contract.
 use native.Mathlib.Omega.{arith}
 use Rattle.image_geometry.specs.View.{viewSpot}
 use Rattle.swizzle_pieces.proofs.Loaded.{row-part, chunk-part, product-fits}

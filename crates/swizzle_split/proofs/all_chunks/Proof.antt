@@ -1,4 +1,4 @@
--- `split::all_chunks` meets its contract.
+-- `swizzle_split::all_chunks` meets its contract.
 use mathlib.Core.Path.{refl}
 use native.Mathlib.Omega.{arith}
 use Rattle.image_geometry.specs.View.{layoutBy}
@@ -10,8 +10,8 @@ use Rattle.swizzle_split.proofs.all_chunks.Tie as tie
 pow2-requires : tie.Need-pow2-requires
 pow2-requires c κs = search needs
 
-wide64-requires : tie.Need-wide64-requires
-wide64-requires c κs = search needs
+u64-of-u32-requires : tie.Need-u64-of-u32-requires
+u64-of-u32-requires c κs = search needs
 
 soft-bits-requires : tie.Need-soft-bits-requires
 soft-bits-requires c κs = search needs
@@ -35,24 +35,24 @@ returns : tie.Need-returns
 returns c =
     λ es.
     let p = c .before .before .before .before .before .args .p in
-    chunks-whole (layoutBy p es) _ (base-is (layoutBy p es) _ _ _ (c .before .before .before .wide64 .ensures) (c .before .pow22 .ensures) (c .before .before .soft-bits .ensures)) _ _ (c .before .before .before .before .pow2 .ensures) refl (c .if1 .taken)
+    chunks-whole (layoutBy p es) _ (base-is (layoutBy p es) _ _ _ (c .before .before .before .u64-of-u32 .ensures) (c .before .pow22 .ensures) (c .before .before .soft-bits .ensures)) _ _ (c .before .before .before .before .pow2 .ensures) refl (c .if1 .taken)
 
 add-result : tie.Need-add-result
 add-result c =
-    omega (arith, full-low (c .before .before .before .wide64 .result) (c .before .pow22 .result) (c .before .before .before .before .pow2 .result) (omega (arith, c .before .before .before .wide64 .ensures)))
+    omega (arith, full-low (c .before .before .before .u64-of-u32 .result) (c .before .pow22 .result) (c .before .before .before .before .pow2 .result) (omega (arith, c .before .before .before .u64-of-u32 .ensures)))
 
 returns-2 : tie.Need-returns-2
 returns-2 c =
     λ es.
     let p = c .before .before .before .before .before .args .p in
-    chunks-more (layoutBy p es) _ (base-is (layoutBy p es) _ _ _ (c .before .before .before .wide64 .ensures) (c .before .pow22 .ensures) (c .before .before .soft-bits .ensures)) _ _ (c .before .before .before .before .pow2 .ensures) refl (c .if1 .left)
+    chunks-more (layoutBy p es) _ (base-is (layoutBy p es) _ _ _ (c .before .before .before .u64-of-u32 .ensures) (c .before .pow22 .ensures) (c .before .before .soft-bits .ensures)) _ _ (c .before .before .before .before .pow2 .ensures) refl (c .if1 .left)
 
 pub all-chunks-spec : {M : Type 1} → statement M
 all-chunks-spec =
     tie.close
     (tie.spec
     pow2-requires
-    wide64-requires
+    u64-of-u32-requires
     soft-bits-requires
     pow2-requires-2
     div-base

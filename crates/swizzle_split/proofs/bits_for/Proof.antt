@@ -1,4 +1,4 @@
--- `split::bits_for` meets its contract.
+-- `swizzle_split::bits_for` meets its contract.
 use mathlib.Core.Path.{_∙_}
 use Rattle.swizzle_split.proofs.Splitting.{bits-none, bits-some}
 use borrow.Author.Needs.{needs}

@@ -1,4 +1,4 @@
--- `split::can_split` meets its contract.
+-- `swizzle_split::can_split` meets its contract.
 use mathlib.Core.Path.{_≡_, ap, subst}
 use Prim.Native.Nat.{ℕ, _-_, _<_}
 use native.Mathlib.Omega.{arith}
@@ -47,17 +47,17 @@ returns-5 c =
     let e : c .before .before .low-bits .result .softs ≡ softs (v .old) (v .p .«soft_mask») = ap (λ (x : Low). x .softs) (c .before .before .low-bits .ensures) in
     λ es. no-rows (layoutBy (v .p) es) (v .old) (v .new) (v .len) (c .before .before .before .before .before .before .before .before .if1 .left) (c .before .before .before .before .before .before .before .if2 .left) (c .before .before .before .before .before .if3 .left) (c .before .before .before .if4 .left) (omega (arith, e, c .if5 .taken))
 
-sub-index : tie.Need-sub-index
-sub-index c = search needs
+sub-usize-of-u32 : tie.Need-sub-usize-of-u32
+sub-usize-of-u32 c = search needs
 
-index-requires : tie.Need-index-requires
-index-requires c κs = search needs
+usize-of-u32-requires : tie.Need-usize-of-u32-requires
+usize-of-u32-requires c κs = search needs
 
 returns-6 : tie.Need-returns-6
 returns-6 c =
     let v = c .before .before .before .before .before .before .before .before .before .before .before .args in
     let e : c .before .before .before .before .low-bits .result .softs ≡ softs (v .old) (v .p .«soft_mask») = ap (λ (x : Low). x .softs) (c .before .before .before .before .low-bits .ensures) in
-    λ es. no-room (layoutBy (v .p) es) (v .old) (v .new) (v .len) (c .before .before .before .before .before .before .before .before .before .before .if1 .left) (c .before .before .before .before .before .before .before .before .before .if2 .left) (c .before .before .before .before .before .before .before .if3 .left) (c .before .before .before .before .before .if4 .left) (omega (arith, e, c .before .before .if5 .left)) (omega (arith, c .if6 .taken, c .before .index .ensures, c .before .before .before .before .before .before .before .before .before .before .if1 .left))
+    λ es. no-room (layoutBy (v .p) es) (v .old) (v .new) (v .len) (c .before .before .before .before .before .before .before .before .before .before .if1 .left) (c .before .before .before .before .before .before .before .before .before .if2 .left) (c .before .before .before .before .before .before .before .if3 .left) (c .before .before .before .before .before .if4 .left) (omega (arith, e, c .before .before .if5 .left)) (omega (arith, c .if6 .taken, c .before .usize-of-u32 .ensures .0, c .before .before .before .before .before .before .before .before .before .before .if1 .left))
 
 all-chunks-requires : tie.Need-all-chunks-requires
 all-chunks-requires c κs = search needs
@@ -66,7 +66,7 @@ returns-7 : tie.Need-returns-7
 returns-7 c =
     let v = c .before .before .before .before .before .before .before .before .before .before .before .before .before .args in
     let e : c .before .before .before .before .before .before .low-bits .result .softs ≡ softs (v .old) (v .p .«soft_mask») = ap (λ (x : Low). x .softs) (c .before .before .before .before .before .before .low-bits .ensures) in
-    λ es. no-chunks (layoutBy (v .p) es) (v .old) (v .new) (v .len) (c .before .before .before .before .before .before .before .before .before .before .before .before .if1 .left) (c .before .before .before .before .before .before .before .before .before .before .before .if2 .left) (c .before .before .before .before .before .before .before .before .before .if3 .left) (c .before .before .before .before .before .before .before .if4 .left) (omega (arith, e, c .before .before .before .before .if5 .left)) (omega (arith, c .before .before .if6 .left, c .before .before .before .index .ensures, c .before .before .before .before .before .before .before .before .before .before .before .before .if1 .left)) (subst (λ (n : ℕ). 32768 < n) (c .before .all-chunks .ensures es) (c .if7 .taken))
+    λ es. no-chunks (layoutBy (v .p) es) (v .old) (v .new) (v .len) (c .before .before .before .before .before .before .before .before .before .before .before .before .if1 .left) (c .before .before .before .before .before .before .before .before .before .before .before .if2 .left) (c .before .before .before .before .before .before .before .before .before .if3 .left) (c .before .before .before .before .before .before .before .if4 .left) (omega (arith, e, c .before .before .before .before .if5 .left)) (omega (arith, c .before .before .if6 .left, c .before .before .before .usize-of-u32 .ensures .0, c .before .before .before .before .before .before .before .before .before .before .before .before .if1 .left)) (subst (λ (n : ℕ). 32768 < n) (c .before .all-chunks .ensures es) (c .if7 .taken))
 
 soft-bits-requires : tie.Need-soft-bits-requires
 soft-bits-requires c κs = search needs
@@ -85,7 +85,7 @@ returns-8 c =
     let v = c .before .before .before .before .before .before .before .before .before .before .before .before .before .before .before .args in
     let e : c .before .before .before .before .before .before .before .before .low-bits .result .softs ≡ softs (v .old) (v .p .«soft_mask») = ap (λ (x : Low). x .softs) (c .before .before .before .before .before .before .before .before .low-bits .ensures) in
     λ es.
-    by-chunks (layoutBy (v .p) es) (v .old) (v .new) (v .len) (c .before .before .before .before .before .before .before .before .before .before .before .before .before .before .if1 .left) (c .before .before .before .before .before .before .before .before .before .before .before .before .before .if2 .left) (c .before .before .before .before .before .before .before .before .before .before .before .if3 .left) (c .before .before .before .before .before .before .before .before .before .if4 .left) (omega (arith, e, c .before .before .before .before .before .before .if5 .left)) (omega (arith, c .before .before .before .before .if6 .left, c .before .before .before .before .before .index .ensures, c .before .before .before .before .before .before .before .before .before .before .before .before .before .before .if1 .left))
+    by-chunks (layoutBy (v .p) es) (v .old) (v .new) (v .len) (c .before .before .before .before .before .before .before .before .before .before .before .before .before .before .if1 .left) (c .before .before .before .before .before .before .before .before .before .before .before .before .before .if2 .left) (c .before .before .before .before .before .before .before .before .before .before .before .if3 .left) (c .before .before .before .before .before .before .before .before .before .if4 .left) (omega (arith, e, c .before .before .before .before .before .before .if5 .left)) (omega (arith, c .before .before .before .before .if6 .left, c .before .before .before .before .before .usize-of-u32 .ensures .0, c .before .before .before .before .before .before .before .before .before .before .before .before .before .before .if1 .left))
     (chunks-by (layoutBy (v .p) es) _ _ _ (c .before .before .before .all-chunks .ensures es) (c .pow2 .ensures) (c .before .soft-bits .ensures))
 
 pub can-split-spec : {M : Type 1} → statement M
@@ -99,8 +99,8 @@ can-split-spec =
     low-bits-requires
     sub-if5
     returns-5
-    sub-index
-    index-requires
+    sub-usize-of-u32
+    usize-of-u32-requires
     returns-6
     all-chunks-requires
     returns-7

@@ -1,4 +1,4 @@
--- `split::low_bits` meets its contract.
+-- `swizzle_split::low_bits` meets its contract.
 use Rattle.swizzle_split.proofs.Lows.{Going, going-starts, going-weight, going-add, going-down, going-ends}
 use Prim.Native.Nat.{_-_}
 use native.Mathlib.Omega.{arith}

@@ -1,5 +1,5 @@
--- `split::pow2` meets its contract.
--- `split::pow2` meets its contract.
+-- `swizzle_split::pow2` meets its contract.
+-- `swizzle_split::pow2` meets its contract.
 use mathlib.Core.Path.{_≡_, refl, sym, ap, _∙_}
 use Prim.Native.Nat.{ℕ, _-_, _*_, _^_, _≤_}
 use native.Mathlib.Omega.{arith}

@@ -1,4 +1,4 @@
--- `split::row_weight` meets its contract.
+-- `swizzle_split::row_weight` meets its contract.
 use Rattle.swizzle_split.proofs.Lows.{weight-none, weight-all}
 use Rattle.swizzle_split.proofs.row_weight.Statement.{statement}
 use Rattle.swizzle_split.proofs.row_weight.Tie as tie

@@ -1,4 +1,4 @@
--- `split::split_addr` meets its contract.
+-- `swizzle_split::split_addr` meets its contract.
 use mathlib.Core.Path.{refl, sym, _∙_}
 use lib.ListN.{length}
 use borrow.Author.Tests.{not-true, not-false}

@@ -1,4 +1,4 @@
--- `split::split_in` meets its contract.
+-- `swizzle_split::split_in` meets its contract.
 use mathlib.Core.Path.{refl, sym, subst}
 use native.Mathlib.Omega.{arith}
 use mathlib.Core.List.{[]}

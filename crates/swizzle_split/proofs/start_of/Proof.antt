@@ -1,4 +1,4 @@
--- `split::start_of` meets its contract.
+-- `swizzle_split::start_of` meets its contract.
 use mathlib.Core.Path.{_≡_, ap, _∙_}
 use native.Mathlib.Omega.{arith}
 use Rattle.rules.specs.Numbers.{softs}

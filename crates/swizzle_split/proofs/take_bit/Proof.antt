@@ -1,4 +1,4 @@
--- `split::take_bit` meets its contract.
+-- `swizzle_split::take_bit` meets its contract.
 use mathlib.Core.Path.{ap, _∙_}
 use native.Mathlib.Omega.{arith}
 use Rattle.rules.specs.Swizzle.{Role}

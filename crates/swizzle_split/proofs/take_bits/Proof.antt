@@ -1,4 +1,4 @@
--- `split::take_bits` meets its contract.
+-- `swizzle_split::take_bits` meets its contract.
 use Rattle.swizzle_split.proofs.Takes.{On, on-starts, on-roomy, on-turn, on-ends}
 use mathlib.Core.Path.{_≡_, refl, _∙_}
 use Prim.Native.Nat.{_-_}

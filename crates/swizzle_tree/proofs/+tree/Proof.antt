@@ -1,4 +1,4 @@
--- `read_tree::tree` meets its contract.
+-- `swizzle_tree::tree` meets its contract.
 use Prim.Native.Nat.{_+_, _-_}
 use Rattle.swizzle_tree.proofs.Treeing.{bits-left}
 use mathlib.Core.Path.{_∙_}

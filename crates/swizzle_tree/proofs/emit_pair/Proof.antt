@@ -1,4 +1,4 @@
--- `read_tree::emit_pair` meets its contract.
+-- `swizzle_tree::emit_pair` meets its contract.
 use mathlib.Core.Path.{_≡_}
 use Prim.Native.Nat.{_+_, _-_}
 use native.Mathlib.Omega.{arith}

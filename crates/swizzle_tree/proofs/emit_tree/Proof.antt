@@ -1,4 +1,4 @@
--- `read_tree::emit_tree` meets its contract.
+-- `swizzle_tree::emit_tree` meets its contract.
 use native.Mathlib.Omega.{arith}
 use Rattle.log_entries.specs.View.{lent}
 use Rattle.swizzle_tree.proofs.Treeing.{built-none, built-short, built-tree, product-fits}

@@ -1,4 +1,4 @@
--- `read_tree::last_alone` meets its contract.
+-- `swizzle_tree::last_alone` meets its contract.
 use mathlib.Core.Path.{_≡_}
 use native.Mathlib.Omega.{arith}
 use Rattle.swizzle_tree.proofs.Pairing.{alone-none, alone-one, alone-fits}

@@ -1,4 +1,4 @@
--- `read_tree::move_down` meets its contract.
+-- `swizzle_tree::move_down` meets its contract.
 use lib.Seq.{sets}
 use lib.ListN.{length-set}
 use Rattle.lists.specs.Lists.{part}

@@ -1,4 +1,4 @@
--- `read_tree::pair_at` meets its contract.
+-- `swizzle_tree::pair_at` meets its contract.
 use mathlib.Core.Path.{sym, _∙_}
 use Rattle.log_entries.specs.View.{lent}
 use Rattle.swizzle_tree.proofs.Pairing.{pair-kept, pair-stored}

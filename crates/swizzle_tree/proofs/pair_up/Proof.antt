@@ -1,4 +1,4 @@
--- `read_tree::pair_up` meets its contract.
+-- `swizzle_tree::pair_up` meets its contract.
 use Rattle.log_entries.specs.View.{lent}
 use Rattle.swizzle_tree.proofs.Pairing.{Going, going-starts, going-room, turn-down, paired}
 use mathlib.Core.Path.{_≡_, refl, _∙_}

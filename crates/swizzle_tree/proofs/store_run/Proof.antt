@@ -1,4 +1,4 @@
--- `read_tree::store_run` meets its contract.
+-- `swizzle_tree::store_run` meets its contract.
 use lib.Seq.{sets}
 use lib.ListN.{length-set}
 use Rattle.lists.specs.Lists.{upFrom}

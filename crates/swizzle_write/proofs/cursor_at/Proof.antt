@@ -1,4 +1,4 @@
--- `write_ports::cursor_at` meets its contract.
+-- `swizzle_write::cursor_at` meets its contract.
 use mathlib.Core.Path.{refl}
 use native.Mathlib.Omega.{arith}
 use borrow.Author.Needs.{needs}

@@ -1,4 +1,4 @@
--- `write_ports::net_of` meets its contract.
+-- `swizzle_write::net_of` meets its contract.
 use mathlib.Core.Path.{sym, _∙_}
 use native.Mathlib.Omega.{arith}
 use borrow.Author.Tests.{eq-eqb, ne-eqb}

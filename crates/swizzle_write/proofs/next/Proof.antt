@@ -1,4 +1,4 @@
--- `write_ports::next` meets its contract.
+-- `swizzle_write::next` meets its contract.
 use mathlib.Core.Path.{sym}
 use native.Mathlib.Omega.{arith}
 use borrow.Author.Tests.{lt-ltb, le-ltb}

@@ -1,4 +1,4 @@
--- `write_ports::source` meets its contract.
+-- `swizzle_write::source` meets its contract.
 use mathlib.Core.Path.{sym}
 use native.Mathlib.Omega.{arith}
 use borrow.Author.Tests.{eq-eqb, ne-eqb}

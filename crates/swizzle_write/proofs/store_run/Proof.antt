@@ -1,4 +1,4 @@
--- `write_ports::store_run` meets its contract.
+-- `swizzle_write::store_run` meets its contract.
 use mathlib.Core.Path.{_≡_, refl, sym, ap, _∙_}
 use Prim.Native.Nat.{ℕ, _+_, _-_, _*_, _<_, _≤_, min}
 use native.Mathlib.Omega.{arith}

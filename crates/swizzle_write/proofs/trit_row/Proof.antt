@@ -1,4 +1,4 @@
--- `write_ports::trit_row` meets its contract.
+-- `swizzle_write::trit_row` meets its contract.
 use mathlib.Core.Path.{_≡_, refl, sym, ap, _∙_}
 use Prim.Native.Nat.{ℕ, _+_, _-_, _*_, _<_, _≤_, min}
 use native.Mathlib.Omega.{arith}
