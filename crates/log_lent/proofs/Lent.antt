@@ -34,7 +34,7 @@ use denote.Triple.Call.{calls-from}
 use denote.Triple.Spec.{Meets}
 use denote.Triple.End.{Fins, all}
 use denote.Triple.Clauses.{Ended, Clauses, closing}
-use denote.Triple.Walked.{says, Stays, stay-ref, stay-dropped, gave-slice, fitsOf, hasOf, walkOf, AllGo, goes-ref, goes-dropped, goes-gave-slice, Walks, ends-at, walked, walk-meets}
+use denote.Triple.Walked.{says, Stays, stay-ref, stay-dropped, gave-slice, fitsOf, hasOf, walkOf, AllGo, goes-ref, goes-dropped, goes-gave-slice, ends-at, walked, walk-meets}
 use Rattle.log_entries.specs.declared.LogState.{LogState}
 use Rattle.log_entries.proofs.LogState as T
 use Rattle.log_entries.proofs.LogState.Laws as T′
