@@ -1,0 +1,5 @@
+-- Laws of an emulation.
+pub mod Delays
+pub mod Bounds
+pub mod Rooms
+pub mod Number

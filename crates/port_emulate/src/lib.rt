@@ -1,0 +1,97 @@
+// memory/src/lib.rs, emulate_read_before_write: the number that refuses it. 20 and 21 come from a run without a log, which stores no net.
+ghost use mathlib.Core.Path.{_≡_};
+ghost use mathlib.Core.Bool.{Bool};
+ghost use mathlib.Core.List.{List, []};
+ghost use Prim.Native.Nat.{ℕ};
+ghost use lib.ListN.{length};
+ghost use Rattle.lists.specs.Choice.{if_then_else_, _orElse_};
+ghost use Rattle.lists.specs.Lists.{any};
+ghost use Rattle.rules.specs.Conditions.{unclocked};
+ghost use Rattle.rules.specs.Ports.{emulateReadBeforeWrite};
+ghost use Rattle.rules.specs.Refusals.{emulateNumber, logRefusal, emulateReadBeforeWriteRefusal};
+ghost use Rattle.log_entries.specs.Emission.{run};
+ghost use Rattle.log_entries.specs.View.{stateOf, lent};
+ghost use Rattle.net_memory.specs.View.{writeBy, writesOf, memoryOf};
+ghost use Rattle.net_memory.specs.Given.{givenOf};
+ghost use Rattle.port_transparency.specs.Gave.{Gave};
+ghost use Rattle.port_delay.specs.Delay.{cut};
+ghost use Rattle.port_emulate.specs.Delays.{isRead, delayedBy, cutBy, delays, Fitting, roomsOf};
+use log_entries::LogState;
+use net_memory::Memory;
+use net_memory::MemoryWritePort;
+
+// Write port j with these nets, delayed where a read port reads before it writes; the results are the first nets of `a`, `d` and `k`.
+fn emit_port(
+    log: &mut [u32],
+    st: LogState,
+    a: &mut [u32; rules::MAX_MERGE],
+    d: &mut [u32; rules::MAX_MERGE],
+    k: &mut [u32; rules::MAX_MERGE],
+    all_x: bool,
+    m: Memory,
+    j: usize,
+    p: MemoryWritePort,
+    own: &[u32],
+) -> LogState
+    ensures { λ r. ⌜ ((nets trits : List ℕ) → Gave (delayedBy (isRead m nets trits j) «all_x» (writeBy p (now (own .entry)) []) (cut (writeBy p (now (own .entry)) []) (now (a .entry)) (now (d .entry)) (now (k .entry)))) (lent st (now (log .entry))) (lent r (now (log .exit))) (cutBy (isRead m nets trits j) (writeBy p (now (own .entry)) []) (now (a .exit)) (now (d .exit)) (now (k .exit)))) ⌝ }
+{
+    if !port_relations::relates_to(m, j, 1) {
+        return st;
+    }
+    port_delay::emit_delayed(log, st, a, d, k, all_x, p, own)
+}
+
+// All write ports, one after the other. No net of the memory is stored.
+fn emit_ports(
+    log: &mut [u32],
+    st: LogState,
+    a: &mut [u32; rules::MAX_MERGE],
+    d: &mut [u32; rules::MAX_MERGE],
+    k: &mut [u32; rules::MAX_MERGE],
+    all_x: bool,
+    m: Memory,
+    nets: &[u32],
+) -> LogState
+    requires { ⌜ Fitting (writesOf m (now nets)) ⌝ }
+    ensures { λ r. ⌜ ((x y : List ℕ) → lent r (now (log .exit)) ≡ run (delays (isRead m x y) «all_x» 0 (writesOf m (now (nets .entry)))) (lent st (now (log .entry)))) ⌝ }
+{
+    let count = net_memory::ports_used(m.write_count);
+    let mut state = st;
+    let mut at: usize = 0;
+    let mut j = 0;
+    while j < count {
+        let p = m.write_ports[j];
+        let size = net_memory::write_size(p);
+        let own = lists::part_u32(nets, at, size);
+        state = emit_port(log, state, a, d, k, all_x, m, j, p, own);
+        at += size;
+        j += 1;
+    }
+    state
+}
+
+// 20 and 21, by a run without a log.
+fn log_number(room: usize, st: LogState, m: Memory, nets: &[u32], trits: &[u8]) -> u32
+    requires { ⌜ (emulateNumber (st .next) (givenOf m (now nets) (now trits)) orElse (if any unclocked (memoryOf m (now nets) (now trits) .reads) then 22 else 0)) ≡ 0 ⌝ }
+    ensures { λ r. ⌜ r ≡ logRefusal room (stateOf st) (emulateReadBeforeWrite (memoryOf m (now (nets .entry)) (now (trits .entry)))) ⌝ }
+{
+    let mut a = [0u32; rules::MAX_MERGE];
+    let mut d = [0u32; rules::MAX_MERGE];
+    let mut k = [0u32; rules::MAX_MERGE];
+    let mut no_log = [0u32; 0];
+    let start = log_entries::dry_start(st);
+    let all_x = net_logic::is_undef(lists::part_u8(trits, 0, net_memory::init_size(m)));
+    let dry = emit_ports(&mut no_log, start, &mut a, &mut d, &mut k, all_x, m, nets);
+    log_entries::dry_refusal(room, st, dry)
+}
+
+// The number that refuses an emulation on a log of this length, or 0.
+pub fn emulate_refusal(room: usize, st: LogState, m: Memory, nets: &[u32], trits: &[u8]) -> u32
+    ensures { λ r. ⌜ r ≡ emulateReadBeforeWriteRefusal (roomsOf (now (nets .entry)) (now (trits .entry))) room (stateOf st) (givenOf m (now (nets .entry)) (now (trits .entry))) ⌝ }
+{
+    let n = port_relations::input_number(m, nets, trits, st.next);
+    if n != 0 {
+        return n;
+    }
+    log_number(room, st, m, nets, trits)
+}
