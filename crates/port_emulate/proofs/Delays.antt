@@ -38,7 +38,7 @@ chains-delayed : (allX : Bool) (p : WritePort) → Chains (delayed allX p)
 unfolding delayed
 chains-delayed allX p = chains-bind _ _ (chains-dff _) (λ a. chains-bind _ _ (chains-dff _) (λ v. chains-bind _ _ (chains-dedup-dff _) (λ k. chains-done _)))
 
-chains-step : (b allX : Bool) (p : WritePort) → Chains (if b then delayed allX p else done p)
+pub chains-step : (b allX : Bool) (p : WritePort) → Chains (if b then delayed allX p else done p)
 chains-step b allX p = chains-if b (delayed allX p) (done p) (chains-delayed allX p) (chains-done p)
 
 pub chains-delays : (is : ℕ → Bool) (allX : Bool) (j : ℕ) (ps : List WritePort) → Chains (delays is allX j ps)

@@ -3,3 +3,4 @@ pub mod Delays
 pub mod Bounds
 pub mod Rooms
 pub mod Number
+pub mod Stored

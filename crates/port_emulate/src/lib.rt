@@ -1,9 +1,11 @@
 // memory/src/lib.rs, emulate_read_before_write: the number that refuses it. 20 and 21 come from a run without a log, which stores no net.
 ghost use mathlib.Core.Path.{_≡_};
 ghost use mathlib.Core.Bool.{Bool};
-ghost use mathlib.Core.List.{List, []};
-ghost use Prim.Native.Nat.{ℕ};
-ghost use lib.ListN.{length};
+ghost use mathlib.Core.List.{List, [], _++_};
+ghost use Prim.Native.Nat.{ℕ, _≤_};
+ghost use lib.ListN.{length, take};
+ghost use lib.Seq.{sets};
+ghost use Rattle.rules.specs.Limits.{maxMerge};
 ghost use Rattle.lists.specs.Choice.{if_then_else_, _orElse_};
 ghost use Rattle.lists.specs.Lists.{any};
 ghost use Rattle.rules.specs.Conditions.{unclocked};
@@ -15,7 +17,7 @@ ghost use Rattle.net_memory.specs.View.{writeBy, writesOf, memoryOf};
 ghost use Rattle.net_memory.specs.Given.{givenOf};
 ghost use Rattle.port_transparency.specs.Gave.{Gave};
 ghost use Rattle.port_delay.specs.Delay.{cut};
-ghost use Rattle.port_emulate.specs.Delays.{isRead, delayedBy, cutBy, delays, Fitting, roomsOf};
+ghost use Rattle.port_emulate.specs.Delays.{isRead, delayedBy, cutBy, delays, Fitting, PortReady, PortDone, roomsOf};
 use log_entries::LogState;
 use net_memory::Memory;
 use net_memory::MemoryWritePort;
@@ -39,6 +41,53 @@ fn emit_port(
         return st;
     }
     port_delay::emit_delayed(log, st, a, d, k, all_x, p, own)
+}
+
+// Stores the first nets of `a`, `d` and `k`, as many as a write port has, from `at` on.
+fn store_port(
+    nets: &mut [u32],
+    at: usize,
+    p: MemoryWritePort,
+    a: &[u32; rules::MAX_MERGE],
+    d: &[u32; rules::MAX_MERGE],
+    k: &[u32; rules::MAX_MERGE],
+)
+    requires { ⌜ (at ≤ 0x1800000000) × (p .«addr_len» ≤ maxMerge) × (p .«data_len» ≤ maxMerge) × (p .«mask_len» ≤ maxMerge) ⌝ }
+    ensures { λ _. ⌜ now (nets .exit) ≡ sets (now (nets .entry)) at (take (p .«addr_len») (now (a .entry)) ++ (take (p .«data_len») (now (d .entry)) ++ take (p .«mask_len») (now (k .entry)))) ⌝ }
+    ensures { λ _. ⌜ (length (now (a .entry)) ≡ maxMerge) × (length (now (d .entry)) ≡ maxMerge) × (length (now (k .entry)) ≡ maxMerge) ⌝ }
+{
+    let x = lists::usize_of_u32(p.addr_len);
+    let y = lists::usize_of_u32(p.data_len);
+    let z = lists::usize_of_u32(p.mask_len);
+    lists::copy_u32(nets, at, lists::part_u32(a, 0, x));
+    lists::copy_u32(nets, at + x, lists::part_u32(d, 0, y));
+    lists::copy_u32(nets, at + x + y, lists::part_u32(k, 0, z));
+}
+
+// Write port j, delayed where a read port reads before it writes: its flip-flops' results take the place of its nets.
+fn delay_port(
+    log: &mut [u32],
+    st: LogState,
+    nets: &mut [u32],
+    a: &mut [u32; rules::MAX_MERGE],
+    d: &mut [u32; rules::MAX_MERGE],
+    k: &mut [u32; rules::MAX_MERGE],
+    all_x: bool,
+    m: Memory,
+    j: usize,
+    p: MemoryWritePort,
+    at: usize,
+) -> LogState
+    requires { ⌜ PortReady m (now nets) j at p ⌝ }
+    ensures { λ r. ⌜ PortDone m «all_x» j (now (nets .entry)) (now (nets .exit)) (lent st (now (log .entry))) (lent r (now (log .exit))) ⌝ }
+{
+    let own = lists::part_u32(nets, at, net_memory::write_size(p));
+    let after = emit_port(log, st, a, d, k, all_x, m, j, p, own);
+    if !port_relations::relates_to(m, j, 1) {
+        return after;
+    }
+    store_port(nets, at, p, a, d, k);
+    after
 }
 
 // All write ports, one after the other. No net of the memory is stored.
