@@ -4,3 +4,4 @@ pub mod Bounds
 pub mod Rooms
 pub mod Number
 pub mod Stored
+pub mod Ports

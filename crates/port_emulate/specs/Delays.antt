@@ -76,3 +76,14 @@ pub record PortDone (m : Memory) (allX : Bool) (j : ℕ) (nets nets′ : List �
       → memoryOf m nets′ trits
       ≡ record { depth = memoryOf m nets trits .depth; width = memoryOf m nets trits .width; init = memoryOf m nets trits .init; writes = set (memoryOf m nets trits .writes) j (portAt m nets′ j); reads = memoryOf m nets trits .reads }
   pub size : length nets′ ≡ length nets
+
+-- the ports from j on, each by its test
+abbrev pub turnedFrom : (ℕ → Bool) → ℕ → List WritePort → List WritePort
+turnedFrom is j [] = []
+turnedFrom is j (w ∷ ws) = turnedBy (is j) w ∷ turnedFrom is (suc j) ws
+
+-- all ports in turn; the read ports stay
+pub record PortsDone (m : Memory) (allX : Bool) (nets nets′ : List ℕ) (l l1 : Lent) : Type 0 where
+  pub gave : (x y : List ℕ) → Gave (delays (isRead m x y) allX 0 (writesOf m nets)) l l1 (turnedFrom (isRead m x y) 0 (writesOf m nets′))
+  pub kept : (trits : List ℕ) → memoryOf m nets′ trits .reads ≡ memoryOf m nets trits .reads
+  pub size : length nets′ ≡ length nets

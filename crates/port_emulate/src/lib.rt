@@ -13,11 +13,11 @@ ghost use Rattle.rules.specs.Ports.{emulateReadBeforeWrite};
 ghost use Rattle.rules.specs.Refusals.{emulateNumber, logRefusal, emulateReadBeforeWriteRefusal};
 ghost use Rattle.log_entries.specs.Emission.{run};
 ghost use Rattle.log_entries.specs.View.{stateOf, lent};
-ghost use Rattle.net_memory.specs.View.{writeBy, writesOf, memoryOf};
+ghost use Rattle.net_memory.specs.View.{writeBy, writesOf, readsStart, memoryOf};
 ghost use Rattle.net_memory.specs.Given.{givenOf};
 ghost use Rattle.port_transparency.specs.Gave.{Gave};
 ghost use Rattle.port_delay.specs.Delay.{cut};
-ghost use Rattle.port_emulate.specs.Delays.{isRead, delayedBy, cutBy, delays, Fitting, PortReady, PortDone, roomsOf};
+ghost use Rattle.port_emulate.specs.Delays.{isRead, delayedBy, cutBy, delays, Fitting, PortReady, PortDone, PortsDone, roomsOf};
 use log_entries::LogState;
 use net_memory::Memory;
 use net_memory::MemoryWritePort;
@@ -88,6 +88,33 @@ fn delay_port(
     }
     store_port(nets, at, p, a, d, k);
     after
+}
+
+// All write ports in turn, their nets in place.
+fn delay_ports(
+    log: &mut [u32],
+    st: LogState,
+    nets: &mut [u32],
+    a: &mut [u32; rules::MAX_MERGE],
+    d: &mut [u32; rules::MAX_MERGE],
+    k: &mut [u32; rules::MAX_MERGE],
+    all_x: bool,
+    m: Memory,
+) -> LogState
+    requires { ⌜ Fitting (writesOf m (now nets)) × (readsStart m ≤ length (now nets)) ⌝ }
+    ensures { λ r. ⌜ PortsDone m «all_x» (now (nets .entry)) (now (nets .exit)) (lent st (now (log .entry))) (lent r (now (log .exit))) ⌝ }
+{
+    let count = net_memory::ports_used(m.write_count);
+    let mut state = st;
+    let mut at: usize = 0;
+    let mut j = 0;
+    while j < count {
+        let p = m.write_ports[j];
+        state = delay_port(log, state, nets, a, d, k, all_x, m, j, p, at);
+        at += net_memory::write_size(p);
+        j += 1;
+    }
+    state
 }
 
 // All write ports, one after the other. No net of the memory is stored.
