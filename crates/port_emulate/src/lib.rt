@@ -1,4 +1,4 @@
-// memory/src/lib.rs, emulate_read_before_write: the number that refuses it. 20 and 21 come from a run without a log, which stores no net.
+// memory/src/lib.rs, emulate_read_before_write: the number that refuses it, by a run without a log, and the delayed write ports in log and nets.
 ghost use mathlib.Core.Path.{_≡_};
 ghost use mathlib.Core.Bool.{Bool};
 ghost use mathlib.Core.List.{List, [], _++_};
