@@ -1,0 +1,2 @@
+-- Laws of a delayed port.
+pub mod Delay

@@ -1,0 +1,2 @@
+-- Laws of the read ports' flip-flops.
+pub mod Clocks

@@ -1,0 +1,2 @@
+-- The definitions that the contracts of port_relations cite.
+pub mod Clocked
