@@ -585,7 +585,7 @@ tablegoose_count tablegoose_list_input(uint8_t *out, size_t out_len, const uint8
  *     128 tablegoose_net_of_cell
  *    2816 tablegoose_output_len
  *    1792 tablegoose_patch
- *    1792 tablegoose_patch_all
+ *    1920 tablegoose_patch_all
  *     768 tablegoose_patch_each
  *     768 tablegoose_patch_row
  *     256 tablegoose_place_of
