@@ -35,7 +35,7 @@ fn answer_is(r: Driven, number: u32, used: usize, next: u32, clocked: bool) -> b
 }
 
 // The read port's flip-flop becomes a cell behind it.
-pub fn accepted(t: Tally) -> Tally {
+pub(crate) fn accepted(t: Tally) -> Tally {
     let mut log = [0u32; ROOM];
     paint::paint_words(&mut log);
     let mut output = [80u32];
@@ -59,7 +59,7 @@ pub fn accepted(t: Tally) -> Tally {
 }
 
 // What is unmapped has no flip-flop: a second call is accepted and does nothing.
-pub fn unclocked(t: Tally) -> Tally {
+pub(crate) fn unclocked(t: Tally) -> Tally {
     let mut log = [0u32; ROOM];
     paint::paint_words(&mut log);
     let mut output = [80u32];
@@ -107,7 +107,7 @@ fn refused_by(t: Tally, number: u32, used: usize, next: u32, out: u32, port: usi
 }
 
 // A bad output net, a port that is not there, a log one word short, and nets one short; two at once give the lower number.
-pub fn refused(t: Tally) -> Tally {
+pub(crate) fn refused(t: Tally) -> Tally {
     let short = ROOM - sample::WORDS + 1;
     let few = rules::MAX_NETS - sample::NETS + 1;
     let t = refused_by(t, 4, 0, 200, 200, 0);

@@ -13,7 +13,7 @@ pub const WORDS: usize = 63;
 pub const NETS: u32 = 9;
 
 // 2 rows of 1 bit; a write port of 2 bits and no address, a read port of 1 bit with a flip-flop and a Transparent relation.
-pub fn memory() -> Memory {
+pub(crate) fn memory() -> Memory {
     let f = MemoryReadFlipFlop::Some(Controls {
         clock: ControlNet::Pos(Net(5)),
         clear: ControlNet::Pos(Net(0)),
@@ -27,17 +27,17 @@ pub fn memory() -> Memory {
 }
 
 // Its nets: the write port's data and mask, the read port's address.
-pub fn nets() -> [u32; 5] {
+pub(crate) fn nets() -> [u32; 5] {
     [20u32, 21, 40, 41, 60]
 }
 
 // Its trits: the initial ones, and clear, reset and init.
-pub fn trits() -> [u8; 5] {
+pub(crate) fn trits() -> [u8; 5] {
     [1u8, 0, 2, 2, 2]
 }
 
 // Whether a port has a flip-flop.
-pub fn is_clocked(p: MemoryReadPort) -> bool {
+pub(crate) fn is_clocked(p: MemoryReadPort) -> bool {
     let f = p.flip_flop;
     match f {
         MemoryReadFlipFlop::None => false,
@@ -46,7 +46,7 @@ pub fn is_clocked(p: MemoryReadPort) -> bool {
 }
 
 // The log where the next free net is 200 and the outputs are net 80: void, two shifts, eq, select mux, data mux, flip-flop, replace.
-pub fn log() -> [u32; WORDS] {
+pub(crate) fn log() -> [u32; WORDS] {
     [
         1u32,
         1,
