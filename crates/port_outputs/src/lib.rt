@@ -105,7 +105,7 @@ pub fn read_port_output_slice(m: Memory, nets: &[u32], trits: &[u8], port: usize
 }
 
 // The two controls are the same net with the same sign.
-fn same_control(a: ControlNet, b: ControlNet) -> bool
+pub fn same_control(a: ControlNet, b: ControlNet) -> bool
     ensures { λ r. ⌜ r ≡ sameControl (controlOf a) (controlOf b) ⌝ }
 {
     match a {

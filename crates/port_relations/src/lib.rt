@@ -6,7 +6,6 @@ ghost use Prim.Native.Nat.{ℕ};
 ghost use lib.ListN.{getD};
 ghost use Rattle.lists.specs.Choice.{if_then_else_, _orElse_};
 ghost use Rattle.lists.specs.Lists.{any, part};
-ghost use Rattle.rules.specs.Value.{sameControl};
 ghost use Rattle.rules.specs.Conditions.{unclocked, readClocksDiffer, mixedRelations};
 ghost use Rattle.rules.specs.Refusals.{emulateNumber};
 ghost use Rattle.net_value.specs.View.{controlOf};
@@ -18,22 +17,6 @@ use net_memory::MemoryReadFlipFlop;
 use net_memory::MemoryReadPort;
 use net_value::ControlNet;
 use net_value::Net;
-
-// The two controls are the same net with the same sign.
-fn same_control(a: ControlNet, b: ControlNet) -> bool
-    ensures { λ r. ⌜ r ≡ sameControl (controlOf a) (controlOf b) ⌝ }
-{
-    match a {
-        ControlNet::Pos(n) => match b {
-            ControlNet::Pos(k) => n.0 == k.0,
-            ControlNet::Neg(_) => false,
-        },
-        ControlNet::Neg(n) => match b {
-            ControlNet::Pos(_) => false,
-            ControlNet::Neg(k) => n.0 == k.0,
-        },
-    }
-}
 
 // The port has a flip-flop.
 fn is_clocked(p: MemoryReadPort) -> bool
@@ -64,7 +47,7 @@ fn port_differs(p: MemoryReadPort, clock: ControlNet) -> bool
     if !is_clocked(p) {
         return false;
     }
-    !same_control(clock_of(p), clock)
+    !port_outputs::same_control(clock_of(p), clock)
 }
 
 // A read port from port i on is clocked by another clock.

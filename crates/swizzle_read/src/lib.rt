@@ -118,12 +118,6 @@ fn emit_read_in(
     log_entries::emit_replace(log, muxed, output, &scratch[..w])
 }
 
-fn wide_low(x: u32) -> usize
-    ensures { λ r. ⌜ (r ≡ x) × (r ≤ 4294967295) ⌝ }
-{
-    x as usize
-}
-
 // Whether there are pieces, and a scratch of this length holds them.
 fn holds_pieces(count: u32, width: u32, room: usize) -> bool
     ensures { λ r. ⌜ r ≡ (ltb 0 count && leb (count * width) room) ⌝ }
@@ -131,7 +125,7 @@ fn holds_pieces(count: u32, width: u32, room: usize) -> bool
     if count == 0 {
         return false;
     }
-    wide_low(count) * wide_low(width) <= room
+    lists::usize_of_u32(count) * lists::usize_of_u32(width) <= room
 }
 
 // One read port, whose voids get the log's next free nets. Nothing is done where the mux address has more than 64 nets, or the scratch does not
