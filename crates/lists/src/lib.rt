@@ -6,7 +6,7 @@ ghost use lib.Seq.{sets};
 ghost use Rattle.lists.specs.Lists.{part};
 
 // How many of `want` elements fit an array of length `room` from `at` on.
-fn fitting(room: usize, at: usize, want: usize) -> usize
+pub fn fitting(room: usize, at: usize, want: usize) -> usize
     ensures { λ r. ⌜ r ≡ min want (room - at) ⌝ }
 {
     if room <= at {

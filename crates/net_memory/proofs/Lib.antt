@@ -4,3 +4,4 @@ pub mod Ports
 pub mod Sized
 pub mod Changes
 pub mod Outputs
+pub mod Fits

@@ -119,19 +119,6 @@ struct Cursor {
     mem: usize,
 }
 
-// How many of `want` columns there are from `at` on.
-fn fit(room: usize, at: usize, want: usize) -> usize
-    ensures { λ r. ⌜ r ≡ min want (room - at) ⌝ }
-{
-    if room <= at {
-        return 0;
-    }
-    if room - at < want {
-        return room - at;
-    }
-    want
-}
-
 // The column of an index.
 fn cursor_at(g: Grid, size: usize, at: usize) -> Cursor
     requires { ⌜ Good g size × (at < size) ⌝ }
@@ -215,7 +202,7 @@ fn store_run(
     ensures { λ _. ⌜ now («bits_to» .exit) ≡ spillFit (g .mems) (g .rows) (g .unit) (now («bits_to» .entry)) start (now (bits .entry)) ⌝ }
     ensures { λ _. ⌜ now («mask_to» .exit) ≡ spillFit (g .mems) (g .rows) (g .unit) (now («mask_to» .entry)) start (now (mask .entry)) ⌝ }
 {
-    let n = fit(bits_to.len(), start, bits.len());
+    let n = lists::fitting(bits_to.len(), start, bits.len());
     if n == 0 {
         return;
     }
@@ -792,7 +779,7 @@ fn store_trits_run(to: &mut [u8], g: Grid, start: usize, v: &[u8])
     requires { ⌜ Good g (length (now to)) × (length (now to) ≤ 4611686018427387903) ⌝ }
     ensures { λ _. ⌜ now (to .exit) ≡ spillFit (g .mems) (g .rows) (g .unit) (now (to .entry)) start (now (v .entry)) ⌝ }
 {
-    let n = fit(to.len(), start, v.len());
+    let n = lists::fitting(to.len(), start, v.len());
     if n == 0 {
         return;
     }

@@ -11,15 +11,15 @@ use borrow.Author.Needs.{needs}
 use Rattle.swizzle_write.proofs.store_run.Statement.{statement}
 use Rattle.swizzle_write.proofs.store_run.Tie as tie
 
-fit-requires : tie.Need-fit-requires
-fit-requires c κs = search needs
+fitting-requires : tie.Need-fitting-requires
+fitting-requires c κs = search needs
 
 returns : tie.Need-returns
 returns c =
     let k = c .before .before .before .before .before .before in
     let v = k .args in
     let s = k .pre in
-    let e : 0 ≡ min (length (v .bits .now)) (length (v .bits-to .now) - v .start) = sym (c .if1 .taken) ∙ c .before .fit .ensures in (
+    let e : 0 ≡ min (length (v .bits .now)) (length (v .bits-to .now) - v .start) = sym (c .if1 .taken) ∙ c .before .fitting .ensures in (
       run-none (v .g) (length (v .bits-to .now)) (v .start) (v .bits-to .now) (v .bits .now) (s .good) e,
       run-none (v .g) (length (v .bits-to .now)) (v .start) (v .mask-to .now) (v .mask .now) (s .good) (e ∙ ap (λ (x : ℕ). min x (length (v .bits-to .now) - v .start)) (sym (s .same-size))),
     )
@@ -39,4 +39,4 @@ returns-2 c = search needs
 pub store-run-spec : {M : Type 1} → statement M
 store-run-spec =
     tie.close
-    (tie.spec fit-requires returns store-from-requires same-length same-length-2 returns-2)
+    (tie.spec fitting-requires returns store-from-requires same-length same-length-2 returns-2)

@@ -11,14 +11,14 @@ use borrow.Author.Needs.{needs}
 use Rattle.swizzle_write.proofs.store_trits_run.Statement.{statement}
 use Rattle.swizzle_write.proofs.store_trits_run.Tie as tie
 
-fit-requires : tie.Need-fit-requires
-fit-requires c κs = search needs
+fitting-requires : tie.Need-fitting-requires
+fitting-requires c κs = search needs
 
 returns : tie.Need-returns
 returns c =
     let k = c .before .before .before .before in
     let v = k .args in
-    let e : 0 ≡ min (length (v .v .now)) (length (v .to .now) - v .start) = sym (c .if1 .taken) ∙ c .before .fit .ensures in
+    let e : 0 ≡ min (length (v .v .now)) (length (v .to .now) - v .start) = sym (c .if1 .taken) ∙ c .before .fitting .ensures in
     run-none (v .g) (length (v .to .now)) (v .start) (v .to .now) (v .v .now) (k .pre .0) e
 
 store-trits-from-requires : tie.Need-store-trits-from-requires
@@ -32,4 +32,4 @@ returns-2 c = search needs
 
 pub store-trits-run-spec : {M : Type 1} → statement M
 store-trits-run-spec =
-    tie.close (tie.spec fit-requires returns store-trits-from-requires same-length returns-2)
+    tie.close (tie.spec fitting-requires returns store-trits-from-requires same-length returns-2)
