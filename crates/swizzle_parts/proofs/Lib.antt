@@ -1,0 +1,5 @@
+-- Laws that belong to no one function.
+pub mod Sized
+pub mod Powers
+pub mod Found
+pub mod Depths

@@ -1,0 +1,2 @@
+-- A memory of those that a swizzle gives.
+pub mod Parts
