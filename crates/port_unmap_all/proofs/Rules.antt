@@ -37,7 +37,7 @@ use Rattle.port_unmap_all.specs.All.{related, unmappedTo, unmappedOf, un
 use Rattle.port_unmap_all.proofs.Fold.{Like, Fine, all-like}
 
 -- ---- each clocked port is fine
-size-few : (width size k : ℕ) → width ≤ 128 → Shaped width size k → size ≤ 2048
+pub size-few : (width size k : ℕ) → width ≤ 128 → Shaped width size k → size ≤ 2048
 size-few width size k h s = rw (s .size-is) (mul-le-mul {n₁ = width} {m₁ = 2 ^ k} {n₂ = 128} {m₂ = 16} h (pow-mono {i = k} {j = 4} (s .few)))
 
 held-some : (f : ReadFlipFlop → Bool) (o : Option ReadFlipFlop) (x : ReadFlipFlop) → o ≡ some x → any f (held o) ≡ false → f x ≡ false
@@ -180,18 +180,18 @@ module _ (one : Bool) (next : ℕ) (m : Memory) (nets trits output : List ℕ) (
   unfolding drivingNumber
   good = valid one (badOutputLen M output) (badValue next output) next m nets trits z
 
-  sized : (M .width ≤ 128) × (length (M .writes) ≤ 8)
+  sized : (M .width ≤ 128) × (length (M .writes) ≤ 8) × (length (M .reads) ≤ 8)
   unfolding tooLarge
   sized =
       let x = or-false (ltb maxDepth (M .depth)) _ (good .large-not) in
       let y = or-false (ltb maxWidth (M .width)) _ (x .1) in
       let w = or-false (ltb maxBits (M .depth * M .width)) _ (y .1) in
       let t = or-false (ltb maxPorts (length (M .writes))) _ (w .1) in
-      (ltb-false maxWidth (M .width) (y .0), ltb-false maxPorts (length (M .writes)) (t .0))
+      (ltb-false maxWidth (M .width) (y .0), ltb-false maxPorts (length (M .writes)) (t .0), ltb-false maxPorts (length (M .reads)) (t .1))
 
   shapes : (any (badWriteShape M) (M .writes) ≡ false) × (any (badReadShape M) (M .reads) ≡ false)
   unfolding badShape
   shapes = or-false (any (badWriteShape M) (M .writes)) (any (badReadShape M) (M .reads)) (or-false (not (eqb (length (M .init)) (M .depth * M .width))) _ (good .shape-not) .1)
 
   pub all-ready : AllReady M
-  all-ready = record { thin = sized .0; few = sized .1; writes-good = shapes .0; reads-good = shapes .1; long = s }
+  all-ready = record { thin = sized .0; few = sized .1; reads-few = sized .2; writes-good = shapes .0; reads-good = shapes .1; long = s }

@@ -64,6 +64,7 @@ allBare m = withReads m (map bare (m .reads))
 pub record AllReady (m : Mem) : Type 0 where
   pub thin : m .width ≤ 128
   pub few : length (m .writes) ≤ 8
+  pub reads-few : length (m .reads) ≤ 8
   pub writes-good : any (badWriteShape m) (m .writes) ≡ false
   pub reads-good : any (badReadShape m) (m .reads) ≡ false
   pub long : shortPorts m ≡ false
