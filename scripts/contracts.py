@@ -20,6 +20,7 @@ OPEN = {
     'crates/port_masked/src/lib.rt emit_masked_pair': ('bits', 'mask', 'sel', 'spare') + KEYS,
     'crates/port_masked/src/lib.rt emit_masked_pairs': ('bits', 'mask', 'sel', 'spare') + KEYS,
     'crates/port_overlay/src/lib.rt emit_unmap': ('under', 'bits', 'mask', 'sel', 'spare') + KEYS,
+    'crates/port_unmap_all/src/lib.rt emit_unmap_all': ('under', 'bits', 'mask', 'sel', 'spare') + KEYS,
 }
 
 PUBLIC = re.compile(r'\bpub\b(?!\s*\()[^;{}()=]*?\bfn\s+(\w+)')
