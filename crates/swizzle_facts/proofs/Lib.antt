@@ -2,3 +2,4 @@
 pub mod Layouts
 pub mod Splits
 pub mod Ports
+pub mod Counting
