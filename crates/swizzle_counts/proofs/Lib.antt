@@ -1,0 +1,2 @@
+-- Laws of the room that a result takes.
+pub mod Shared
