@@ -1,2 +1,3 @@
--- Laws of the room that a result takes.
+-- Laws of the room that a result takes, and of the numbers that the code counts by.
 pub mod Shared
+pub mod Numbers

@@ -48,7 +48,7 @@ pub record Most (k : ℕ) (n : Needs) : Type 0 where
 
 -- more than one port asks for
 abbrev pub portMost : ℕ
-portMost = 8589934592
+portMost = 137438953472
 
 -- ---- the split of an address, in which the entries of a row have no part
 abbrev pub splitOf : Params → ℕ → ℕ → Value → Split
@@ -81,18 +81,32 @@ pub record Ranges (n m hw rows columns len : ℕ) : Type 0 where
   pub len-max : len ≤ 4096
 
 abbrev pub readBy : ℕ → ℕ → ℕ → ℕ → ℕ → ℕ → Bool → Needs
-readBy n m hw rows columns len clocked = record {
-  words = rows * 4 + ((if clocked then 13 + 4 * m else 0) + ((n - 1) * (5 + 2 * len) + (4 + 2 * len)));
-  nets = rows * columns + ((if clocked then m else 0) + (n - 1) * len);
+readBy n m hw rows columns len false = record {
+  words = rows * 4 + ((n - 1) * (5 + 2 * len) + (4 + 2 * len));
+  nets = rows * columns + (n - 1) * len;
   room = hw;
-  trits = if clocked then 3 * (rows * columns) else 0;
+  trits = 0;
+  scratch = n * len;
+}
+readBy n m hw rows columns len true = record {
+  words = rows * 4 + (13 + 4 * m + ((n - 1) * (5 + 2 * len) + (4 + 2 * len)));
+  nets = rows * columns + (m + (n - 1) * len);
+  room = hw;
+  trits = 3 * (rows * columns);
   scratch = n * len;
 }
 
+-- an empty mux address makes no mux
+abbrev pub muxWords : ℕ → ℕ → ℕ
+muxWords m kept = if eqb m 0 then 0 else 5 + 2 * kept
+
+abbrev pub muxNets : ℕ → ℕ → ℕ
+muxNets m kept = if eqb m 0 then 0 else kept
+
 abbrev pub writeBy : ℕ → ℕ → ℕ → ℕ → ℕ → ℕ → Needs
 writeBy n m hw rows columns kept = record {
-  words = n * (4 + 2 * m + (if eqb m 0 then 0 else 5 + 2 * kept));
-  nets = n * (1 + (if eqb m 0 then 0 else kept));
+  words = n * (4 + 2 * m + muxWords m kept);
+  nets = n * (1 + muxNets m kept);
   room = hw + 2 * (rows * columns);
   trits = 0;
   scratch = 0;

@@ -81,6 +81,14 @@ fn split_of(p: Params, old: u32, new: u32, addr: &[u32]) -> Split
     }
 }
 
+// A product of two of a port's numbers.
+fn product(a: usize, b: usize) -> usize
+    requires { ⌜ (a ≤ 1048576) × (b ≤ 32768) ⌝ }
+    ensures { λ r. ⌜ (r ≡ a * b) × (r ≤ 34359738368) ⌝ }
+{
+    a * b
+}
+
 // A read port by its split.
 fn read_by(s: Split, rows: usize, columns: usize, len: usize, clocked: bool) -> Needs
     requires { ⌜ Ranges (s .pieces) (s .«mux_len») (s .«hw_len») rows columns len ⌝ }
@@ -88,10 +96,10 @@ fn read_by(s: Split, rows: usize, columns: usize, len: usize, clocked: bool) -> 
 {
     let n = lists::usize_of_u32(s.pieces);
     let room = lists::usize_of_u32(s.hw_len);
-    let wide = rows * columns;
-    let muxes = (n - 1) * (5 + 2 * len) + (4 + 2 * len);
-    let made = (n - 1) * len;
-    let scratch = n * len;
+    let wide = product(rows, columns);
+    let muxes = product(n - 1, 5 + 2 * len) + (4 + 2 * len);
+    let made = product(n - 1, len);
+    let scratch = product(n, len);
     if !clocked {
         return Needs {
             words: rows * 4 + muxes,
