@@ -19,7 +19,7 @@ use Rattle.swizzle_split.specs.declared.Outcome.{Outcome}
 use Rattle.swizzle_split.specs.declared.Outcome.the-variants.{Refused, Accepted}
 use Rattle.swizzle_split.specs.Steps.{canSplit, Answers, Refuses, Gives}
 use Rattle.swizzle_counts.specs.declared.Needs.{Needs}
-use Rattle.swizzle_counts.specs.Needs.{noNeeds, plusNeeds, allNeeds, Most, portMost, splitOf, Lengths, PortFits, Ranges, readBy, readNeeds, readsNeeds}
+use Rattle.swizzle_counts.specs.Needs.{noNeeds, plusNeeds, allNeeds, Most, portMost, splitOf, Lengths, PortFits, Ranges, readFrom, readNeeds, readsNeeds}
 
 pub product-max : (a b : ℕ) → a ≤ 1048576 → b ≤ 32768 → a * b ≤ 34359738368
 product-max a b h g = mul-le-mul {n₁ = a} {m₁ = b} {n₂ = 1048576} {m₂ = 32768} h g
@@ -48,16 +48,16 @@ module _ (q : Layout) (old new : ℕ) (addr hw₀ hw mux₀ mux : Value) (o : Ou
 -- ---- a read port
 module _ (n n′ m m′ hw hw′ rows columns len wide muxes made scratch : ℕ) (b : Bool) (en : n ≡ n′) (ew : wide ≡ rows * columns) (ex : muxes ≡ (n - 1) * (5 + 2 * len)) (ed : made ≡ (n - 1) * len)
     (es : scratch ≡ n * len) (eh : hw ≡ hw′) where
-  pub read-off : b ≡ false → record { words = rows * 4 + (muxes + (4 + 2 * len)); nets = wide + made; room = hw; trits = 0; scratch = scratch } ≡ readBy n′ m′ hw′ rows columns len b
+  pub read-off : b ≡ false → record { words = rows * 4 + (muxes + (4 + 2 * len)); nets = wide + made; room = hw; trits = 0; scratch = scratch } ≡ readFrom n′ m′ hw′ rows columns len b
   read-off e =
       (λ i. record { words = rows * 4 + ((ex ∙ ap (λ (k : ℕ). (k - 1) * (5 + 2 * len)) en) i + (4 + 2 * len)); nets = ew i + (ed ∙ ap (λ (k : ℕ). (k - 1) * len) en) i; room = eh i; trits = 0; scratch = (es ∙ ap (λ (k : ℕ). k * len) en) i })
-      ∙ ap (readBy n′ m′ hw′ rows columns len) (sym e)
+      ∙ ap (readFrom n′ m′ hw′ rows columns len) (sym e)
 
   pub read-on : m ≡ m′ → b ≡ true
-      → record { words = rows * 4 + (13 + 4 * m + (muxes + (4 + 2 * len))); nets = wide + (m + made); room = hw; trits = 3 * wide; scratch = scratch } ≡ readBy n′ m′ hw′ rows columns len b
+      → record { words = rows * 4 + (13 + 4 * m + (muxes + (4 + 2 * len))); nets = wide + (m + made); room = hw; trits = 3 * wide; scratch = scratch } ≡ readFrom n′ m′ hw′ rows columns len b
   read-on em e =
       (λ i. record { words = rows * 4 + (13 + 4 * em i + ((ex ∙ ap (λ (k : ℕ). (k - 1) * (5 + 2 * len)) en) i + (4 + 2 * len))); nets = ew i + (em i + (ed ∙ ap (λ (k : ℕ). (k - 1) * len) en) i); room = eh i; trits = 3 * ew i; scratch = (es ∙ ap (λ (k : ℕ). k * len) en) i })
-      ∙ ap (readBy n′ m′ hw′ rows columns len) (sym e)
+      ∙ ap (readFrom n′ m′ hw′ rows columns len) (sym e)
 
 -- ---- the split of a port, and what its numbers are
 module _ (p : Params) (columns old new : ℕ) (addr : Value) (f : PortFits p columns old new addr) (s : machine.Split) (l : Lengths (splitOf p old new addr) s) where
@@ -72,9 +72,9 @@ module _ (p : Params) (columns old new : ℕ) (addr : Value) (f : PortFits p col
     len-max = g;
   }
 
-  pub read-is : (r : Needs) (rows rows′ len len′ : ℕ) (b b′ : Bool) → r ≡ readBy (s .pieces) (s .«mux_len») (s .«hw_len») rows columns len b → rows ≡ rows′ → len ≡ len′ → b ≡ b′
-      → r ≡ readBy (splitOf p old new addr .pieces) (length (splitOf p old new addr .muxAddr)) (length (splitOf p old new addr .addr)) rows′ columns len′ b′
-  read-is r rows rows′ len len′ b b′ e er el eb = e ∙ (λ i. readBy (l .pieces-are i) (l .mux-len i) (l .hw-len i) (er i) columns (el i) (eb i))
+  pub read-is : (r : Needs) (rows rows′ len len′ : ℕ) (b b′ : Bool) → r ≡ readFrom (s .pieces) (s .«mux_len») (s .«hw_len») rows columns len b → rows ≡ rows′ → len ≡ len′ → b ≡ b′
+      → r ≡ readFrom (splitOf p old new addr .pieces) (length (splitOf p old new addr .muxAddr)) (length (splitOf p old new addr .addr)) rows′ columns len′ b′
+  read-is r rows rows′ len len′ b b′ e er el eb = e ∙ (λ i. readFrom (l .pieces-are i) (l .mux-len i) (l .hw-len i) (er i) columns (el i) (eb i))
 
 -- the same split by equal numbers
 pub lengths-at : (p : Params) (columns old old′ new : ℕ) (addr addr′ : Value) (s : machine.Split) → old ≡ old′ → addr ≡ addr′ → PortFits p columns old′ new addr′

@@ -5,13 +5,14 @@ ghost use mathlib.Core.Bool.{true};
 ghost use mathlib.Core.List.{[]};
 ghost use Prim.Native.Nat.{_*_, _^_, _≤_, max};
 ghost use lib.ListN.{length};
-ghost use Rattle.rules.specs.Limits.{maxPorts, maxWide};
+ghost use Rattle.rules.specs.Limits.{maxPorts, maxWide, maxWidth, maxRow, maxMerge};
 ghost use Rattle.image_geometry.specs.View.{layoutBy};
 ghost use Rattle.swizzle_split.specs.Steps.{canSplit};
-ghost use Rattle.swizzle_counts.specs.Needs.{noNeeds, plusNeeds, Most, portMost, splitOf, Lengths, Ranges, readBy, isClocked, readNeeds, ReadFits, ReadsFit, readsNeeds};
+ghost use Rattle.swizzle_counts.specs.Needs.{noNeeds, plusNeeds, Most, portMost, splitOf, Lengths, Ranges, readFrom, isClocked, readNeeds, ReadFits, ReadsFit, readsNeeds, muxWords, muxNets, writeFrom, keptNets, MaskFits, writeNeeds, WriteFits, WritesFit, writesNeeds};
 use image_geometry::Params;
 use net_memory::Memory;
 use net_memory::MemoryReadFlipFlop;
+use swizzle_columns::WidePort;
 use swizzle_split::Outcome;
 use swizzle_split::Split;
 
@@ -92,7 +93,7 @@ fn product(a: usize, b: usize) -> usize
 // A read port by its split.
 fn read_by(s: Split, rows: usize, columns: usize, len: usize, clocked: bool) -> Needs
     requires { ⌜ Ranges (s .pieces) (s .«mux_len») (s .«hw_len») rows columns len ⌝ }
-    ensures { λ r. ⌜ (r ≡ readBy (s .pieces) (s .«mux_len») (s .«hw_len») rows columns len clocked) × Most portMost r ⌝ }
+    ensures { λ r. ⌜ (r ≡ readFrom (s .pieces) (s .«mux_len») (s .«hw_len») rows columns len clocked) × Most portMost r ⌝ }
 {
     let n = lists::usize_of_u32(s.pieces);
     let room = lists::usize_of_u32(s.hw_len);
@@ -156,6 +157,129 @@ fn reads_needs(m: Memory, nets: &[u32], p: Params, columns: usize, reads: &[u32]
     let mut i = 0;
     while i < reads.len() {
         let one = read_needs(m, nets, p, columns, reads[i], i);
+        total = plus(total, one);
+        i += 1;
+    }
+    total
+}
+
+// The nets of a row's mask that differ, where the row has n nets.
+fn mask_count(w: WidePort, n: usize, entries: &[u32], mask: &[u32]) -> usize
+    requires { ⌜ MaskFits w (length (now entries)) n ⌝ }
+    ensures { λ r. ⌜ (r ≡ keptNets (w .olds) (w .width) (now (entries .entry)) (now (mask .entry))) × (r ≤ maxMerge) ⌝ }
+{
+    let mut row = [0u32; rules::MAX_MERGE];
+    let mut kx = [0u32; rules::MAX_MERGE];
+    let mut ky = [0u32; rules::MAX_MERGE];
+    let mut at = [0u32; rules::MAX_MERGE];
+    let zeros = [0u32; rules::MAX_MERGE];
+    swizzle_columns::mask_row(&mut row, w, entries, mask);
+    merge_keys::merge(&mut kx, &mut ky, &mut at, &row[..n], &zeros[..n])
+}
+
+// Those of a port with this old wide log.
+fn port_mask_count(width: u32, old: u32, entries: &[u32], mask: &[u32]) -> usize
+    requires { ⌜ (old ≤ maxWide) × (width ≤ maxWidth) × (length (now entries) ≤ maxRow) ⌝ }
+    ensures { λ r. ⌜ (r ≡ keptNets (2 ^ old) width (now (entries .entry)) (now (mask .entry))) × (r ≤ maxMerge) ⌝ }
+{
+    let olds = rows_of(old);
+    let w = WidePort {
+        mems: 0,
+        unit: 0,
+        rows: 0,
+        olds: olds as u32,
+        width,
+        chunks: 0,
+        pieces: 0,
+    };
+    let n = product(olds, entries.len());
+    mask_count(w, n, entries, mask)
+}
+
+// The words of a piece's mux; an empty mux address makes none.
+fn mux_words(mux_len: usize, kept: usize) -> usize
+    requires { ⌜ kept ≤ maxMerge ⌝ }
+    ensures { λ r. ⌜ (r ≡ muxWords «mux_len» kept) × (r ≤ 8197) ⌝ }
+{
+    if mux_len == 0 {
+        return 0;
+    }
+    5 + 2 * kept
+}
+
+fn mux_nets(mux_len: usize, kept: usize) -> usize
+    requires { ⌜ kept ≤ maxMerge ⌝ }
+    ensures { λ r. ⌜ (r ≡ muxNets «mux_len» kept) × (r ≤ maxMerge) ⌝ }
+{
+    if mux_len == 0 {
+        return 0;
+    }
+    kept
+}
+
+// A write port by its split, and the nets of its mask that differ.
+fn write_by(s: Split, rows: usize, columns: usize, kept: usize) -> Needs
+    requires { ⌜ Ranges (s .pieces) (s .«mux_len») (s .«hw_len») rows columns kept ⌝ }
+    ensures { λ r. ⌜ (r ≡ writeFrom (s .pieces) (s .«mux_len») (s .«hw_len») rows columns kept) × Most portMost r ⌝ }
+{
+    let n = lists::usize_of_u32(s.pieces);
+    let m = lists::usize_of_u32(s.mux_len);
+    let hw = lists::usize_of_u32(s.hw_len);
+    let wide = product(rows, columns);
+    let words = product(n, 4 + 2 * m + mux_words(m, kept));
+    let nets = product(n, 1 + mux_nets(m, kept));
+    Needs {
+        words,
+        nets,
+        room: hw + 2 * wide,
+        trits: 0,
+        scratch: 0,
+    }
+}
+
+// Write port i with its new wide log.
+fn write_needs(
+    m: Memory,
+    nets: &[u32],
+    p: Params,
+    columns: usize,
+    entries: &[u32],
+    new: u32,
+    i: usize,
+) -> Needs
+    requires { ⌜ WriteFits m (now nets) p columns (now entries) new i ⌝ }
+    ensures { λ r. ⌜ (r ≡ writeNeeds m (now (nets .entry)) p columns (now (entries .entry)) new i) × Most portMost r ⌝ }
+{
+    let port = m.write_ports[i];
+    let x = net_memory::write_nets(m, nets, i);
+    let old = net_memory::wide::wide_log(m.width, net_memory::data_count(port, x));
+    let s = split_of(p, old, new, net_memory::addr_of(port, x));
+    let kept = port_mask_count(m.width, old, entries, net_memory::mask_of(port, x));
+    write_by(s, rows_of(new), columns, kept)
+}
+
+// All write ports.
+fn writes_needs(
+    m: Memory,
+    nets: &[u32],
+    p: Params,
+    columns: usize,
+    entries: &[u32],
+    writes: &[u32],
+) -> Needs
+    requires { ⌜ WritesFit m (now nets) p columns (now entries) (now writes) ⌝ }
+    ensures { λ r. ⌜ (r ≡ writesNeeds m (now (nets .entry)) p columns (now (entries .entry)) (now (writes .entry))) × Most (maxPorts * portMost) r ⌝ }
+{
+    let mut total = Needs {
+        words: 0,
+        nets: 0,
+        room: 0,
+        trits: 0,
+        scratch: 0,
+    };
+    let mut i = 0;
+    while i < writes.len() {
+        let one = write_needs(m, nets, p, columns, entries, writes[i], i);
         total = plus(total, one);
         i += 1;
     }
