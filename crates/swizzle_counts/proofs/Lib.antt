@@ -1,3 +1,4 @@
 -- Laws of the room that a result takes, and of the numbers that the code counts by.
 pub mod Shared
 pub mod Numbers
+pub mod Masks

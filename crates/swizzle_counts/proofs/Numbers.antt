@@ -6,6 +6,9 @@ use native.Mathlib.Omega.{arith}
 use mathlib.Core.Bool.{Bool, true, false, not}
 use mathlib.Core.List.{List, [], _∷_, map}
 use lib.ListN.{length, getD}
+use lib.Dec.{eqb}
+use borrow.Author.Tests.{eq-eqb, ne-eqb}
+use Rattle.lists.specs.Choice.{if_then_else_}
 use Rattle.lists.specs.Lists.{upFrom}
 use Rattle.lists.proofs.UpFrom.{count-step, count-end}
 use Rattle.rules.specs.Value.{Value}
@@ -19,7 +22,7 @@ use Rattle.swizzle_split.specs.declared.Outcome.{Outcome}
 use Rattle.swizzle_split.specs.declared.Outcome.the-variants.{Refused, Accepted}
 use Rattle.swizzle_split.specs.Steps.{canSplit, Answers, Refuses, Gives}
 use Rattle.swizzle_counts.specs.declared.Needs.{Needs}
-use Rattle.swizzle_counts.specs.Needs.{noNeeds, plusNeeds, allNeeds, Most, portMost, splitOf, Lengths, PortFits, Ranges, readFrom, readNeeds, readsNeeds}
+use Rattle.swizzle_counts.specs.Needs.{noNeeds, plusNeeds, allNeeds, Most, portMost, splitOf, Lengths, PortFits, Ranges, readFrom, readNeeds, readsNeeds, muxWords, muxNets, writeFrom, writeNeeds, writesNeeds}
 
 pub product-max : (a b : ℕ) → a ≤ 1048576 → b ≤ 32768 → a * b ≤ 34359738368
 product-max a b h g = mul-le-mul {n₁ = a} {m₁ = b} {n₂ = 1048576} {m₂ = 32768} h g
@@ -154,3 +157,32 @@ pub reads-are : (r : Needs) (m : Memory) (nets : List ℕ) (p : Params) (columns
     → r ≡ allNeeds (map (λ i. readNeeds m nets p columns (getD reads i 0) i) (upFrom 0 (length reads))) → r ≡ readsNeeds m nets p columns reads
 unfolding readsNeeds
 reads-are r m nets p columns reads e = e
+
+-- ---- a write port
+module _ {A : Type 0} (m : ℕ) (x : A) (kept : A) where
+  pub mux-none : m ≡ 0 → x ≡ (if eqb m 0 then x else kept)
+  mux-none e = rw (eq-eqb m 0 e)
+
+  pub mux-some : (m ≡ 0 → ⊥) → kept ≡ (if eqb m 0 then x else kept)
+  mux-some h = rw (ne-eqb m 0 h)
+
+pub write-is : (n n′ m m′ hw hw′ rows columns kept wide mw words mn nets : ℕ) → n ≡ n′ → m ≡ m′ → hw ≡ hw′ → wide ≡ rows * columns → mw ≡ muxWords m kept
+    → words ≡ n * (4 + 2 * m + mw) → mn ≡ muxNets m kept → nets ≡ n * (1 + mn)
+    → record { words = words; nets = nets; room = hw + 2 * wide; trits = 0; scratch = 0 } ≡ writeFrom n′ m′ hw′ rows columns kept
+write-is n n′ m m′ hw hw′ rows columns kept wide mw words mn nets en em eh ew emw ewords emn enets = λ i. record {
+  words = (ewords ∙ ap (λ (k : ℕ). n * (4 + 2 * m + k)) emw ∙ (λ j. en j * (4 + 2 * em j + muxWords (em j) kept))) i;
+  nets = (enets ∙ ap (λ (k : ℕ). n * (1 + k)) emn ∙ (λ j. en j * (1 + muxNets (em j) kept))) i;
+  room = eh i + 2 * ew i;
+  trits = 0;
+  scratch = 0;
+}
+
+module _ (p : Params) (columns old new : ℕ) (addr : Value) (f : PortFits p columns old new addr) (s : machine.Split) (l : Lengths (splitOf p old new addr) s) where
+  pub write-needs-are : (r : Needs) (rows rows′ kept kept′ : ℕ) → r ≡ writeFrom (s .pieces) (s .«mux_len») (s .«hw_len») rows columns kept → rows ≡ rows′ → kept ≡ kept′
+      → r ≡ writeFrom (splitOf p old new addr .pieces) (length (splitOf p old new addr .muxAddr)) (length (splitOf p old new addr .addr)) rows′ columns kept′
+  write-needs-are r rows rows′ kept kept′ e er ek = e ∙ (λ i. writeFrom (l .pieces-are i) (l .mux-len i) (l .hw-len i) (er i) columns (ek i))
+
+pub writes-are : (r : Needs) (m : Memory) (nets : List ℕ) (p : Params) (columns : ℕ) (es writes : List ℕ)
+    → r ≡ allNeeds (map (λ i. writeNeeds m nets p columns es (getD writes i 0) i) (upFrom 0 (length writes))) → r ≡ writesNeeds m nets p columns es writes
+unfolding writesNeeds
+writes-are r m nets p columns es writes e = e

@@ -1,50 +1,45 @@
+-- `swizzle_counts::mask_count` meets its contract.
+use mathlib.Core.Path.{refl, sym}
+use native.Mathlib.Omega.{arith}
+use lib.ListN.{replicate}
+use lib.Seq.{length-take-le}
+use Rattle.swizzle_counts.proofs.Masks.{row-size, counted}
 use borrow.Author.Needs.{needs}
 use Rattle.swizzle_counts.proofs.mask_count.Statement.{statement}
 use Rattle.swizzle_counts.proofs.mask_count.Tie as tie
-use Rattle.swizzle_counts.proofs.mask_count.Reads as reads
-use Rattle.swizzle_counts.proofs.mask_count.Lts as lts
-use Rattle.merge_keys.proofs.merge.Reads as merge-reads
-use Rattle.swizzle_columns.proofs.mask_row.Reads as mask-row-reads
 
--- src/lib.rt:176:5
 mask-row-requires : tie.Need-mask-row-requires
 mask-row-requires c κs = search needs
 
--- src/lib.rt:177:23
 slice-aggregate-merge : tie.Need-slice-aggregate-merge
 slice-aggregate-merge c = search needs
 
--- src/lib.rt:177:32
 slice-aggregate-merge-2 : tie.Need-slice-aggregate-merge-2
 slice-aggregate-merge-2 c = search needs
 
--- src/lib.rt:177:41
 slice-aggregate-merge-3 : tie.Need-slice-aggregate-merge-3
 slice-aggregate-merge-3 c = search needs
 
--- src/lib.rt:177:50
 array-share-prefix-row : tie.Need-array-share-prefix-row
-array-share-prefix-row c = ?
+array-share-prefix-row c = omega (arith, c .before .before .before .before .before .before .before .pre .few, row-size (c .before .before .before .before .before .before .before .args .w) (c .before .before .before .before .before .before .before .args .n) (c .before .before .before .before .before .before .before .args .entries .now) (c .before .before .before .before .before .before .before .args .mask .now) (replicate 4096 0) (c .before .before .before .before .before .before .before .pre) refl _ (c .before .before .before .mask-row .ensures))
 
--- src/lib.rt:177:50
 slice-aggregate-merge-4 : tie.Need-slice-aggregate-merge-4
-slice-aggregate-merge-4 c = ?
+slice-aggregate-merge-4 c = sym (length-take-le (c .before .before .before .before .before .before .before .before .args .n) _ (omega (arith, c .before .before .before .before .before .before .before .before .pre .few, row-size (c .before .before .before .before .before .before .before .before .args .w) (c .before .before .before .before .before .before .before .before .args .n) (c .before .before .before .before .before .before .before .before .args .entries .now) (c .before .before .before .before .before .before .before .before .args .mask .now) (replicate 4096 0) (c .before .before .before .before .before .before .before .before .pre) refl _ (c .before .before .before .before .mask-row .ensures))))
 
--- src/lib.rt:177:61
 array-share-prefix-zeros : tie.Need-array-share-prefix-zeros
 array-share-prefix-zeros c = search needs
 
--- src/lib.rt:177:61
 slice-aggregate-merge-5 : tie.Need-slice-aggregate-merge-5
-slice-aggregate-merge-5 c = ?
+slice-aggregate-merge-5 c = sym (length-take-le (c .before .before .before .before .before .before .before .before .before .args .n) (replicate 4096 0) (c .before .before .before .before .before .before .before .before .before .pre .few))
 
--- src/lib.rt:177:5
 merge-requires : tie.Need-merge-requires
 merge-requires c κs = search needs
 
--- src/lib.rt:167:1
 returns : tie.Need-returns
-returns c = ?
+returns c =
+    let k = c .before .before .before .before .before .before .before .before .before .before .before .before .before in
+    let v = k .args in
+    counted (v .w) (v .n) (v .entries .now) (v .mask .now) (replicate 4096 0) (k .pre) refl _ (c .before .before .before .before .before .before .before .before .before .mask-row .ensures) (replicate 4096 0) (replicate 4096 0) (replicate 4096 0) (replicate 4096 0) refl refl refl refl _ (c .before .before .before .merge .ensures .0)
 
 pub mask-count-spec : {M : Type 1} → statement M
 mask-count-spec =

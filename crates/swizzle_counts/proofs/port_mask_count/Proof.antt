@@ -1,31 +1,32 @@
+-- `swizzle_counts::port_mask_count` meets its contract.
+use mathlib.Core.Path.{ap, _∙_}
+use Prim.Native.Nat.{ℕ}
+use native.Mathlib.Omega.{arith}
+use lib.ListN.{length}
+use Rattle.swizzle_counts.specs.Needs.{keptNets}
+use Rattle.swizzle_counts.proofs.Masks.{mask-fits}
 use borrow.Author.Needs.{needs}
 use Rattle.swizzle_counts.proofs.port_mask_count.Statement.{statement}
 use Rattle.swizzle_counts.proofs.port_mask_count.Tie as tie
-use Rattle.swizzle_counts.proofs.port_mask_count.Reads as reads
-use Rattle.swizzle_counts.proofs.port_mask_count.Lts as lts
-use Rattle.swizzle_counts.proofs.mask_count.Reads as mask-count-reads
-use Rattle.swizzle_counts.proofs.product.Reads as product-reads
-use Rattle.swizzle_counts.proofs.rows_of.Reads as rows-of-reads
 
--- src/lib.rt:185:9
 rows-of-requires : tie.Need-rows-of-requires
 rows-of-requires c κs = search needs
 
--- src/lib.rt:190:15
 cast-t8 : tie.Need-cast-t8
 cast-t8 c = search needs
 
--- src/lib.rt:195:9
 product-requires : tie.Need-product-requires
 product-requires c κs = search needs
 
--- src/lib.rt:196:5
 mask-count-requires : tie.Need-mask-count-requires
-mask-count-requires c κs = ?
+mask-count-requires c κs =
+    let k = c .before .before .before .before in
+    mask-fits _ (length (k .args .entries .now)) _ (c .before .rows-of .ensures .1) (k .pre .1) (k .pre .2) (omega arith) (c .product .ensures .0)
 
--- src/lib.rt:181:1
 returns : tie.Need-returns
-returns c = ?
+returns c =
+    let v = c .before .before .before .before .before .args in
+    (c .mask-count .ensures .0 ∙ ap (λ (k : ℕ). keptNets k (v .width) (v .entries .now) (v .mask .now)) (c .before .before .rows-of .ensures .0), c .mask-count .ensures .1)
 
 pub port-mask-count-spec : {M : Type 1} → statement M
 port-mask-count-spec =
