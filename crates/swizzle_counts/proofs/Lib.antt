@@ -2,3 +2,7 @@
 pub mod Shared
 pub mod Numbers
 pub mod Masks
+pub mod Meant
+pub mod Sums
+pub mod Refusing
+pub mod Rowed

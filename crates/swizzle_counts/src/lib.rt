@@ -16,11 +16,21 @@ use swizzle_columns::WidePort;
 use swizzle_split::Outcome;
 use swizzle_split::Split;
 
+pub mod refusal;
+
 // Words and nets of the log, nets and trits of the resulting memories, and nets of scratch.
 pub struct Needs {
     pub words: usize,
     pub nets: usize,
     pub room: usize,
+    pub trits: usize,
+    pub scratch: usize,
+}
+
+// What a swizzle is lent: room for the image, for the nets and the trits of the resulting memories, and scratch.
+pub struct SwizzleRooms {
+    pub image: usize,
+    pub nets: usize,
     pub trits: usize,
     pub scratch: usize,
 }
