@@ -16,6 +16,7 @@ OPEN = {
     'crates/merge_mux/src/emit.rt emit_bitwise_mux_with': KEYS,
     'crates/port_transparency/src/lib.rt emit_transparency': ('bits', 'mask', 'sel', 'nets') + KEYS,
     'crates/port_overlay/src/lib.rt emit_unmap': ('under', 'bits', 'mask', 'sel', 'spare') + KEYS,
+    'crates/port_unmap_all/src/lib.rt emit_unmap_all': ('under', 'bits', 'mask', 'sel', 'spare') + KEYS,
 }
 
 PUBLIC = re.compile(r'\bpub\b(?!\s*\()[^;{}()=]*?\bfn\s+(\w+)')

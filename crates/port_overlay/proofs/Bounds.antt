@@ -29,7 +29,7 @@ use Rattle.port_overlay.specs.Laid.{laidFrom, behind, unmapped}
 use Rattle.port_overlay.proofs.Laid.{chains-overlaid}
 
 -- ---- merges
-most-dedup-mux : (c : Control) (a b : Value) → AtMost (addDedupMux c a b) (length a)
+pub most-dedup-mux : (c : Control) (a b : Value) → AtMost (addDedupMux c a b) (length a)
 unfolding addDedupMux
 most-dedup-mux c a b n =
     let ks = kept same2 (pairs a b) in
@@ -48,7 +48,7 @@ most-mux-runs (n ∷ ns) s a b k =
     most-bind u (λ w. done (t i .value ++ w)) (length (drop n a)) 0 (most-mux-runs ns (drop n s) (drop n a) (drop n b)) (λ j. most-done (t i .value ++ u j .value) 0)) k in
     omega (arith, m, length-take n a, length-drop n a)
 
-most-bitwise : (s a b : Value) → AtMost (addBitwiseMux s a b) (length a)
+pub most-bitwise : (s a b : Value) → AtMost (addBitwiseMux s a b) (length a)
 unfolding addBitwiseMux
 most-bitwise s a b = most-mux-runs (runs s) s a b
 
@@ -67,7 +67,7 @@ runs-few (n ∷ ns) s a b k =
     let u = muxRuns ns (drop n s) (drop n a) (drop n b) (t .next) in
     omega (arith, length-append (t .value) (u .value), runs-few ns (drop n s) (drop n a) (drop n b) (t .next), dedup-length (Pos (getD s 0 X)) (take n a) (take n b) k, length-take n a, length-drop n a)
 
-bitwise-few : (s a b : Value) (k : ℕ) → length (addBitwiseMux s a b k .value) ≤ length a
+pub bitwise-few : (s a b : Value) (k : ℕ) → length (addBitwiseMux s a b k .value) ≤ length a
 unfolding addBitwiseMux
 bitwise-few s a b k = runs-few (runs s) s a b k
 

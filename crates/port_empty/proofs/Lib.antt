@@ -1,0 +1,3 @@
+-- Laws of depth 0.
+pub mod Bounds
+pub mod Empty

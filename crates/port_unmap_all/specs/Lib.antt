@@ -1,0 +1,2 @@
+-- The definitions that the contracts of port_unmap_all cite.
+pub mod All
