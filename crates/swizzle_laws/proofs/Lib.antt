@@ -12,4 +12,5 @@ pub mod Order
 pub mod Stores
 pub mod Parts
 pub mod WritesCounts
+pub mod ReadsCounts
 pub mod Whole

@@ -1,220 +1,77 @@
--- A port within the limits, as tests and as facts, and what its parts ask.
-use mathlib.Core.Path.{_≡_, refl, sym, ap, _∙_, subst}
-use Prim.Native.Nat.{ℕ, zero, suc, _+_, _-_, _*_, _<_, _≤_}
-use native.Mathlib.Nat.{mul-le-mul, mul-zero, zero-mul, mul-assoc, mul-left-comm, one-mul}
+-- A write port within the limits, as tests and as facts.
+use mathlib.Core.Path.{_≡_, refl, sym, ap, _∙_}
+use Prim.Native.Nat.{ℕ, _*_, _≤_}
 use native.Mathlib.Omega.{arith}
-use mathlib.Core.Bool.{Bool, true, false, _&&_}
+use mathlib.Core.Bool.{Bool, true, false}
 use mathlib.Core.List.{List}
-use lib.ListN.{length}
-use lib.Dec.{eqb, leb}
-use borrow.Author.Tests.{le-leb, lt-leb, leb-true, eqb-true, eq-eqb, ne-eqb}
+use lib.ListN.{length, replicate}
+use lib.Seq.{length-sets}
+use lib.Dec.{leb}
+use borrow.Author.Tests.{le-leb, leb-true}
 use Rattle.lists.specs.Choice.{if_then_else_}
 use Rattle.lists.proofs.Choice.{and-true}
-use Rattle.rules.specs.Limits.{maxColumns, maxRow, maxWidth, maxNets, maxMerge}
-use Rattle.rules.specs.Value.{Value}
+use Rattle.lists.specs.Lists.{upFrom}
+use Rattle.rules.specs.Limits.{X, maxMerge}
 use Rattle.rules.specs.Log.{Trace, done}
-use Rattle.swizzle_write.specs.declared.WidePort.{WidePort}
-use Rattle.swizzle_write.specs.declared.Grid.{Grid}
-use Rattle.swizzle_write.specs.Steps.{Good}
-use Rattle.swizzle_write.specs.Jobs.{Narrow, Port}
-use Rattle.swizzle_write.specs.Wide.{maxRows, muxRoom, sizesFit, rowsFit, canWrite, PortFits, Writes, gridOf, portMasks, portBits, portTrits, writeOf, bitsOf, tritsOf}
+use Rattle.rules.specs.Swizzle.{repeating}
+use Rattle.swizzle_laws.specs.Stores.{spillMasks}
+use Rattle.swizzle_columns.specs.declared.WidePort.{WidePort}
+use Rattle.swizzle_columns.specs.Rows.{allSources}
+use Rattle.swizzle_columns.specs.Wide.{sizesFit, rowsFit, PortFits, portStarts, maskRow}
+use Rattle.swizzle_columns.proofs.Fits.{bounded, fits-say, fits-tested, mask-can}
+use Rattle.swizzle_write.specs.Wide.{muxRoom, canWrite, Writes, portMasks, masksOf}
 
-pub bounded : (a b c d : ℕ) → a ≤ c → b ≤ d → a * b ≤ c * d
-bounded a b c d h g = mul-le-mul {n₁ = a} {m₁ = b} {n₂ = c} {m₂ = d} h g
-
--- ---- the tests in turn
-module _ (p : WidePort) (size : ℕ) where
-  pub sizes-rows : maxRows < p .rows → false ≡ sizesFit p size
-  unfolding sizesFit
-  sizes-rows h = rw (lt-leb (p .rows) maxRows h)
-
-  pub sizes-columns : (c : ℕ) → p .rows ≤ maxRows → c ≡ p .mems * p .unit → maxColumns < c → false ≡ sizesFit p size
-  unfolding sizesFit
-  sizes-columns c h e g = rw (le-leb (p .rows) maxRows h, lt-leb (p .mems * p .unit) maxColumns (omega arith))
-
-  pub sizes-none : (c : ℕ) → p .rows ≤ maxRows → c ≡ p .mems * p .unit → c ≤ maxColumns → size ≡ 0 → false ≡ sizesFit p size
-  unfolding sizesFit
-  sizes-none c h e g z = rw (le-leb (p .rows) maxRows h, le-leb (p .mems * p .unit) maxColumns (omega arith), lt-leb 1 size (omega arith))
-
-  pub sizes-are : (c z k : ℕ) → p .rows ≤ maxRows → c ≡ p .mems * p .unit → c ≤ maxColumns → (size ≡ 0 → ⊥) → z ≡ size → k ≡ p .rows * (p .mems * p .unit) → eqb z k ≡ sizesFit p size
-  unfolding sizesFit
-  sizes-are c z k h e g n f m =
-      (λ i. eqb (f i) (m i)) ∙ rw (le-leb (p .rows) maxRows h, le-leb (p .mems * p .unit) maxColumns (omega arith), le-leb 1 size (omega arith))
-
-module _ (p : WidePort) (len : ℕ) where
-  pub rows-long : maxRow < len → false ≡ rowsFit p len
-  unfolding rowsFit
-  rows-long h = rw (lt-leb len maxRow h)
-
-  pub rows-olds : len ≤ maxRow → maxRows < p .olds → false ≡ rowsFit p len
-  unfolding rowsFit
-  rows-olds h g = rw (le-leb len maxRow h, lt-leb (p .olds) maxRows g)
-
-  pub rows-wide : len ≤ maxRow → p .olds ≤ maxRows → maxWidth < p .width → false ≡ rowsFit p len
-  unfolding rowsFit
-  rows-wide h g k = rw (le-leb len maxRow h, le-leb (p .olds) maxRows g, lt-leb (p .width) maxWidth k)
-
-  pub rows-are : len ≤ maxRow → p .olds ≤ maxRows → p .width ≤ maxWidth → leb (p .pieces) maxNets ≡ rowsFit p len
-  unfolding rowsFit
-  rows-are h g k = rw (le-leb len maxRow h, le-leb (p .olds) maxRows g, le-leb (p .width) maxWidth k)
-
-module _ (p : WidePort) (len short size other : ℕ) where
-  pub can-sizes : sizesFit p size ≡ false → false ≡ canWrite p len short size other
+module _ (p : WidePort) (len short size : ℕ) where
+  pub can-sizes : sizesFit p size ≡ false → false ≡ canWrite p len short size
   unfolding canWrite
   can-sizes e = rw e
 
-  pub can-rows : sizesFit p size ≡ true → rowsFit p len ≡ false → false ≡ canWrite p len short size other
+  pub can-rows : sizesFit p size ≡ true → rowsFit p len ≡ false → false ≡ canWrite p len short size
   unfolding canWrite
   can-rows e f = rw (e, f)
 
-  pub can-other : sizesFit p size ≡ true → rowsFit p len ≡ true → (other ≡ size → ⊥) → false ≡ canWrite p len short size other
+  pub can-are : sizesFit p size ≡ true → rowsFit p len ≡ true → leb short muxRoom ≡ canWrite p len short size
   unfolding canWrite
-  can-other e f n = rw (e, f, ne-eqb other size n)
+  can-are e f = rw (e, f)
 
-  pub can-are : sizesFit p size ≡ true → rowsFit p len ≡ true → other ≡ size → leb short muxRoom ≡ canWrite p len short size other
-  unfolding canWrite
-  can-are e f n = rw (e, f, eq-eqb other size n)
-
--- ---- what they say
-module _ (p : WidePort) (len size : ℕ) where
-  pub fits-say : sizesFit p size ≡ true → rowsFit p len ≡ true → PortFits p len size
-  unfolding sizesFit rowsFit
-  fits-say e f =
-      let a = and-true (leb (p .rows) maxRows) _ e in
-      let b = and-true (leb (p .mems * p .unit) maxColumns) _ (a .1) in
-      let c = and-true (leb 1 size) _ (b .1) in
-      let x = and-true (leb len maxRow) _ f in
-      let y = and-true (leb (p .olds) maxRows) _ (x .1) in
-      let z = and-true (leb (p .width) maxWidth) _ (y .1) in
-      record {
-        rows-max = leb-true _ _ (a .0);
-        columns-max = leb-true _ _ (b .0);
-        some = leb-true 1 size (c .0);
-        size-is = eqb-true _ _ (c .1);
-        len-max = leb-true _ _ (x .0);
-        olds-max = leb-true _ _ (y .0);
-        width-max = leb-true _ _ (z .0);
-        pieces-max = leb-true _ _ (z .1);
-      }
-
-  pub fits-tested : PortFits p len size → (sizesFit p size ≡ true) × (rowsFit p len ≡ true)
-  unfolding sizesFit rowsFit
-  fits-tested f = (
-    rw (le-leb (p .rows) maxRows (f .rows-max), le-leb (p .mems * p .unit) maxColumns (f .columns-max), le-leb 1 size (f .some), eq-eqb size (p .rows * (p .mems * p .unit)) (f .size-is)),
-    rw (le-leb len maxRow (f .len-max), le-leb (p .olds) maxRows (f .olds-max), le-leb (p .width) maxWidth (f .width-max), le-leb (p .pieces) maxNets (f .pieces-max)),
-  )
-
-module _ (p : WidePort) (len short size other : ℕ) where
-  pub can-say : canWrite p len short size other ≡ true → Writes p len short size other
+  pub can-say : canWrite p len short size ≡ true → Writes p len short size
   unfolding canWrite
   can-say e =
       let a = and-true (sizesFit p size) _ e in
       let b = and-true (rowsFit p len) _ (a .1) in
-      let c = and-true (eqb other size) _ (b .1) in
-      record { port = fits-say p len size (a .0) (b .0); same = eqb-true _ _ (c .0); few = leb-true _ _ (c .1) }
+      record { port = fits-say p len size (a .0) (b .0); few = leb-true _ _ (b .1) }
 
-  pub can-tested : Writes p len short size other → canWrite p len short size other ≡ true
+  pub can-tested : Writes p len short size → canWrite p len short size ≡ true
   unfolding canWrite
   can-tested w =
       let t = fits-tested p len size (w .port) in
-      rw (t .0, t .1, eq-eqb other size (w .same), le-leb short muxRoom (w .few))
-
--- ---- what the parts ask
-pos-left : (a b : ℕ) → 0 < a * b → 0 < a
-pos-left zero b h = absurd (omega (arith, zero-mul b))
-pos-left (suc a) b h = omega arith
-
-pos-right : (a b : ℕ) → 0 < a * b → 0 < b
-pos-right a zero h = absurd (omega (arith, mul-zero a))
-pos-right a (suc b) h = omega arith
-
-module _ (p : WidePort) (len size : ℕ) (f : PortFits p len size) where
-  whole-pos : 0 < p .rows * (p .mems * p .unit)
-  whole-pos = subst (λ (n : ℕ). 0 < n) (f .size-is) (f .some)
-
-  pub rows-pos : 0 < p .rows
-  rows-pos = pos-left (p .rows) (p .mems * p .unit) whole-pos
-
-  pub mems-pos : 0 < p .mems
-  mems-pos = pos-left (p .mems) (p .unit) (pos-right (p .rows) (p .mems * p .unit) whole-pos)
-
-  pub unit-pos : 0 < p .unit
-  unit-pos = pos-right (p .mems) (p .unit) (pos-right (p .rows) (p .mems * p .unit) whole-pos)
-
-  pub unit-max : p .unit ≤ maxColumns
-  unit-max = omega (arith, bounded 1 (p .unit) (p .mems) (p .unit) mems-pos (omega arith), one-mul (p .unit), f .columns-max)
-
-  -- the products that the grid holds
-  pub row-columns : p .rows * p .unit ≤ 524288
-  row-columns = omega (arith, bounded (p .rows) (p .unit) 16 32768 (f .rows-max) unit-max)
-
-  pub hop-max : (p .rows - 1) * p .unit ≤ 524288
-  hop-max = omega (arith, bounded (p .rows - 1) (p .unit) (p .rows) (p .unit) (omega arith) (omega arith), row-columns)
-
-  pub back-max : (p .mems - 1) * (p .rows * p .unit) ≤ 524288
-  back-max =
-      let a = bounded (p .mems - 1) (p .rows * p .unit) (p .mems) (p .rows * p .unit) (omega arith) (omega arith) in
-      let b = bounded (p .rows) (p .mems * p .unit) 16 32768 (f .rows-max) (f .columns-max) in
-      omega (arith, mul-left-comm (p .mems) (p .rows) (p .unit))
-
-  pub size-low : size ≤ 4611686018427387903
-  size-low = omega (arith, f .size-is, bounded (p .rows) (p .mems * p .unit) 16 32768 (f .rows-max) (f .columns-max))
-
-  pub grid-good : Good (gridOf p len) size
-  grid-good = record { mems-pos = mems-pos; rows-pos = rows-pos; unit-pos = unit-pos; size-is = f .size-is; hop-is = refl; back-is = refl }
-
-  pub port-narrow : Narrow (p .olds) (p .mems * p .unit) len (p .pieces)
-  port-narrow =
-      let a = bounded (p .olds) (p .pieces) 16 16777216 (f .olds-max) (f .pieces-max) in
-      let b : p .olds + p .olds * p .pieces ≤ 4294967296 = omega (arith, f .olds-max) in
-      let c = bounded (p .olds + p .olds * p .pieces) (p .mems * p .unit + len) 4294967296 65536 b (omega (arith, f .columns-max, f .len-max)) in
-      record { sum = omega arith; numbers = b }
-
-  pub port-asks : (short other : ℕ) → other ≡ size → short ≤ muxRoom → Port (gridOf p len) (p .olds) (p .width) len short size other
-  port-asks short other e h = record {
-    good = grid-good;
-    same-room = e;
-    entries-are = refl;
-    few = omega (arith, bounded (p .olds) len 16 256 (f .olds-max) (f .len-max));
-    few-olds = f .olds-max;
-    low = omega (arith, bounded (p .olds) (p .width) 16 128 (f .olds-max) (f .width-max));
-    short = h;
-  }
+      rw (t .0, t .1, le-leb short muxRoom (w .few))
 
 -- ---- done or not
 done-value : (v : List ℕ) (n : ℕ) → done v n .value ≡ v
 unfolding done
 done-value v n = refl
 
-module _ (p : WidePort) (mux es v : List ℕ) (size : ℕ) (room : List ℕ) where
-  pub write-not : canWrite p (length es) (length mux) size (length room) ≡ false → writeOf p mux es v size room ≡ done room
-  unfolding writeOf
-  write-not e = rw e
+module _ (p : WidePort) (mux es v room : List ℕ) where
+  pub masks-not : canWrite p (length es) (length mux) (length room) ≡ false → masksOf p mux es v room ≡ done room
+  unfolding masksOf
+  masks-not e = rw e
 
-  pub write-can : canWrite p (length es) (length mux) size (length room) ≡ true → writeOf p mux es v size room ≡ portMasks p mux es v (length room)
-  unfolding writeOf
-  write-can e = rw e
+  pub masks-can : canWrite p (length es) (length mux) (length room) ≡ true → masksOf p mux es v room ≡ portMasks p mux es v (length room)
+  unfolding masksOf
+  masks-can e = rw e
 
-  pub write-kept : (n : ℕ) → canWrite p (length es) (length mux) size (length room) ≡ false → room ≡ writeOf p mux es v size room n .value
-  write-kept n e = sym (ap (λ (t : Trace (List ℕ)). t n .value) (write-not e) ∙ done-value room n)
+  pub masks-kept : (n : ℕ) → canWrite p (length es) (length mux) (length room) ≡ false → room ≡ masksOf p mux es v room n .value
+  masks-kept n e = sym (ap (λ (t : Trace (List ℕ)). t n .value) (masks-not e) ∙ done-value room n)
 
-  pub bits-not : canWrite p (length es) (length mux) (length room) size ≡ false → room ≡ bitsOf p mux es v size room
-  unfolding bitsOf
-  bits-not e = rw e
+-- ---- a port's row of the mask
+pub row-few : (p : WidePort) (len size o : ℕ) → o ≡ p .olds → PortFits p len size → o * len ≤ maxMerge
+row-few p len size o e f = omega (arith, bounded o len 16 256 (omega (arith, f .olds-max)) (f .len-max))
 
-  pub bits-can : canWrite p (length es) (length mux) (length room) size ≡ true → bitsOf p mux es v size room ≡ portBits p es v (length room)
-  unfolding bitsOf
-  bits-can e = rw e
+pub row-length : (p : WidePort) (es v out : List ℕ) (size : ℕ) (out′ : List ℕ) → PortFits p (length es) size → out′ ≡ maskRow p es v out → length out′ ≡ length out
+row-length p es v out size out′ f e = ap length (e ∙ mask-can p es v out (fits-tested p (length es) size f .1)) ∙ length-sets out 0 (repeating X (allSources (p .olds) (p .width) es) v)
 
-module _ (p : WidePort) (es v room : List ℕ) where
-  pub trits-sizes : sizesFit p (length room) ≡ false → room ≡ tritsOf p es v room
-  unfolding tritsOf
-  trits-sizes e = rw e
-
-  pub trits-rows : sizesFit p (length room) ≡ true → rowsFit p (length es) ≡ false → room ≡ tritsOf p es v room
-  unfolding tritsOf
-  trits-rows e f = rw (e, f)
-
-  pub trits-can : sizesFit p (length room) ≡ true → rowsFit p (length es) ≡ true → tritsOf p es v room ≡ portTrits p es v (length room)
-  unfolding tritsOf
-  trits-can e f = rw (e, f)
+pub masks-by : (p : WidePort) (mux es mask : List ℕ) (size : ℕ) (row room : List ℕ) (n : ℕ) → row ≡ repeating X (allSources (p .olds) (p .width) es) mask → room ≡ replicate size 0 → n ≡ p .pieces
+    → spillMasks (p .mems) (p .rows) (p .unit) (length es) (portStarts p (length es)) mux row (upFrom 0 n) room ≡ portMasks p mux es mask size
+unfolding portMasks
+masks-by p mux es mask size row room n er eo en = λ i. spillMasks (p .mems) (p .rows) (p .unit) (length es) (portStarts p (length es)) mux (er i) (upFrom 0 (en i)) (eo i)

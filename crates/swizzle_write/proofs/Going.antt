@@ -2,7 +2,7 @@
 use mathlib.Core.Path.{_≡_, refl, sym, ap, _∙_}
 use mathlib.Core.Bool.{false}
 use Prim.Native.Nat.{ℕ, _+_, _-_, _*_, _<_, _≤_}
-use native.Mathlib.Nat.{sub-zero, mul-le-mul-left, mul-le-mul-right}
+use native.Mathlib.Nat.{sub-zero}
 use native.Mathlib.Omega.{arith}
 use mathlib.Core.List.{List, [], _∷_}
 use lib.ListN.{length}
@@ -13,16 +13,16 @@ use Rattle.rules.specs.Log.{Trace, _>>=_, done}
 use Rattle.rules.proofs.Traces.{bind-value}
 use Rattle.log_entries.specs.Emission.{Lent, isOver, run}
 use Rattle.log_entries.proofs.Emission.{run-done, run-then, run-next, run-held}
-use Rattle.swizzle_laws.specs.Stores.{spillAt, spillEach, pieceBy, spillMasks}
-use Rattle.swizzle_write.specs.declared.Grid.{Grid}
-use Rattle.swizzle_write.specs.Jobs.{Job, Narrow}
+use Rattle.swizzle_laws.specs.Stores.{spillAt, pieceBy, spillMasks}
+use Rattle.swizzle_columns.specs.declared.WidePort.{WidePort}
+use Rattle.swizzle_write.specs.Jobs.{Job}
 use Rattle.swizzle_write.proofs.Pieces.{chains-piece}
 
 done-value : (v : List ℕ) (n : ℕ) → done v n .value ≡ v
 unfolding done
 done-value v n = refl
 
-module _ (M R U L : ℕ) (starts : ℕ → List ℕ) (mux mask bits : List ℕ) where
+module _ (M R U L : ℕ) (starts : ℕ → List ℕ) (mux mask : List ℕ) where
   masks-cons : (x : ℕ) (xs l : List ℕ) → spillMasks M R U L starts mux mask (x ∷ xs) l ≡ (pieceBy mux mask x >>= λ k. spillMasks M R U L starts mux mask xs (spillAt M R U L (starts x) k l))
   unfolding spillMasks
   masks-cons x xs l = refl
@@ -31,36 +31,23 @@ module _ (M R U L : ℕ) (starts : ℕ → List ℕ) (mux mask bits : List ℕ) 
   unfolding spillMasks
   masks-none l = refl
 
-  each-cons : (x : ℕ) (xs l : List ℕ) → spillEach M R U L starts (x ∷ xs) bits l ≡ spillEach M R U L starts xs bits (spillAt M R U L (starts x) bits l)
-  unfolding spillEach
-  each-cons x xs l = refl
-
-  each-none : (l : List ℕ) → spillEach M R U L starts [] bits l ≡ l
-  unfolding spillEach
-  each-none l = refl
-
   module _ (N : ℕ) where
     -- what is left from piece x on
     abbrev pub left : ℕ → List ℕ → Trace (List ℕ)
     left x l = spillMasks M R U L starts mux mask (upFrom x (N - x)) l
 
-    abbrev pub leftBits : ℕ → List ℕ → List ℕ
-    leftBits x l = spillEach M R U L starts (upFrom x (N - x)) bits l
-
-    pub record Going (m₀ m b₀ b : List ℕ) (l₀ l : Lent) (x : ℕ) : Type 0 where
+    pub record Going (m₀ m : List ℕ) (l₀ l : Lent) (x : ℕ) : Type 0 where
       pub whole : run (left x m) l ≡ run (spillMasks M R U L starts mux mask (upFrom 0 N) m₀) l₀
       pub value : isOver (run (left x m) l .state) ≡ false → left x m (l .state .next) .value ≡ spillMasks M R U L starts mux mask (upFrom 0 N) m₀ (l₀ .state .next) .value
-      pub stored : leftBits x b ≡ spillEach M R U L starts (upFrom 0 N) bits b₀
 
-    pub going-starts : (m b : List ℕ) (l : Lent) → Going m m b b l l 0
-    going-starts m b l = record {
+    pub going-starts : (m : List ℕ) (l : Lent) → Going m m l l 0
+    going-starts m l = record {
       whole = ap (λ (k : ℕ). run (spillMasks M R U L starts mux mask (upFrom 0 k) m) l) (sub-zero N);
       value = λ o. ap (λ (k : ℕ). spillMasks M R U L starts mux mask (upFrom 0 k) m (l .state .next) .value) (sub-zero N);
-      stored = ap (λ (k : ℕ). spillEach M R U L starts (upFrom 0 k) bits b) (sub-zero N);
     }
 
-    module _ (m₀ m m1 b₀ b b1 k : List ℕ) (l₀ l l1 : Lent) (x : ℕ) (g : Going m₀ m b₀ b l₀ l x) (h : x < N) (e1 : l1 ≡ run (pieceBy mux mask x) l)
-        (ek : isOver (l1 .state) ≡ false → k ≡ pieceBy mux mask x (l .state .next) .value) (em : m1 ≡ spillAt M R U L (starts x) k m) (eb : b1 ≡ spillAt M R U L (starts x) bits b) where
+    module _ (m₀ m m1 k : List ℕ) (l₀ l l1 : Lent) (x : ℕ) (g : Going m₀ m l₀ l x) (h : x < N) (e1 : l1 ≡ run (pieceBy mux mask x) l)
+        (ek : isOver (l1 .state) ≡ false → k ≡ pieceBy mux mask x (l .state .next) .value) (em : m1 ≡ spillAt M R U L (starts x) k m) where
       abbrev t : Trace Value
       t = pieceBy mux mask x
 
@@ -85,14 +72,13 @@ module _ (M R U L : ℕ) (starts : ℕ → List ℕ) (mux mask bits : List ℕ) 
           ∙ ap (λ (j : ℕ). f (t n .value) j .value) q
           ∙ sym (ap (λ (u : Trace (List ℕ)). u n .value) left-more ∙ bind-value t f n)
 
-      pub turn : Going m₀ m1 b₀ b1 l₀ l1 (x + 1)
+      pub turn : Going m₀ m1 l₀ l1 (x + 1)
       turn = record {
         whole = step ∙ g .whole;
         value = λ o. values (run-held (left (x + 1) m1) l1 o) ∙ g .value (sym (ap (λ (y : Lent). isOver (y .state)) step) ∙ o);
-        stored = ap (leftBits (x + 1)) eb ∙ sym (ap (λ (xs : List ℕ). spillEach M R U L starts xs bits b) (count-step x N h) ∙ each-cons x (upFrom (x + 1) (N - (x + 1))) b) ∙ g .stored;
       }
 
-    module _ (m₀ m b₀ b : List ℕ) (l₀ l : Lent) (x : ℕ) (g : Going m₀ m b₀ b l₀ l x) (h : N ≤ x) where
+    module _ (m₀ m : List ℕ) (l₀ l : Lent) (x : ℕ) (g : Going m₀ m l₀ l x) (h : N ≤ x) where
       left-none : left x m ≡ done m
       left-none = ap (λ (xs : List ℕ). spillMasks M R U L starts mux mask xs m) (count-end x N h) ∙ masks-none m
 
@@ -107,16 +93,7 @@ module _ (M R U L : ℕ) (starts : ℕ → List ℕ) (mux mask bits : List ℕ) 
           sym (ap (λ (t : Trace (List ℕ)). t (l .state .next) .value) left-none ∙ done-value m (l .state .next))
           ∙ g .value (ap (λ (y : Lent). isOver (y .state)) nothing ∙ o)
 
-      pub bits-end : b ≡ spillEach M R U L starts (upFrom 0 N) bits b₀
-      bits-end = sym (ap (λ (xs : List ℕ). spillEach M R U L starts xs bits b) (count-end x N h) ∙ each-none b) ∙ g .stored
-
 -- arrays of the same lengths
-pub job-same : (g : Grid) (mux mask bits kx ky at : List ℕ) {nl sl pl bl ml nl′ sl′ pl′ bl′ ml′ : ℕ} → nl′ ≡ nl → sl′ ≡ sl → pl′ ≡ pl → bl′ ≡ bl → ml′ ≡ ml
-    → Job g mux mask bits kx ky at nl sl pl bl ml → Job g mux mask bits kx ky at nl′ sl′ pl′ bl′ ml′
-job-same g mux mask bits kx ky at a b c d e j = rw (a, b, c, d, e) j
-
-pub narrow-less : (olds olds′ C L x N : ℕ) → olds′ ≡ olds → x ≤ N → Narrow olds C L N → Narrow olds′ C L x
-narrow-less olds olds′ C L x N e h n =
-    rw e (let a : olds * x ≤ olds * N = mul-le-mul-left olds h in
-    let b : (olds + olds * x) * (C + L) ≤ (olds + olds * N) * (C + L) = mul-le-mul-right (C + L) (omega arith) in
-    record { sum = omega (arith, n .sum); numbers = omega (arith, n .numbers) })
+pub job-same : (p : WidePort) (len : ℕ) (mux mask kx ky at : List ℕ) {nl pl tl nl′ pl′ tl′ : ℕ} → nl′ ≡ nl → pl′ ≡ pl → tl′ ≡ tl
+    → Job p len mux mask kx ky at nl pl tl → Job p len mux mask kx ky at nl′ pl′ tl′
+job-same p len mux mask kx ky at a b c j = rw (a, b, c) j

@@ -14,9 +14,9 @@ use Rattle.rules.specs.Swizzle.{Split, pieceStart, arrange, repeating, swizzleW
 use Rattle.log_entries.specs.Emission.{Lent, run}
 use Rattle.swizzle_laws.specs.Order.{ordered}
 use Rattle.swizzle_laws.specs.Stores.{spillEach, spillMasks}
-use Rattle.swizzle_write.specs.declared.Grid.{Grid}
-use Rattle.swizzle_write.specs.Steps.{Good}
-use Rattle.swizzle_write.specs.Rows.{startOf, startsBy, allSources}
+use Rattle.swizzle_columns.specs.declared.Grid.{Grid}
+use Rattle.swizzle_columns.specs.Steps.{Good}
+use Rattle.swizzle_columns.specs.Rows.{startOf, startsBy, allSources}
 use Rattle.swizzle_write.specs.Matches.{Matches}
 use Rattle.swizzle_write.proofs.Rules.{codeMasks, codeBits, port-run, port-mask, port-bits}
 

@@ -1,91 +1,46 @@
--- A port with the numbers of a split is the port of the rules: the same entries, and its data, mask and trits in the order of the memories.
+-- A port with the numbers of a split is the write port of the rules: the same entries, and its data and mask in the order of the memories.
 use mathlib.Core.Path.{_≡_, refl, sym, ap, _∙_}
-use Prim.Native.Nat.{ℕ, _+_, _-_, _*_, _^_, _<_, _≤_}
+use Prim.Native.Nat.{ℕ, _+_, _*_, _^_, _<_, _≤_}
 use native.Mathlib.Omega.{arith}
 use mathlib.Core.List.{List}
 use lib.ListN.{length}
-use Rattle.rules.specs.Limits.{addrBits}
 use Rattle.rules.specs.Value.{Value}
 use Rattle.rules.specs.Cell.{WritePort}
 use Rattle.rules.specs.Log.{Trace}
-use Rattle.rules.specs.Geometry.{Layout, walk, rowLen, allMems, columns}
-use Rattle.rules.specs.Swizzle.{Split, spotBy, splitAddr, splitBy, pieceStart, swizzleWrite, constColumns}
+use Rattle.rules.specs.Geometry.{Layout, rowLen, allMems, columns}
+use Rattle.rules.specs.Swizzle.{Split, splitAddr, swizzleWrite}
 use Rattle.log_entries.specs.Emission.{Lent, run}
 use Rattle.swizzle_laws.specs.Order.{ordered}
-use Rattle.swizzle_laws.proofs.Places.{Splittable, rowBits, piece-walk}
-use Rattle.swizzle_write.specs.declared.WidePort.{WidePort}
-use Rattle.swizzle_write.specs.Rows.{startOf}
-use Rattle.swizzle_write.specs.Matches.{Matches, Laid}
-use Rattle.swizzle_write.specs.Wide.{muxRoom, PortFits, gridOf, portMasks, portBits, portTrits, writeOf, bitsOf, tritsOf}
-use Rattle.swizzle_write.proofs.Fits.{grid-good, fits-tested, can-tested, write-can, bits-can, trits-can}
+use Rattle.swizzle_laws.proofs.Places.{Splittable}
+use Rattle.swizzle_columns.specs.declared.WidePort.{WidePort}
+use Rattle.swizzle_columns.specs.Wide.{PortFits, gridOf, portBits, bitsOf}
+use Rattle.swizzle_columns.proofs.Fits.{grid-good, fits-tested, bits-can}
+use Rattle.swizzle_columns.proofs.Meaning.{Means, row-length, old-is, new-is, columns-are, starts-are}
+use Rattle.swizzle_write.specs.Matches.{Matches}
+use Rattle.swizzle_write.specs.Wide.{muxRoom, portMasks, masksOf}
+use Rattle.swizzle_write.proofs.Fits.{can-tested, masks-can}
 use Rattle.swizzle_write.proofs.Matched.{matched-run, matched-mask, matched-bits}
-use Rattle.swizzle_write.proofs.Trits.{laid-trits}
-
--- what a port's numbers are
-pub record Means (q : Layout) (old new : ℕ) (addr : Value) (ok : Splittable q old new addr) (p : WidePort) : Type 0 where
-  pub mems-are : p .mems ≡ allMems q
-  pub unit-is : p .unit ≡ q .unit
-  pub rows-are : p .rows ≡ 2 ^ new
-  pub olds-are : p .olds ≡ 2 ^ old
-  pub width-is : p .width ≡ q .width
-  pub chunks-are : p .chunks ≡ 2 ^ addrBits - 1 - rowBits q old new addr ok
-  pub pieces-are : p .pieces ≡ splitAddr q old new addr .pieces
-  pub few : 2 ^ old * splitAddr q old new addr .pieces ≤ 2 ^ addrBits
-  pub fewer : splitAddr q old new addr .pieces ≤ 2 ^ addrBits
-
-row-length : (q : Layout) → length (q .entries) ≡ rowLen q
-unfolding rowLen
-row-length q = refl
-
-start-unfolds : (chunks C L n : ℕ) → startOf chunks C L n ≡ walk addrBits chunks addrBits n .row * C + walk addrBits chunks addrBits n .chunk * L
-unfolding startOf
-start-unfolds chunks C L n = refl
 
 module _ (q : Layout) (old new : ℕ) (addr : Value) (ok : Splittable q old new addr) (p : WidePort) (m : Means q old new addr ok p) where
   abbrev s : Split
   s = splitAddr q old new addr
 
-  old-is : s .old ≡ old
-  unfolding splitAddr splitBy
-  old-is = refl
-
-  new-is : s .new ≡ new
-  unfolding splitAddr splitBy
-  new-is = refl
-
-  columns-are : p .mems * p .unit ≡ columns q
-  unfolding columns
-  columns-are = λ i. m .mems-are i * m .unit-is i
-
-  piece-start : (x j : ℕ) → pieceStart q s x j ≡ spotBy (s .pieceRoles) (j + 2 ^ s .old * x) .row * columns q + spotBy (s .pieceRoles) (j + 2 ^ s .old * x) .chunk * rowLen q
-  unfolding pieceStart
-  piece-start x j = refl
-
-  starts-are : (x j : ℕ) → x < p .pieces → j < p .olds → startOf (p .chunks) (p .mems * p .unit) (length (q .entries)) (j + p .olds * x) ≡ pieceStart q s x j
-  starts-are x j h g =
-      let e : walk addrBits (p .chunks) addrBits (j + p .olds * x) ≡ spotBy (s .pieceRoles) (j + 2 ^ s .old * x) =
-      (λ i. walk addrBits (m .chunks-are i) addrBits (j + m .olds-are i * x))
-      ∙ sym (piece-walk q old new addr ok x j (m .few) (m .fewer) (omega (arith, m .pieces-are)) (omega (arith, m .olds-are)))
-      ∙ ap (λ (k : ℕ). spotBy (s .pieceRoles) (j + 2 ^ k * x)) (sym old-is) in
-      start-unfolds (p .chunks) (p .mems * p .unit) (length (q .entries)) (j + p .olds * x)
-      ∙ (λ i. e i .row * columns-are i + e i .chunk * row-length q i) ∙ sym (piece-start x j)
-
   module _ (w : WritePort) where
     matches : Matches (gridOf p (length (q .entries))) (p .mems * p .unit) (p .pieces) (p .olds) (p .chunks) (s .muxAddr) (p .width) (q .entries) (w .bits) (w .mask) q s w
     matches = record {
       mems-are = m .mems-are;
-      rows-are = m .rows-are ∙ ap (λ (k : ℕ). 2 ^ k) (sym new-is);
+      rows-are = m .rows-are ∙ ap (λ (k : ℕ). 2 ^ k) (sym (new-is q old new addr ok p m));
       unit-is = m .unit-is;
       len-is = row-length q;
-      columns-are = columns-are;
+      columns-are = columns-are q old new addr ok p m;
       pieces-are = m .pieces-are;
-      olds-are = m .olds-are ∙ ap (λ (k : ℕ). 2 ^ k) (sym old-is);
+      olds-are = m .olds-are ∙ ap (λ (k : ℕ). 2 ^ k) (sym (old-is q old new addr ok p m));
       width-is = m .width-is;
       entries-are = refl;
       mux-is = refl;
       bits-are = refl;
       mask-is = refl;
-      starts-are = starts-are;
+      starts-are = starts-are q old new addr ok p m;
     }
 
     module _ (size : ℕ) (f : PortFits p (length (q .entries)) size) where
@@ -101,46 +56,19 @@ module _ (q : Layout) (old new : ℕ) (addr : Value) (ok : Splittable q old new 
       unfolding portBits
       bits-value n = matched-bits _ _ _ _ _ _ _ _ _ _ q s w matches size (grid-good p (length (q .entries)) size f) n
 
-    -- the write port, where the two rooms are as large as its columns and the mux address is not too long
-    module _ (short : length (s .muxAddr) ≤ muxRoom) where
-      pub write-run : (size : ℕ) (room : List ℕ) → PortFits p (length (q .entries)) size → length room ≡ size → (l : Lent)
-          → run (writeOf p (s .muxAddr) (q .entries) (w .mask) size room) l ≡ run (swizzleWrite q s w) l
-      write-run size room f e l =
-          let c = can-tested p (length (q .entries)) (length (s .muxAddr)) size (length room) (record { port = f; same = e; few = short }) in
-          ap (λ (t : Trace (List ℕ)). run t l) (write-can p (s .muxAddr) (q .entries) (w .mask) size room c ∙ ap (portMasks p (s .muxAddr) (q .entries) (w .mask)) e) ∙ masks-run size f l
+    -- the write port, where its rooms are as large as its columns and the mux address is not too long
+    module _ (room : List ℕ) (f : PortFits p (length (q .entries)) (length room)) where
+      module _ (short : length (s .muxAddr) ≤ muxRoom) where
+        masks-are : masksOf p (s .muxAddr) (q .entries) (w .mask) room ≡ portMasks p (s .muxAddr) (q .entries) (w .mask) (length room)
+        masks-are = masks-can p (s .muxAddr) (q .entries) (w .mask) room (can-tested p (length (q .entries)) (length (s .muxAddr)) (length room) (record { port = f; few = short }))
 
-      pub write-mask : (size : ℕ) (room : List ℕ) → PortFits p (length (q .entries)) size → length room ≡ size → (n : ℕ)
-          → writeOf p (s .muxAddr) (q .entries) (w .mask) size room n .value ≡ ordered q s (swizzleWrite q s w n .value .port .mask)
-      write-mask size room f e n =
-          let c = can-tested p (length (q .entries)) (length (s .muxAddr)) size (length room) (record { port = f; same = e; few = short }) in
-          ap (λ (t : Trace (List ℕ)). t n .value) (write-can p (s .muxAddr) (q .entries) (w .mask) size room c ∙ ap (portMasks p (s .muxAddr) (q .entries) (w .mask)) e) ∙ masks-value size f n
+        pub write-run : (l : Lent) → run (masksOf p (s .muxAddr) (q .entries) (w .mask) room) l ≡ run (swizzleWrite q s w) l
+        write-run l = ap (λ (t : Trace (List ℕ)). run t l) masks-are ∙ masks-run (length room) f l
 
-      pub write-bits : (other : ℕ) (room : List ℕ) → PortFits p (length (q .entries)) (length room) → other ≡ length room → (n : ℕ)
-          → bitsOf p (s .muxAddr) (q .entries) (w .bits) other room ≡ ordered q s (swizzleWrite q s w n .value .port .bits)
-      write-bits other room f e n =
-          let c = can-tested p (length (q .entries)) (length (s .muxAddr)) (length room) other (record { port = f; same = e; few = short }) in
-          bits-can p (s .muxAddr) (q .entries) (w .bits) other room c ∙ bits-value (length room) f n
+        pub write-mask : (n : ℕ) → masksOf p (s .muxAddr) (q .entries) (w .mask) room n .value ≡ ordered q s (swizzleWrite q s w n .value .port .mask)
+        write-mask n = ap (λ (t : Trace (List ℕ)). t n .value) masks-are ∙ masks-value (length room) f n
 
-  -- ---- trits of a clocked read port
-  laid : Laid (gridOf p (length (q .entries))) (p .mems * p .unit) (p .pieces) (p .olds) (p .chunks) (p .width) (q .entries) q s
-  laid = record {
-    mems-are = m .mems-are;
-    rows-are = m .rows-are ∙ ap (λ (k : ℕ). 2 ^ k) (sym new-is);
-    unit-is = m .unit-is;
-    len-is = row-length q;
-    columns-are = columns-are;
-    pieces-are = m .pieces-are;
-    olds-are = m .olds-are ∙ ap (λ (k : ℕ). 2 ^ k) (sym old-is);
-    width-is = m .width-is;
-    entries-are = refl;
-    starts-are = starts-are;
-  }
-
-  trits-value : (v : List ℕ) (size : ℕ) → PortFits p (length (q .entries)) size → portTrits p (q .entries) v size ≡ ordered q s (constColumns q s v)
-  unfolding portTrits
-  trits-value v size f = laid-trits _ _ _ _ _ _ _ v q s laid size (grid-good p (length (q .entries)) size f)
-
-  pub trits-rules : (v room : List ℕ) → PortFits p (length (q .entries)) (length room) → tritsOf p (q .entries) v room ≡ ordered q s (constColumns q s v)
-  trits-rules v room f =
-      let t = fits-tested p (length (q .entries)) (length room) f in
-      trits-can p (q .entries) v room (t .0) (t .1) ∙ trits-value v (length room) f
+      pub write-bits : (n : ℕ) → bitsOf p (q .entries) (w .bits) room ≡ ordered q s (swizzleWrite q s w n .value .port .bits)
+      write-bits n =
+          let t = fits-tested p (length (q .entries)) (length room) f in
+          bits-can p (q .entries) (w .bits) room (t .0) (t .1) ∙ bits-value (length room) f n

@@ -12,7 +12,7 @@ use Rattle.rules.specs.Merge.{Key2, same2}
 use Rattle.merge_keys.specs.Keys.{merging, firsts, seconds}
 use Rattle.merge_mux.specs.Results.{limited, Scratch}
 use Rattle.merge_mux.proofs.Found.{Found, found, keysOf, limited-all}
-use Rattle.swizzle_write.specs.Rows.{Kept}
+use Rattle.swizzle_write.specs.Jobs.{Kept}
 
 module _ (mask zeros kx ky at kx′ ky′ at′ : List ℕ) (k : ℕ) (few : length mask ≤ maxMerge) (z : zeros ≡ replicate (length mask) 0)
     (in-kx : maxMerge ≤ length kx) (in-ky : maxMerge ≤ length ky) (in-at : maxMerge ≤ length at)

@@ -5,7 +5,7 @@ use Prim.Native.Nat.{ℕ, _+_, _≤_, _<_}
 use native.Mathlib.Omega.{arith}
 use mathlib.Core.List.{List, [], _∷_}
 use lib.ListN.{length, take, replicate, length-replicate}
-use lib.Seq.{sets, length-sets, take-all}
+use lib.Seq.{sets}
 use Rattle.lists.specs.Choice.{if_then_else_}
 use Rattle.lists.specs.Lists.{pairs}
 use Rattle.lists.specs.Distinct.{kept, places}
@@ -26,7 +26,7 @@ use Rattle.merge_keys.specs.Keys.{firsts, seconds}
 use Rattle.merge_mux.specs.Results.{results}
 use Rattle.merge_mux.proofs.Spread.{length-spread, results-are}
 use Rattle.swizzle_laws.specs.Stores.{pieceBy}
-use Rattle.swizzle_write.specs.Rows.{Kept}
+use Rattle.swizzle_write.specs.Jobs.{Kept}
 
 empty-is : (v : Value) → length v ≡ 0 → isEmpty v ≡ true
 unfolding isEmpty
@@ -156,9 +156,3 @@ pub chains-piece : (mux mask : Value) (x : ℕ) → Chains (pieceBy mux mask x)
 unfolding pieceBy
 chains-piece mux mask x =
     chains-bind _ _ (chains-eq mux (fromUint (length mux) x)) (λ e. chains-if (isEmpty mux) _ _ (chains-done mask) (chains-dedup-mux (Pos e) mask (replicate (length mask) 0)))
-
--- what fills a list is the list
-pub stored-all : (l x ws : List ℕ) → x ≡ sets l 0 ws → length ws ≡ length l → x ≡ ws
-stored-all l x ws e s =
-    let a : length x ≡ length ws = ap length e ∙ length-sets l 0 ws ∙ sym s in
-    sym (take-all (length ws) x (omega arith)) ∙ take-stored l x ws (length ws) e refl (omega arith)

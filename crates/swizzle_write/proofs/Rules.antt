@@ -16,29 +16,8 @@ use Rattle.log_entries.proofs.Emission.{run-same}
 use Rattle.swizzle_laws.specs.Order.{ordered}
 use Rattle.swizzle_laws.specs.Stores.{startsOf, spillAt, spillEach, pieceBy, spillMasks}
 use Rattle.swizzle_laws.proofs.Stores.{blank-whole, order-blank, order-each, order-masks, inOrder}
-use Rattle.swizzle_write.specs.Rows.{startOf, startsBy, rowSources, sourcesFrom, allSources}
-
--- ---- the rows' entries
-pub sources-are : (q : Layout) (s : Split) → allSources (2 ^ s .old) (q .width) (q .entries) ≡ sources q s
-unfolding allSources sourcesFrom rowSources sources oldRows
-sources-are q s = refl
-
--- ---- stores go by the starts of the pieces in use alone
-map-up : (f g : ℕ → ℕ) (a n : ℕ) → ((j : ℕ) → j < a + n → f j ≡ g j) → map f (upFrom a n) ≡ map g (upFrom a n)
-map-up f g a zero e = refl
-map-up f g a (suc n) e =
-    let h : f a ≡ g a = e a (omega arith) in
-    let r = map-up f g (suc a) n (λ j k. e j (omega arith)) in
-    λ i. h i ∷ r i
-
-pub each-starts : (M R U L : ℕ) (f g : ℕ → List ℕ) (v : List ℕ) (a n : ℕ) (l : List ℕ) → ((x : ℕ) → x < a + n → f x ≡ g x)
-    → spillEach M R U L f (upFrom a n) v l ≡ spillEach M R U L g (upFrom a n) v l
-unfolding spillEach
-each-starts M R U L f g v a zero l e = refl
-each-starts M R U L f g v a (suc n) l e =
-    let h : f a ≡ g a = e a (omega arith) in
-    each-starts M R U L f g v (suc a) n (spillAt M R U L (f a) v l) (λ x k. e x (omega arith))
-    ∙ ap (λ (ss : List ℕ). spillEach M R U L g (upFrom (suc a) n) v (spillAt M R U L ss v l)) h
+use Rattle.swizzle_columns.specs.Rows.{startOf, startsBy, allSources}
+use Rattle.swizzle_columns.proofs.Rules.{sources-are, each-starts, starts-are}
 
 masks-starts : (M R U L : ℕ) (f g : ℕ → List ℕ) (mux mask : Value) (a n : ℕ) (l : List ℕ) → ((x : ℕ) → x < a + n → f x ≡ g x)
     → spillMasks M R U L f mux mask (upFrom a n) l ≡ spillMasks M R U L g mux mask (upFrom a n) l
@@ -52,10 +31,6 @@ masks-starts M R U L f g mux mask a (suc n) l e =
     ∙ (λ i. pieceBy mux mask a >>= λ k. spillMasks M R U L g mux mask (upFrom (suc a) n) (spillAt M R U L (h i) k l))
 
 module _ (q : Layout) (s : Split) (chunks : ℕ) (k : (x j : ℕ) → x < s .pieces → j < 2 ^ s .old → startOf chunks (columns q) (rowLen q) (j + 2 ^ s .old * x) ≡ pieceStart q s x j) where
-  pub starts-are : (x : ℕ) → x < s .pieces → startsBy chunks (columns q) (rowLen q) (2 ^ s .old) x ≡ startsOf q s x
-  unfolding startsBy startsOf oldRows
-  starts-are x h = map-up _ _ 0 (2 ^ s .old) (λ j g. k x j h (omega arith))
-
   module _ (p : WritePort) where
     abbrev M : ℕ
     M = allMems q
@@ -84,12 +59,12 @@ module _ (q : Layout) (s : Split) (chunks : ℕ) (k : (x j : ℕ) → x < s .pie
 
     same-masks : codeMasks ≡ spillMasks M R U L (startsOf q s) (s .muxAddr) mask (upFrom 0 (s .pieces)) (ordered q s (blank q s 0))
     same-masks =
-        masks-starts M R U L _ (startsOf q s) (s .muxAddr) (repeating X (allSources (2 ^ s .old) (q .width) (q .entries)) (p .mask)) 0 (s .pieces) _ (λ x h. starts-are x (omega arith))
+        masks-starts M R U L _ (startsOf q s) (s .muxAddr) (repeating X (allSources (2 ^ s .old) (q .width) (q .entries)) (p .mask)) 0 (s .pieces) _ (λ x h. starts-are q s chunks k x (omega arith))
         ∙ (λ i. spillMasks M R U L (startsOf q s) (s .muxAddr) (repeating X (sources-are q s i) (p .mask)) (upFrom 0 (s .pieces)) (sym (order-blank q s 0) i))
 
     same-bits : codeBits ≡ spillEach M R U L (startsOf q s) (upFrom 0 (s .pieces)) bits (ordered q s (blank q s X))
     same-bits =
-        each-starts M R U L _ (startsOf q s) (arrange X (allSources (2 ^ s .old) (q .width) (q .entries)) (p .bits)) 0 (s .pieces) _ (λ x h. starts-are x (omega arith))
+        each-starts M R U L _ (startsOf q s) (arrange X (allSources (2 ^ s .old) (q .width) (q .entries)) (p .bits)) 0 (s .pieces) _ (λ x h. starts-are q s chunks k x (omega arith))
         ∙ (λ i. spillEach M R U L (startsOf q s) (upFrom 0 (s .pieces)) (arrange X (sources-are q s i) (p .bits)) (sym (order-blank q s X) i))
 
     abbrev pieces : Trace Value

@@ -1,337 +1,25 @@
-// memory/src/lib.rs, the write ports of swizzle: the row's mask and data, and for each piece its comparison, its merging mux and its stores. The
-// columns stand memory after memory.
+// memory/src/lib.rs, a write port of swizzle: the row's mask, and for each piece its comparison, its merging mux and its stores. The columns stand
+// memory after memory.
 ghost use mathlib.Core.Path.{_≡_};
 ghost use mathlib.Core.Bool.{false};
-ghost use mathlib.Core.List.{_∷_, []};
-ghost use Prim.Native.Nat.{_+_, _-_, _*_, _<_, _≤_, min};
-ghost use lib.ListN.{length, getD, take, replicate};
+ghost use Prim.Native.Nat.{_<_, _≤_};
+ghost use lib.ListN.{length};
 ghost use lib.Seq.{sets};
-ghost use Rattle.lists.specs.Lists.{part, upFrom};
-ghost use Rattle.rules.specs.Limits.{X, tritX};
+ghost use Rattle.lists.specs.Lists.{upFrom};
 ghost use Rattle.rules.specs.Value.{fromUint};
-ghost use Rattle.rules.specs.Swizzle.{arrange, repeating};
 ghost use Rattle.log_entries.specs.Emission.{isOver, run};
 ghost use Rattle.log_entries.specs.View.{stateOf, lent};
-ghost use Rattle.swizzle_laws.specs.Stores.{spillFit, spillAt, spillEach, pieceBy, spillMasks};
-ghost use Rattle.swizzle_write.specs.Steps.{Good, At, nextOf, Steppable, Twins, Rowed};
-ghost use Rattle.swizzle_write.specs.Rows.{sourceOf, rowSources, allSources, lastOf, Based, Bases, startOf, startsBy, Kept};
-ghost use Rattle.swizzle_write.specs.Wide.{sizesFit, rowsFit, canWrite, PortFits, Writes, gridOf, portMasks, portBits, portTrits, writeOf, bitsOf, tritsOf};
-ghost use Rattle.swizzle_write.specs.Jobs.{Narrow, Job, Rooms, Row, Port};
-ghost use lib.Dec.{eqb};
-ghost use Rattle.lists.specs.Choice.{if_then_else_};
-ghost use Rattle.rules.specs.Limits.{None};
+ghost use Rattle.swizzle_laws.specs.Stores.{spillAt, pieceBy, spillMasks};
+ghost use Rattle.swizzle_columns.specs.Wide.{portStarts};
+ghost use Rattle.swizzle_write.specs.Jobs.{Kept, Job, Rooms, Row};
+ghost use Rattle.swizzle_write.specs.Wide.{canWrite, Writes, portMasks, masksOf};
 use log_entries::LogState;
 use net_value::ControlNet;
 use net_value::Net;
-
-// How the columns of a port stand: so many memories, rows of the port, columns of a memory, and entries of a row; and the steps from the last
-// column of a memory's row to the same row of the next memory, and back to the first memory.
-pub struct Grid {
-    pub mems: usize,
-    pub rows: usize,
-    pub unit: usize,
-    pub entries: usize,
-    pub hop: usize,
-    pub back: usize,
-}
-
-// A wide port's numbers: so many memories, columns of each, new rows; old rows of so many bits each; the bits of a piece's number that are chunk
-// bits, and the pieces.
-pub struct WidePort {
-    pub mems: u32,
-    pub unit: u32,
-    pub rows: u32,
-    pub olds: u32,
-    pub width: u32,
-    pub chunks: u32,
-    pub pieces: u32,
-}
-
-// The rows of a port with the largest wide log.
-const MAX_ROWS: u32 = 16;
+use swizzle_columns::WidePort;
 
 // The nets of a mux address that a port has room for.
 const MUX_ROOM: usize = 64;
-
-// Whether a port's columns are within the limits, and `size` counts those of all new rows.
-fn sizes_fit(p: WidePort, size: usize) -> bool
-    ensures { λ r. ⌜ r ≡ sizesFit p size ⌝ }
-{
-    if MAX_ROWS < p.rows {
-        return false;
-    }
-    let columns = lists::usize_of_u32(p.mems) * lists::usize_of_u32(p.unit);
-    if lists::usize_of_u64(rules::MAX_COLUMNS) < columns {
-        return false;
-    }
-    if size == 0 {
-        return false;
-    }
-    size == lists::usize_of_u32(p.rows) * columns
-}
-
-// Whether a port's old rows and pieces are within the limits; each piece takes a net at least.
-fn rows_fit(p: WidePort, len: usize) -> bool
-    ensures { λ r. ⌜ r ≡ rowsFit p len ⌝ }
-{
-    if rules::MAX_ROW < len {
-        return false;
-    }
-    if MAX_ROWS < p.olds {
-        return false;
-    }
-    if rules::MAX_WIDTH < p.width {
-        return false;
-    }
-    p.pieces <= rules::MAX_NETS
-}
-
-// The grid of a port, with entries to a row.
-fn grid_of(p: WidePort, len: usize, size: usize) -> Grid
-    requires { ⌜ PortFits p len size ⌝ }
-    ensures { λ r. ⌜ r ≡ gridOf p len ⌝ }
-{
-    let mems = lists::usize_of_u32(p.mems);
-    let rows = lists::usize_of_u32(p.rows);
-    let unit = lists::usize_of_u32(p.unit);
-    Grid {
-        mems,
-        rows,
-        unit,
-        entries: len,
-        hop: (rows - 1) * unit,
-        back: (mems - 1) * (rows * unit),
-    }
-}
-
-// The columns of one new row.
-fn columns_of(p: WidePort, len: usize, size: usize) -> usize
-    requires { ⌜ PortFits p len size ⌝ }
-    ensures { λ r. ⌜ r ≡ p .mems * p .unit ⌝ }
-{
-    lists::usize_of_u32(p.mems) * lists::usize_of_u32(p.unit)
-}
-
-// A column on the way: its place memory after memory, its bit and its memory.
-struct Cursor {
-    index: usize,
-    bit: usize,
-    mem: usize,
-}
-
-// The column of an index.
-fn cursor_at(g: Grid, size: usize, at: usize) -> Cursor
-    requires { ⌜ Good g size × (at < size) ⌝ }
-    ensures { λ r. ⌜ At g at r ⌝ }
-{
-    let block = at / g.unit;
-    let bit = at % g.unit;
-    let mem = block % g.mems;
-    let row = block / g.mems;
-    Cursor {
-        index: (mem * g.rows + row) * g.unit + bit,
-        bit,
-        mem,
-    }
-}
-
-// The next column.
-fn next(c: Cursor, g: Grid) -> Cursor
-    requires { ⌜ Steppable c g ⌝ }
-    ensures { λ r. ⌜ r ≡ nextOf g c ⌝ }
-{
-    let bit = c.bit + 1;
-    if bit < g.unit {
-        return Cursor {
-            index: c.index + 1,
-            bit,
-            mem: c.mem,
-        };
-    }
-    let mem = c.mem + 1;
-    if mem < g.mems {
-        return Cursor {
-            index: c.index + 1 + g.hop,
-            bit: 0,
-            mem,
-        };
-    }
-    Cursor {
-        index: c.index + 1 - g.back,
-        bit: 0,
-        mem: 0,
-    }
-}
-
-// Stores a run of data and of mask nets from a column on.
-fn store_from(
-    bits_to: &mut [u32],
-    mask_to: &mut [u32],
-    g: Grid,
-    start: usize,
-    n: usize,
-    bits: &[u32],
-    mask: &[u32],
-)
-    requires { ⌜ Twins g (now «bits_to») (now «mask_to») (now bits) (now mask) ⌝ }
-    requires { ⌜ (0 < n) × (n ≡ min (length (now bits)) (length (now «bits_to») - start)) ⌝ }
-    ensures { λ _. ⌜ now («bits_to» .exit) ≡ spillFit (g .mems) (g .rows) (g .unit) (now («bits_to» .entry)) start (now (bits .entry)) ⌝ }
-    ensures { λ _. ⌜ now («mask_to» .exit) ≡ spillFit (g .mems) (g .rows) (g .unit) (now («mask_to» .entry)) start (now (mask .entry)) ⌝ }
-{
-    let mut c = cursor_at(g, bits_to.len(), start);
-    let mut i: usize = 0;
-    while i < n {
-        let at = c.index;
-        bits_to[at] = bits[i];
-        mask_to[at] = mask[i];
-        c = next(c, g);
-        i += 1;
-    }
-}
-
-// The same where there may be none.
-fn store_run(
-    bits_to: &mut [u32],
-    mask_to: &mut [u32],
-    g: Grid,
-    start: usize,
-    bits: &[u32],
-    mask: &[u32],
-)
-    requires { ⌜ Twins g (now «bits_to») (now «mask_to») (now bits) (now mask) ⌝ }
-    ensures { λ _. ⌜ now («bits_to» .exit) ≡ spillFit (g .mems) (g .rows) (g .unit) (now («bits_to» .entry)) start (now (bits .entry)) ⌝ }
-    ensures { λ _. ⌜ now («mask_to» .exit) ≡ spillFit (g .mems) (g .rows) (g .unit) (now («mask_to» .entry)) start (now (mask .entry)) ⌝ }
-{
-    let n = lists::fitting(bits_to.len(), start, bits.len());
-    if n == 0 {
-        return;
-    }
-    store_from(bits_to, mask_to, g, start, n, bits, mask);
-}
-
-// Stores a piece: so many entries of its data and mask from each start on.
-fn store_piece(
-    bits_to: &mut [u32],
-    mask_to: &mut [u32],
-    g: Grid,
-    starts: &[usize],
-    bits: &[u32],
-    mask: &[u32],
-)
-    requires { ⌜ Twins g (now «bits_to») (now «mask_to») (now bits) (now mask) ⌝ }
-    requires { ⌜ Rowed g (now starts) (now bits) ⌝ }
-    ensures { λ _. ⌜ now («bits_to» .exit) ≡ spillAt (g .mems) (g .rows) (g .unit) (g .entries) (now (starts .entry)) (now (bits .entry)) (now («bits_to» .entry)) ⌝ }
-    ensures { λ _. ⌜ now («mask_to» .exit) ≡ spillAt (g .mems) (g .rows) (g .unit) (g .entries) (now (starts .entry)) (now (mask .entry)) (now («mask_to» .entry)) ⌝ }
-{
-    let n = g.entries;
-    let mut at: usize = 0;
-    let mut j: usize = 0;
-    while j < starts.len() {
-        let end = at + n;
-        store_run(
-            bits_to,
-            mask_to,
-            g,
-            starts[j],
-            &bits[at..end],
-            &mask[at..end],
-        );
-        at = end;
-        j += 1;
-    }
-}
-
-// The bit of the data that an entry names, by where its old row starts, or none.
-fn source(base: usize, e: u32) -> usize
-    requires { ⌜ Based base ⌝ }
-    ensures { λ r. ⌜ r ≡ sourceOf base e ⌝ }
-{
-    if e == rules::NO_BIT {
-        return rules::NO_BIT as usize;
-    }
-    base + (e as usize)
-}
-
-// The net of a bit, or `none`; X where there is no such bit.
-fn net_of(v: &[u32], n: usize, none: u32) -> u32
-    ensures { λ r. ⌜ r ≡ (if eqb n None then none else getD (now (v .entry)) n X) ⌝ }
-{
-    if n == (rules::NO_BIT as usize) {
-        return none;
-    }
-    if n < v.len() {
-        return v[n];
-    }
-    rules::NET_X
-}
-
-// Stores the data of an old row, entry after entry.
-fn arrange_row(out: &mut [u32], at: usize, base: usize, entries: &[u32], v: &[u32])
-    requires { ⌜ Based base × (at + length (now entries) ≤ length (now out)) ⌝ }
-    ensures { λ _. ⌜ now (out .exit) ≡ sets (now (out .entry)) at (arrange X (rowSources base (now (entries .entry))) (now (v .entry))) ⌝ }
-{
-    let mut i: usize = 0;
-    while i < entries.len() {
-        out[at + i] = net_of(v, source(base, entries[i]), rules::NET_X);
-        i += 1;
-    }
-}
-
-// Stores the mask of an old row, where a none repeats what is before it, and returns its last net.
-fn repeat_row(
-    out: &mut [u32],
-    at: usize,
-    base: usize,
-    entries: &[u32],
-    v: &[u32],
-    before: u32,
-) -> u32
-    requires { ⌜ Based base × (at + length (now entries) ≤ length (now out)) ⌝ }
-    ensures { λ r. ⌜ r ≡ lastOf before (rowSources base (now (entries .entry))) (now (v .entry)) ⌝ }
-    ensures { λ _. ⌜ now (out .exit) ≡ sets (now (out .entry)) at (repeating before (rowSources base (now (entries .entry))) (now (v .entry))) ⌝ }
-{
-    let mut last = before;
-    let mut i: usize = 0;
-    while i < entries.len() {
-        last = net_of(v, source(base, entries[i]), last);
-        out[at + i] = last;
-        i += 1;
-    }
-    last
-}
-
-// Stores the data of all old rows.
-fn arrange_rows(out: &mut [u32], olds: usize, width: usize, entries: &[u32], v: &[u32])
-    requires { ⌜ Bases olds width (length (now entries)) (length (now out)) ⌝ }
-    ensures { λ _. ⌜ now (out .exit) ≡ sets (now (out .entry)) 0 (arrange X (allSources olds width (now (entries .entry))) (now (v .entry))) ⌝ }
-{
-    let mut at: usize = 0;
-    let mut base: usize = 0;
-    let mut j: usize = 0;
-    while j < olds {
-        arrange_row(out, at, base, entries, v);
-        at += entries.len();
-        base += width;
-        j += 1;
-    }
-}
-
-// Stores the mask of all old rows; only the very first none is X.
-fn repeat_rows(out: &mut [u32], olds: usize, width: usize, entries: &[u32], v: &[u32])
-    requires { ⌜ Bases olds width (length (now entries)) (length (now out)) ⌝ }
-    ensures { λ _. ⌜ now (out .exit) ≡ sets (now (out .entry)) 0 (repeating X (allSources olds width (now (entries .entry))) (now (v .entry))) ⌝ }
-{
-    let mut last = rules::NET_X;
-    let mut at: usize = 0;
-    let mut base: usize = 0;
-    let mut j: usize = 0;
-    while j < olds {
-        last = repeat_row(out, at, base, entries, v, last);
-        at += entries.len();
-        base += width;
-        j += 1;
-    }
-}
 
 // The low bits of a number as constant nets.
 fn number_bits(out: &mut [u32], x: usize)
@@ -380,59 +68,31 @@ fn emit_piece(
     )
 }
 
-// Where the piece of a number starts among the columns, by the bits of the number that are chunk bits.
-fn start_of(chunks: u32, columns: usize, entries: usize, n: u32) -> usize
-    requires { ⌜ n * (columns + entries) ≤ 4611686018427387904 ⌝ }
-    ensures { λ r. ⌜ r ≡ startOf chunks columns entries n ⌝ }
-{
-    let spot = image_geometry::walk_row(chunks, rules::ADDR_BITS, n);
-    lists::usize_of_u32(spot.row) * columns + lists::usize_of_u32(spot.chunk) * entries
-}
-
-// Where piece x starts for each old row.
-fn piece_starts(starts: &mut [usize], chunks: u32, columns: usize, entries: usize, x: usize)
-    requires { ⌜ Narrow (length (now starts)) columns entries x ⌝ }
-    ensures { λ _. ⌜ now (starts .exit) ≡ startsBy chunks columns entries (length (now (starts .entry))) x ⌝ }
-{
-    let first = starts.len() * x;
-    let mut j: usize = 0;
-    while j < starts.len() {
-        starts[j] = start_of(chunks, columns, entries, (j + first) as u32);
-        j += 1;
-    }
-}
-
-// Piece x, emitted and stored.
+// Piece x of a port with so many entries to a row, emitted and stored.
 fn one_piece(
     log: &mut [u32],
     st: LogState,
-    g: Grid,
-    columns: usize,
-    chunks: u32,
+    p: WidePort,
+    len: usize,
     mux: &[u32],
     mask: &[u32],
-    bits: &[u32],
     kx: &[u32],
     ky: &[u32],
     at: &[u32],
     number: &mut [u32],
-    starts: &mut [usize],
     piece: &mut [u32],
-    bits_to: &mut [u32],
-    mask_to: &mut [u32],
+    to: &mut [u32],
     x: usize,
 ) -> LogState
-    requires { ⌜ Job g (now mux) (now mask) (now bits) (now kx) (now ky) (now at) (length (now number)) (length (now starts)) (length (now piece)) (length (now «bits_to»)) (length (now «mask_to»)) ⌝ }
-    requires { ⌜ Narrow (length (now starts)) columns (g .entries) x ⌝ }
+    requires { ⌜ Job p len (now mux) (now mask) (now kx) (now ky) (now at) (length (now number)) (length (now piece)) (length (now to)) ⌝ }
+    requires { ⌜ x < p .pieces ⌝ }
     ensures { λ r. ⌜ lent r (now (log .exit)) ≡ run (pieceBy (now (mux .entry)) (now (mask .entry)) x) (lent st (now (log .entry))) ⌝ }
     ensures { λ r. ⌜ (isOver (stateOf r) ≡ false → now (piece .exit) ≡ pieceBy (now (mux .entry)) (now (mask .entry)) x (st .next) .value) ⌝ }
-    ensures { λ _. ⌜ now («bits_to» .exit) ≡ spillAt (g .mems) (g .rows) (g .unit) (g .entries) (startsBy chunks columns (g .entries) (length (now (starts .entry))) x) (now (bits .entry)) (now («bits_to» .entry)) ⌝ }
-    ensures { λ _. ⌜ now («mask_to» .exit) ≡ spillAt (g .mems) (g .rows) (g .unit) (g .entries) (startsBy chunks columns (g .entries) (length (now (starts .entry))) x) (now (piece .exit)) (now («mask_to» .entry)) ⌝ }
+    ensures { λ _. ⌜ now (to .exit) ≡ spillAt (p .mems) (p .rows) (p .unit) len (portStarts p len x) (now (piece .exit)) (now (to .entry)) ⌝ }
 {
     number_bits(number, x);
     let after = emit_piece(log, st, mux, number, kx, ky, at, mask, piece, x);
-    piece_starts(starts, chunks, columns, g.entries, x);
-    store_piece(bits_to, mask_to, g, starts, bits, piece);
+    swizzle_columns::store_nets(to, p, len, piece, x);
     after
 }
 
@@ -440,27 +100,22 @@ fn one_piece(
 fn write_pieces(
     log: &mut [u32],
     st: LogState,
-    g: Grid,
-    columns: usize,
+    p: WidePort,
+    len: usize,
     pieces: usize,
-    chunks: u32,
     mux: &[u32],
     mask: &[u32],
-    bits: &[u32],
     kx: &[u32],
     ky: &[u32],
     at: &[u32],
     number: &mut [u32],
-    starts: &mut [usize],
     piece: &mut [u32],
-    bits_to: &mut [u32],
-    mask_to: &mut [u32],
+    to: &mut [u32],
 ) -> LogState
-    requires { ⌜ Job g (now mux) (now mask) (now bits) (now kx) (now ky) (now at) (length (now number)) (length (now starts)) (length (now piece)) (length (now «bits_to»)) (length (now «mask_to»)) ⌝ }
-    requires { ⌜ Narrow (length (now starts)) columns (g .entries) pieces ⌝ }
-    ensures { λ r. ⌜ lent r (now (log .exit)) ≡ run (spillMasks (g .mems) (g .rows) (g .unit) (g .entries) (startsBy chunks columns (g .entries) (length (now (starts .entry)))) (now (mux .entry)) (now (mask .entry)) (upFrom 0 pieces) (now («mask_to» .entry))) (lent st (now (log .entry))) ⌝ }
-    ensures { λ r. ⌜ (isOver (stateOf r) ≡ false → now («mask_to» .exit) ≡ spillMasks (g .mems) (g .rows) (g .unit) (g .entries) (startsBy chunks columns (g .entries) (length (now (starts .entry)))) (now (mux .entry)) (now (mask .entry)) (upFrom 0 pieces) (now («mask_to» .entry)) (st .next) .value) ⌝ }
-    ensures { λ _. ⌜ now («bits_to» .exit) ≡ spillEach (g .mems) (g .rows) (g .unit) (g .entries) (startsBy chunks columns (g .entries) (length (now (starts .entry)))) (upFrom 0 pieces) (now (bits .entry)) (now («bits_to» .entry)) ⌝ }
+    requires { ⌜ Job p len (now mux) (now mask) (now kx) (now ky) (now at) (length (now number)) (length (now piece)) (length (now to)) ⌝ }
+    requires { ⌜ pieces ≤ p .pieces ⌝ }
+    ensures { λ r. ⌜ lent r (now (log .exit)) ≡ run (spillMasks (p .mems) (p .rows) (p .unit) len (portStarts p len) (now (mux .entry)) (now (mask .entry)) (upFrom 0 pieces) (now (to .entry))) (lent st (now (log .entry))) ⌝ }
+    ensures { λ r. ⌜ (isOver (stateOf r) ≡ false → now (to .exit) ≡ spillMasks (p .mems) (p .rows) (p .unit) len (portStarts p len) (now (mux .entry)) (now (mask .entry)) (upFrom 0 pieces) (now (to .entry)) (st .next) .value) ⌝ }
 {
     let mut state = st;
     let mut x: usize = 0;
@@ -468,20 +123,16 @@ fn write_pieces(
         state = one_piece(
             log,
             state,
-            g,
-            columns,
-            chunks,
+            p,
+            len,
             mux,
             mask,
-            bits,
             kx,
             ky,
             at,
             number,
-            starts,
             piece,
-            bits_to,
-            mask_to,
+            to,
             x,
         );
         x += 1;
@@ -489,53 +140,44 @@ fn write_pieces(
     state
 }
 
-// The same from rows of data and mask alone: the mask's nets are merged once, in lent scratch.
+// The same from a row of the mask alone: its nets are merged once, in lent scratch.
 fn write_merged(
     log: &mut [u32],
     st: LogState,
-    g: Grid,
-    columns: usize,
+    p: WidePort,
+    len: usize,
     pieces: usize,
-    chunks: u32,
     mux: &[u32],
     mask: &[u32],
-    bits: &[u32],
     zeros: &[u32],
     kx: &mut [u32],
     ky: &mut [u32],
     at: &mut [u32],
     number: &mut [u32],
-    starts: &mut [usize],
     piece: &mut [u32],
-    bits_to: &mut [u32],
-    mask_to: &mut [u32],
+    to: &mut [u32],
 ) -> LogState
-    requires { ⌜ Rooms g (now mux) (now mask) (now bits) (now zeros) (length (now kx)) (length (now ky)) (length (now at)) (length (now number)) (length (now starts)) (length (now piece)) (length (now «bits_to»)) (length (now «mask_to»)) ⌝ }
-    requires { ⌜ Narrow (length (now starts)) columns (g .entries) pieces ⌝ }
-    ensures { λ r. ⌜ lent r (now (log .exit)) ≡ run (spillMasks (g .mems) (g .rows) (g .unit) (g .entries) (startsBy chunks columns (g .entries) (length (now (starts .entry)))) (now (mux .entry)) (now (mask .entry)) (upFrom 0 pieces) (now («mask_to» .entry))) (lent st (now (log .entry))) ⌝ }
-    ensures { λ r. ⌜ (isOver (stateOf r) ≡ false → now («mask_to» .exit) ≡ spillMasks (g .mems) (g .rows) (g .unit) (g .entries) (startsBy chunks columns (g .entries) (length (now (starts .entry)))) (now (mux .entry)) (now (mask .entry)) (upFrom 0 pieces) (now («mask_to» .entry)) (st .next) .value) ⌝ }
-    ensures { λ _. ⌜ now («bits_to» .exit) ≡ spillEach (g .mems) (g .rows) (g .unit) (g .entries) (startsBy chunks columns (g .entries) (length (now (starts .entry)))) (upFrom 0 pieces) (now (bits .entry)) (now («bits_to» .entry)) ⌝ }
+    requires { ⌜ Rooms p len (now mux) (now mask) (now zeros) (length (now kx)) (length (now ky)) (length (now at)) (length (now number)) (length (now piece)) (length (now to)) ⌝ }
+    requires { ⌜ pieces ≤ p .pieces ⌝ }
+    ensures { λ r. ⌜ lent r (now (log .exit)) ≡ run (spillMasks (p .mems) (p .rows) (p .unit) len (portStarts p len) (now (mux .entry)) (now (mask .entry)) (upFrom 0 pieces) (now (to .entry))) (lent st (now (log .entry))) ⌝ }
+    ensures { λ r. ⌜ (isOver (stateOf r) ≡ false → now (to .exit) ≡ spillMasks (p .mems) (p .rows) (p .unit) len (portStarts p len) (now (mux .entry)) (now (mask .entry)) (upFrom 0 pieces) (now (to .entry)) (st .next) .value) ⌝ }
 {
     let n = mask.len();
     let k = merge_keys::merge(kx, ky, at, mask, zeros);
     write_pieces(
         log,
         st,
-        g,
-        columns,
+        p,
+        len,
         pieces,
-        chunks,
         mux,
         mask,
-        bits,
         &kx[..k],
         &ky[..k],
         &at[..n],
         number,
-        starts,
         piece,
-        bits_to,
-        mask_to,
+        to,
     )
 }
 
@@ -543,22 +185,17 @@ fn write_merged(
 fn write_row(
     log: &mut [u32],
     st: LogState,
-    g: Grid,
-    columns: usize,
+    p: WidePort,
+    len: usize,
     pieces: usize,
-    olds: usize,
-    chunks: u32,
     mux: &[u32],
     mask: &[u32],
-    bits: &[u32],
-    bits_to: &mut [u32],
-    mask_to: &mut [u32],
+    to: &mut [u32],
 ) -> LogState
-    requires { ⌜ Row g olds (length (now mux)) (length (now mask)) (length (now bits)) (length (now «bits_to»)) (length (now «mask_to»)) ⌝ }
-    requires { ⌜ Narrow olds columns (g .entries) pieces ⌝ }
-    ensures { λ r. ⌜ lent r (now (log .exit)) ≡ run (spillMasks (g .mems) (g .rows) (g .unit) (g .entries) (startsBy chunks columns (g .entries) olds) (now (mux .entry)) (now (mask .entry)) (upFrom 0 pieces) (now («mask_to» .entry))) (lent st (now (log .entry))) ⌝ }
-    ensures { λ r. ⌜ (isOver (stateOf r) ≡ false → now («mask_to» .exit) ≡ spillMasks (g .mems) (g .rows) (g .unit) (g .entries) (startsBy chunks columns (g .entries) olds) (now (mux .entry)) (now (mask .entry)) (upFrom 0 pieces) (now («mask_to» .entry)) (st .next) .value) ⌝ }
-    ensures { λ _. ⌜ now («bits_to» .exit) ≡ spillEach (g .mems) (g .rows) (g .unit) (g .entries) (startsBy chunks columns (g .entries) olds) (upFrom 0 pieces) (now (bits .entry)) (now («bits_to» .entry)) ⌝ }
+    requires { ⌜ Row p len (length (now mux)) (length (now mask)) (length (now to)) ⌝ }
+    requires { ⌜ pieces ≤ p .pieces ⌝ }
+    ensures { λ r. ⌜ lent r (now (log .exit)) ≡ run (spillMasks (p .mems) (p .rows) (p .unit) len (portStarts p len) (now (mux .entry)) (now (mask .entry)) (upFrom 0 pieces) (now (to .entry))) (lent st (now (log .entry))) ⌝ }
+    ensures { λ r. ⌜ (isOver (stateOf r) ≡ false → now (to .exit) ≡ spillMasks (p .mems) (p .rows) (p .unit) len (portStarts p len) (now (mux .entry)) (now (mask .entry)) (upFrom 0 pieces) (now (to .entry)) (st .next) .value) ⌝ }
 {
     let n = mask.len();
     let m = mux.len();
@@ -568,319 +205,84 @@ fn write_row(
     let mut at = [0u32; rules::MAX_MERGE];
     let mut piece = [0u32; rules::MAX_MERGE];
     let mut number = [0u32; 64];
-    let mut starts = [0usize; 16];
     write_merged(
         log,
         st,
-        g,
-        columns,
+        p,
+        len,
         pieces,
-        chunks,
         mux,
         mask,
-        bits,
         &zeros[..n],
         &mut kx,
         &mut ky,
         &mut at,
         &mut number[..m],
-        &mut starts[..olds],
         &mut piece[..n],
-        bits_to,
-        mask_to,
+        to,
     )
 }
 
-// The same from the port's data and mask: its rows, blank rooms, then the pieces.
-fn write_blank(
-    log: &mut [u32],
-    st: LogState,
-    g: Grid,
-    columns: usize,
-    pieces: usize,
-    olds: usize,
-    chunks: u32,
-    mux: &[u32],
-    width: usize,
-    entries: &[u32],
-    bits: &[u32],
-    mask: &[u32],
-    bits_to: &mut [u32],
-    mask_to: &mut [u32],
-) -> LogState
-    requires { ⌜ Port g olds width (length (now entries)) (length (now mux)) (length (now «bits_to»)) (length (now «mask_to»)) ⌝ }
-    requires { ⌜ Narrow olds columns (g .entries) pieces ⌝ }
-    ensures { λ r. ⌜ lent r (now (log .exit)) ≡ run (spillMasks (g .mems) (g .rows) (g .unit) (g .entries) (startsBy chunks columns (g .entries) olds) (now (mux .entry)) (repeating X (allSources olds width (now (entries .entry))) (now (mask .entry))) (upFrom 0 pieces) (replicate (length (now («mask_to» .entry))) 0)) (lent st (now (log .entry))) ⌝ }
-    ensures { λ r. ⌜ (isOver (stateOf r) ≡ false → now («mask_to» .exit) ≡ spillMasks (g .mems) (g .rows) (g .unit) (g .entries) (startsBy chunks columns (g .entries) olds) (now (mux .entry)) (repeating X (allSources olds width (now (entries .entry))) (now (mask .entry))) (upFrom 0 pieces) (replicate (length (now («mask_to» .entry))) 0) (st .next) .value) ⌝ }
-    ensures { λ _. ⌜ now («bits_to» .exit) ≡ spillEach (g .mems) (g .rows) (g .unit) (g .entries) (startsBy chunks columns (g .entries) olds) (upFrom 0 pieces) (arrange X (allSources olds width (now (entries .entry))) (now (bits .entry))) (replicate (length (now («bits_to» .entry))) X) ⌝ }
+// Whether a write port is within the limits, its mux address not long, and its room as large as all its columns.
+fn can_write(p: WidePort, len: usize, short: usize, size: usize) -> bool
+    ensures { λ r. ⌜ r ≡ canWrite p len short size ⌝ }
 {
-    let n = olds * g.entries;
-    let mut row_bits = [0u32; rules::MAX_MERGE];
-    let mut row_mask = [0u32; rules::MAX_MERGE];
-    arrange_rows(&mut row_bits, olds, width, entries, bits);
-    repeat_rows(&mut row_mask, olds, width, entries, mask);
-    lists::fill_u32(bits_to, 0, bits_to.len(), rules::NET_X);
-    lists::fill_u32(mask_to, 0, mask_to.len(), 0);
-    write_row(
-        log,
-        st,
-        g,
-        columns,
-        pieces,
-        olds,
-        chunks,
-        mux,
-        &row_mask[..n],
-        &row_bits[..n],
-        bits_to,
-        mask_to,
-    )
-}
-
-// Whether a write port is within the limits, its mux address not long, and its two rooms as large as all its columns.
-fn can_write(p: WidePort, len: usize, short: usize, size: usize, other: usize) -> bool
-    ensures { λ r. ⌜ r ≡ canWrite p len short size other ⌝ }
-{
-    if !sizes_fit(p, size) {
+    if !swizzle_columns::sizes_fit(p, size) {
         return false;
     }
-    if !rows_fit(p, len) {
-        return false;
-    }
-    if other != size {
+    if !swizzle_columns::rows_fit(p, len) {
         return false;
     }
     short <= MUX_ROOM
 }
 
-// The same from a port within the limits.
-fn write_in(
+// The same from the mask of a port within the limits: its row, a blank room, then the pieces.
+fn masks_in(
     log: &mut [u32],
     st: LogState,
-    bits_to: &mut [u32],
-    mask_to: &mut [u32],
+    to: &mut [u32],
     p: WidePort,
     mux: &[u32],
     entries: &[u32],
-    bits: &[u32],
     mask: &[u32],
 ) -> LogState
-    requires { ⌜ Writes p (length (now entries)) (length (now mux)) (length (now «bits_to»)) (length (now «mask_to»)) ⌝ }
-    ensures { λ r. ⌜ lent r (now (log .exit)) ≡ run (portMasks p (now (mux .entry)) (now (entries .entry)) (now (mask .entry)) (length (now («mask_to» .entry)))) (lent st (now (log .entry))) ⌝ }
-    ensures { λ r. ⌜ (isOver (stateOf r) ≡ false → now («mask_to» .exit) ≡ portMasks p (now (mux .entry)) (now (entries .entry)) (now (mask .entry)) (length (now («mask_to» .entry))) (st .next) .value) ⌝ }
-    ensures { λ _. ⌜ now («bits_to» .exit) ≡ portBits p (now (entries .entry)) (now (bits .entry)) (length (now («bits_to» .entry))) ⌝ }
+    requires { ⌜ Writes p (length (now entries)) (length (now mux)) (length (now to)) ⌝ }
+    ensures { λ r. ⌜ lent r (now (log .exit)) ≡ run (portMasks p (now (mux .entry)) (now (entries .entry)) (now (mask .entry)) (length (now (to .entry)))) (lent st (now (log .entry))) ⌝ }
+    ensures { λ r. ⌜ (isOver (stateOf r) ≡ false → now (to .exit) ≡ portMasks p (now (mux .entry)) (now (entries .entry)) (now (mask .entry)) (length (now (to .entry))) (st .next) .value) ⌝ }
 {
-    let size = bits_to.len();
-    let g = grid_of(p, entries.len(), size);
-    let columns = columns_of(p, entries.len(), size);
-    let pieces = lists::usize_of_u32(p.pieces);
-    let olds = lists::usize_of_u32(p.olds);
-    let width = lists::usize_of_u32(p.width);
-    write_blank(
+    let len = entries.len();
+    let n = lists::usize_of_u32(p.olds) * len;
+    let mut row = [0u32; rules::MAX_MERGE];
+    swizzle_columns::mask_row(&mut row, p, entries, mask);
+    lists::fill_u32(to, 0, to.len(), 0);
+    write_row(
         log,
         st,
-        g,
-        columns,
-        pieces,
-        olds,
-        p.chunks,
+        p,
+        len,
+        lists::usize_of_u32(p.pieces),
         mux,
-        width,
-        entries,
-        bits,
-        mask,
-        bits_to,
-        mask_to,
+        &row[..n],
+        to,
     )
 }
 
-// A write port of a swizzle: logs its comparisons and merging muxes, and stores its data and its mask in the order of the memories. Nothing is
-// done where the port passes the limits or a room is not as large as its columns. After an overflow the mask's room is left open.
-pub fn write_port(
+// The masks of a write port: logs its comparisons and merging muxes, and stores its mask in the order of the memories. Nothing is done where the
+// port passes the limits or the room is not as large as its columns. After an overflow the room is left open.
+pub fn write_masks(
     log: &mut [u32],
     st: LogState,
-    bits_to: &mut [u32],
-    mask_to: &mut [u32],
+    to: &mut [u32],
     p: WidePort,
     mux: &[u32],
     entries: &[u32],
-    bits: &[u32],
     mask: &[u32],
 ) -> LogState
-    ensures { λ r. ⌜ lent r (now (log .exit)) ≡ run (writeOf p (now (mux .entry)) (now (entries .entry)) (now (mask .entry)) (length (now («bits_to» .entry))) (now («mask_to» .entry))) (lent st (now (log .entry))) ⌝ }
-    ensures { λ r. ⌜ (isOver (stateOf r) ≡ false → now («mask_to» .exit) ≡ writeOf p (now (mux .entry)) (now (entries .entry)) (now (mask .entry)) (length (now («bits_to» .entry))) (now («mask_to» .entry)) (st .next) .value) ⌝ }
-    ensures { λ _. ⌜ now («bits_to» .exit) ≡ bitsOf p (now (mux .entry)) (now (entries .entry)) (now (bits .entry)) (length (now («mask_to» .entry))) (now («bits_to» .entry)) ⌝ }
+    ensures { λ r. ⌜ lent r (now (log .exit)) ≡ run (masksOf p (now (mux .entry)) (now (entries .entry)) (now (mask .entry)) (now (to .entry))) (lent st (now (log .entry))) ⌝ }
+    ensures { λ r. ⌜ (isOver (stateOf r) ≡ false → now (to .exit) ≡ masksOf p (now (mux .entry)) (now (entries .entry)) (now (mask .entry)) (now (to .entry)) (st .next) .value) ⌝ }
 {
-    if !can_write(p, entries.len(), mux.len(), bits_to.len(), mask_to.len()) {
+    if !can_write(p, entries.len(), mux.len(), to.len()) {
         return st;
     }
-    write_in(log, st, bits_to, mask_to, p, mux, entries, bits, mask)
-}
-
-// The trit of a bit; X where there is none.
-fn trit_of(v: &[u8], n: usize) -> u8
-    ensures { λ r. ⌜ r ≡ (if eqb n None then tritX else getD (now (v .entry)) n tritX) ⌝ }
-{
-    if n == (rules::NO_BIT as usize) {
-        return rules::TRIT_X;
-    }
-    if n < v.len() {
-        return v[n];
-    }
-    rules::TRIT_X
-}
-
-// Stores the trits of an old row, entry after entry.
-fn trit_row(out: &mut [u8], at: usize, base: usize, entries: &[u32], v: &[u8])
-    requires { ⌜ Based base × (at + length (now entries) ≤ length (now out)) ⌝ }
-    ensures { λ _. ⌜ now (out .exit) ≡ sets (now (out .entry)) at (arrange tritX (rowSources base (now (entries .entry))) (now (v .entry))) ⌝ }
-{
-    let mut i: usize = 0;
-    while i < entries.len() {
-        out[at + i] = trit_of(v, source(base, entries[i]));
-        i += 1;
-    }
-}
-
-// Stores the trits of all old rows.
-fn trit_rows(out: &mut [u8], olds: usize, width: usize, entries: &[u32], v: &[u8])
-    requires { ⌜ Bases olds width (length (now entries)) (length (now out)) ⌝ }
-    ensures { λ _. ⌜ now (out .exit) ≡ sets (now (out .entry)) 0 (arrange tritX (allSources olds width (now (entries .entry))) (now (v .entry))) ⌝ }
-{
-    let mut at: usize = 0;
-    let mut base: usize = 0;
-    let mut j: usize = 0;
-    while j < olds {
-        trit_row(out, at, base, entries, v);
-        at += entries.len();
-        base += width;
-        j += 1;
-    }
-}
-
-// Stores a run of trits from a column on.
-fn store_trits_from(to: &mut [u8], g: Grid, start: usize, n: usize, v: &[u8])
-    requires { ⌜ Good g (length (now to)) ⌝ }
-    requires { ⌜ (0 < n) × (n ≡ min (length (now v)) (length (now to) - start)) × (length (now to) ≤ 4611686018427387903) ⌝ }
-    ensures { λ _. ⌜ now (to .exit) ≡ spillFit (g .mems) (g .rows) (g .unit) (now (to .entry)) start (now (v .entry)) ⌝ }
-{
-    let mut c = cursor_at(g, to.len(), start);
-    let mut i: usize = 0;
-    while i < n {
-        let at = c.index;
-        to[at] = v[i];
-        c = next(c, g);
-        i += 1;
-    }
-}
-
-// The same where there may be none.
-fn store_trits_run(to: &mut [u8], g: Grid, start: usize, v: &[u8])
-    requires { ⌜ Good g (length (now to)) × (length (now to) ≤ 4611686018427387903) ⌝ }
-    ensures { λ _. ⌜ now (to .exit) ≡ spillFit (g .mems) (g .rows) (g .unit) (now (to .entry)) start (now (v .entry)) ⌝ }
-{
-    let n = lists::fitting(to.len(), start, v.len());
-    if n == 0 {
-        return;
-    }
-    store_trits_from(to, g, start, n, v);
-}
-
-// Stores a piece of trits: so many entries from each start on.
-fn store_trits_piece(to: &mut [u8], g: Grid, starts: &[usize], v: &[u8])
-    requires { ⌜ Good g (length (now to)) × (length (now to) ≤ 4611686018427387903) ⌝ }
-    requires { ⌜ Rowed g (now starts) (now v) ⌝ }
-    ensures { λ _. ⌜ now (to .exit) ≡ spillAt (g .mems) (g .rows) (g .unit) (g .entries) (now (starts .entry)) (now (v .entry)) (now (to .entry)) ⌝ }
-{
-    let n = g.entries;
-    let mut at: usize = 0;
-    let mut j: usize = 0;
-    while j < starts.len() {
-        let end = at + n;
-        store_trits_run(to, g, starts[j], &v[at..end]);
-        at = end;
-        j += 1;
-    }
-}
-
-// The trits of a row stored as each piece.
-fn trit_pieces(
-    to: &mut [u8],
-    g: Grid,
-    columns: usize,
-    pieces: usize,
-    chunks: u32,
-    starts: &mut [usize],
-    v: &[u8],
-)
-    requires { ⌜ Good g (length (now to)) × (length (now to) ≤ 4611686018427387903) ⌝ }
-    requires { ⌜ (length (now v) ≡ length (now starts) * g .entries) × Narrow (length (now starts)) columns (g .entries) pieces ⌝ }
-    ensures { λ _. ⌜ now (to .exit) ≡ spillEach (g .mems) (g .rows) (g .unit) (g .entries) (startsBy chunks columns (g .entries) (length (now (starts .entry)))) (upFrom 0 pieces) (now (v .entry)) (now (to .entry)) ⌝ }
-{
-    let mut x: usize = 0;
-    while x < pieces {
-        piece_starts(starts, chunks, columns, g.entries, x);
-        store_trits_piece(to, g, starts, v);
-        x += 1;
-    }
-}
-
-// A read port's trits of one kind, in the order of the memories: their row, blank columns, then each piece.
-fn trit_blank(
-    to: &mut [u8],
-    g: Grid,
-    columns: usize,
-    pieces: usize,
-    olds: usize,
-    chunks: u32,
-    width: usize,
-    entries: &[u32],
-    v: &[u8],
-)
-    requires { ⌜ Port g olds width (length (now entries)) 0 (length (now to)) (length (now to)) × (length (now to) ≤ 4611686018427387903) ⌝ }
-    requires { ⌜ Narrow olds columns (g .entries) pieces ⌝ }
-    ensures { λ _. ⌜ now (to .exit) ≡ spillEach (g .mems) (g .rows) (g .unit) (g .entries) (startsBy chunks columns (g .entries) olds) (upFrom 0 pieces) (arrange tritX (allSources olds width (now (entries .entry))) (now (v .entry))) (replicate (length (now (to .entry))) tritX) ⌝ }
-{
-    let n = olds * g.entries;
-    let mut row = [0u8; rules::MAX_MERGE];
-    let mut starts = [0usize; 16];
-    trit_rows(&mut row, olds, width, entries, v);
-    lists::fill_u8(to, 0, to.len(), rules::TRIT_X);
-    trit_pieces(
-        to,
-        g,
-        columns,
-        pieces,
-        chunks,
-        &mut starts[..olds],
-        &row[..n],
-    );
-}
-
-// The same from a port within the limits.
-fn trit_in(to: &mut [u8], p: WidePort, entries: &[u32], v: &[u8])
-    requires { ⌜ PortFits p (length (now entries)) (length (now to)) ⌝ }
-    ensures { λ _. ⌜ now (to .exit) ≡ portTrits p (now (entries .entry)) (now (v .entry)) (length (now (to .entry))) ⌝ }
-{
-    let size = to.len();
-    let g = grid_of(p, entries.len(), size);
-    let columns = columns_of(p, entries.len(), size);
-    let pieces = lists::usize_of_u32(p.pieces);
-    let olds = lists::usize_of_u32(p.olds);
-    let width = lists::usize_of_u32(p.width);
-    trit_blank(to, g, columns, pieces, olds, p.chunks, width, entries, v);
-}
-
-// A clocked read port's trits of one kind in the order of the memories. Nothing is done where the port passes the limits or the room is not as
-// large as its columns.
-pub fn trit_columns(to: &mut [u8], p: WidePort, entries: &[u32], v: &[u8])
-    ensures { λ _. ⌜ now (to .exit) ≡ tritsOf p (now (entries .entry)) (now (v .entry)) (now (to .entry)) ⌝ }
-{
-    if !sizes_fit(p, to.len()) {
-        return;
-    }
-    if !rows_fit(p, entries.len()) {
-        return;
-    }
-    trit_in(to, p, entries, v);
+    masks_in(log, st, to, p, mux, entries, mask)
 }

@@ -9,7 +9,7 @@ use Rattle.rules.specs.Limits.{X}
 use native.Mathlib.Nat.{sub-zero, mod-lt}
 use borrow.Author.Needs.{needs}
 use Rattle.rules.specs.Value.{fromUint}
-use Rattle.swizzle_write.proofs.Rows.{uint-turn, uint-end}
+use Rattle.swizzle_write.proofs.Numbers.{uint-turn, uint-end}
 use Rattle.swizzle_write.proofs.number_bits.Statement.{statement}
 use Rattle.swizzle_write.proofs.number_bits.Tie as tie
 

@@ -1,11 +1,5 @@
 -- `swizzle_write::write_merged` meets its contract.
-use mathlib.Core.Path.{_≡_, refl, sym, ap, _∙_}
-use Prim.Native.Nat.{ℕ, _+_, _-_, _*_, _<_, _≤_, min}
-use native.Mathlib.Omega.{arith}
-use mathlib.Core.List.{List, _++_}
-use lib.ListN.{length, take, drop, getD, length-set}
-use lib.Seq.{sets}
-use Rattle.rules.specs.Limits.{X}
+use mathlib.Core.Path.{sym}
 use lib.Seq.{length-take-le}
 use Rattle.swizzle_write.proofs.Merged.{merged, kept-is}
 use borrow.Author.Needs.{needs}
@@ -17,60 +11,49 @@ merge-requires c κs = search needs
 
 slice-reshare-prefix-write-pieces : tie.Need-slice-reshare-prefix-write-pieces
 slice-reshare-prefix-write-pieces c =
-    let k = c .before .before .before .before .before .before .before .before .before .before .before .before .before .before .before .before .before .before .before .before .before .before .before .before in
-    let v = k .args in
-    let r = k .pre .0 in
+    let v = c .before .before .before .before .before .before .before .before .before .before .before .before .before .before .before .before .before .before .before .before .before .args in
+    let r = c .before .before .before .before .before .before .before .before .before .before .before .before .before .before .before .before .before .before .before .before .before .pre .0 in
     let d = c .before .before .before .before .before .before .before .merge in
-    let f = merged (v .mask .now) (v .zeros .now) (v .kx .now) (v .ky .now) (v .at .now) (d .last .0) (d .last .1 .0) (d .last .1 .1 .0) (d .result) (r .few) (r .zeros-are) (r .in-kx) (r .in-ky) (r .in-at) (d .ensures .0) (d .ensures .1 .0) (d .ensures .1 .1 .0) (d .ensures .1 .1 .1) in
-    f .in-kx
+    merged (v .mask .now) (v .zeros .now) (v .kx .now) (v .ky .now) (v .at .now) (d .last .0) (d .last .1 .0) (d .last .1 .1 .0) (d .result) (r .few) (r .zeros-are) (r .in-kx) (r .in-ky) (r .in-at) (d .ensures .0) (d .ensures .1 .0) (d .ensures .1 .1 .0) (d .ensures .1 .1 .1) .in-kx
 
 slice-aggregate-write-pieces : tie.Need-slice-aggregate-write-pieces
 slice-aggregate-write-pieces c =
-    let k = c .before .before .before .before .before .before .before .before .before .before .before .before .before .before .before .before .before .before .before .before .before .before .before .before .before in
-    let v = k .args in
-    let r = k .pre .0 in
+    let v = c .before .before .before .before .before .before .before .before .before .before .before .before .before .before .before .before .before .before .before .before .before .before .args in
+    let r = c .before .before .before .before .before .before .before .before .before .before .before .before .before .before .before .before .before .before .before .before .before .before .pre .0 in
     let d = c .before .before .before .before .before .before .before .before .merge in
-    let f = merged (v .mask .now) (v .zeros .now) (v .kx .now) (v .ky .now) (v .at .now) (d .last .0) (d .last .1 .0) (d .last .1 .1 .0) (d .result) (r .few) (r .zeros-are) (r .in-kx) (r .in-ky) (r .in-at) (d .ensures .0) (d .ensures .1 .0) (d .ensures .1 .1 .0) (d .ensures .1 .1 .1) in
-    sym (length-take-le _ _ (f .in-kx))
+    sym (length-take-le _ _ (merged (v .mask .now) (v .zeros .now) (v .kx .now) (v .ky .now) (v .at .now) (d .last .0) (d .last .1 .0) (d .last .1 .1 .0) (d .result) (r .few) (r .zeros-are) (r .in-kx) (r .in-ky) (r .in-at) (d .ensures .0) (d .ensures .1 .0) (d .ensures .1 .1 .0) (d .ensures .1 .1 .1) .in-kx))
 
 slice-reshare-prefix-write-pieces-2 : tie.Need-slice-reshare-prefix-write-pieces-2
 slice-reshare-prefix-write-pieces-2 c =
-    let k = c .before .before .before .before .before .before .before .before .before .before .before .before .before .before .before .before .before .before .before .before .before .before .before .before .before in
-    let v = k .args in
-    let r = k .pre .0 in
+    let v = c .before .before .before .before .before .before .before .before .before .before .before .before .before .before .before .before .before .before .before .before .before .before .args in
+    let r = c .before .before .before .before .before .before .before .before .before .before .before .before .before .before .before .before .before .before .before .before .before .before .pre .0 in
     let d = c .before .before .before .before .before .before .before .before .merge in
-    let f = merged (v .mask .now) (v .zeros .now) (v .kx .now) (v .ky .now) (v .at .now) (d .last .0) (d .last .1 .0) (d .last .1 .1 .0) (d .result) (r .few) (r .zeros-are) (r .in-kx) (r .in-ky) (r .in-at) (d .ensures .0) (d .ensures .1 .0) (d .ensures .1 .1 .0) (d .ensures .1 .1 .1) in
-    f .in-ky
+    merged (v .mask .now) (v .zeros .now) (v .kx .now) (v .ky .now) (v .at .now) (d .last .0) (d .last .1 .0) (d .last .1 .1 .0) (d .result) (r .few) (r .zeros-are) (r .in-kx) (r .in-ky) (r .in-at) (d .ensures .0) (d .ensures .1 .0) (d .ensures .1 .1 .0) (d .ensures .1 .1 .1) .in-ky
 
 slice-aggregate-write-pieces-2 : tie.Need-slice-aggregate-write-pieces-2
 slice-aggregate-write-pieces-2 c =
-    let k = c .before .before .before .before .before .before .before .before .before .before .before .before .before .before .before .before .before .before .before .before .before .before .before .before .before .before in
-    let v = k .args in
-    let r = k .pre .0 in
+    let v = c .before .before .before .before .before .before .before .before .before .before .before .before .before .before .before .before .before .before .before .before .before .before .before .args in
+    let r = c .before .before .before .before .before .before .before .before .before .before .before .before .before .before .before .before .before .before .before .before .before .before .before .pre .0 in
     let d = c .before .before .before .before .before .before .before .before .before .merge in
-    let f = merged (v .mask .now) (v .zeros .now) (v .kx .now) (v .ky .now) (v .at .now) (d .last .0) (d .last .1 .0) (d .last .1 .1 .0) (d .result) (r .few) (r .zeros-are) (r .in-kx) (r .in-ky) (r .in-at) (d .ensures .0) (d .ensures .1 .0) (d .ensures .1 .1 .0) (d .ensures .1 .1 .1) in
-    sym (length-take-le _ _ (f .in-ky))
+    sym (length-take-le _ _ (merged (v .mask .now) (v .zeros .now) (v .kx .now) (v .ky .now) (v .at .now) (d .last .0) (d .last .1 .0) (d .last .1 .1 .0) (d .result) (r .few) (r .zeros-are) (r .in-kx) (r .in-ky) (r .in-at) (d .ensures .0) (d .ensures .1 .0) (d .ensures .1 .1 .0) (d .ensures .1 .1 .1) .in-ky))
 
 slice-reshare-prefix-write-pieces-3 : tie.Need-slice-reshare-prefix-write-pieces-3
 slice-reshare-prefix-write-pieces-3 c = search needs
 
 slice-aggregate-write-pieces-3 : tie.Need-slice-aggregate-write-pieces-3
 slice-aggregate-write-pieces-3 c =
-    let k = c .before .before .before .before .before .before .before .before .before .before .before .before .before .before .before .before .before .before .before .before .before .before .before .before .before .before .before in
-    let v = k .args in
-    let r = k .pre .0 in
+    let v = c .before .before .before .before .before .before .before .before .before .before .before .before .before .before .before .before .before .before .before .before .before .before .before .before .args in
+    let r = c .before .before .before .before .before .before .before .before .before .before .before .before .before .before .before .before .before .before .before .before .before .before .before .before .pre .0 in
     let d = c .before .before .before .before .before .before .before .before .before .before .merge in
-    let f = merged (v .mask .now) (v .zeros .now) (v .kx .now) (v .ky .now) (v .at .now) (d .last .0) (d .last .1 .0) (d .last .1 .1 .0) (d .result) (r .few) (r .zeros-are) (r .in-kx) (r .in-ky) (r .in-at) (d .ensures .0) (d .ensures .1 .0) (d .ensures .1 .1 .0) (d .ensures .1 .1 .1) in
-    sym (length-take-le _ _ (f .in-at))
+    sym (length-take-le _ _ (merged (v .mask .now) (v .zeros .now) (v .kx .now) (v .ky .now) (v .at .now) (d .last .0) (d .last .1 .0) (d .last .1 .1 .0) (d .result) (r .few) (r .zeros-are) (r .in-kx) (r .in-ky) (r .in-at) (d .ensures .0) (d .ensures .1 .0) (d .ensures .1 .1 .0) (d .ensures .1 .1 .1) .in-at))
 
 write-pieces-requires : tie.Need-write-pieces-requires
 write-pieces-requires c κs =
-    let k = c .before .before .before .before .before .before .before .before .before .before .before .before .before .before .before .before .before .before .before .before .before .before .before .before .before .before .before .before .before .before .before .before in
-    let v = k .args in
-    let r = k .pre .0 in
-    let d = c .before .before .before .before .before .before .before .before .before .before .before .before .before .before .before .merge in
+    let v = c .before .before .before .before .before .before .before .before .before .before .before .before .before .before .before .before .before .before .before .before .before .before .before .before .before .before .before .args in
+    let r = c .before .before .before .before .before .before .before .before .before .before .before .before .before .before .before .before .before .before .before .before .before .before .before .before .before .before .before .pre .0 in
+    let d = c .before .before .before .before .before .before .before .before .before .before .before .before .before .merge in
     let f = kept-is (v .mask .now) (v .zeros .now) (v .kx .now) (v .ky .now) (v .at .now) (d .last .0) (d .last .1 .0) (d .last .1 .1 .0) (d .result) (r .few) (r .zeros-are) (r .in-kx) (r .in-ky) (r .in-at) (d .ensures .0) (d .ensures .1 .0) (d .ensures .1 .1 .0) (d .ensures .1 .1 .1) in
-    (record { good = r .good; same-room = r .same-room; same-size = r .same-size; enough = r .enough; kept = f; number-len = r .number-len; piece-len = r .piece-len }, k .pre .1)
+    (record { port = r .port; enough = r .enough; kept = f; number-len = r .number-len; piece-len = r .piece-len }, c .before .before .before .before .before .before .before .before .before .before .before .before .before .before .before .before .before .before .before .before .before .before .before .before .before .before .before .pre .1)
 
 same-length : tie.Need-same-length
 same-length c = search needs
@@ -93,14 +76,8 @@ same-length-6 c = search needs
 same-length-7 : tie.Need-same-length-7
 same-length-7 c = search needs
 
-same-length-8 : tie.Need-same-length-8
-same-length-8 c = search needs
-
-same-length-9 : tie.Need-same-length-9
-same-length-9 c = search needs
-
 returns : tie.Need-returns
-returns c = search needs
+returns c = c .before .before .before .before .before .before .before .before .write-pieces .ensures
 
 pub write-merged-spec : {M : Type 1} → statement M
 write-merged-spec =
@@ -121,6 +98,4 @@ write-merged-spec =
     same-length-5
     same-length-6
     same-length-7
-    same-length-8
-    same-length-9
     returns)

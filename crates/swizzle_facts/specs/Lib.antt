@@ -1,0 +1,2 @@
+-- What number 0 of a swizzle says of its layout and of each port.
+pub mod Passed

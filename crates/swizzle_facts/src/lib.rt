@@ -1,0 +1,1 @@
+// What number 0 of a swizzle says: definitions and laws only.
