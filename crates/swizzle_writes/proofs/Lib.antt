@@ -1,0 +1,4 @@
+-- Laws of the write ports.
+pub mod Rooms
+pub mod Short
+pub mod Steps

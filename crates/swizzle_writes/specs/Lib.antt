@@ -1,0 +1,2 @@
+-- What the write ports of a swizzle leave.
+pub mod Placed
