@@ -2,3 +2,4 @@
 pub mod Rooms
 pub mod Short
 pub mod Steps
+pub mod Planned
