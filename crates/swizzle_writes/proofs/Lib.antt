@@ -3,3 +3,4 @@ pub mod Rooms
 pub mod Short
 pub mod Steps
 pub mod Planned
+pub mod Whole

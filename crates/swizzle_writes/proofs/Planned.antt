@@ -55,7 +55,7 @@ rows-low (suc (suc (suc zero))) h = (omega arith, omega arith)
 rows-low (suc (suc (suc (suc zero)))) h = (omega arith, omega arith)
 rows-low (suc (suc (suc (suc (suc k))))) h = absurd (omega arith)
 
-columns-are : (q : Layout) → columns q ≡ allMems q * q .unit
+pub columns-are : (q : Layout) → columns q ≡ allMems q * q .unit
 unfolding columns
 columns-are q = refl
 
@@ -63,11 +63,11 @@ row-len : (q : Layout) → rowLen q ≡ length (q .entries)
 unfolding rowLen
 row-len q = refl
 
-done-value : {A : Type 0} (v : A) (n : ℕ) → done v n .value ≡ v
+pub done-value : {A : Type 0} (v : A) (n : ℕ) → done v n .value ≡ v
 unfolding done
 done-value v n = refl
 
-new-is : (q : Layout) (old new : ℕ) (addr : Value) → splitAddr q old new addr .new ≡ new
+pub new-is : (q : Layout) (old new : ℕ) (addr : Value) → splitAddr q old new addr .new ≡ new
 unfolding splitAddr splitBy
 new-is q old new addr = refl
 
@@ -141,7 +141,7 @@ module _ (q : Layout) (old new : ℕ) (w : WritePort) (lp : LayoutPlanned q) (pp
   abbrev pub netsAt : ℕ → List ℕ
   netsAt n = s .addr ++ (ordered q s (swizzleWrite q s w n .value .port .bits) ++ ordered q s (swizzleWrite q s w n .value .port .mask))
 
-  bits-size : (n : ℕ) → length (ordered q s (swizzleWrite q s w n .value .port .bits)) ≡ size
+  pub bits-size : (n : ℕ) → length (ordered q s (swizzleWrite q s w n .value .port .bits)) ≡ size
   bits-size n =
       length-ordered q s (swizzleWrite q s w n .value .port .bits) (bits-whole q s w n)
       ∙ mul-left-comm (allMems q) (2 ^ s .new) (q .unit) ∙ ap (λ (k : ℕ). k * (allMems q * q .unit)) (ap (λ (k : ℕ). 2 ^ k) (new-is q old new (w .addr)) ∙ sym (rows-are new (pp .new-max)))

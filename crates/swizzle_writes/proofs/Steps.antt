@@ -61,7 +61,7 @@ chains-placed-if : (q : Layout) (mems old new : ℕ) (addr bits mask : Value) (a
 unfolding placedIf
 chains-placed-if q mems old new addr bits mask at room = chains-if (canSplit q old new (length addr)) _ _ (chains-placed _ _ _ _ bits mask at room) (chains-done _)
 
-chains-placed-at : (m : Mem) (q : Layout) (mems j new at : ℕ) (room : List ℕ) → Chains (placedAt m q mems j new at room)
+pub chains-placed-at : (m : Mem) (q : Layout) (mems j new at : ℕ) (room : List ℕ) → Chains (placedAt m q mems j new at room)
 unfolding placedAt
 chains-placed-at m q mems j new at room = chains-placed-if q mems _ new _ _ _ at room
 
