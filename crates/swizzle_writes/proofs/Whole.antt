@@ -1,6 +1,6 @@
 -- All write ports of a plan whose number is 0: the machine's trace is the rules', and the room holds the ports' nets one after the other.
 use mathlib.Core.Path.{_≡_, refl, sym, ap, _∙_, subst}
-use Prim.Native.Nat.{ℕ, zero, suc, _+_, _-_, _*_, _^_, _<_, _≤_}
+use Prim.Native.Nat.{ℕ, zero, suc, _+_, _-_, _*_, _^_, _<_, _≤_, min}
 use native.Mathlib.Nat.{add-zero, add-assoc, mul-left-comm}
 use native.Mathlib.Omega.{arith}
 use mathlib.Core.Bool.{Bool, true, false}
@@ -21,7 +21,13 @@ use Rattle.rules.proofs.Traces.{bind-value}
 use Rattle.log_entries.specs.Emission.{Lent, isOver, run}
 use Rattle.log_entries.proofs.Emission.{run-done, run-then, run-same, run-next, run-held}
 use Rattle.port_transparency.specs.Gave.{Gave}
+use Rattle.net_value.specs.View.{controlOf}
 use Rattle.net_memory.specs.declared.MemoryWritePort.{MemoryWritePort}
+use Rattle.net_memory.specs.declared.Memory.{Memory}
+use Rattle.net_memory.specs.View.{noWritePort, memoryOf}
+use Rattle.net_memory.proofs.Ports.{write-of-view, writes-at}
+use Rattle.swizzle_result.specs.Held.{HeldWrite}
+use Rattle.swizzle_result.proofs.Holding.{holding-write}
 use Rattle.swizzle_laws.specs.Order.{ordered}
 use Rattle.swizzle_laws.proofs.Parts.{length-ordered}
 use Rattle.swizzle_laws.proofs.Whole.{mask-whole}
@@ -133,7 +139,7 @@ module _ (m : Mem) (q : Layout) (ps : List MemoryWritePort) (lp : LayoutPlanned 
         let b = ordered q s (t′ k .value .port .mask) in
         let x = bits-size q old n w lp pp k in
         let y : length b ≡ size = length-ordered q s (t′ k .value .port .mask) (mask-whole q s w k) ∙ mul-left-comm (allMems q) (2 ^ s .new) (q .unit)
-                ∙ ap (λ (i : ℕ). i * (allMems q * q .unit)) (ap (λ (i : ℕ). 2 ^ i) (new-is q old n (w .addr)) ∙ sym (rows-are n (pp .new-max))) in
+        ∙ ap (λ (i : ℕ). i * (allMems q * q .unit)) (ap (λ (i : ℕ). 2 ^ i) (new-is q old n (w .addr)) ∙ sym (rows-are n (pp .new-max))) in
         ap length (wide-nets q s w k) ∙ omega (arith, length-append (s .addr) (a ++ b), length-append a b, x, y, room-is)
 
     pub rest-fits : f .at + totalNets m q (w ∷ ws) (n ∷ ns) ≤ length (f .room) → g .at + totalNets m q ws ns ≤ length (g .room)
@@ -220,3 +226,22 @@ module _ (m : Mem) (q : Layout) (ps : List MemoryWritePort) (lp : LayoutPlanned 
 
     pub writes-value : isOver (l1 .state) ≡ false → v ≡ filledWith m q ps 0 (m .writes) ns (noneFilled room) (swizzleWrites m q (m .writes) ns (l .state .next) .value)
     writes-value o = given .value o ∙ same .value (sym (ap (λ (y : Lent). isOver (y .state)) writes-ran) ∙ o)
+
+-- the same from one record of facts
+pub writes-planned : (m : Mem) (q : Layout) (ps : List MemoryWritePort) (ns room : List ℕ) → WritePlanned m q ns (length room) → (l l1 : Lent) (v : Filled)
+    → Gave (placedFrom m q (allMems q) ps 0 ns (noneFilled room)) l l1 v
+    → (l1 ≡ run (swizzleWrites m q (m .writes) ns) l)
+    × (isOver (l1 .state) ≡ false → v ≡ filledWith m q ps 0 (m .writes) ns (noneFilled room) (swizzleWrites m q (m .writes) ns (l .state .next) .value))
+writes-planned m q ps ns room wp l l1 v given =
+    (writes-ran m q ps (wp .layout) ns room (wp .ports) (wp .enough) l l1 v given, writes-value m q ps (wp .layout) ns room (wp .ports) (wp .enough) l l1 v given)
+
+-- ---- the ports of the result
+-- a port of the result holds the port of the rules, with the clock of the memory's
+pub clock-is : (m : Memory) (nets trits : List ℕ) (j : ℕ) → j < min maxPorts (m .«write_count») → controlOf (getD (m .«write_ports») j noWritePort .clock) ≡ writeAt (memoryOf m nets trits) j .clock
+clock-is m nets trits j h = sym (ap (λ (w : WritePort). w .clock) (write-of-view m nets trits j ∙ writes-at m nets j h))
+
+pub held-port : (m : Memory) (nets trits : List ℕ) (q : Layout) (j old new n : ℕ) → j < min maxPorts (m .«write_count») → HeldWrite q
+held-port m nets trits q j old new n h =
+    let w = writeAt (memoryOf m nets trits) j in
+    let s = splitAddr q old new (w .addr) in
+    holding-write q s w n (portBy (m .«write_ports») j new (length (s .addr))) refl (sym (new-is q old new (w .addr))) (clock-is m nets trits j h)
