@@ -13,7 +13,7 @@ use Rattle.lists.specs.Lists.{part}
 use Rattle.lists.proofs.Choice.{and-true}
 use Rattle.lists.proofs.Stores.{take-stored}
 use Rattle.lists.proofs.Parts.{same-back}
-use Rattle.rules.specs.Limits.{X, addrBits, maxPorts}
+use Rattle.rules.specs.Limits.{X, addrBits, maxPorts, maxWide, maxWidth, maxColumns}
 use Rattle.rules.specs.Value.{Value}
 use Rattle.rules.specs.Cell.{wideLog2}
 use Rattle.rules.specs.Geometry.{Layout, columns}
@@ -28,7 +28,9 @@ use Rattle.net_memory.specs.View.{readBy, flipFlopBy}
 use Rattle.image_geometry.specs.declared.Params.{Params}
 use Rattle.image_geometry.specs.View.{layoutBy}
 use Rattle.swizzle_split.specs.declared.Split.{Split}
-use Rattle.swizzle_split.specs.Steps.{Fits, canSplit, Gives}
+use Rattle.swizzle_split.specs.declared.Outcome.{Outcome}
+use Rattle.swizzle_split.specs.declared.Outcome.the-variants.{Refused, Accepted}
+use Rattle.swizzle_split.specs.Steps.{Fits, canSplit, Gives, Refuses, Answers}
 use Rattle.swizzle_split.proofs.Limits.{can-fits}
 use Rattle.swizzle_read.specs.Port.{addrBy, scratchOf}
 use Rattle.swizzle_reads.specs.declared.Sizes.{Sizes}
@@ -196,3 +198,26 @@ module _ (p : Params) (es : List ℕ) (new : ℕ) (r : MemoryReadPort) (x y : Li
             let need : s .pieces * pieceBy p s ≡ t .pieces * (2 ^ old * q .width) = (λ j. sa .pieces-are j * (2 ^ sa .old-is j * q .width)) in
             same-back (s .pieces * pieceBy p s) k scratch after (omega (arith, need))
             (f ∙ raw-kept p z es old new addr hw mux s me sa r x y c out scratch (g .lent) ck (facts .pos) holds-all (facts .below))
+
+-- ---- what `split_addr` answers, by the port's own address and lengths
+module _ (p : Params) (es : List ℕ) (new : ℕ) (r : MemoryReadPort) (x : List ℕ) (o : Outcome) (n old : ℕ) (addr hw₀ hw mux₀ mux : Value) (ea : addr ≡ part 0 (r .«addr_len») x)
+    (eo : old ≡ wideLog2 (p .width) n) (en : n ≡ r .«data_len») (a : Answers (layoutBy p es) old new addr hw₀ hw mux₀ mux o) where
+  own : Answers (layoutBy p es) (wideLog2 (p .width) (r .«data_len»)) new (part 0 (r .«addr_len») x) hw₀ hw mux₀ mux o
+  own =
+      subst (λ (k : ℕ). Answers (layoutBy p es) k new (part 0 (r .«addr_len») x) hw₀ hw mux₀ mux o) (eo ∙ ap (wideLog2 (p .width)) en)
+      (subst (λ (v : Value). Answers (layoutBy p es) old new v hw₀ hw mux₀ mux o) ea a)
+
+  pub gives-port : (s : Split) → o ≡ Accepted s → Gives (layoutBy p es) (wideLog2 (p .width) (r .«data_len»)) new (part 0 (r .«addr_len») x) hw₀ hw mux₀ mux s
+  gives-port s e = subst (λ (k : Outcome). Answers (layoutBy p es) (wideLog2 (p .width) (r .«data_len»)) new (part 0 (r .«addr_len») x) hw₀ hw mux₀ mux k) e own
+
+  refuses : o ≡ Refused → Refuses (layoutBy p es) (wideLog2 (p .width) (r .«data_len»)) new (part 0 (r .«addr_len») x) hw₀ hw mux₀ mux
+  refuses e = subst (λ (k : Outcome). Answers (layoutBy p es) (wideLog2 (p .width) (r .«data_len»)) new (part 0 (r .«addr_len») x) hw₀ hw mux₀ mux k) e own
+
+  pub refused-port : o ≡ Refused → canSplit (layoutBy p es) (wideLog2 (p .width) (r .«data_len»)) new (length (part 0 (r .«addr_len») x)) ≡ false
+  refused-port e = refuses e .cannot
+
+pub limits-by : (q : Layout) (old new : ℕ) (addr hw₀ hw mux₀ mux : Value) (s : Split) (z : Sizes) → Gives q old new addr hw₀ hw mux₀ mux s → Measures q z
+    → (s .old ≤ maxWide) × (s .new ≤ maxWide) × (q .width ≤ maxWidth) × (z .columns ≤ maxColumns)
+limits-by q old new addr hw₀ hw mux₀ mux s z g me =
+    let f = can-fits q old new (length addr) (g .can) in
+    (omega (arith, g .splits .old-is, f .old-max), omega (arith, g .splits .new-is, f .new-max), me .rows .width-max, omega (arith, me .columns-are, me .rows .columns-max))

@@ -36,21 +36,21 @@ unfoldable pub EachClock : List InPort → Type 0
 EachClock [] = Unit
 EachClock (x ∷ xs) = SameClock x × EachClock xs
 
-unfoldable both : {x : InPort} {xs : List InPort} → SameClock x → EachClock xs → EachClock (x ∷ xs)
+unfoldable both : (x : InPort) (xs : List InPort) → SameClock x → EachClock xs → EachClock (x ∷ xs)
 unfolding EachClock
-both c e = (c, e)
+both x xs c e = (c, e)
 
-unfoldable first : {x : InPort} {xs : List InPort} → EachClock (x ∷ xs) → SameClock x
+unfoldable first : (x : InPort) (xs : List InPort) → EachClock (x ∷ xs) → SameClock x
 unfolding EachClock
-first e = e .0
+first x xs e = e .0
 
-unfoldable later : {x : InPort} {xs : List InPort} → EachClock (x ∷ xs) → EachClock xs
+unfoldable later : (x : InPort) (xs : List InPort) → EachClock (x ∷ xs) → EachClock xs
 unfolding EachClock
-later e = e .1
+later x xs e = e .1
 
-both-is : {x : InPort} {xs : List InPort} (e : EachClock (x ∷ xs)) → e ≡ both (first e) (later e)
+both-is : (x : InPort) (xs : List InPort) (e : EachClock (x ∷ xs)) → e ≡ both x xs (first x xs e) (later x xs e)
 unfolding EachClock both first later
-both-is e = refl
+both-is x xs e = refl
 
 same-clock : (f : MemoryReadFlipFlop) (r : MemoryReadPort) (y : List ℕ) → SameFlipFlop f (part 0 (r .«relations_len») (r .relations)) (flipFlopBy f r y)
 same-clock flips.the-variants.None r y = tt
@@ -119,7 +119,7 @@ module _ (m : Mem) (q : Layout) where
   held-none ns output next e = refl
 
   held-cons : (x : InPort) (xs : List InPort) (n : ℕ) (ns : List ℕ) (next : ℕ) (c : SameClock x) (e : EachClock xs)
-      → ports (heldOf m q (x ∷ xs) (n ∷ ns) next (both c e))
+      → ports (heldOf m q (x ∷ xs) (n ∷ ns) next (both x xs c e))
       ≡ heldOne q (readSplit m q (x .port) n) x next c .port ∷ ports (heldOf m q xs ns (next + readCount q (readSplit m q (x .port) n) (x .port) .nets) e)
   unfolding heldOf both
   held-cons x xs n ns next c e = refl
@@ -136,8 +136,8 @@ module _ (m : Mem) (q : Layout) where
       let rest = drop (p .dataLen) output in
       let next = g .lent .state .next in
       let nx = next-is m q lp room x xs n ns output i g h in
-      let back = held-ports lp room xs ns rest (suc i) (portDone q s i x out g) (left-after m q lp room x xs n ns output i g h) (later e) in
-      let tail = ap (λ (k : ℕ). ports (heldOf m q xs ns k (later e))) (sym nx) ∙ back
+      let back = held-ports lp room xs ns rest (suc i) (portDone q s i x out g) (left-after m q lp room x xs n ns output i g h) (later x xs e) in
+      let tail = ap (λ (k : ℕ). ports (heldOf m q xs ns k (later x xs e))) (sym nx) ∙ back
       ∙ ap (λ (k : ℕ). swizzleReads m q (portsOf xs) ns rest k .value) (nx ∙ sym (counts m q lp room x xs n ns output i g h .nets next)) in
-      ap (λ (c : EachClock (x ∷ xs)). ports (heldOf m q (x ∷ xs) (n ∷ ns) next c)) (both-is e) ∙ held-cons x xs n ns next (first e) (later e)
+      ap (λ (c : EachClock (x ∷ xs)). ports (heldOf m q (x ∷ xs) (n ∷ ns) next c)) (both-is x xs e) ∙ held-cons x xs n ns next (first x xs e) (later x xs e)
       ∙ (λ k. sym (read-value s p out next) k ∷ tail k) ∙ sym (reads-value p (portsOf xs) n ns output next)

@@ -10,7 +10,9 @@ use borrow.Author.Tests.{not-true, eqb-false, ne-eqb, ltb-false, leb-false}
 use Rattle.lists.specs.Lists.{any}
 use Rattle.lists.proofs.Choice.{or-false, and-true}
 use Rattle.lists.proofs.All.{any-at}
-use Rattle.rules.specs.Limits.{None, maxDepth, maxWidth, maxBits, maxRow, maxUnit, maxHard, maxColumns, maxMask}
+use Rattle.rules.specs.Limits.{None, maxDepth, maxWidth, maxBits, maxRow, maxUnit, maxHard, maxColumns, maxMask, maxImage, addrBits}
+use Rattle.rules.specs.Numbers.{topBits}
+use Rattle.rules.specs.Image.{trits}
 use Rattle.rules.specs.Geometry.{Layout, rowLen, columns}
 use Rattle.rules.specs.Conditions.{badEntry, badNames, badEntries, indivisible, resultTooLarge, imageTooLarge, badLayoutSizes, badLayout}
 use Rattle.swizzle_reads.specs.Going.{hasRows}
@@ -27,48 +29,52 @@ names-good : (width : ℕ) (es : List ℕ) → any (badEntry width) es ≡ false
 names-good width es h i l g = entry-good width (getD es i 0) (any-at (badEntry width) es h i 0 l) g
 
 module _ (q : Layout) (h : badLayout q ≡ false) (w : eqb (q .width) 0 ≡ false) where
-  sizes : badLayoutSizes (q .depth) (q .width) (rowLen q) (q .unit) (q .hard) ≡ false
-  unfolding badLayout
-  sizes = or-false _ _ h .0
+  abbrev sized : Bool
+  sized = badLayoutSizes (q .depth) (q .width) (rowLen q) (q .unit) (q .hard)
 
-  entries : badEntries (q .width) (q .entries) ≡ false
+  parts : (sized ≡ false) × (badEntries (q .width) (q .entries) ≡ false) × (imageTooLarge q ≡ false)
   unfolding badLayout
-  entries = or-false _ _ (or-false _ _ h .1) .0
-
-  image : imageTooLarge q ≡ false
-  unfolding badLayout
-  image = or-false _ _ (or-false _ _ (or-false _ _ (or-false _ _ h .1) .1) .1) .0
+  parts =
+      let a = or-false sized (badEntries (q .width) (q .entries) || (indivisible (q .depth) (topBits addrBits (q .softMask)) || (imageTooLarge q || ltb maxMask (q .softMask)))) h in
+      let b = or-false (badEntries (q .width) (q .entries)) (indivisible (q .depth) (topBits addrBits (q .softMask)) || (imageTooLarge q || ltb maxMask (q .softMask))) (a .1) in
+      let c = or-false (indivisible (q .depth) (topBits addrBits (q .softMask))) (imageTooLarge q || ltb maxMask (q .softMask)) (b .1) in
+      let d = or-false (imageTooLarge q) (ltb maxMask (q .softMask)) (c .1) in
+      (a .0, b .0, d .0)
 
   named : any (badEntry (q .width)) (q .entries) ≡ false
   unfolding badEntries badNames
-  named = or-false _ _ entries .0
+  named = or-false _ _ (parts .1) .0
 
   large : ltb maxColumns (columns q) ≡ false
   unfolding imageTooLarge resultTooLarge
-  large = or-false _ _ (on (eqb (q .width) 0) _ w image) .0
+  large = or-false (ltb maxColumns (columns q)) (ltb maxImage (trits q)) (on (eqb (q .width) 0) (ltb maxColumns (columns q) || ltb maxImage (trits q)) w (parts .2)) .0
     where
       on : (a b : Bool) → a ≡ false → (not a && b) ≡ false → b ≡ false
-      on true b e f = absurd (let z : _≡_ {A = ℕ} 0 1 = cc in omega arith)
+      on true b e f = let z : _≡_ {A = ℕ} 0 1 = cc in absurd (omega arith)
       on false b e f = f
 
-  wide : ltb maxWidth (q .width) ≡ false
+  limits : (ltb maxWidth (q .width) ≡ false) × (ltb maxRow (rowLen q) ≡ false) × (eqb (q .unit) 0 ≡ false) × (ltb maxHard (q .hard) ≡ false)
   unfolding badLayoutSizes
-  wide = or-false _ _ (or-false _ _ sizes .1) .0
-
-  rest : (ltb maxRow (rowLen q) || (eqb (q .unit) 0 || (ltb maxUnit (q .unit) || ltb maxHard (q .hard)))) ≡ false
-  unfolding badLayoutSizes
-  rest = or-false _ _ (or-false _ _ (or-false _ _ sizes .1) .1) .1
+  limits =
+      let e : Bool = eqb (q .unit) 0 || (ltb maxUnit (q .unit) || ltb maxHard (q .hard)) in
+      let d : Bool = ltb maxRow (rowLen q) || e in
+      let a = or-false (ltb maxDepth (q .depth)) (ltb maxWidth (q .width) || (ltb maxBits (q .depth * q .width) || d)) (parts .0) in
+      let b = or-false (ltb maxWidth (q .width)) (ltb maxBits (q .depth * q .width) || d) (a .1) in
+      let c = or-false (ltb maxBits (q .depth * q .width)) d (b .1) in
+      let f = or-false (ltb maxRow (rowLen q)) e (c .1) in
+      let g = or-false (eqb (q .unit) 0) (ltb maxUnit (q .unit) || ltb maxHard (q .hard)) (f .1) in
+      (b .0, f .0, g .0, or-false (ltb maxUnit (q .unit)) (ltb maxHard (q .hard)) (g .1) .1)
 
   row-low : length (q .entries) ≤ maxRow
   unfolding rowLen
-  row-low = ltb-false maxRow (length (q .entries)) (or-false _ _ rest .0)
+  row-low = ltb-false maxRow (length (q .entries)) (limits .1)
 
   pub rows-are : Rows q
   rows-are = record {
-    unit-some = positive (q .unit) (eqb-false (q .unit) 0 (or-false _ _ (or-false _ _ rest .1) .0));
+    unit-some = positive (q .unit) (eqb-false (q .unit) 0 (limits .2));
     names = names-good (q .width) (q .entries) named;
-    width-max = ltb-false maxWidth (q .width) wide;
-    hard-max = ltb-false maxHard (q .hard) (or-false _ _ (or-false _ _ (or-false _ _ rest .1) .1) .1);
+    width-max = ltb-false maxWidth (q .width) (limits .0);
+    hard-max = ltb-false maxHard (q .hard) (limits .3);
     row-max = row-low;
     columns-max = ltb-false maxColumns (columns q) large;
   }

@@ -111,11 +111,11 @@ module _ (m : Mem) (q : Layout) (lp : LayoutPlanned m q) (p : ReadPort) (n : ℕ
     pieces-fit : piecesFit (s .pieces) (2 ^ s .old * q .width) room (g .lent .state .next) (2 ^ s .new * columns q) ≡ true
     unfolding piecesFit
     pieces-fit =
-        rw (lt-ltb 0 (s .pieces) pieces-some, le-leb _ room (omega (arith, need-is, pp .holds)), le-leb (g .lent .state .next + 2 ^ s .new * columns q) X (omega (arith, nets-most)))
+        rw (lt-ltb 0 (s .pieces) pieces-some, le-leb (s .pieces * (2 ^ s .old * q .width)) room (omega (arith, need-is, pp .holds)), le-leb (g .lent .state .next + 2 ^ s .new * columns q) X (omega (arith, nets-most)))
 
     rooms-fit : roomsFit (2 ^ s .new * columns q) (length (g .nets)) (g .netsAt) (length (s .addr)) (length (g .trits)) (g .tritsAt) (tritsIf (p .flipFlop) (2 ^ s .new * columns q)) ≡ true
     unfolding roomsFit
-    rooms-fit = rw (lt-ltb 0 _ size-some, le-leb _ _ nets, le-leb _ _ (omega (arith, trits, trits-length q s (p .flipFlop))))
+    rooms-fit = rw (lt-ltb 0 (2 ^ s .new * columns q) size-some, le-leb (g .netsAt + length (s .addr)) (length (g .nets)) nets, le-leb (g .tritsAt + tritsIf (p .flipFlop) (2 ^ s .new * columns q)) (length (g .trits)) (omega (arith, trits, trits-length q s (p .flipFlop))))
 
     can : canSplit q (s .old) (s .new) (length (p .addr)) ≡ true
     can = (λ i. canSplit q (old-is i) (new-is i) (length (p .addr))) ∙ fits-can q old n (length (p .addr)) fits
@@ -209,15 +209,15 @@ module _ (m : Mem) (q : Layout) (lp : LayoutPlanned m q) (room : ℕ) where
     addrs-length : length (addrsOf m q (p ∷ portsOf xs) (n ∷ ns)) ≡ length (t .addr) + length (addrsOf m q (portsOf xs) ns)
     addrs-length = length-append (t .addr) (addrsOf m q (portsOf xs) ns)
 
-    trits-length : length (tritsOf m q (p ∷ portsOf xs) (n ∷ ns)) ≡ length (portTrits q t p) + length (tritsOf m q (portsOf xs) ns)
-    trits-length = length-append (portTrits q t p) (tritsOf m q (portsOf xs) ns)
+    kinds-length : length (tritsOf m q (p ∷ portsOf xs) (n ∷ ns)) ≡ length (portTrits q t p) + length (tritsOf m q (portsOf xs) ns)
+    kinds-length = length-append (portTrits q t p) (tritsOf m q (portsOf xs) ns)
 
     abbrev g1 : Going
     g1 = portDone q t i x out g
 
     step-is : portIf q room i x n out g ≡ g1
     step-is =
-        port-is m q lp p n room planned g (omega (arith, h .0 .nets-low, count-nets)) (omega (arith, h .0 .nets-room, h .1 .0, addrs-length)) (omega (arith, h .0 .trits-room, h .1 .1, trits-length))
+        port-is m q lp p n room planned g (omega (arith, h .0 .nets-low, count-nets)) (omega (arith, h .0 .nets-room, h .1, addrs-length)) (omega (arith, h .0 .trits-room, h .2, kinds-length))
         i x out refl
 
     -- the state after it
@@ -246,13 +246,13 @@ module _ (m : Mem) (q : Layout) (lp : LayoutPlanned m q) (room : ℕ) where
         wides = omega (arith, h .0 .wides);
         each = λ j l. h .0 .each (suc j) (omega arith);
         outputs = omega (arith, length-drop (p .dataLen) output, h .0 .outputs);
-        nets-room = omega (arith, length-sets (g .nets) (g .netsAt) (t .addr), h .0 .nets-room, h .1 .0, addrs-length);
-        trits-room = omega (arith, length-sets (g .trits) (g .tritsAt) (portTrits q t p), h .0 .trits-room, h .1 .1, trits-length);
+        nets-room = omega (arith, length-sets (g .nets) (g .netsAt) (t .addr), h .0 .nets-room, h .1, addrs-length);
+        trits-room = omega (arith, length-sets (g .trits) (g .tritsAt) (portTrits q t p), h .0 .trits-room, h .2, kinds-length);
         nets-low = omega (arith, next-is, h .0 .nets-low, count-nets);
         words-low = omega (arith, used-is, h .0 .words-low, count-words);
       },
-      omega (arith, length-sets (g .nets) (g .netsAt) (t .addr), h .0 .nets-room, h .1 .0, addrs-length),
-      omega (arith, length-sets (g .trits) (g .tritsAt) (portTrits q t p), h .0 .trits-room, h .1 .1, trits-length),
+      omega (arith, length-sets (g .nets) (g .netsAt) (t .addr), h .0 .nets-room, h .1, addrs-length),
+      omega (arith, length-sets (g .trits) (g .tritsAt) (portTrits q t p), h .0 .trits-room, h .2, kinds-length),
     )
 
     reads-cons : swizzleReads m q (p ∷ portsOf xs) (n ∷ ns) output ≡ (swizzleRead q t p out >>= λ r. (swizzleReads m q (portsOf xs) ns rest >>= λ rs. done (r ∷ rs)))
@@ -281,7 +281,7 @@ module _ (m : Mem) (q : Layout) (lp : LayoutPlanned m q) (room : ℕ) where
           nets = sets-append (t .addr) a (g .nets) (g .netsAt) k;
           trits = sets-append (portTrits q t p) b (g .trits) (g .tritsAt) k;
           netsAt = (add-assoc (g .netsAt) (length (t .addr)) (length a) ∙ ap (λ (c : ℕ). g .netsAt + c) (sym addrs-length)) k;
-          tritsAt = (add-assoc (g .tritsAt) (length (portTrits q t p)) (length b) ∙ ap (λ (c : ℕ). g .tritsAt + c) (sym trits-length)) k;
+          tritsAt = (add-assoc (g .tritsAt) (length (portTrits q t p)) (length b) ∙ ap (λ (c : ℕ). g .tritsAt + c) (sym kinds-length)) k;
           memory = join-structs k;
         }
 

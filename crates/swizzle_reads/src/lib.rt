@@ -87,7 +87,7 @@ fn size_of(z: Sizes, s: Split) -> u32
     two_to(s.new) * z.columns
 }
 
-fn clocking(f: MemoryReadFlipFlop) -> Clocking
+fn clock_of(f: MemoryReadFlipFlop) -> Clocking
     ensures { λ c. ⌜ ((r : ports.MemoryReadPort) (y : List ℕ) (a : Value) → addrBy (c .clocked) (controlOf (c .clock)) (controlOf (c .enable)) a ≡ clockedAddr (flipFlopBy f r y) a) ⌝ }
 {
     match f {
@@ -371,7 +371,7 @@ fn read_port(
     }
     let h = lists::usize_of_u32(s.hw_len);
     let k = lists::usize_of_u32(s.mux_len);
-    let c = clocking(f);
+    let c = clock_of(f);
     read_split(
         log,
         nets_to,
@@ -430,7 +430,20 @@ fn port_at(
     let out = lists::part_u32(output, at, lists::usize_of_u32(r.data_len));
     let new = wide_at(wide, i);
     read_port(
-        log, nets_to, trits_to, scratch, g, i, p, z, new, r, own, kinds, entries, out,
+        log,
+        nets_to,
+        trits_to,
+        scratch,
+        g,
+        i,
+        p,
+        z,
+        new,
+        r,
+        own,
+        kinds,
+        entries,
+        out,
     )
 }
 
@@ -460,7 +473,21 @@ fn each_port(
     let mut i: usize = 0;
     while i < count {
         g = port_at(
-            log, nets_to, trits_to, scratch, g, i, at, p, z, m, nets, trits, entries, wide, output,
+            log,
+            nets_to,
+            trits_to,
+            scratch,
+            g,
+            i,
+            at,
+            p,
+            z,
+            m,
+            nets,
+            trits,
+            entries,
+            wide,
+            output,
         );
         at += net_memory::read_data_len(m, i);
         i += 1;
@@ -499,6 +526,18 @@ pub fn emit_reads(
         columns: shape.columns as u32,
     };
     each_port(
-        log, nets_to, trits_to, scratch, start, p, z, m, nets, trits, entries, wide, output,
+        log,
+        nets_to,
+        trits_to,
+        scratch,
+        start,
+        p,
+        z,
+        m,
+        nets,
+        trits,
+        entries,
+        wide,
+        output,
     )
 }
