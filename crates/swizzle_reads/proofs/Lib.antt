@@ -9,3 +9,4 @@ pub mod Loop
 pub mod Start
 pub mod Whole
 pub mod Holding
+pub mod Planned

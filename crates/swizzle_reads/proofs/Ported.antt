@@ -1,7 +1,6 @@
 -- What the code leaves of a read port within the limits is what the rules give.
 use mathlib.Core.Path.{_≡_, refl, sym, ap, _∙_, subst}
 use Prim.Native.Nat.{ℕ, _+_, _-_, _*_, _^_, _<_, _≤_}
-use native.Mathlib.Nat.{mul-le-mul}
 use native.Mathlib.Omega.{arith}
 use mathlib.Core.Bool.{Bool, true, false, _&&_}
 use mathlib.Core.Option.{Option, none, some}
@@ -30,6 +29,7 @@ use Rattle.swizzle_laws.proofs.Places.{Splittable}
 use Rattle.swizzle_pieces.specs.declared.Pieces.{Pieces}
 use Rattle.swizzle_split.specs.declared.Split.{Split}
 use Rattle.swizzle_split.specs.Steps.{Fits}
+use Rattle.swizzle_write.proofs.Fits.{bounded}
 use Rattle.swizzle_read.specs.Port.{muxRoom, addrBy, readOf, scratchOf, canRead, withFirst}
 use Rattle.swizzle_read.proofs.Meant.{Meant, read-rules, scratch-kept}
 use Rattle.swizzle_read.proofs.Ported.{Ports, port-meant}
@@ -44,10 +44,6 @@ use Rattle.swizzle_reads.specs.Going.{Going, withReadPort, wideOf, portT
 use Rattle.swizzle_reads.specs.Able.{Rows, Measures, Same}
 use Rattle.swizzle_reads.specs.Raw.{numbersOf, wideBy, sizeBy, pieceBy, readBy′, tritsBy, needBy, portBy, portRaw}
 use Rattle.swizzle_reads.proofs.Lengths.{addr-low, mux-low, pieces-few, old-few, new-few}
-
--- products within bounds
-product : (a b c d : ℕ) → a ≤ c → b ≤ d → a * b ≤ c * d
-product a b c d h g = mul-le-mul {n₁ = a} {m₁ = b} {n₂ = c} {m₂ = d} h g
 
 can-all : (n : Pieces) (mux : Value) (w : ℕ) (scratch : List ℕ) → length mux ≤ addrBits → 0 < n .count → n .count * w ≤ length scratch → canRead n mux w scratch ≡ true
 unfolding canRead
@@ -79,17 +75,17 @@ module _ (p : Params) (z : Sizes) (es : List ℕ) (old new : ℕ) (addr hw mux :
   piece-is = λ i. 2 ^ (sa .old-is ∙ sym old-is) i * q .width
 
   few : 2 ^ old * t .pieces ≤ 4294967296
-  few = omega (arith, product (2 ^ old) (t .pieces) 16 524288 (old-few q old new addr (sa .fits)) (pieces-few q old new addr (sa .fits)))
+  few = omega (arith, bounded (2 ^ old) (t .pieces) 16 524288 (old-few q old new addr (sa .fits)) (pieces-few q old new addr (sa .fits)))
 
   narrow : 2 ^ old * q .width ≤ 2048
-  narrow = omega (arith, product (2 ^ old) (q .width) 16 128 (old-few q old new addr (sa .fits)) (me .rows .width-max))
+  narrow = omega (arith, bounded (2 ^ old) (q .width) 16 128 (old-few q old new addr (sa .fits)) (me .rows .width-max))
 
   w-is : pieceBy p s ≡ 2 ^ old * q .width
   w-is = λ i. 2 ^ sa .old-is i * q .width
 
   short : s .pieces * pieceBy p s ≤ 4294967296
   short =
-      omega (arith, product (s .pieces) (pieceBy p s) 524288 2048 (omega (arith, sa .pieces-are, pieces-few q old new addr (sa .fits))) (omega (arith, w-is, narrow)))
+      omega (arith, bounded (s .pieces) (pieceBy p s) 524288 2048 (omega (arith, sa .pieces-are, pieces-few q old new addr (sa .fits))) (omega (arith, w-is, narrow)))
 
   -- ---- the log
   module _ (r : MemoryReadPort) (x y : List ℕ) (c : Clocking) (out : Value) (scratch : List ℕ) (l : Lent)

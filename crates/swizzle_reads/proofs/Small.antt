@@ -1,7 +1,6 @@
 -- Facts of the small functions: powers, flip-flops, and the tests of a port one after the other.
 use mathlib.Core.Path.{_≡_, refl, sym, ap, _∙_}
 use Prim.Native.Nat.{ℕ, zero, suc, _+_, _*_, _^_, _<_, _≤_}
-use native.Mathlib.Nat.{mul-le-mul}
 use native.Mathlib.Omega.{arith}
 use mathlib.Core.Bool.{Bool, true, false, _&&_}
 use mathlib.Core.List.{List}
@@ -18,18 +17,16 @@ use Rattle.net_memory.specs.declared.MemoryReadFlipFlop.{MemoryReadFlipFlop}
 use Rattle.net_memory.specs.declared.MemoryReadFlipFlop.the-variants.{None, Some}
 use Rattle.net_memory.specs.declared.MemoryReadPort.{MemoryReadPort}
 use Rattle.net_memory.specs.View.{flipFlopBy}
+use Rattle.swizzle_write.proofs.Fits.{bounded}
 use Rattle.swizzle_read.specs.Port.{addrBy}
 use Rattle.swizzle_reads.specs.Going.{piecesFit, roomsFit}
 
 pub pow-at : (k n v : ℕ) → k ≡ n → v ≡ 2 ^ n → v ≤ 16 → (v ≡ 2 ^ k) × (v ≤ 16)
 pow-at k n v e f h = (f ∙ ap (λ (j : ℕ). 2 ^ j) (sym e), h)
 
-pub product : (a b c d : ℕ) → a ≤ c → b ≤ d → a * b ≤ c * d
-product a b c d h g = mul-le-mul {n₁ = a} {m₁ = b} {n₂ = c} {m₂ = d} h g
-
 -- 2^k times a number
 pub times-two : (t k n m : ℕ) → t ≡ 2 ^ k → t ≤ 16 → n ≤ m → (t * n ≡ 2 ^ k * n) × (t * n ≤ 16 * m)
-times-two t k n m e h g = (ap (λ (j : ℕ). j * n) e, product t n 16 m h g)
+times-two t k n m e h g = (ap (λ (j : ℕ). j * n) e, bounded t n 16 m h g)
 
 pub clock-none : (f : MemoryReadFlipFlop) → f ≡ None → (clock enable : Control) (r : MemoryReadPort) (y : List ℕ) (a : Value) → addrBy false clock enable a ≡ clockedAddr (flipFlopBy f r y) a
 unfolding addrBy clockedAddr

@@ -2,7 +2,8 @@
 use mathlib.Core.Path.{_∙_}
 use Prim.Native.Nat.{_+_, _*_}
 use native.Mathlib.Omega.{arith}
-use Rattle.swizzle_reads.proofs.Small.{product, pieces-none, pieces-short, pieces-all}
+use Rattle.swizzle_write.proofs.Fits.{bounded}
+use Rattle.swizzle_reads.proofs.Small.{pieces-none, pieces-short, pieces-all}
 use borrow.Author.Needs.{needs}
 use Rattle.swizzle_reads.proofs.pieces_fit.Statement.{statement}
 use Rattle.swizzle_reads.proofs.pieces_fit.Tie as tie
@@ -19,7 +20,7 @@ usize-of-u32-requires-2 : tie.Need-usize-of-u32-requires-2
 usize-of-u32-requires-2 c κs = search needs
 
 mul-if2 : tie.Need-mul-if2
-mul-if2 c = omega (arith, product (c .before .usize-of-u32 .result) (c .usize-of-u322 .result) 4294967295 4294967295 (omega (arith, c .before .usize-of-u32 .ensures .1)) (omega (arith, c .usize-of-u322 .ensures .1)))
+mul-if2 c = omega (arith, bounded (c .before .usize-of-u32 .result) (c .usize-of-u322 .result) 4294967295 4294967295 (omega (arith, c .before .usize-of-u32 .ensures .1)) (omega (arith, c .usize-of-u322 .ensures .1)))
 
 returns-2 : tie.Need-returns-2
 returns-2 c =
