@@ -32,7 +32,7 @@ use Rattle.swizzle_laws.proofs.ReadCounts.{chains-voids, voids-more, voids-none
 use Rattle.swizzle_tree.specs.Scratch.{treeIn, treeOf, holds, Built}
 use Rattle.swizzle_pieces.specs.declared.Pieces.{Pieces}
 use Rattle.swizzle_pieces.specs.Steps.{loadOf}
-use Rattle.swizzle_read.specs.Port.{addrBy, Addressed, readTrace, Ready, withFirst, canRead, readOf, scratchOf}
+use Rattle.swizzle_read.specs.Port.{muxRoom, addrBy, Addressed, readTrace, Ready, withFirst, canRead, readOf, scratchOf}
 
 -- ---- voids: what is left gives the whole
 module _ (width : ℕ) (l l1 : Lent) (e : l1 ≡ run (addVoid width) l) where
@@ -64,9 +64,9 @@ take-same zero k v h = refl
 take-same (suc n) zero v h = absurd (omega arith)
 take-same (suc n) (suc k) v h = ap (λ (l : List ℕ). v ∷ l) (take-same n k v (omega arith))
 
-pub x-trits : (m : ℕ) → m ≤ 64 → take m (replicate 64 tritX) ≡ undef m
+pub x-trits : (m : ℕ) → m ≤ muxRoom → take m (replicate muxRoom tritX) ≡ undef m
 unfolding undef
-x-trits m h = take-same m 64 tritX h
+x-trits m h = take-same m muxRoom tritX h
 
 module _ (clock enable : Control) (mux room : Value) (l : Lent) where
   pub addr-plain : (room′ : Value) → room′ ≡ sets room 0 mux → Addressed (addrBy false clock enable mux) room room′ l l
@@ -117,7 +117,7 @@ held-tree bits w count p h g = rw (lt-ltb 0 count h, le-leb (count * w) (length 
 
 -- ---- the whole
 module _ (n : Pieces) (voids : ℕ) (b : Bool) (clock enable : Control) (mux : Value) (es : List ℕ) (output : Value) (w : ℕ) (scratch loaded after bits bits′ : List ℕ)
-    (l0 l1 l2 l3 l4 : Lent) (ready : Ready n mux w scratch) (room : length bits ≡ 64)
+    (l0 l1 l2 l3 l4 : Lent) (ready : Ready n mux w scratch) (room : length bits ≡ muxRoom)
     (e1 : l1 ≡ run (addVoids voids (n .columns)) l0)
     (e2 : Addressed (addrBy b clock enable mux) bits bits′ l1 l2)
     (ld : loaded ≡ loadOf n es scratch) (same : length loaded ≡ length scratch)
@@ -169,17 +169,17 @@ module _ (n : Pieces) (voids : ℕ) (b : Bool) (clock enable : Control) (mux : V
 
 -- ---- any numbers
 module _ (n : Pieces) (voids : ℕ) (b : Bool) (clock enable : Control) (mux : Value) (es : List ℕ) (output : Value) (w : ℕ) (scratch : List ℕ) where
-  can-short : 64 < length mux → canRead n mux w scratch ≡ false
+  can-short : muxRoom < length mux → canRead n mux w scratch ≡ false
   unfolding canRead
-  can-short h = rw (lt-leb (length mux) 64 h)
+  can-short h = rw (lt-leb (length mux) muxRoom h)
 
-  can-not : length mux ≤ 64 → (ltb 0 (n .count) && leb (n .count * w) (length scratch)) ≡ false → canRead n mux w scratch ≡ false
+  can-not : length mux ≤ muxRoom → (ltb 0 (n .count) && leb (n .count * w) (length scratch)) ≡ false → canRead n mux w scratch ≡ false
   unfolding canRead
-  can-not h e = rw (le-leb (length mux) 64 h) e
+  can-not h e = rw (le-leb (length mux) muxRoom h) e
 
-  can-all : length mux ≤ 64 → (ltb 0 (n .count) && leb (n .count * w) (length scratch)) ≡ true → canRead n mux w scratch ≡ true
+  can-all : length mux ≤ muxRoom → (ltb 0 (n .count) && leb (n .count * w) (length scratch)) ≡ true → canRead n mux w scratch ≡ true
   unfolding canRead
-  can-all h e = rw (le-leb (length mux) 64 h) e
+  can-all h e = rw (le-leb (length mux) muxRoom h) e
 
   nothing-read : (l : Lent) → canRead n mux w scratch ≡ false → l ≡ run (readOf n voids b clock enable mux es output w scratch) l
   unfolding readOf run done emit
@@ -189,28 +189,28 @@ module _ (n : Pieces) (voids : ℕ) (b : Bool) (clock enable : Control) (mux : V
   unfolding scratchOf
   nothing-loaded next e = rw e
 
-  pub read-long : (l : Lent) → 64 < length mux → l ≡ run (readOf n voids b clock enable mux es output w scratch) l
+  pub read-long : (l : Lent) → muxRoom < length mux → l ≡ run (readOf n voids b clock enable mux es output w scratch) l
   read-long l h = nothing-read l (can-short h)
 
-  pub load-long : (next : ℕ) → 64 < length mux → scratch ≡ scratchOf n mux es w scratch next
+  pub load-long : (next : ℕ) → muxRoom < length mux → scratch ≡ scratchOf n mux es w scratch next
   load-long next h = nothing-loaded next (can-short h)
 
-  pub read-short : (l : Lent) → length mux ≤ 64 → (ltb 0 (n .count) && leb (n .count * w) (length scratch)) ≡ false → l ≡ run (readOf n voids b clock enable mux es output w scratch) l
+  pub read-short : (l : Lent) → length mux ≤ muxRoom → (ltb 0 (n .count) && leb (n .count * w) (length scratch)) ≡ false → l ≡ run (readOf n voids b clock enable mux es output w scratch) l
   read-short l h e = nothing-read l (can-not h e)
 
-  pub load-short : (next : ℕ) → length mux ≤ 64 → (ltb 0 (n .count) && leb (n .count * w) (length scratch)) ≡ false → scratch ≡ scratchOf n mux es w scratch next
+  pub load-short : (next : ℕ) → length mux ≤ muxRoom → (ltb 0 (n .count) && leb (n .count * w) (length scratch)) ≡ false → scratch ≡ scratchOf n mux es w scratch next
   load-short next h e = nothing-loaded next (can-not h e)
 
-  pub read-all : (l l′ : Lent) → length mux ≤ 64 → (ltb 0 (n .count) && leb (n .count * w) (length scratch)) ≡ true
+  pub read-all : (l l′ : Lent) → length mux ≤ muxRoom → (ltb 0 (n .count) && leb (n .count * w) (length scratch)) ≡ true
       → l′ ≡ run (readTrace (withFirst n (l .state .next)) voids b clock enable mux es output w scratch) l → l′ ≡ run (readOf n voids b clock enable mux es output w scratch) l
   unfolding readOf run
   read-all l l′ h e f = rw (can-all h e) f
 
-  pub load-all : (next : ℕ) → length mux ≤ 64 → (ltb 0 (n .count) && leb (n .count * w) (length scratch)) ≡ true → loadOf (withFirst n next) es scratch ≡ scratchOf n mux es w scratch next
+  pub load-all : (next : ℕ) → length mux ≤ muxRoom → (ltb 0 (n .count) && leb (n .count * w) (length scratch)) ≡ true → loadOf (withFirst n next) es scratch ≡ scratchOf n mux es w scratch next
   unfolding scratchOf
   load-all next h e = rw (can-all h e)
 
-  pub ready-all : (next : ℕ) → length mux ≤ 64 → (ltb 0 (n .count) && leb (n .count * w) (length scratch)) ≡ true → Ready (withFirst n next) mux w scratch
+  pub ready-all : (next : ℕ) → length mux ≤ muxRoom → (ltb 0 (n .count) && leb (n .count * w) (length scratch)) ≡ true → Ready (withFirst n next) mux w scratch
   ready-all next h e =
       let x = and-true (ltb 0 (n .count)) _ e in
       let c = ltb-true 0 (n .count) (x .0) in

@@ -16,6 +16,10 @@ use Rattle.swizzle_tree.specs.Scratch.{treeIn}
 use Rattle.swizzle_pieces.specs.declared.Pieces.{Pieces}
 use Rattle.swizzle_pieces.specs.Steps.{loadOf}
 
+-- the nets of a mux address that a port has room for
+abbrev pub muxRoom : ℕ
+muxRoom = 64
+
 -- the mux address, by a flip-flop where the port is clocked
 unfoldable pub addrBy : Bool → Control → Control → Value → Trace Value
 addrBy clocked clock enable a = if clocked then addDff (withEnable (newFlipFlop a clock) enable) else done a
@@ -33,9 +37,9 @@ readTrace n voids clocked clock enable mux es output w scratch =
     (treeIn a w (n .count) (loadOf n es scratch) >>= λ t.
     replaceValue output t))
 
--- a mux address of at most 64 nets, and a scratch that holds the pieces
+-- a mux address that there is room for, and a scratch that holds the pieces
 pub record Ready (n : Pieces) (mux : Value) (w : ℕ) (scratch : List ℕ) : Type 0 where
-  pub short : length mux ≤ 64
+  pub short : length mux ≤ muxRoom
   pub some : 0 < n .count
   pub holds : n .count * w ≤ length scratch
   pub whole : w ≤ length scratch
@@ -45,9 +49,9 @@ pub record Ready (n : Pieces) (mux : Value) (w : ℕ) (scratch : List ℕ) : Typ
 abbrev pub withFirst : Pieces → ℕ → Pieces
 withFirst n first = record { first = first; width = n .width; columns = n .columns; mask = n .mask; rows = n .rows; count = n .count }
 
--- the mux address has at most 64 nets, and the scratch holds the pieces
+-- there is room for the mux address, and the scratch holds the pieces
 unfoldable pub canRead : Pieces → Value → ℕ → List ℕ → Bool
-canRead n mux w scratch = leb (length mux) 64 && (ltb 0 (n .count) && leb (n .count * w) (length scratch))
+canRead n mux w scratch = leb (length mux) muxRoom && (ltb 0 (n .count) && leb (n .count * w) (length scratch))
 
 -- what is logged, and what is loaded into the scratch; nothing where it does not hold them
 unfoldable pub readOf : Pieces → ℕ → Bool → Control → Control → Value → List ℕ → Value → ℕ → List ℕ → Trace Value

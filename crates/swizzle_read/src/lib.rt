@@ -13,13 +13,16 @@ ghost use Rattle.net_value.specs.View.{controlOf};
 ghost use Rattle.net_flip_flop.specs.View.{controlsOf};
 ghost use Rattle.log_entries.specs.Emission.{run};
 ghost use Rattle.log_entries.specs.View.{lent};
-ghost use Rattle.swizzle_read.specs.Port.{addrBy, Addressed, readTrace, Ready, readOf, scratchOf};
+ghost use Rattle.swizzle_read.specs.Port.{muxRoom, addrBy, Addressed, readTrace, Ready, readOf, scratchOf};
 ghost use Rattle.swizzle_pieces.specs.Steps.{loadOf};
 use log_entries::LogState;
 use net_flip_flop::Controls;
 use net_value::ControlNet;
 use net_value::Net;
 use swizzle_pieces::Pieces;
+
+// The nets of a mux address that a port has room for.
+const MUX_ROOM: usize = 64;
 
 // So many voids of so many nets.
 pub fn emit_voids(log: &mut [u32], st: LogState, count: u32, width: u32) -> LogState
@@ -72,14 +75,14 @@ fn mux_addr(
     mux: &[u32],
     room: &mut [u32],
 ) -> LogState
-    requires { ⌜ length (now mux) ≤ 64 ⌝ }
+    requires { ⌜ length (now mux) ≤ muxRoom ⌝ }
     ensures { λ r. ⌜ Addressed (addrBy clocked (controlOf clock) (controlOf enable) (now (mux .entry))) (now (room .entry)) (now (room .exit)) (lent st (now (log .entry))) (lent r (now (log .exit))) ⌝ }
 {
     if !clocked {
         lists::copy_u32(room, 0, mux);
         return st;
     }
-    let xs = [rules::TRIT_X; 64];
+    let xs = [rules::TRIT_X; MUX_ROOM];
     let m = mux.len();
     let after = addr_dff(log, st, clock, enable, mux, &xs[..m]);
     if log_entries::is_over(after) {
@@ -108,7 +111,7 @@ fn emit_read_in(
     ensures { λ r. ⌜ lent r (now (log .exit)) ≡ run (readTrace n voids clocked (controlOf clock) (controlOf enable) (now (mux .entry)) (now (entries .entry)) (now (output .entry)) width (now (scratch .entry))) (lent st (now (log .entry))) ⌝ }
     ensures { λ r. ⌜ drop (n .count * width) (now (scratch .exit)) ≡ drop (n .count * width) (loadOf n (now (entries .entry)) (now (scratch .entry))) ⌝ }
 {
-    let mut bits = [0u32; 64];
+    let mut bits = [0u32; MUX_ROOM];
     let voided = emit_voids(log, st, voids, n.columns);
     let addressed = mux_addr(log, voided, clocked, clock, enable, mux, &mut bits);
     swizzle_pieces::load(scratch, entries, n);
@@ -128,7 +131,7 @@ fn holds_pieces(count: u32, width: u32, room: usize) -> bool
     lists::usize_of_u32(count) * lists::usize_of_u32(width) <= room
 }
 
-// One read port, whose voids get the log's next free nets. Nothing is done where the mux address has more than 64 nets, or the scratch does not
+// One read port, whose voids get the log's next free nets. Nothing is done where the mux address has more nets than there is room for, or the scratch does not
 // hold the pieces. What the pieces leave in the scratch is open; what lies past them is as loading left it.
 pub fn emit_read(
     log: &mut [u32],
@@ -147,7 +150,7 @@ pub fn emit_read(
     ensures { λ r. ⌜ lent r (now (log .exit)) ≡ run (readOf n voids clocked (controlOf clock) (controlOf enable) (now (mux .entry)) (now (entries .entry)) (now (output .entry)) width (now (scratch .entry))) (lent st (now (log .entry))) ⌝ }
     ensures { λ r. ⌜ drop (n .count * width) (now (scratch .exit)) ≡ drop (n .count * width) (scratchOf n (now (mux .entry)) (now (entries .entry)) width (now (scratch .entry)) (st .next)) ⌝ }
 {
-    if 64 < mux.len() {
+    if MUX_ROOM < mux.len() {
         return st;
     }
     if !holds_pieces(n.count, width, scratch.len()) {

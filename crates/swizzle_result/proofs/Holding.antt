@@ -52,7 +52,7 @@ SameFlipFlop None relations (some x) = ⊥
 SameFlipFlop (Some f) relations none = ⊥
 SameFlipFlop (Some f) relations (some x) = (controlsOf f ≡ x .controls) × (relations ≡ x .relations)
 
-holding-clock : (q : Layout) (s : Split) (f : MemoryReadFlipFlop) (relations : List ℕ) (x : Option rules.ReadFlipFlop) → SameFlipFlop f relations x → HeldFlipFlop f relations q s (wideFlipFlop q s x)
+pub holding-clock : (q : Layout) (s : Split) (f : MemoryReadFlipFlop) (relations : List ℕ) (x : Option rules.ReadFlipFlop) → SameFlipFlop f relations x → HeldFlipFlop f relations q s (wideFlipFlop q s x)
 unfolding wideFlipFlop
 holding-clock q s None relations none h = tt
 holding-clock q s None relations (some x) h = absurd h

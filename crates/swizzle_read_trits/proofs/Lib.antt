@@ -1,0 +1,3 @@
+-- Laws of a clocked read port's trits.
+pub mod Puts
+pub mod Rules

@@ -1,0 +1,2 @@
+-- The trits of a clocked read port.
+pub mod Trits
