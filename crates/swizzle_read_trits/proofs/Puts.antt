@@ -11,8 +11,8 @@ use borrow.Author.Tests.{le-leb, lt-leb, leb-true, not-false}
 use Rattle.lists.specs.Choice.{if_then_else_}
 use Rattle.lists.proofs.Choice.{cases-le}
 use Rattle.lists.proofs.Parts.{length-part}
-use Rattle.swizzle_write.specs.declared.WidePort.{WidePort}
-use Rattle.swizzle_write.specs.Wide.{tritsOf}
+use Rattle.swizzle_columns.specs.declared.WidePort.{WidePort}
+use Rattle.swizzle_columns.specs.Wide.{tritsOf}
 use Rattle.swizzle_read_trits.specs.Trits.{putTrits, threeTrits}
 
 pub holds-by : (room at need : ℕ) → at ≤ room → leb need (room - at) ≡ leb (at + need) room

@@ -19,9 +19,9 @@ use Rattle.swizzle_laws.specs.Order.{ordered}
 use Rattle.swizzle_laws.proofs.Places.{Splittable}
 use Rattle.swizzle_laws.proofs.Parts.{length-ordered}
 use Rattle.swizzle_laws.proofs.Whole.{const-whole}
-use Rattle.swizzle_write.specs.declared.WidePort.{WidePort}
-use Rattle.swizzle_write.specs.Wide.{PortFits, tritsOf}
-use Rattle.swizzle_write.proofs.Meaning.{Means, trits-rules}
+use Rattle.swizzle_columns.specs.declared.WidePort.{WidePort}
+use Rattle.swizzle_columns.specs.Wide.{PortFits, tritsOf}
+use Rattle.swizzle_columns.proofs.Meaning.{Means, trits-rules}
 use Rattle.swizzle_read_trits.specs.Trits.{putTrits, threeTrits}
 
 module _ (q : Layout) (old new : ℕ) (addr : Value) (ok : Splittable q old new addr) (p : WidePort) (m : Means q old new addr ok p) (size : ℕ)

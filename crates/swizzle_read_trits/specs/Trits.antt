@@ -6,8 +6,8 @@ use lib.Seq.{sets}
 use lib.Dec.{leb}
 use Rattle.lists.specs.Choice.{if_then_else_}
 use Rattle.lists.specs.Lists.{part}
-use Rattle.swizzle_write.specs.declared.WidePort.{WidePort}
-use Rattle.swizzle_write.specs.Wide.{tritsOf}
+use Rattle.swizzle_columns.specs.declared.WidePort.{WidePort}
+use Rattle.swizzle_columns.specs.Wide.{tritsOf}
 
 -- the trits of one kind, from `at` on
 unfoldable pub putTrits : WidePort → List ℕ → List ℕ → ℕ → ℕ → List ℕ → List ℕ

@@ -4,7 +4,7 @@ ghost use Prim.Native.Nat.{_+_, _≤_};
 ghost use lib.Dec.{leb};
 ghost use lib.ListN.{length};
 ghost use Rattle.swizzle_read_trits.specs.Trits.{putTrits, threeTrits};
-use swizzle_write::WidePort;
+use swizzle_columns::WidePort;
 
 // Whether a room of this length holds so many from `at` on.
 pub fn holds(room: usize, at: usize, need: usize) -> bool
@@ -22,7 +22,7 @@ fn put_trits(to: &mut [u8], at: usize, size: usize, p: WidePort, entries: &[u32]
     ensures { λ _. ⌜ now (to .exit) ≡ putTrits p (now (entries .entry)) (now (v .entry)) at size (now (to .entry)) ⌝ }
 {
     let end = at + size;
-    swizzle_write::trit_columns(&mut to[at..end], p, entries, v);
+    swizzle_columns::trit_columns(&mut to[at..end], p, entries, v);
 }
 
 // Clear, reset and init, from `at` on, each of `size` trits. Nothing is stored where the room does not hold them.

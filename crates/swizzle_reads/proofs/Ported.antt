@@ -29,13 +29,13 @@ use Rattle.swizzle_laws.proofs.Places.{Splittable}
 use Rattle.swizzle_pieces.specs.declared.Pieces.{Pieces}
 use Rattle.swizzle_split.specs.declared.Split.{Split}
 use Rattle.swizzle_split.specs.Steps.{Fits}
-use Rattle.swizzle_write.proofs.Fits.{bounded}
+use Rattle.swizzle_columns.proofs.Fits.{bounded}
 use Rattle.swizzle_read.specs.Port.{muxRoom, addrBy, readOf, scratchOf, canRead, withFirst}
 use Rattle.swizzle_read.proofs.Meant.{Meant, read-rules, scratch-kept}
 use Rattle.swizzle_read.proofs.Ported.{Ports, port-meant}
 use Rattle.swizzle_result.specs.Held.{clockTrits}
-use Rattle.swizzle_write.specs.Wide.{PortFits}
-use Rattle.swizzle_write.proofs.Meaning.{Means}
+use Rattle.swizzle_columns.specs.Wide.{PortFits}
+use Rattle.swizzle_columns.proofs.Meaning.{Means}
 use Rattle.swizzle_read_trits.specs.Trits.{threeTrits}
 use Rattle.swizzle_read_trits.proofs.Rules.{three-rules, three-length}
 use Rattle.swizzle_reads.specs.declared.Sizes.{Sizes}

@@ -17,7 +17,7 @@ use Rattle.net_memory.specs.declared.MemoryReadFlipFlop.{MemoryReadFlipFlop}
 use Rattle.net_memory.specs.declared.MemoryReadFlipFlop.the-variants.{None, Some}
 use Rattle.net_memory.specs.declared.MemoryReadPort.{MemoryReadPort}
 use Rattle.net_memory.specs.View.{flipFlopBy}
-use Rattle.swizzle_write.proofs.Fits.{bounded}
+use Rattle.swizzle_columns.proofs.Fits.{bounded}
 use Rattle.swizzle_read.specs.Port.{addrBy}
 use Rattle.swizzle_reads.specs.Going.{piecesFit, roomsFit}
 

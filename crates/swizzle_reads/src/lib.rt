@@ -31,7 +31,7 @@ use swizzle_result::WideMemory;
 use swizzle_result::WideReadPort;
 use swizzle_split::Outcome;
 use swizzle_split::Split;
-use swizzle_write::WidePort;
+use swizzle_columns::WidePort;
 
 // Room for a part of an address, which has at most 32 nets.
 const ROOM: usize = rules::ADDR_BITS as usize;

@@ -2,7 +2,7 @@
 use mathlib.Core.Path.{_∙_}
 use Prim.Native.Nat.{_+_, _*_}
 use native.Mathlib.Omega.{arith}
-use Rattle.swizzle_write.proofs.Fits.{bounded}
+use Rattle.swizzle_columns.proofs.Fits.{bounded}
 use Rattle.swizzle_reads.proofs.Small.{pieces-none, pieces-short, pieces-all}
 use borrow.Author.Needs.{needs}
 use Rattle.swizzle_reads.proofs.pieces_fit.Statement.{statement}
