@@ -44,6 +44,10 @@ module _ (q : Layout) (s : Split) (p : rules.WritePort) (n : ℕ) where
     mask-whole = mask-whole q s p n ∙ ap (λ (x : Split). 2 ^ x .new * columns q) (sym write-split);
   }
 
+  pub holding-port : (w : WideWritePort) (a : w .«addr_len» ≡ length (s .addr)) (e : w .wide ≡ s .new) (c : controlOf (w .clock) ≡ p .clock) → holding-write w a e c .port ≡ swizzleWrite q s p n .value
+  unfolding holding-write
+  holding-port w a e c = refl
+
 -- ---- a read port
 -- the flip-flop of the port before, and what stands for it
 abbrev pub SameFlipFlop : MemoryReadFlipFlop → List ℕ → Option rules.ReadFlipFlop → Type 0

@@ -278,7 +278,8 @@ fn split_in(p: Params, old: u32, new: u32, addr: &[u32], hw: &mut [u32], mux: &m
     let t = take_bits(start_of(p, old, new), addr, hw, mux);
     let pieces = (all_chunks(p) * pow2(t.doubled)) as u32;
     let hw_len = pad(hw, t.hw, p.hard - new);
-    let mux_len = pad(mux, t.mux, bits_for(pieces));
+    let useful = bits_for(pieces);
+    let mux_len = pad(mux, t.mux, useful);
     Split {
         old,
         new,

@@ -26,8 +26,8 @@ use Rattle.net_memory.specs.declared.MemoryWritePort.{MemoryWritePort}
 use Rattle.net_memory.specs.declared.Memory.{Memory}
 use Rattle.net_memory.specs.View.{noWritePort, memoryOf}
 use Rattle.net_memory.proofs.Ports.{write-of-view, writes-at}
-use Rattle.swizzle_result.specs.Held.{HeldWrite}
-use Rattle.swizzle_result.proofs.Holding.{holding-write}
+use Rattle.swizzle_result.specs.Held.{HeldWrite, writeNets}
+use Rattle.swizzle_result.proofs.Holding.{holding-write, holding-port}
 use Rattle.swizzle_laws.specs.Order.{ordered}
 use Rattle.swizzle_laws.proofs.Parts.{length-ordered}
 use Rattle.swizzle_laws.proofs.Whole.{mask-whole}
@@ -245,3 +245,13 @@ held-port m nets trits q j old new n h =
     let w = writeAt (memoryOf m nets trits) j in
     let s = splitAddr q old new (w .addr) in
     holding-write q s w n (portBy (m .«write_ports») j new (length (s .addr))) refl (sym (new-is q old new (w .addr))) (clock-is m nets trits j h)
+
+-- its nets are those that the room holds
+pub held-nets : (m : Memory) (nets trits : List ℕ) (q : Layout) (j old new n : ℕ) (h : j < min maxPorts (m .«write_count»))
+    → writeNets q (held-port m nets trits q j old new n h) ≡ wideNets q (swizzleWrite q (splitAddr q old new (writeAt (memoryOf m nets trits) j .addr)) (writeAt (memoryOf m nets trits) j) n .value)
+unfolding held-port writeNets wideNets
+held-nets m nets trits q j old new n h =
+    let w = writeAt (memoryOf m nets trits) j in
+    let s = splitAddr q old new (w .addr) in
+    ap (λ (x : WideWrite). x .port .addr ++ (ordered q (x .split) (x .port .bits) ++ ordered q (x .split) (x .port .mask)))
+    (holding-port q s w n (portBy (m .«write_ports») j new (length (s .addr))) refl (sym (new-is q old new (w .addr))) (clock-is m nets trits j h))

@@ -68,11 +68,11 @@ bits-for-requires c κs = search needs
 pad-requires-2 : tie.Need-pad-requires-2
 pad-requires-2 c κs = search needs
 
-sub-t16 : tie.Need-sub-t16
-sub-t16 c = search needs
+sub-t17 : tie.Need-sub-t17
+sub-t17 c = search needs
 
-cast-t21 : tie.Need-cast-t21
-cast-t21 c = search needs
+cast-t22 : tie.Need-cast-t22
+cast-t22 c = search needs
 
 same-length : tie.Need-same-length
 same-length c = search needs
@@ -91,7 +91,7 @@ returns c =
     let w = subst (λ (x : Taking). Took x (t .result) (v .addr .now) (v .hw .now) (t .last .1 .1 .0) (v .mux .now) (t .last .1 .1 .1 .0)) (c .before .before .before .before .before .before .before .before .before .before .before .before .before .before .before .before .before .before .before .before .start-of .ensures) (t .ensures) in
     let a = c .before .before .before .before .before .before .before .before .pad in
     let b = c .before .before .before .pad2 in
-    split-is q (v .old) (v .new) (v .addr .now) f (t .result) (v .hw .now) (t .last .1 .1 .0) (a .last .0) (v .mux .now) (t .last .1 .1 .1 .0) (b .last .0) w (c .before .before .before .before .before .before .before .before .before .before .before .before .all-chunks .result) (c .before .before .before .before .before .before .before .before .before .before .before .pow2 .result) _ (c .before .before .before .before .before .before .before .before .before .before .before .before .all-chunks .ensures es) (c .before .before .before .before .before .before .before .before .before .before .before .pow2 .ensures) refl (c .before .before .before .before .bits-for .result) (a .result) (b .result) _ (c .before .before .before .before .bits-for .ensures) (a .ensures .0) (a .ensures .1) (b .ensures .0) (b .ensures .1) refl
+    split-is q (v .old) (v .new) (v .addr .now) f (t .result) (v .hw .now) (t .last .1 .1 .0) (a .last .0) (v .mux .now) (t .last .1 .1 .1 .0) (b .last .0) w (c .before .before .before .before .before .before .before .before .before .before .before .before .all-chunks .result) (c .before .before .before .before .before .before .before .before .before .before .before .pow2 .result) _ (c .before .before .before .before .before .before .before .before .before .before .before .before .all-chunks .ensures es) (c .before .before .before .before .before .before .before .before .before .before .before .pow2 .ensures) refl (c .before .before .before .before .before .bits-for .result) (a .result) (b .result) _ (c .before .before .before .before .before .bits-for .ensures) (a .ensures .0) (a .ensures .1) (b .ensures .0) (b .ensures .1) refl
 
 pub split-in-spec : {M : Type 1} → statement M
 split-in-spec =
@@ -107,8 +107,8 @@ split-in-spec =
     pad-requires
     bits-for-requires
     pad-requires-2
-    sub-t16
-    cast-t21
+    sub-t17
+    cast-t22
     same-length
     same-length-2
     returns)
