@@ -16,6 +16,7 @@ OPEN = {
     'crates/merge_mux/src/emit.rt emit_dedup_mux_with': KEYS,
     'crates/merge_mux/src/emit.rt emit_bitwise_mux_with': KEYS,
     'crates/merge_dff/src/lib.rt emit_dedup_dff_with': ('column',) + KEYS + TRITS,
+    'crates/port_delay/src/lib.rt emit_delayed': ('column',) + KEYS + ('trits',) + TRITS,
     'crates/port_transparency/src/lib.rt emit_transparency': ('bits', 'mask', 'sel', 'nets') + KEYS,
     'crates/port_overlay/src/lib.rt emit_unmap': ('under', 'bits', 'mask', 'sel', 'spare') + KEYS,
 }
