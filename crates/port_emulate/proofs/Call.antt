@@ -26,7 +26,7 @@ use Rattle.net_memory.specs.View.{writesOf, memoryOf}
 use Rattle.port_unmap.specs.Call.{drivenOf}
 use Rattle.port_unmap.proofs.Act.{driven-refused, driven-done}
 use Rattle.port_settle.specs.Settled.{isRead, turnedFrom, turnedMem, settledMem, turning, settling}
-use Rattle.port_emulate.specs.Delays.{delays, roomsOf, PortsDone, Emulated}
+use Rattle.port_emulate.specs.Delays.{roomsOf, PortsDone, Emulated}
 use Rattle.port_emulate.proofs.Delays.{delays-are, chains-emulate}
 use Rattle.port_emulate.proofs.Number.{delays-rules, dry-run}
 

@@ -6,6 +6,7 @@ ghost use Prim.Native.Nat.{ℕ};
 ghost use lib.ListN.{getD};
 ghost use Rattle.lists.specs.Choice.{if_then_else_, _orElse_};
 ghost use Rattle.lists.specs.Lists.{any, part};
+ghost use Rattle.rules.specs.Cell.{ReadBeforeWrite, Transparent};
 ghost use Rattle.rules.specs.Conditions.{unclocked, readClocksDiffer, mixedRelations};
 ghost use Rattle.rules.specs.Refusals.{emulateNumber};
 ghost use Rattle.net_value.specs.View.{controlOf};
@@ -129,7 +130,7 @@ pub fn relates_to(m: Memory, j: usize, code: u8) -> bool
 
 // Both ReadBeforeWrite and Transparent relate read ports to write port j.
 fn mixed_at(m: Memory, j: usize) -> bool
-    ensures { λ r. ⌜ ((nets trits : List ℕ) → r ≡ (any (hasRelation 1 j) (flipFlopsFrom m nets trits 0) && any (hasRelation 2 j) (flipFlopsFrom m nets trits 0))) ⌝ }
+    ensures { λ r. ⌜ ((nets trits : List ℕ) → r ≡ (any (hasRelation ReadBeforeWrite j) (flipFlopsFrom m nets trits 0) && any (hasRelation Transparent j) (flipFlopsFrom m nets trits 0))) ⌝ }
 {
     if !relates_to(m, j, READ_BEFORE_WRITE) {
         return false;

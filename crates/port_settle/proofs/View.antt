@@ -10,7 +10,7 @@ use Rattle.lists.specs.Lists.{sumBy, part}
 use Rattle.lists.specs.Views.{views}
 use Rattle.rules.specs.Limits.{maxPorts}
 use Rattle.rules.specs.Value.{Control, Pos, Neg, inverse}
-use Rattle.rules.specs.Cell.{WritePort, ReadPort, Mem, Undefined, isReadBeforeWrite}
+use Rattle.rules.specs.Cell.{Mem, Undefined, isReadBeforeWrite}
 use Rattle.rules.specs.Ports.{relatesTo, settled, settledFlipFlop, settledPort}
 use Rattle.net_value.specs.declared.ControlNet.{ControlNet}
 use Rattle.net_value.specs.declared.ControlNet.the-variants as machine

@@ -7,7 +7,7 @@ use Rattle.lists.specs.Lists.{any}
 use Rattle.rules.specs.Limits.{maxPorts}
 use Rattle.rules.specs.Value as rules
 use Rattle.rules.specs.Value.{inverse}
-use Rattle.rules.specs.Cell.{WritePort, Mem, Undefined}
+use Rattle.rules.specs.Cell.{WritePort, Mem, Undefined, ReadBeforeWrite}
 use Rattle.rules.specs.Ports.{settledPort}
 use Rattle.net_value.specs.declared.ControlNet.{ControlNet}
 use Rattle.net_value.specs.declared.ControlNet.the-variants.{Pos, Neg}
@@ -19,7 +19,7 @@ use Rattle.port_relations.specs.Clocked.{hasRelation, flipFlopsFrom}
 
 -- some read port reads before write port j writes
 abbrev pub isRead : Memory → List ℕ → List ℕ → ℕ → Bool
-isRead m nets trits j = any (hasRelation 1 j) (flipFlopsFrom m nets trits 0)
+isRead m nets trits j = any (hasRelation ReadBeforeWrite j) (flipFlopsFrom m nets trits 0)
 
 -- ---- the memory
 -- a port at the other edge of its clock, by this test

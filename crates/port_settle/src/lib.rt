@@ -5,6 +5,7 @@ ghost use mathlib.Core.List.{List};
 ghost use Prim.Native.Nat.{ℕ, _<_, min};
 ghost use lib.ListN.{getD, set};
 ghost use Rattle.rules.specs.Limits.{maxPorts};
+ghost use Rattle.rules.specs.Cell.{Undefined};
 ghost use Rattle.net_memory.specs.View.{memoryOf, writePort, withWritePort};
 ghost use Rattle.port_settle.specs.Settled.{isRead, turnedMem, settledMem, otherEdge, turnedPort, undefinedIf, withRelations, settledBy, turning, settling};
 use net_memory::Memory;
@@ -27,7 +28,7 @@ fn other_edge(p: MemoryWritePort) -> MemoryWritePort
 
 // Write port j of `out`, turned where a read port of `m` reads before it writes.
 fn turn_port(m: Memory, out: Memory, j: usize) -> Memory
-    requires { ⌜ j < 8 ⌝ }
+    requires { ⌜ j < maxPorts ⌝ }
     ensures { λ r. ⌜ ((x y : List ℕ) → r ≡ withWritePort out j (turnedPort (isRead m x y j) (writePort out j))) ⌝ }
 {
     if !port_relations::relates_to(m, j, port_relations::READ_BEFORE_WRITE) {
@@ -57,8 +58,8 @@ pub fn turn_clocks(m: Memory) -> Memory
 
 // The relation of a port to write port j: Undefined where that one is delayed.
 fn settle_at(m: Memory, p: MemoryReadPort, j: usize) -> MemoryReadPort
-    requires { ⌜ j < 8 ⌝ }
-    ensures { λ r. ⌜ ((x y : List ℕ) → r ≡ withRelations p (set (p .relations) j (undefinedIf (isRead m x y j) (getD (p .relations) j 0)))) ⌝ }
+    requires { ⌜ j < maxPorts ⌝ }
+    ensures { λ r. ⌜ ((x y : List ℕ) → r ≡ withRelations p (set (p .relations) j (undefinedIf (isRead m x y j) (getD (p .relations) j Undefined)))) ⌝ }
 {
     if !port_relations::relates_to(m, j, port_relations::READ_BEFORE_WRITE) {
         return p;

@@ -1,5 +1,5 @@
 -- `port_emulate::emulate_in` meets its contract.
-use mathlib.Core.Path.{_≡_, sym, _∙_}
+use mathlib.Core.Path.{sym, _∙_}
 use lib.ListN.{length}
 use Rattle.log_entries.specs.View.{stateOf}
 use Rattle.port_emulate.proofs.Bounds.{fits-all, nets-there}

@@ -1,5 +1,4 @@
 -- `port_emulate::log_number` meets its contract.
-use mathlib.Core.Path.{_≡_}
 use Rattle.rules.specs.Ports.{emulateReadBeforeWrite}
 use Rattle.log_entries.specs.View.{stateOf}
 use Rattle.log_entries.proofs.Emission.{dry-called}

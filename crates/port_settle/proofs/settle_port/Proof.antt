@@ -1,5 +1,5 @@
 -- `port_settle::settle_port` meets its contract.
-use mathlib.Core.Path.{_≡_, refl, ap, _∙_}
+use mathlib.Core.Path.{_≡_, refl, _∙_}
 use Prim.Native.Nat.{ℕ, _-_, _≤_, min}
 use native.Mathlib.Omega.{arith}
 use mathlib.Core.List.{List}
