@@ -15,7 +15,7 @@ use Rattle.lists.specs.Lists.{any, part, upFrom}
 use Rattle.lists.proofs.Choice.{else-first, else-rest, hit, miss, or-rest}
 use Rattle.rules.specs.Limits.{maxPorts}
 use Rattle.rules.specs.Value.{Control, sameControl}
-use Rattle.rules.specs.Cell.{ReadFlipFlop, ReadPort, Mem, flipFlops, held, isSome, isTransparent, isReadBeforeWrite}
+use Rattle.rules.specs.Cell.{ReadFlipFlop, ReadPort, Mem, flipFlops, held, isSome, isTransparent, isReadBeforeWrite, ReadBeforeWrite, Transparent}
 use Rattle.rules.specs.Ports.{relatesTo}
 use Rattle.rules.specs.Conditions.{clocksDiffer, readClocksDiffer, mixedRelations, unclocked}
 use Rattle.rules.specs.Refusals.{memNumber, emulateNumber}
@@ -149,17 +149,17 @@ module _ (m : Memory) (nets trits : List ℕ) where
   unfolding memoryOf
   open-are = refl
 
-  pub before-is : (j : ℕ) → any (hasRelation 1 j) (flipFlopsFrom m nets trits 0) ≡ relatesTo isReadBeforeWrite (memoryOf m nets trits) j
+  pub before-is : (j : ℕ) → any (hasRelation ReadBeforeWrite j) (flipFlopsFrom m nets trits 0) ≡ relatesTo isReadBeforeWrite (memoryOf m nets trits) j
   unfolding relatesTo isReadBeforeWrite memoryOf
   before-is j = refl
 
-  pub through-is : (j : ℕ) → any (hasRelation 2 j) (flipFlopsFrom m nets trits 0) ≡ relatesTo isTransparent (memoryOf m nets trits) j
+  pub through-is : (j : ℕ) → any (hasRelation Transparent j) (flipFlopsFrom m nets trits 0) ≡ relatesTo isTransparent (memoryOf m nets trits) j
   unfolding relatesTo isTransparent memoryOf
   through-is j = refl
 
   -- ---- the relations to each write port
   abbrev pub mixedAt : ℕ → Bool
-  mixedAt j = any (hasRelation 1 j) (flipFlopsFrom m nets trits 0) && any (hasRelation 2 j) (flipFlopsFrom m nets trits 0)
+  mixedAt j = any (hasRelation ReadBeforeWrite j) (flipFlopsFrom m nets trits 0) && any (hasRelation Transparent j) (flipFlopsFrom m nets trits 0)
 
   pub mixed-is : length (writesOf m nets) ≡ min maxPorts (m .«write_count») → any mixedAt (upFrom 0 (min maxPorts (m .«write_count»))) ≡ mixedRelations (memoryOf m nets trits)
   unfolding mixedRelations relatesTo isReadBeforeWrite isTransparent memoryOf

@@ -6,6 +6,7 @@ ghost use Prim.Native.Nat.{ℕ};
 ghost use lib.ListN.{getD};
 ghost use Rattle.lists.specs.Choice.{if_then_else_, _orElse_};
 ghost use Rattle.lists.specs.Lists.{any, part};
+ghost use Rattle.rules.specs.Cell.{ReadBeforeWrite, Transparent};
 ghost use Rattle.rules.specs.Conditions.{unclocked, readClocksDiffer, mixedRelations};
 ghost use Rattle.rules.specs.Refusals.{emulateNumber};
 ghost use Rattle.net_value.specs.View.{controlOf};
@@ -17,6 +18,13 @@ use net_memory::MemoryReadFlipFlop;
 use net_memory::MemoryReadPort;
 use net_value::ControlNet;
 use net_value::Net;
+
+// The codes of a relation, as rules/specs/Cell.antt has them.
+pub const UNDEFINED: u8 = 0;
+
+pub const READ_BEFORE_WRITE: u8 = 1;
+
+pub const TRANSPARENT: u8 = 2;
 
 // The port has a flip-flop.
 fn is_clocked(p: MemoryReadPort) -> bool
@@ -89,7 +97,7 @@ fn relation_to(p: MemoryReadPort, j: usize) -> u8
     let relations = p.relations;
     let named = lists::part_u8(&relations, 0, lists::usize_of_u32(p.relations_len));
     if named.len() <= j {
-        return 0;
+        return UNDEFINED;
     }
     named[j]
 }
@@ -122,12 +130,12 @@ pub fn relates_to(m: Memory, j: usize, code: u8) -> bool
 
 // Both ReadBeforeWrite and Transparent relate read ports to write port j.
 fn mixed_at(m: Memory, j: usize) -> bool
-    ensures { λ r. ⌜ ((nets trits : List ℕ) → r ≡ (any (hasRelation 1 j) (flipFlopsFrom m nets trits 0) && any (hasRelation 2 j) (flipFlopsFrom m nets trits 0))) ⌝ }
+    ensures { λ r. ⌜ ((nets trits : List ℕ) → r ≡ (any (hasRelation ReadBeforeWrite j) (flipFlopsFrom m nets trits 0) && any (hasRelation Transparent j) (flipFlopsFrom m nets trits 0))) ⌝ }
 {
-    if !relates_to(m, j, 1) {
+    if !relates_to(m, j, READ_BEFORE_WRITE) {
         return false;
     }
-    relates_to(m, j, 2)
+    relates_to(m, j, TRANSPARENT)
 }
 
 // 13: both relate to one write port.
