@@ -6,3 +6,4 @@ pub mod Meant
 pub mod Sums
 pub mod Refusing
 pub mod Rowed
+pub mod Empty

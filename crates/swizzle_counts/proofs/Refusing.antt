@@ -106,15 +106,15 @@ concat-none : {A : Type 0} (f : A → List ℕ) (l : List A) → ((a : A) → f 
 concat-none f [] h = refl
 concat-none f (a ∷ l) h = λ i. h a i ++ concat-none f l h i
 
-no-nets : (m : Mem) → length (sharedNets m []) ≡ 0
+pub no-nets : (m : Mem) → length (sharedNets m []) ≡ 0
 unfolding sharedNets sharedWrite
 no-nets m = λ i. length (concat-none (sharedWrite []) (upFrom 0 (length (m .writes))) (λ j. refl) i ++ concat-none {A = ℕ} (λ j. []) (upFrom 0 (length (m .reads))) (λ j. refl) i)
 
-no-trits : (m : Mem) → length (sharedTrits m []) ≡ 0
+pub no-trits : (m : Mem) → length (sharedTrits m []) ≡ 0
 unfolding sharedTrits sharedRead
 no-trits m = ap length (concat-none _ (upFrom 0 (length (m .reads))) (λ i. refl))
 
-no-need : (a b : ℕ) → b ≡ 0 → noRoom a b ≡ false
+pub no-need : (a b : ℕ) → b ≡ 0 → noRoom a b ≡ false
 unfolding noRoom
 no-need a b e = le-ltb a b (omega arith)
 
