@@ -12,8 +12,8 @@ ghost use Rattle.port_empty.specs.Empty.{maxOutputs, emptiedIf};
 use log_entries::LogState;
 use net_memory::Memory;
 
-// As many outputs as rules::MAX_PORTS ports of rules::MAX_MERGE nets have.
-const MAX_OUTPUTS: usize = 32768;
+// As many outputs as rules::MAX_PORTS read ports have, each of at most rules::MAX_WIDTH × 2^rules::MAX_WIDE bits.
+const MAX_OUTPUTS: usize = 16384;
 
 // The first n nets of `after` replaced by X.
 fn emit_unknown(log: &mut [u32], st: LogState, after: &[u32], n: usize) -> LogState

@@ -171,6 +171,11 @@ module _ (m : Mem) (a : AllReady m) (output : Value) where
         value = λ o. λ j. record { memory = sym (c .memory-is) j; output = (g .value o ∙ sym (c .output-is)) j };
       }
 
+  -- what emit_unmap_all promises is the rules' unmapping: its log and state, its outputs at the front of the room, and its memory
+  pub unmap-all-gave : (room : Value) (l l1 : Lent) (v : Value) → length output ≤ length room → Gave (unmappedAll m output (sets room 0 output)) l l1 v
+      → Gave (unmapAll m output) l l1 (record { memory = allBare m; output = take (length output) v })
+  unmap-all-gave room l l1 v h g = rules-gave l l1 (take (length output) v) (room-gave m output room l l1 v h g)
+
 -- ---- what the numbers leave
 module _ (one : Bool) (next : ℕ) (m : Memory) (nets trits output : List ℕ) (z : drivingNumber one next (givenOf m nets trits) output ≡ 0) (s : shortPorts (memoryOf m nets trits) ≡ false) where
   abbrev M : Mem
