@@ -1,0 +1,2 @@
+-- Laws of the whole refusal of a swizzle.
+pub mod Whole
