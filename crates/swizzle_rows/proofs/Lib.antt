@@ -1,0 +1,2 @@
+-- Laws of the rows of a swizzle.
+pub mod Sizes
