@@ -55,7 +55,7 @@ fn start_memory(
 }
 
 // No memories, and the log's state as it is.
-fn none_yet(st: LogState) -> Reads
+pub fn none_yet(st: LogState) -> Reads
     ensures { λ r. ⌜ r ≡ noneYet st ⌝ }
 {
     let none = WideWritePort {

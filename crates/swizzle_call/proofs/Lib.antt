@@ -1,0 +1,2 @@
+-- Laws of the swizzle after its refusal.
+pub mod Cases

@@ -1,0 +1,2 @@
+-- The definitions that the contracts of swizzle_call cite.
+pub mod Acted
