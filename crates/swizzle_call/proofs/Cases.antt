@@ -107,7 +107,7 @@ module _ (r : rules.SwizzleRooms) (room : ℕ) (st : LogState) (m : Memory) (net
   abbrev M : Mem
   M = memoryOf m nets trits
 
-  number : swizzleNumber (st .next) (givenOf m nets trits) output p ≡ 0
+  pub number : swizzleNumber (st .next) (givenOf m nets trits) output p ≡ 0
   unfolding swizzleRefusal
   number = else-zero _ _ z .0
 
@@ -119,7 +119,7 @@ module _ (r : rules.SwizzleRooms) (room : ℕ) (st : LogState) (m : Memory) (net
   unfolding swizzleNumber
   short = else-zero (swizzlePlanNumber (st .next) (givenOf m nets trits) output p) _ number .1
 
-  driving : drivingNumber (planTooLarge p) (st .next) (givenOf m nets trits) output ≡ 0
+  pub driving : drivingNumber (planTooLarge p) (st .next) (givenOf m nets trits) output ≡ 0
   unfolding swizzlePlanNumber
   driving = else-zero _ (wholePlan M p) plan .0
 

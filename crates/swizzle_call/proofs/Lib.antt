@@ -1,2 +1,3 @@
 -- Laws of the swizzle after its refusal.
 pub mod Cases
+pub mod Images

@@ -1,2 +1,3 @@
 -- The definitions that the contracts of swizzle_call cite.
 pub mod Acted
+pub mod Whole
