@@ -71,6 +71,8 @@ none-acted m q t l v st log to kinds e = record {
   log-is = e;
   nets-are = sym (ap (λ (ds : List Driving). sets to 0 (sharedNets m ds)) v ∙ ap (sets to 0) (none-of (sharedNets m []) (no-nets m)));
   trits-are = sym (ap (λ (ds : List Driving). sets kinds 0 (sharedTrits m ds)) v ∙ ap (sets kinds 0) (none-of (sharedTrits m []) (no-trits m)));
+  nets-end = sym (ap (λ (ds : List Driving). length (sharedNets m ds)) v ∙ no-nets m);
+  trits-end = sym (ap (λ (ds : List Driving). length (sharedTrits m ds)) v ∙ no-trits m);
   results-are = results-none _ _ _ ∙ sym v;
 }
 
@@ -141,7 +143,7 @@ unfolding layoutOf memoryOf
 same-layout m nets trits s es ws rs = refl
 
 from-rows : (m : Mem) (output : Value) (p : Plan) (l : Lent) (to kinds : List ℕ) (g : Going) → RowsDone m output p l to kinds g → Acted m (layoutOf m p) (swizzleRows m output p) l to kinds g
-from-rows m output p l to kinds g d = record { log-is = d .log-is; nets-are = d .nets-are; trits-are = d .trits-are; results-are = d .results-are }
+from-rows m output p l to kinds g d = record { log-is = d .log-is; nets-are = d .nets-are; trits-are = d .trits-are; nets-end = d .nets-end; trits-end = d .trits-end; results-are = d .results-are }
 
 module _ (r : rules.SwizzleRooms) (room : ℕ) (st : LogState) (m : Memory) (nets trits output : List ℕ) (p : Plan) (z : swizzleRefusal r room (stateOf st) (givenOf m nets trits) output p ≡ 0)
     (w : memoryOf m nets trits .width ≢ 0) (d : memoryOf m nets trits .depth ≢ 0) (wl : length (writesOf m nets) ≡ min maxPorts (m .«write_count»)) (rl : length (readsOf m nets trits) ≡ min maxPorts (m .«read_count»)) where

@@ -27,9 +27,11 @@ pub record Passed (m : Memory) (nets trits output : List ℕ) (s : MemorySwizzle
   pub image : ℕ
   pub zero : swizzleRefusal (record { image = image; nets = length to; trits = length kinds; scratch = length scratch }) (length log) (stateOf st) (givenOf m nets trits) output (planOf s es ws rs) ≡ 0
 
--- the log, the rooms, and the memories that the struct and the rooms hold
+-- the log, the rooms and how much of them is used, and the memories that the struct and the rooms hold
 pub record Acted (m : Mem) (q : Layout) (t : Trace (List Driving)) (l : Lent) (to kinds : List ℕ) (g : Going) : Type 0 where
   pub log-is : g .lent ≡ run t l
   pub nets-are : g .nets ≡ sets to 0 (sharedNets m (t (l .state .next) .value))
   pub trits-are : g .trits ≡ sets kinds 0 (sharedTrits m (t (l .state .next) .value))
+  pub nets-end : g .netsAt ≡ length (sharedNets m (t (l .state .next) .value))
+  pub trits-end : g .tritsAt ≡ length (sharedTrits m (t (l .state .next) .value))
   pub results-are : resultsOf (g .memory) (sharedNets m (t (l .state .next) .value)) (sharedTrits m (t (l .state .next) .value)) (layout q (m .init)) ≡ t (l .state .next) .value
