@@ -77,7 +77,7 @@ none-acted m q t l v st log to kinds e = record {
 }
 
 -- ---- width 0
-flat-trace : (m : Mem) (output : Value) (p : Plan) → m .width ≡ 0 → swizzle m output p ≡ done []
+pub flat-trace : (m : Mem) (output : Value) (p : Plan) → m .width ≡ 0 → swizzle m output p ≡ done []
 unfolding swizzle
 flat-trace m output p w = rw (eq-eqb (m .width) 0 w)
 
@@ -93,7 +93,7 @@ flat-acted m output p q w st log to kinds =
     (sym (ap (λ (t : Trace (List Driving)). run t (lent st log)) e ∙ run-done [] (lent st log)))
 
 -- ---- depth 0
-empty-trace : (m : Mem) (output : Value) (p : Plan) → m .width ≢ 0 → m .depth ≡ 0 → swizzle m output p ≡ swizzleEmpty m output
+pub empty-trace : (m : Mem) (output : Value) (p : Plan) → m .width ≢ 0 → m .depth ≡ 0 → swizzle m output p ≡ swizzleEmpty m output
 unfolding swizzle
 empty-trace m output p w d = rw (ne-eqb (m .width) 0 w, eq-eqb (m .depth) 0 d)
 
@@ -125,15 +125,18 @@ module _ (r : rules.SwizzleRooms) (room : ℕ) (st : LogState) (m : Memory) (net
   unfolding swizzlePlanNumber
   driving = else-zero _ (wholePlan M p) plan .0
 
-  outputs : badOutputLen M output ≡ false
+  pub outputs : badOutputLen M output ≡ false
   unfolding drivingNumber
   outputs = valid (planTooLarge p) (badOutputLen M output) (badValue (st .next) output) (st .next) m nets trits driving .two-not
+
+  pub long : M .depth ≡ 0 → shortPorts M ≡ false
+  long d = sym (ap (λ (b : Bool). b && shortPorts M) (eq-eqb (M .depth) 0 d)) ∙ not-14 _ short
 
   pub empty-acted : (q : Layout) → M .width ≢ 0 → M .depth ≡ 0 → (st′ : LogState) (log log′ to kinds : List ℕ) → lent st′ log′ ≡ run (emptiedIf M output) (lent st log)
       → Acted M q (swizzle M output p) (lent st log) to kinds (goingOf (noneYet st′) log′ to kinds)
   empty-acted q w d st′ log log′ to kinds e =
       let t = empty-trace M output p w d in
-      let h : shortPorts M ≡ false = sym (ap (λ (b : Bool). b && shortPorts M) (eq-eqb (M .depth) 0 d)) ∙ not-14 _ short in
+      let h = long d in
       none-acted M q (swizzle M output p) (lent st log) (ap (λ (u : Trace (List Driving)). u (st .next) .value) t ∙ empty-value M output (st .next)) st′ log′ to kinds
       (e ∙ rules-run M (all-ready (planTooLarge p) (st .next) m nets trits output driving h) output outputs (lent st log) ∙ ap (λ (u : Trace (List Driving)). run u (lent st log)) (sym t))
 

@@ -1,3 +1,4 @@
 -- Laws of the swizzle after its refusal.
 pub mod Cases
 pub mod Images
+pub mod Logs

@@ -6,7 +6,8 @@ use mathlib.Core.Option.{some}
 use mathlib.Core.List.{List}
 use lib.ListN.{length, drop}
 use Rattle.rules.specs.Cell.{Mem, Plan}
-use Rattle.rules.specs.Geometry.{Layout, layoutOf}
+use Rattle.rules.specs.Log.{logAfter, stateAfter}
+use Rattle.rules.specs.Geometry.{layoutOf}
 use Rattle.rules.specs.Swizzle.{swizzle, swizzleScratch}
 use Rattle.rules.specs.Patch.{laidOut}
 use Rattle.rules.specs.Record.{sizesOf}
@@ -36,6 +37,8 @@ pub record Unchanged (st : LogState) (log image to kinds scratch : List ℕ) (x 
 -- accepted, for this memory and plan
 pub record Changed (m : Mem) (output : List ℕ) (p : Plan) (st : LogState) (log image to kinds scratch : List ℕ) (x : Swizzled) (log′ image′ to′ kinds′ scratch′ : List ℕ) : Type 0 where
   pub acted : Acted m (layoutOf m p) (swizzle m output p) (lent st log) to kinds (goingOf (x .made) log′ to′ kinds′)
+  pub log-is : log′ ≡ logAfter log (stateOf st) (swizzle m output p (st .next))
+  pub state-is : stateOf (x .made .state) ≡ stateAfter (stateOf st) (swizzle m output p (st .next))
   pub image-is : image′ ≡ laidOut (layoutOf m p) (m .init) image
   pub scratch-kept : drop (swizzleScratch m p) scratch′ ≡ drop (swizzleScratch m p) scratch
   pub laid-is : laidOf (x .laid) ≡ some (layoutOf m p)

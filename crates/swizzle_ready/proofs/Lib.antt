@@ -7,3 +7,4 @@ pub mod Shares
 pub mod HeldWrites
 pub mod Joined
 pub mod Scratch
+pub mod Fronts

@@ -3,12 +3,14 @@ use mathlib.Core.Path.{refl, sym, ap, _∙_}
 use lib.ListN.{length}
 use Rattle.rules.specs.Image.{Laid}
 use Rattle.rules.specs.Answers.{sizesCall}
+use Rattle.log_entries.specs.View.{lent}
 use Rattle.image_geometry.specs.declared.Params.{Params}
 use Rattle.image_geometry.specs.View.{layoutBy}
 use Rattle.swizzle_plan.specs.Calls.{planOf}
 use Rattle.swizzle_reads.specs.declared.Reads.{Reads}
 use Rattle.swizzle_reads.specs.Going.{goingOf}
 use Rattle.swizzle_call.proofs.Cases.{roomsOf, same-layout}
+use Rattle.swizzle_call.proofs.Logs.{log-after}
 use Rattle.swizzle_call.proofs.Images.{handed, image-laid, sizes-told}
 use borrow.Author.Needs.{needs}
 use Rattle.swizzle_call.proofs.swizzle.Statement.{statement}
@@ -77,11 +79,14 @@ returns-2 c =
     let x = layoutBy (p .result) (v .entries .now) in
     let q = ap (λ (y : Params). layoutBy y (v .entries .now)) (p .ensures) ∙ same-layout (v .m) (v .nets .now) (v .trits .now) (v .s) (v .entries .now) (v .writes .now) (v .reads .now) in
     let told = l .ensures .0 ∙ handed (roomsOf (length (v .image .now)) (v .nets-to .now) (v .trits-to .now) (v .scratch .now)) (length (v .log .now)) (v .st) (v .m) (v .nets .now) (v .trits .now) (v .output .now) (planOf (v .s) (v .entries .now) (v .writes .now) (v .reads .now)) z x q in
+    let after = log-after (roomsOf (length (v .image .now)) (v .nets-to .now) (v .trits-to .now) (v .scratch .now)) (length (v .log .now)) (v .st) (v .m) (v .nets .now) (v .trits .now) (v .output .now) (planOf (v .s) (v .entries .now) (v .writes .now) (v .reads .now)) z (v .log .now) (lent (a .result .state) (a .last .0)) (a .ensures .0 .log-is) in
     record {
       number = sym z;
       refused = λ h. absurd (h refl);
       accepted = λ h. record {
         acted = a .ensures .0;
+        log-is = after .0;
+        state-is = after .1;
         image-is = image-laid (roomsOf (length (v .image .now)) (v .nets-to .now) (v .trits-to .now) (v .scratch .now)) (length (v .log .now)) (v .st) (v .m) (v .nets .now) (v .trits .now) (v .output .now) (planOf (v .s) (v .entries .now) (v .writes .now) (v .reads .now)) z (v .image .now) (l .last .0) refl x q (l .ensures .1);
         scratch-kept = a .ensures .1;
         laid-is = told;
