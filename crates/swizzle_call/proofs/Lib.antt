@@ -2,3 +2,4 @@
 pub mod Cases
 pub mod Images
 pub mod Logs
+pub mod Fronts

@@ -57,7 +57,7 @@ module _ (r : rules.SwizzleRooms) (room : ℕ) (st : LogState) (m : Memory) (net
   chains =
       ⊎-elim (λ w. chains-flat w) (λ w. ⊎-elim (λ d. chains-none (some-not (M .width) w) d) (λ d. chains-rows (some-not (M .width) w) (some-not (M .depth) d)) (eq-zero-or-pos (M .depth))) (eq-zero-or-pos (M .width))
 
-  log-0 : logRefusal room (stateOf st) (swizzle M output p) ≡ 0
+  pub log-0 : logRefusal room (stateOf st) (swizzle M output p) ≡ 0
   unfolding swizzleRefusal
   log-0 =
       let a = else-zero (swizzleNumber (st .next) (givenOf m nets trits) output p) _ z .1 in

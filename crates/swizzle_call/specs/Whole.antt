@@ -4,11 +4,12 @@ use mathlib.Core.Logic.{_≢_}
 use Prim.Native.Nat.{ℕ}
 use mathlib.Core.Option.{some}
 use mathlib.Core.List.{List}
-use lib.ListN.{length, drop}
+use lib.ListN.{length, take, drop}
 use Rattle.rules.specs.Cell.{Mem, Plan}
 use Rattle.rules.specs.Log.{logAfter, stateAfter}
 use Rattle.rules.specs.Geometry.{layoutOf}
 use Rattle.rules.specs.Swizzle.{swizzle, swizzleScratch}
+use Rattle.rules.specs.Image.{imageSize}
 use Rattle.rules.specs.Patch.{laidOut}
 use Rattle.rules.specs.Record.{sizesOf}
 use Rattle.rules.specs.Answers.{Refused, Accepted}
@@ -21,6 +22,7 @@ use Rattle.net_memory.specs.Given.{givenOf}
 use Rattle.image_state.specs.View.{laidOf, unsetLaid, sizedOf}
 use Rattle.swizzle_plan.specs.declared.MemorySwizzle.{MemorySwizzle}
 use Rattle.swizzle_plan.specs.Calls.{planOf}
+use Rattle.swizzle_result.specs.View.{resultsOf}
 use Rattle.swizzle_reads.specs.Going.{goingOf}
 use Rattle.swizzle_rows.specs.Rows.{noneYet}
 use Rattle.swizzle_call.specs.declared.Swizzled.{Swizzled}
@@ -40,6 +42,8 @@ pub record Changed (m : Mem) (output : List ℕ) (p : Plan) (st : LogState) (log
   pub log-is : log′ ≡ logAfter log (stateOf st) (swizzle m output p (st .next))
   pub state-is : stateOf (x .made .state) ≡ stateAfter (stateOf st) (swizzle m output p (st .next))
   pub image-is : image′ ≡ laidOut (layoutOf m p) (m .init) image
+  -- the memories, as struct and arrays hold them
+  pub results-held : resultsOf (x .made .memory) (take (x .made .«nets_at») to′) (take (x .made .«trits_at») kinds′) (take (imageSize (layoutOf m p)) image′) ≡ swizzle m output p (st .next) .value
   pub scratch-kept : drop (swizzleScratch m p) scratch′ ≡ drop (swizzleScratch m p) scratch
   pub laid-is : laidOf (x .laid) ≡ some (layoutOf m p)
   pub sizes-are : sizedOf (x .sizes) ≡ Accepted (sizesOf (layoutOf m p))

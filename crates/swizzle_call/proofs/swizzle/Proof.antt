@@ -10,6 +10,7 @@ use Rattle.swizzle_plan.specs.Calls.{planOf}
 use Rattle.swizzle_reads.specs.declared.Reads.{Reads}
 use Rattle.swizzle_reads.specs.Going.{goingOf}
 use Rattle.swizzle_call.proofs.Cases.{roomsOf, same-layout}
+use Rattle.swizzle_call.proofs.Fronts.{results-read}
 use Rattle.swizzle_call.proofs.Logs.{log-after}
 use Rattle.swizzle_call.proofs.Images.{handed, image-laid, sizes-told}
 use borrow.Author.Needs.{needs}
@@ -79,6 +80,7 @@ returns-2 c =
     let x = layoutBy (p .result) (v .entries .now) in
     let q = ap (λ (y : Params). layoutBy y (v .entries .now)) (p .ensures) ∙ same-layout (v .m) (v .nets .now) (v .trits .now) (v .s) (v .entries .now) (v .writes .now) (v .reads .now) in
     let told = l .ensures .0 ∙ handed (roomsOf (length (v .image .now)) (v .nets-to .now) (v .trits-to .now) (v .scratch .now)) (length (v .log .now)) (v .st) (v .m) (v .nets .now) (v .trits .now) (v .output .now) (planOf (v .s) (v .entries .now) (v .writes .now) (v .reads .now)) z x q in
+    let laid-image = image-laid (roomsOf (length (v .image .now)) (v .nets-to .now) (v .trits-to .now) (v .scratch .now)) (length (v .log .now)) (v .st) (v .m) (v .nets .now) (v .trits .now) (v .output .now) (planOf (v .s) (v .entries .now) (v .writes .now) (v .reads .now)) z (v .image .now) (l .last .0) refl x q (l .ensures .1) in
     let after = log-after (roomsOf (length (v .image .now)) (v .nets-to .now) (v .trits-to .now) (v .scratch .now)) (length (v .log .now)) (v .st) (v .m) (v .nets .now) (v .trits .now) (v .output .now) (planOf (v .s) (v .entries .now) (v .writes .now) (v .reads .now)) z (v .log .now) (lent (a .result .state) (a .last .0)) (a .ensures .0 .log-is) in
     record {
       number = sym z;
@@ -87,7 +89,8 @@ returns-2 c =
         acted = a .ensures .0;
         log-is = after .0;
         state-is = after .1;
-        image-is = image-laid (roomsOf (length (v .image .now)) (v .nets-to .now) (v .trits-to .now) (v .scratch .now)) (length (v .log .now)) (v .st) (v .m) (v .nets .now) (v .trits .now) (v .output .now) (planOf (v .s) (v .entries .now) (v .writes .now) (v .reads .now)) z (v .image .now) (l .last .0) refl x q (l .ensures .1);
+        image-is = laid-image;
+        results-held = results-read (roomsOf (length (v .image .now)) (v .nets-to .now) (v .trits-to .now) (v .scratch .now)) (length (v .log .now)) (v .st) (v .m) (v .nets .now) (v .trits .now) (v .output .now) (planOf (v .s) (v .entries .now) (v .writes .now) (v .reads .now)) z (v .log .now) (v .nets-to .now) (v .trits-to .now) (v .image .now) (l .last .0) (goingOf (a .result) (a .last .0) (a .last .1 .1 .0) (a .last .1 .1 .1 .0)) refl refl (a .ensures .0) laid-image;
         scratch-kept = a .ensures .1;
         laid-is = told;
         sizes-are = c .sizes-of .ensures .0 ∙ ap sizesCall told ∙ sizes-told (roomsOf (length (v .image .now)) (v .nets-to .now) (v .trits-to .now) (v .scratch .now)) (length (v .log .now)) (v .st) (v .m) (v .nets .now) (v .trits .now) (v .output .now) (planOf (v .s) (v .entries .now) (v .writes .now) (v .reads .now)) z;
