@@ -120,15 +120,15 @@ long-by v r f e q = any-some (λ (x : ReadFlipFlop). any (shortPair v r) (transp
 -- ---- unmap_read_dff
 module _ (next : ℕ) (m : Memory) (nets trits : List ℕ) (i : ℕ) (output : List ℕ) (z : unmapReadDffNumber next (givenOf m nets trits) i output ≡ 0)
     (rl : length (readsOf m nets trits) ≡ min maxPorts (m .«read_count»)) (wl : length (writesOf m nets) ≡ min maxPorts (m .«write_count»)) where
-  abbrev V : Mem
-  V = memoryOf m nets trits
+  abbrev Mv : Mem
+  Mv = memoryOf m nets trits
 
-  both : (drivingNumber false next (givenOf m nets trits) output ≡ 0) × ((if shortPort V (readAt V i) then 14 else portNumber V i) ≡ 0)
+  both : (drivingNumber false next (givenOf m nets trits) output ≡ 0) × ((if shortPort Mv (readAt Mv i) then 14 else portNumber Mv i) ≡ 0)
   unfolding unmapReadDffNumber
   both = else-zero (drivingNumber false next (givenOf m nets trits) output) _ z
 
-  short-not : (shortPort V (readAt V i) ≡ false) × (portNumber V i ≡ 0)
-  short-not = refused-not (shortPort V (readAt V i)) 14 (portNumber V i) (omega arith) (both .1)
+  short-not : (shortPort Mv (readAt Mv i) ≡ false) × (portNumber Mv i ≡ 0)
+  short-not = refused-not (shortPort Mv (readAt Mv i)) 14 (portNumber Mv i) (omega arith) (both .1)
 
   pub is-there : i < min maxPorts (m .«read_count»)
   is-there = port-there next m nets trits i output (both .0) (short-not .1) rl wl
@@ -136,7 +136,7 @@ module _ (next : ℕ) (m : Memory) (nets trits : List ℕ) (i : ℕ) (output : L
   pub ready : (c : Controls) → readPort m i .«flip_flop» ≡ Some c → Ready m nets trits i c
   ready c e = record {
     port = shaped next m nets trits i output (both .0) (short-not .1) rl wl c e;
-    long = long-by V (readAt V i) (ownFlipFlop m trits i c) (flip-some m nets trits i is-there c e) (short-not .0);
+    long = long-by Mv (readAt Mv i) (ownFlipFlop m trits i c) (flip-some m nets trits i is-there c e) (short-not .0);
   }
 
 -- ---- by the flip-flop

@@ -125,45 +125,45 @@ module _ (m : Memory) (nets trits : List ℕ) (i : ℕ) (c : Controls) (g : Shap
 
 -- ---- one that 14 passes too
 module _ (m : Memory) (nets trits : List ℕ) (i : ℕ) (c : Controls) (g : Ready m nets trits i c) where
-  abbrev V : Mem
-  V = memoryOf m nets trits
+  abbrev Mv : Mem
+  Mv = memoryOf m nets trits
 
   abbrev own-flip : ReadFlipFlop
   own-flip = ownFlipFlop m trits i c
 
   -- few nets, and in sequence
-  pub unmap-below : (output : Value) (s : LogState) → unmapDff V i output own-flip (startNet s) .next < X
-  unmap-below output s = omega (arith, most-unmap V i (small m nets trits i c (g .port)) output own-flip (omega (arith, g .port .related, g .port .few)) (read-few m nets trits i c (g .port)) (startNet s), start-le s)
+  pub unmap-below : (output : Value) (s : LogState) → unmapDff Mv i output own-flip (startNet s) .next < X
+  unmap-below output s = omega (arith, most-unmap Mv i (small m nets trits i c (g .port)) output own-flip (omega (arith, g .port .related, g .port .few)) (read-few m nets trits i c (g .port)) (startNet s), start-le s)
 
-  long-of : any (shortPair V (readAt V i)) (transparentFrom 0 (own-flip .relations)) ≡ false
+  long-of : any (shortPair Mv (readAt Mv i)) (transparentFrom 0 (own-flip .relations)) ≡ false
   unfolding transparentPorts
   long-of = g .long
 
-  laid-own : (o : Overlay) → laidFrom V (readWideLog2 V (readAt V i)) (reading (readAt V i .addr) (readAt V i .dataLen)) 0 (own-flip .relations) o ≡ transparencies V i (transparentFrom 0 (own-flip .relations)) o
+  laid-own : (o : Overlay) → laidFrom Mv (readWideLog2 Mv (readAt Mv i)) (reading (readAt Mv i .addr) (readAt Mv i .dataLen)) 0 (own-flip .relations) o ≡ transparencies Mv i (transparentFrom 0 (own-flip .relations)) o
   laid-own o = laid-all m nets trits i c (g .port) (own-flip .relations) o (omega (arith, g .port .related)) long-of
 
   pub port-runs : (output : Value) (l : Lent)
-      → run (unmappedIf V (wideLog2 (m .width) (readPort m i .«data_len»)) (reading (readNets m nets i) (readPort m i .«data_len»)) (readPort m i .«data_len») (own-flip .relations) (λ b. flipFlop (own-flip .controls) b (own-flip .clearValue) (own-flip .resetValue) (own-flip .initValue)) (outputSlice V i output)) l
-      ≡ run (unmapDff V i output own-flip) l
+      → run (unmappedIf Mv (wideLog2 (m .width) (readPort m i .«data_len»)) (reading (readNets m nets i) (readPort m i .«data_len»)) (readPort m i .«data_len») (own-flip .relations) (λ b. flipFlop (own-flip .controls) b (own-flip .clearValue) (own-flip .resetValue) (own-flip .initValue)) (outputSlice Mv i output)) l
+      ≡ run (unmapDff Mv i output own-flip) l
   port-runs output l =
       let e = data-is m nets trits i c (g .port) in
       let a = addr-is m nets trits i c (g .port) in
       let k = wide-is m nets trits i c (g .port) in
-      (λ j. run (unmappedIf V (k j) (reading (sym a j) (sym e j)) (sym e j) (own-flip .relations) (behind-is own-flip j) (outputSlice V i output)) l)
-      ∙ few-is V (readWideLog2 V (readAt V i)) (reading (readAt V i .addr) (readAt V i .dataLen)) (readAt V i .dataLen) (own-flip .relations) (flipFlopOf own-flip) (outputSlice V i output) l (omega (arith, read-few m nets trits i c (g .port)))
-      ∙ unmap-runs V i (readWideLog2 V (readAt V i)) (reading (readAt V i .addr) (readAt V i .dataLen)) output own-flip l laid-own
+      (λ j. run (unmappedIf Mv (k j) (reading (sym a j) (sym e j)) (sym e j) (own-flip .relations) (behind-is own-flip j) (outputSlice Mv i output)) l)
+      ∙ few-is Mv (readWideLog2 Mv (readAt Mv i)) (reading (readAt Mv i .addr) (readAt Mv i .dataLen)) (readAt Mv i .dataLen) (own-flip .relations) (flipFlopOf own-flip) (outputSlice Mv i output) l (omega (arith, read-few m nets trits i c (g .port)))
+      ∙ unmap-runs Mv i (readWideLog2 Mv (readAt Mv i)) (reading (readAt Mv i .addr) (readAt Mv i .dataLen)) output own-flip l laid-own
 
   -- the same as the code has it
   pub port-from : (output : Value) (p : MemoryReadPort) (raddr rels own clear reset init from : List ℕ) (start : ℕ) (l l1 : Lent) → p ≡ readPort m i → raddr ≡ readNets m nets i
       → rels ≡ part 0 (p .«relations_len») (p .relations) → own ≡ readTrits m trits i → clear ≡ part 0 (p .«clear_len») own → reset ≡ part (p .«clear_len») (p .«reset_len») own
-      → init ≡ part (p .«clear_len» + p .«reset_len») (p .«init_len») own → start ≡ outputStart V i → from ≡ part start (p .«data_len») output
-      → l1 ≡ run (unmappedIf V (wideLog2 (m .width) (p .«data_len»)) (reading raddr (p .«data_len»)) (p .«data_len») rels (λ b. flipFlop (controlsOf c) b clear reset init) from) l
-      → l1 ≡ run (unmapDff V i output own-flip) l
+      → init ≡ part (p .«clear_len» + p .«reset_len») (p .«init_len») own → start ≡ outputStart Mv i → from ≡ part start (p .«data_len») output
+      → l1 ≡ run (unmappedIf Mv (wideLog2 (m .width) (p .«data_len»)) (reading raddr (p .«data_len»)) (p .«data_len») rels (λ b. flipFlop (controlsOf c) b clear reset init) from) l
+      → l1 ≡ run (unmapDff Mv i output own-flip) l
   port-from output p raddr rels own clear reset init from start l l1 ep ea er eo ec es ei et ef h =
       let r1 = er ∙ (λ k. part 0 (ep k .«relations_len») (ep k .relations)) in
       let c1 = ec ∙ (λ k. part 0 (ep k .«clear_len») (eo k)) in
       let s1 = es ∙ (λ k. part (ep k .«clear_len») (ep k .«reset_len») (eo k)) in
       let i1 = ei ∙ (λ k. part (ep k .«clear_len» + ep k .«reset_len») (ep k .«init_len») (eo k)) in
       let f1 = ef ∙ (λ k. part (et k) (ep k .«data_len») output) ∙ slice-is m nets trits i c (g .port) output in
-      h ∙ (λ k. run (unmappedIf V (wideLog2 (m .width) (ep k .«data_len»)) (reading (ea k) (ep k .«data_len»)) (ep k .«data_len») (r1 k) (λ b. flipFlop (controlsOf c) b (c1 k) (s1 k) (i1 k)) (f1 k)) l)
+      h ∙ (λ k. run (unmappedIf Mv (wideLog2 (m .width) (ep k .«data_len»)) (reading (ea k) (ep k .«data_len»)) (ep k .«data_len») (r1 k) (λ b. flipFlop (controlsOf c) b (c1 k) (s1 k) (i1 k)) (f1 k)) l)
       ∙ port-runs output l
