@@ -19,6 +19,7 @@ ghost use Rattle.port_transparency.specs.Pairs.{reading};
 ghost use Rattle.port_reset_emit.specs.Behind.{startTrit, maskBehind, choice, resetBehind, resetLaid, resetIf};
 use log_entries::LogState;
 use net_flip_flop::Controls;
+use net_memory::Memory;
 
 // The state after an unmapping, and its void nets: from `first` on, `last` is the net after them.
 pub struct ResetNets {
@@ -59,6 +60,13 @@ fn emit_mask(
     log: &mut [u32],
     st: LogState,
     out: &mut [u32],
+    column: &mut [u32; rules::MAX_MERGE],
+    kx: &mut [u32; rules::MAX_MERGE],
+    ky: &mut [u32; rules::MAX_MERGE],
+    at: &mut [u32; rules::MAX_MERGE],
+    clears: &mut [u8; rules::MAX_MERGE],
+    resets: &mut [u8; rules::MAX_MERGE],
+    inits: &mut [u8; rules::MAX_MERGE],
     ones: &mut [u8],
     starts: &mut [u8],
     c: Controls,
@@ -72,7 +80,23 @@ fn emit_mask(
     lists::fill_u8(ones, 0, n, 1);
     lists::fill_u8(starts, 0, n, start_trit(initial));
     let own = &ones[..n];
-    merge_dff::emit_dedup_dff(log, st, out, c, &over[..n], own, own, &starts[..n])
+    merge_dff::emit_dedup_dff_with(
+        log,
+        st,
+        out,
+        column,
+        kx,
+        ky,
+        at,
+        clears,
+        resets,
+        inits,
+        c,
+        &over[..n],
+        own,
+        own,
+        &starts[..n],
+    )
 }
 
 // The void nets that the port reads into.
@@ -124,10 +148,14 @@ fn emit_behind(
     over: &mut [u32; rules::MAX_MERGE],
     bits: &mut [u32; rules::MAX_MERGE],
     mask: &mut [u32; rules::MAX_MERGE],
+    sel: &mut [u32; rules::MAX_MERGE],
     spare: &mut [u32; rules::MAX_MERGE],
     kx: &mut [u32; rules::MAX_MERGE],
     ky: &mut [u32; rules::MAX_MERGE],
     at: &mut [u32; rules::MAX_MERGE],
+    clears: &mut [u8; rules::MAX_MERGE],
+    resets: &mut [u8; rules::MAX_MERGE],
+    inits: &mut [u8; rules::MAX_MERGE],
     ones: &mut [u8; rules::MAX_MERGE],
     starts: &mut [u8; rules::MAX_MERGE],
     n: u32,
@@ -143,7 +171,9 @@ fn emit_behind(
     let size = n as usize;
     let initial = !net_logic::is_undef(init);
     let s1 = emit_data(log, st, bits, c, under, size, clear, reset, init);
-    let s2 = emit_mask(log, s1, mask, ones, starts, c, initial, over, size);
+    let s2 = emit_mask(
+        log, s1, mask, sel, kx, ky, at, clears, resets, inits, ones, starts, c, initial, over, size,
+    );
     let s3 = emit_read(log, s2, under, n);
     let s4 = emit_choice(log, s3, spare, kx, ky, at, mask, bits, under, size, from);
     ResetNets {
@@ -151,4 +181,91 @@ fn emit_behind(
         first: s2.next,
         last: s3.next,
     }
+}
+
+// A port of n nets with these relations, controls and trits, whose outputs are `from`.
+fn emit_laid<'a>(
+    log: &mut [u32],
+    st: LogState,
+    under: &mut [u32; rules::MAX_MERGE],
+    over: &mut [u32; rules::MAX_MERGE],
+    bits: &mut [u32; rules::MAX_MERGE],
+    mask: &mut [u32; rules::MAX_MERGE],
+    sel: &mut [u32; rules::MAX_MERGE],
+    spare: &mut [u32; rules::MAX_MERGE],
+    kx: &mut [u32; rules::MAX_MERGE],
+    ky: &mut [u32; rules::MAX_MERGE],
+    at: &mut [u32; rules::MAX_MERGE],
+    clears: &mut [u8; rules::MAX_MERGE],
+    resets: &mut [u8; rules::MAX_MERGE],
+    inits: &mut [u8; rules::MAX_MERGE],
+    ones: &mut [u8; rules::MAX_MERGE],
+    starts: &mut [u8; rules::MAX_MERGE],
+    m: Memory,
+    nets: &'a [u32],
+    raddr: &'a [u32],
+    rels: &[u8],
+    n: u32,
+    c: Controls,
+    clear: &[u8],
+    reset: &[u8],
+    init: &[u8],
+    from: &[u32],
+) -> ResetNets
+    requires { ⌜ n ≤ maxMerge ⌝ }
+    ensures { λ r. ⌜ ((trits : List ℕ) → Gave (resetLaid (memoryOf m (now (nets .entry)) trits) (wideLog2 (m .width) n) (reading (now (raddr .entry)) n) n (now (rels .entry)) (λ b. flipFlop (controlsOf c) b (now (clear .entry)) (now (reset .entry)) (now (init .entry))) (λ k. maskBehind (controlsOf c) (not (isUndef (now (init .entry)))) n k) (now (from .entry))) (lent st (now (log .entry))) (lent (r .state) (now (log .exit))) (upFrom (r .first) (r .last - r .first))) ⌝ }
+{
+    let size = n as usize;
+    lists::fill_u32(under, 0, size, rules::NET_X);
+    lists::fill_u32(over, 0, size, 0);
+    let kr = net_memory::wide::wide_log(m.width, size);
+    let s1 = port_masked::emit_masked_pairs(
+        log, st, under, over, bits, mask, sel, spare, kx, ky, at, m, nets, rels, kr, raddr, size,
+    );
+    emit_behind(
+        log, s1, under, over, bits, mask, sel, spare, kx, ky, at, clears, resets, inits, ones, starts, n, c, clear, reset, init, from,
+    )
+}
+
+// The same of any port: one of more nets than a merge takes, which no memory has, gives nothing.
+pub fn emit_reset<'a>(
+    log: &mut [u32],
+    st: LogState,
+    under: &mut [u32; rules::MAX_MERGE],
+    over: &mut [u32; rules::MAX_MERGE],
+    bits: &mut [u32; rules::MAX_MERGE],
+    mask: &mut [u32; rules::MAX_MERGE],
+    sel: &mut [u32; rules::MAX_MERGE],
+    spare: &mut [u32; rules::MAX_MERGE],
+    kx: &mut [u32; rules::MAX_MERGE],
+    ky: &mut [u32; rules::MAX_MERGE],
+    at: &mut [u32; rules::MAX_MERGE],
+    clears: &mut [u8; rules::MAX_MERGE],
+    resets: &mut [u8; rules::MAX_MERGE],
+    inits: &mut [u8; rules::MAX_MERGE],
+    ones: &mut [u8; rules::MAX_MERGE],
+    starts: &mut [u8; rules::MAX_MERGE],
+    m: Memory,
+    nets: &'a [u32],
+    raddr: &'a [u32],
+    rels: &[u8],
+    n: u32,
+    c: Controls,
+    clear: &[u8],
+    reset: &[u8],
+    init: &[u8],
+    from: &[u32],
+) -> ResetNets
+    ensures { λ r. ⌜ ((trits : List ℕ) → Gave (resetIf (memoryOf m (now (nets .entry)) trits) (wideLog2 (m .width) n) (reading (now (raddr .entry)) n) n (now (rels .entry)) (λ b. flipFlop (controlsOf c) b (now (clear .entry)) (now (reset .entry)) (now (init .entry))) (λ k. maskBehind (controlsOf c) (not (isUndef (now (init .entry)))) n k) (now (from .entry))) (lent st (now (log .entry))) (lent (r .state) (now (log .exit))) (upFrom (r .first) (r .last - r .first))) ⌝ }
+{
+    if rules::MAX_MERGE < n as usize {
+        return ResetNets {
+            state: st,
+            first: st.next,
+            last: st.next,
+        };
+    }
+    emit_laid(
+        log, st, under, over, bits, mask, sel, spare, kx, ky, at, clears, resets, inits, ones, starts, m, nets, raddr, rels, n, c, clear, reset, init, from,
+    )
 }

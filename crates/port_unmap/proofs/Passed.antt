@@ -35,7 +35,7 @@ use Rattle.net_memory.specs.View.{noReadPort, withReadPort, memoryOf, readsOf, 
 use Rattle.net_memory.proofs.Ports.{read-of-view, reads-at, trits-at}
 use Rattle.net_check.proofs.Accept.{Valid, valid, sizes}
 use Rattle.net_memory.specs.Given.{givenOf}
-use Rattle.port_unmap.specs.Ready.{ownFlipFlop, Shaped, Ready}
+use Rattle.port_unmap.specs.Ready.{ownFlipFlop, PortShape, Ready}
 use Rattle.port_unmap.specs.Call.{without, driving, roomsOf, drivenOf, NewStruct}
 use Rattle.port_unmap.proofs.Act.{driven-refused}
 
@@ -101,7 +101,7 @@ module _ (next : ℕ) (m : Memory) (nets trits : List ℕ) (i : ℕ) (output : L
     pub own-shape : badFlipFlopShape M (readAt M i .dataLen) (ownFlipFlop m trits i c) ≡ false
     own-shape = any-some (badFlipFlopShape M (readAt M i .dataLen)) (readAt M i .flipFlop) (ownFlipFlop m trits i c) (flip-some m nets trits i port-there c e) flip-shape
 
-    pub shaped : Shaped m nets trits i c
+    pub shaped : PortShape m nets trits i c
     shaped = record {
       there = port-there;
       clocked = e;

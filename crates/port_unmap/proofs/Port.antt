@@ -31,7 +31,7 @@ use Rattle.port_transparency.specs.Pairs.{reading}
 use Rattle.port_overlay.specs.Laid.{laidFrom, unmapped, unmappedIf}
 use Rattle.port_overlay.proofs.Fits.{Shaped, Reads, writes-shaped, reads-shaped, from-is}
 use Rattle.port_overlay.proofs.Bounds.{Small, most-unmap, unmap-runs}
-use Rattle.port_unmap.specs.Ready.{ownFlipFlop, Shaped, Ready}
+use Rattle.port_unmap.specs.Ready.{ownFlipFlop, PortShape, Ready}
 
 size-few : (width size k : ℕ) → width ≤ 128 → Shaped width size k → size ≤ 2048
 size-few width size k h s = rw (s .size-is) (mul-le-mul {n₁ = width} {m₁ = 2 ^ k} {n₂ = 128} {m₂ = 16} h (pow-mono {i = k} {j = 4} (s .few)))
@@ -61,7 +61,7 @@ unfolding writeAt
 at-shaped m j e h = any-at (badWriteShape m) (m .writes) e j _ h
 
 -- ---- a port that 1, 2 and 15 pass
-module _ (m : Memory) (nets trits : List ℕ) (i : ℕ) (c : Controls) (g : Shaped m nets trits i c) where
+module _ (m : Memory) (nets trits : List ℕ) (i : ℕ) (c : Controls) (g : PortShape m nets trits i c) where
   abbrev M : Mem
   M = memoryOf m nets trits
 

@@ -18,7 +18,7 @@ abbrev pub ownFlipFlop : Memory → List ℕ → ℕ → Controls → ReadFlipFl
 ownFlipFlop m trits i c = clockedBy c (readPort m i) (readTrits m trits i)
 
 -- numbers 1, 2 and 15
-pub record Shaped (m : Memory) (nets trits : List ℕ) (i : ℕ) (c : Controls) : Type 0 where
+pub record PortShape (m : Memory) (nets trits : List ℕ) (i : ℕ) (c : Controls) : Type 0 where
   pub there : i < min maxPorts (m .«read_count»)
   pub clocked : readPort m i .«flip_flop» ≡ Some c
   pub thin : m .width ≤ 128
@@ -29,5 +29,5 @@ pub record Shaped (m : Memory) (nets trits : List ℕ) (i : ℕ) (c : Controls) 
 
 -- and 14
 pub record Ready (m : Memory) (nets trits : List ℕ) (i : ℕ) (c : Controls) : Type 0 where
-  pub port : Shaped m nets trits i c
+  pub port : PortShape m nets trits i c
   pub long : any (shortPair (memoryOf m nets trits) (readAt (memoryOf m nets trits) i)) (transparentPorts (ownFlipFlop m trits i c)) ≡ false
