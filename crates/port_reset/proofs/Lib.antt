@@ -1,2 +1,3 @@
 -- Laws of the call.
 pub mod Plain
+pub mod View

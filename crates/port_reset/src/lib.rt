@@ -30,7 +30,7 @@ use net_memory::MemoryReadFlipFlop;
 use net_memory::MemoryReadPort;
 use net_value::ControlNet;
 use net_value::Net;
-use port_reset_emit::ResetNets;
+//LATER use port_reset_emit::ResetNets;
 use port_unmap::Driven;
 
 // The relations that are to go.
