@@ -18,8 +18,8 @@ use Rattle.rules.specs.Ports.{Overlay, transparencies, wanted, maskFlipFlop, un
 use Rattle.rules.proofs.Chain.{chains-void, chains-dff, chains-dedup-dff, chains-bitwise-mux, chains-replace, chains-bind, chains-then, chains-done}
 use Rattle.rules.proofs.Counted.{AtMost, most-bind, most-done, counted-void, counted-dff, counted-replace}
 use Rattle.merge_dff.proofs.Call.{few-keys, dedup-next}
+use Rattle.port_transparency.specs.Pairs.{withMask}
 use Rattle.port_overlay.proofs.Bounds.{Small, FewMask, bitwise-most, chains-all, most-all, all-few, all-mask-few, from-few}
-use Rattle.port_reset_emit.specs.Behind.{masked}
 
 pub chains-reset : (m : Mem) (i : ℕ) (incl : Bool) (output : Value) (f : ReadFlipFlop) → Chains (unmapReset m i incl output f)
 unfolding unmapReset
@@ -28,11 +28,11 @@ chains-reset m i incl output f =
     chains-bind _ _ (chains-void _) (λ v. chains-bind _ _ (chains-bitwise-mux _ _ _) (λ b. chains-then _ _ (chains-replace _ _) (chains-done _))))))
 
 -- ---- few nets
-start-few : (n : ℕ) → n ≤ 2048 → length (masked (xNets n) (replicate n 0) .bits) ≤ 2048
+start-few : (n : ℕ) → n ≤ 2048 → length (withMask (xNets n) (replicate n 0) .bits) ≤ 2048
 unfolding xNets
 start-few n h = omega (arith, length-replicate {A = ℕ} n X)
 
-mask-few : (n : ℕ) → n ≤ 2048 → FewMask (masked (xNets n) (replicate n 0))
+mask-few : (n : ℕ) → n ≤ 2048 → FewMask (withMask (xNets n) (replicate n 0))
 unfolding orEmpty
 mask-few n h = omega (arith, length-replicate {A = ℕ} n 0)
 
@@ -65,7 +65,7 @@ module _ (m : Mem) (i : ℕ) (s : (j : ℕ) → Small (writeAt m j) (readAt m i 
   most-reset incl output f h g =
       let n = readAt m i .dataLen in
       let js = wanted incl f in
-      let o = masked (xNets n) (replicate n 0) in
+      let o = withMask (xNets n) (replicate n 0) in
       most-bind (transparencies m i js o) _ 98312 8192 (λ x. most-ports incl f h g x) (λ a.
       most-bind (addDff _) _ 2048 6144 (data-most f _ (all-few m i s js o a (start-few n g))) (λ b.
       most-bind (addDedupDff _) _ 2048 4096 (mask-most f n _ (all-mask-few m i s js o a (mask-few n g))) (λ c.
@@ -74,6 +74,6 @@ module _ (m : Mem) (i : ℕ) (s : (j : ℕ) → Small (writeAt m j) (readAt m i 
       most-bind (replaceValue _ _) _ 0 0 (replace-most _ _) (λ x. most-done _ 0))))))
     where
       most-ports : (incl : Bool) (f : ReadFlipFlop) → length (f .relations) ≤ 8 → readAt m i .dataLen ≤ 2048 → (x : ℕ)
-          → transparencies m i (wanted incl f) (masked (xNets (readAt m i .dataLen)) (replicate (readAt m i .dataLen) 0)) x .next ≤ x + 98312
+          → transparencies m i (wanted incl f) (withMask (xNets (readAt m i .dataLen)) (replicate (readAt m i .dataLen) 0)) x .next ≤ x + 98312
       most-ports incl f h g x =
-          omega (arith, most-all m i s (wanted incl f) (masked (xNets (readAt m i .dataLen)) (replicate (readAt m i .dataLen) 0)) (mask-few (readAt m i .dataLen) g) x, wanted-few incl f h)
+          omega (arith, most-all m i s (wanted incl f) (withMask (xNets (readAt m i .dataLen)) (replicate (readAt m i .dataLen) 0)) (mask-few (readAt m i .dataLen) g) x, wanted-few incl f h)

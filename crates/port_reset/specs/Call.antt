@@ -1,69 +1,24 @@
--- `unmap_read_init_reset_transparency` on a machine's memory: the struct and the trits after it.
+-- `unmap_read_init_reset_transparency` on a machine's memory: the struct and the trits after it, and the state.
 use mathlib.Core.Path.{_≡_}
 use mathlib.Core.Logic.{_≢_}
 use mathlib.Core.Bool.{Bool}
 use Prim.Native.Nat.{ℕ}
-use mathlib.Core.List.{List, map}
-use lib.ListN.{replicate}
-use lib.Seq.{sets}
-use Rattle.lists.specs.Choice.{if_then_else_, leaves}
-use Rattle.rules.specs.Limits.{tritX}
-use Rattle.rules.specs.Ports.{isPlain, noTransparent}
-use Rattle.net_value.specs.declared.ControlNet.the-variants.{Pos}
+use mathlib.Core.List.{List}
+use Rattle.lists.specs.Choice.{leaves}
 use Rattle.net_flip_flop.specs.declared.Controls.{Controls}
 use Rattle.log_entries.specs.declared.LogState.{LogState}
-use Rattle.net_memory.specs.declared.MemoryReadFlipFlop.{MemoryReadFlipFlop}
-use Rattle.net_memory.specs.declared.MemoryReadFlipFlop.the-variants.{None, Some}
-use Rattle.net_memory.specs.declared.MemoryReadPort.{MemoryReadPort}
 use Rattle.net_memory.specs.declared.Memory.{Memory}
-use Rattle.net_memory.specs.View.{readPort, tritStart, tritSize, withReadPort}
-use Rattle.port_unmap.specs.Ready.{ownFlipFlop}
+use Rattle.net_memory.specs.View.{readPort}
 use Rattle.port_unmap.specs.declared.Driven.{Driven}
+use Rattle.port_unreset.specs.Struct.{unreset, blanked, structAfter, tritsAfter}
 
--- controls without clear and reset
-abbrev pub unresetControls : Controls → Controls
-unresetControls c = record {
-  clock = c .clock;
-  clear = Pos (record { 0 = 0 });
-  reset = Pos (record { 0 = 0 });
-  enable = c .enable;
-  «reset_over_enable» = c .«reset_over_enable»;
-}
+-- of a port that is unmapped: the struct and the trits themselves
+pub record Acted (m : Memory) (st : LogState) (i : ℕ) (c : Controls) (incl : Bool) (r : Driven) (trits trits′ : List ℕ) : Type 0 where
+  pub struct-is : r .memory ≡ leaves (r .refusal) m (unreset m i c incl)
+  pub trits-are : trits′ ≡ leaves (r .refusal) trits (blanked m i trits)
+  pub state-kept : r .refusal ≢ 0 → r .state ≡ st
 
--- the codes of relations without Transparent, where these are to go
-abbrev pub keptRelations : Bool → List ℕ → List ℕ
-keptRelations incl rels = if incl then map noTransparent rels else rels
-
--- a port with these controls, without clear and reset
-abbrev pub unresetPort : MemoryReadPort → Controls → Bool → MemoryReadPort
-unresetPort p c incl = record {
-  «addr_len» = p .«addr_len»;
-  «data_len» = p .«data_len»;
-  «clear_len» = p .«clear_len»;
-  «reset_len» = p .«reset_len»;
-  «init_len» = p .«init_len»;
-  «relations_len» = p .«relations_len»;
-  relations = keptRelations incl (p .relations);
-  «flip_flop» = Some (unresetControls c);
-}
-
--- a memory whose port i is so, and the trits, of which that port's are X
-abbrev pub unreset : Memory → ℕ → Controls → Bool → Memory
-unreset m i c incl = withReadPort m i (unresetPort (readPort m i) c incl)
-
-abbrev pub blanked : Memory → ℕ → List ℕ → List ℕ
-blanked m i trits = sets trits (tritStart m i) (replicate (tritSize (readPort m i)) tritX)
-
--- by the port's flip-flop: where there is nothing to unmap, both stay
-abbrev pub structAfter : MemoryReadFlipFlop → Memory → List ℕ → ℕ → Bool → Memory
-structAfter None m trits i incl = m
-structAfter (Some c) m trits i incl = if isPlain incl (ownFlipFlop m trits i c) then m else unreset m i c incl
-
-abbrev pub tritsAfter : MemoryReadFlipFlop → Memory → List ℕ → ℕ → Bool → List ℕ
-tritsAfter None m trits i incl = trits
-tritsAfter (Some c) m trits i incl = if isPlain incl (ownFlipFlop m trits i c) then trits else blanked m i trits
-
--- the struct and the trits themselves; a refused call gives memory, trits and state back as they were
+-- of any port: the struct and the trits themselves; a refused call gives memory, trits and state back as they were
 pub record ResetStruct (m : Memory) (st : LogState) (i : ℕ) (incl : Bool) (r : Driven) (trits trits′ : List ℕ) : Type 0 where
   pub struct-is : r .memory ≡ leaves (r .refusal) m (structAfter (readPort m i .«flip_flop») m trits i incl)
   pub trits-are : trits′ ≡ leaves (r .refusal) trits (tritsAfter (readPort m i .«flip_flop») m trits i incl)

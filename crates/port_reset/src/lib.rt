@@ -1,79 +1,33 @@
 // memory/src/lib.rs, unmap_read_init_reset_transparency: a read port's clear, reset and init, and its Transparent relations where they are to go, become
 // a mask and muxes behind it.
 ghost use mathlib.Core.Path.{_≡_};
-ghost use mathlib.Core.Bool.{Bool, false, not, _&&_};
-ghost use mathlib.Core.List.{List, []};
-ghost use Prim.Native.Nat.{ℕ, _-_, _<_, _≤_, min};
-ghost use lib.ListN.{length, replicate};
-ghost use lib.Seq.{sets};
-ghost use Rattle.lists.specs.Choice.{if_then_else_};
+ghost use mathlib.Core.Bool.{Bool, false, _&&_};
+ghost use mathlib.Core.List.{List};
+ghost use Prim.Native.Nat.{ℕ, _-_};
+ghost use lib.ListN.{length};
+ghost use Rattle.lists.specs.Choice.{_orElse_};
 ghost use Rattle.lists.specs.Lists.{upFrom};
-ghost use Rattle.rules.specs.Limits.{maxPorts, tritX};
-ghost use Rattle.rules.specs.Cell.{readAt, transparentFrom, withOutput};
+ghost use Rattle.rules.specs.Cell.{readAt, withOutput};
 ghost use Rattle.rules.specs.Conditions.{shortPort};
-ghost use Rattle.rules.specs.Ports.{isEmpty, isPlain, noTransparent, unmapReset, unmapResetOf, unmapReadInitResetTransparency};
-ghost use Rattle.rules.specs.Refusals.{flipFlopRefusal, logRefusal, unmapResetNumber};
+ghost use Rattle.rules.specs.Ports.{unmapReset, unmapReadInitResetTransparency};
+ghost use Rattle.rules.specs.Refusals.{flipFlopRefusal, logRefusal, drivenRefusal, unmapResetNumber};
 ghost use Rattle.rules.specs.Answers.{driven, unmapResetCall};
-ghost use Rattle.net_flip_flop.specs.View.{controlsOf};
 ghost use Rattle.log_entries.specs.Emission.{isOver, run};
 ghost use Rattle.log_entries.specs.View.{stateOf, lent};
-ghost use Rattle.net_memory.specs.View.{memoryOf, readPort, tritStart, tritSize};
+ghost use Rattle.net_memory.specs.declared.MemoryReadFlipFlop.the-variants.{Some};
+ghost use Rattle.net_memory.specs.View.{memoryOf, readPort};
 ghost use Rattle.net_memory.specs.Given.{givenOf};
 ghost use Rattle.port_unmap.specs.Ready.{ownFlipFlop};
 ghost use Rattle.port_unmap.specs.Call.{driving, roomsOf, drivenOf};
 ghost use Rattle.port_reset.specs.Ready.{ResetReady};
-ghost use Rattle.port_reset.specs.Call.{keptRelations, unresetPort, unreset, blanked, ResetStruct};
+ghost use Rattle.port_reset.specs.Call.{Acted, ResetStruct};
 use log_entries::LogState;
 use net_flip_flop::Controls;
 use net_memory::Memory;
 use net_memory::MemoryReadFlipFlop;
 use net_memory::MemoryReadPort;
-use net_value::ControlNet;
-use net_value::Net;
-//LATER use port_reset_emit::ResetNets;
+use port_reset_emit::ResetNets;
 use port_unmap::Driven;
-
-// The relations that are to go.
-fn wanted_relations(rels: &[u8], incl: bool) -> &[u8]
-    ensures { λ r. ⌜ now r ≡ (if incl then now (rels .entry) else []) ⌝ }
-{
-    if incl {
-        return rels;
-    }
-    &rels[..0]
-}
-
-// Some relation is Transparent.
-fn any_transparent(rels: &[u8]) -> bool
-    ensures { λ b. ⌜ b ≡ not (isEmpty (transparentFrom 0 (now (rels .entry)))) ⌝ }
-{
-    let mut j = 0;
-    while j < rels.len() {
-        if rels[j] == 2 {
-            return true;
-        }
-        j += 1;
-    }
-    false
-}
-
-// There is nothing to unmap: no init, no reset, no clear, and no relation that is to go.
-fn is_plain(c: Controls, init: &[u8], rels: &[u8], incl: bool) -> bool
-    ensures { λ b. ⌜ ((clear reset : List ℕ) → b ≡ isPlain incl (record { controls = controlsOf c; clearValue = clear; resetValue = reset; initValue = now (init .entry); relations = now (rels .entry) })) ⌝ }
-{
-    let reset = c.reset;
-    let clear = c.clear;
-    if !net_logic::is_undef(init) {
-        return false;
-    }
-    if !net_value::is_always(reset, false) {
-        return false;
-    }
-    if !net_value::is_always(clear, false) {
-        return false;
-    }
-    !any_transparent(wanted_relations(rels, incl))
-}
 
 // 14, where Transparent relations are to go.
 fn wanted_short(m: Memory, nets: &[u32], i: usize, incl: bool) -> bool
@@ -110,83 +64,258 @@ fn reset_number(
     0
 }
 
-// A relation's code without Transparent.
-fn kept_relation(x: u8) -> u8
-    ensures { λ r. ⌜ r ≡ noTransparent x ⌝ }
+// Port i, whose controls are c, unmapped: the same function runs dry on an empty log.
+fn emit_port(
+    log: &mut [u32],
+    st: LogState,
+    under: &mut [u32; rules::MAX_MERGE],
+    over: &mut [u32; rules::MAX_MERGE],
+    bits: &mut [u32; rules::MAX_MERGE],
+    mask: &mut [u32; rules::MAX_MERGE],
+    sel: &mut [u32; rules::MAX_MERGE],
+    spare: &mut [u32; rules::MAX_MERGE],
+    kx: &mut [u32; rules::MAX_MERGE],
+    ky: &mut [u32; rules::MAX_MERGE],
+    at: &mut [u32; rules::MAX_MERGE],
+    clears: &mut [u8; rules::MAX_MERGE],
+    resets: &mut [u8; rules::MAX_MERGE],
+    inits: &mut [u8; rules::MAX_MERGE],
+    ones: &mut [u8; rules::MAX_MERGE],
+    starts: &mut [u8; rules::MAX_MERGE],
+    m: Memory,
+    nets: &[u32],
+    trits: &[u8],
+    i: usize,
+    p: MemoryReadPort,
+    c: Controls,
+    incl: bool,
+    output: &[u32],
+) -> ResetNets
+    requires { ⌜ ResetReady m (now nets) (now trits) i c incl × (p ≡ readPort m i) ⌝ }
+    ensures { λ r. ⌜ lent (r .state) (now (log .exit)) ≡ run (unmapReset (memoryOf m (now (nets .entry)) (now (trits .entry))) i incl (now (output .entry)) (ownFlipFlop m (now (trits .entry)) i c)) (lent st (now (log .entry))) ⌝ }
+    ensures { λ r. ⌜ (isOver (stateOf (r .state)) ≡ false → withOutput (memoryOf m (now (nets .entry)) (now (trits .entry))) i (upFrom (r .first) (r .last - r .first)) (now (output .entry)) ≡ unmapReset (memoryOf m (now (nets .entry)) (now (trits .entry))) i incl (now (output .entry)) (ownFlipFlop m (now (trits .entry)) i c) (st .next) .value .output) ⌝ }
 {
-    if x == 2 { 0 } else { x }
+    let relations = p.relations;
+    let all = lists::part_u8(&relations, 0, p.relations_len as usize);
+    let rels = port_unreset::wanted_relations(all, incl);
+    let own = net_memory::read_trits(m, trits, i);
+    let from = lists::part_u32(output, net_memory::output_start(m, i), p.data_len as usize);
+    port_reset_emit::emit_reset(
+        log, st, under, over, bits, mask, sel, spare, kx, ky, at, clears, resets, inits, ones, starts, m, nets, net_memory::read_nets(m, nets, i), rels, p.data_len, c, net_memory::clear_of(p, own), net_memory::reset_of(p, own), net_memory::init_of(p, own), from,
+    )
 }
 
-// The codes of a port's relations without Transparent, where these are to go.
-fn kept_relations(relations: [u8; rules::MAX_PORTS], incl: bool) -> [u8; rules::MAX_PORTS]
-    ensures { λ r. ⌜ r ≡ keptRelations incl relations ⌝ }
+// 20 and 21 of it, by a run without a log.
+fn dry_number(
+    room: usize,
+    st: LogState,
+    under: &mut [u32; rules::MAX_MERGE],
+    over: &mut [u32; rules::MAX_MERGE],
+    bits: &mut [u32; rules::MAX_MERGE],
+    mask: &mut [u32; rules::MAX_MERGE],
+    sel: &mut [u32; rules::MAX_MERGE],
+    spare: &mut [u32; rules::MAX_MERGE],
+    kx: &mut [u32; rules::MAX_MERGE],
+    ky: &mut [u32; rules::MAX_MERGE],
+    at: &mut [u32; rules::MAX_MERGE],
+    clears: &mut [u8; rules::MAX_MERGE],
+    resets: &mut [u8; rules::MAX_MERGE],
+    inits: &mut [u8; rules::MAX_MERGE],
+    ones: &mut [u8; rules::MAX_MERGE],
+    starts: &mut [u8; rules::MAX_MERGE],
+    m: Memory,
+    nets: &[u32],
+    trits: &[u8],
+    i: usize,
+    p: MemoryReadPort,
+    c: Controls,
+    incl: bool,
+    output: &[u32],
+) -> u32
+    requires { ⌜ ResetReady m (now nets) (now trits) i c incl × (p ≡ readPort m i) ⌝ }
+    ensures { λ r. ⌜ r ≡ logRefusal room (stateOf st) (unmapReset (memoryOf m (now (nets .entry)) (now (trits .entry))) i incl (now (output .entry)) (ownFlipFlop m (now (trits .entry)) i c)) ⌝ }
 {
-    if !incl {
-        return relations;
+    let mut no_log = [0u32; 0];
+    let start = log_entries::dry_start(st);
+    let dry = emit_port(
+        &mut no_log, start, under, over, bits, mask, sel, spare, kx, ky, at, clears, resets, inits, ones, starts, m, nets, trits, i, p, c, incl, output,
+    );
+    let after = dry.state;
+    log_entries::dry_refusal(room, st, after)
+}
+
+// 20 and 21 by a dry run, then the same for good; the void nets become the port's outputs.
+fn unmap_with(
+    log: &mut [u32],
+    st: LogState,
+    output: &mut [u32],
+    trits: &mut [u8],
+    under: &mut [u32; rules::MAX_MERGE],
+    over: &mut [u32; rules::MAX_MERGE],
+    bits: &mut [u32; rules::MAX_MERGE],
+    mask: &mut [u32; rules::MAX_MERGE],
+    sel: &mut [u32; rules::MAX_MERGE],
+    spare: &mut [u32; rules::MAX_MERGE],
+    kx: &mut [u32; rules::MAX_MERGE],
+    ky: &mut [u32; rules::MAX_MERGE],
+    at: &mut [u32; rules::MAX_MERGE],
+    clears: &mut [u8; rules::MAX_MERGE],
+    resets: &mut [u8; rules::MAX_MERGE],
+    inits: &mut [u8; rules::MAX_MERGE],
+    ones: &mut [u8; rules::MAX_MERGE],
+    starts: &mut [u8; rules::MAX_MERGE],
+    m: Memory,
+    nets: &[u32],
+    i: usize,
+    p: MemoryReadPort,
+    c: Controls,
+    incl: bool,
+) -> Driven
+    requires { ⌜ ResetReady m (now nets) (now trits) i c incl × (p ≡ readPort m i) ⌝ }
+    ensures { λ r. ⌜ drivenOf r (now (nets .entry)) (now (trits .exit)) (now (output .exit)) (now (log .exit)) ≡ driven (logRefusal (length (now (log .entry))) (stateOf st) (unmapReset (memoryOf m (now (nets .entry)) (now (trits .entry))) i incl (now (output .entry)) (ownFlipFlop m (now (trits .entry)) i c))) (now (log .entry)) (stateOf st) (driving m (now (nets .entry)) (now (trits .entry)) (now (output .entry))) (unmapReset (memoryOf m (now (nets .entry)) (now (trits .entry))) i incl (now (output .entry)) (ownFlipFlop m (now (trits .entry)) i c)) ⌝ }
+    ensures { λ r. ⌜ Acted m st i c incl r (now (trits .entry)) (now (trits .exit)) ⌝ }
+{
+    let n = dry_number(
+        log.len(), st, under, over, bits, mask, sel, spare, kx, ky, at, clears, resets, inits, ones, starts, m, nets, trits, i, p, c, incl, output,
+    );
+    if n != 0 {
+        return Driven {
+            refusal: n,
+            memory: m,
+            state: st,
+        };
     }
-    let mut out = relations;
-    let mut j = 0;
-    while j < rules::MAX_PORTS {
-        out[j] = kept_relation(out[j]);
-        j += 1;
-    }
-    out
-}
-
-// A port without clear and reset, and without Transparent relations where these are to go.
-fn unreset_port(p: MemoryReadPort, c: Controls, incl: bool) -> MemoryReadPort
-    ensures { λ r. ⌜ r ≡ unresetPort p c incl ⌝ }
-{
-    let old = p.relations;
-    let relations = kept_relations(old, incl);
-    let clock = c.clock;
-    let enable = c.enable;
-    let controls = Controls {
-        clock,
-        clear: ControlNet::Pos(Net(0)),
-        reset: ControlNet::Pos(Net(0)),
-        enable,
-        reset_over_enable: c.reset_over_enable,
-    };
-    MemoryReadPort {
-        addr_len: p.addr_len,
-        data_len: p.data_len,
-        clear_len: p.clear_len,
-        reset_len: p.reset_len,
-        init_len: p.init_len,
-        relations_len: p.relations_len,
-        relations,
-        flip_flop: MemoryReadFlipFlop::Some(controls),
+    let done = emit_port(
+        log, st, under, over, bits, mask, sel, spare, kx, ky, at, clears, resets, inits, ones, starts, m, nets, trits, i, p, c, incl, output,
+    );
+    let state = done.state;
+    let start = net_memory::output_start(m, i);
+    port_transparency::fresh_nets(output, start, done.first, done.last);
+    port_unreset::blank(trits, m, i);
+    let memory = port_unreset::unreset(m, i, c, incl);
+    Driven {
+        refusal: 0,
+        memory,
+        state,
     }
 }
 
-// The memory whose port i is so.
-fn unreset(m: Memory, i: usize, p: MemoryReadPort, c: Controls, incl: bool) -> Memory
-    requires { ⌜ (i < 8) × (p ≡ readPort m i) ⌝ }
-    ensures { λ r. ⌜ r ≡ unreset m i c incl ⌝ }
+// The same with its scratch.
+fn unmap_clocked(
+    log: &mut [u32],
+    st: LogState,
+    output: &mut [u32],
+    trits: &mut [u8],
+    m: Memory,
+    nets: &[u32],
+    i: usize,
+    p: MemoryReadPort,
+    c: Controls,
+    incl: bool,
+) -> Driven
+    requires { ⌜ ResetReady m (now nets) (now trits) i c incl × (p ≡ readPort m i) ⌝ }
+    ensures { λ r. ⌜ drivenOf r (now (nets .entry)) (now (trits .exit)) (now (output .exit)) (now (log .exit)) ≡ driven (logRefusal (length (now (log .entry))) (stateOf st) (unmapReset (memoryOf m (now (nets .entry)) (now (trits .entry))) i incl (now (output .entry)) (ownFlipFlop m (now (trits .entry)) i c))) (now (log .entry)) (stateOf st) (driving m (now (nets .entry)) (now (trits .entry)) (now (output .entry))) (unmapReset (memoryOf m (now (nets .entry)) (now (trits .entry))) i incl (now (output .entry)) (ownFlipFlop m (now (trits .entry)) i c)) ⌝ }
+    ensures { λ r. ⌜ Acted m st i c incl r (now (trits .entry)) (now (trits .exit)) ⌝ }
 {
-    let q = unreset_port(p, c, incl);
-    let mut out = m;
-    out.read_ports[i] = q;
-    out
+    let mut under = [0u32; rules::MAX_MERGE];
+    let mut over = [0u32; rules::MAX_MERGE];
+    let mut bits = [0u32; rules::MAX_MERGE];
+    let mut mask = [0u32; rules::MAX_MERGE];
+    let mut sel = [0u32; rules::MAX_MERGE];
+    let mut spare = [0u32; rules::MAX_MERGE];
+    let mut kx = [0u32; rules::MAX_MERGE];
+    let mut ky = [0u32; rules::MAX_MERGE];
+    let mut at = [0u32; rules::MAX_MERGE];
+    let mut clears = [0u8; rules::MAX_MERGE];
+    let mut resets = [0u8; rules::MAX_MERGE];
+    let mut inits = [0u8; rules::MAX_MERGE];
+    let mut ones = [0u8; rules::MAX_MERGE];
+    let mut starts = [0u8; rules::MAX_MERGE];
+    unmap_with(
+        log, st, output, trits, &mut under, &mut over, &mut bits, &mut mask, &mut sel, &mut spare, &mut kx, &mut ky, &mut at, &mut clears, &mut resets, &mut inits, &mut ones, &mut starts, m, nets, i, p, c, incl,
+    )
 }
 
-// Where the trits of port i start: a memory of i read ports has as many.
-fn trit_start(m: Memory, i: usize) -> usize
-    requires { ⌜ i < 8 ⌝ }
-    ensures { λ r. ⌜ r ≡ tritStart m i ⌝ }
+// A clocked port that numbers 1 to 4, 14 and 15 pass: where there is nothing to unmap, nothing is done.
+fn unmap_some(
+    log: &mut [u32],
+    st: LogState,
+    output: &mut [u32],
+    trits: &mut [u8],
+    m: Memory,
+    nets: &[u32],
+    i: usize,
+    p: MemoryReadPort,
+    c: Controls,
+    incl: bool,
+) -> Driven
+    requires { ⌜ (readPort m i .«flip_flop» ≡ Some c) × (unmapResetNumber (st .next) (givenOf m (now nets) (now trits)) i incl (now output) ≡ 0) × (p ≡ readPort m i) ⌝ }
+    ensures { λ r. ⌜ drivenOf r (now (nets .entry)) (now (trits .exit)) (now (output .exit)) (now (log .exit)) ≡ driven (flipFlopRefusal (readAt (memoryOf m (now (nets .entry)) (now (trits .entry))) i) orElse drivenRefusal (roomsOf (now (nets .entry)) (now (trits .entry)) (now (output .entry))) (length (now (log .entry))) (stateOf st) (unmapReadInitResetTransparency (memoryOf m (now (nets .entry)) (now (trits .entry))) i incl (now (output .entry)))) (now (log .entry)) (stateOf st) (driving m (now (nets .entry)) (now (trits .entry)) (now (output .entry))) (unmapReadInitResetTransparency (memoryOf m (now (nets .entry)) (now (trits .entry))) i incl (now (output .entry))) ⌝ }
+    ensures { λ r. ⌜ ResetStruct m st i incl r (now (trits .entry)) (now (trits .exit)) ⌝ }
 {
-    let mut front = m;
-    front.read_count = i as u32;
-    net_memory::trits_total(front)
+    if port_unreset::port_plain(m, trits, i, p, c, incl) {
+        let n = log_entries::room_refusal(log.len(), st, 0, 0);
+        return Driven {
+            refusal: n,
+            memory: m,
+            state: st,
+        };
+    }
+    unmap_clocked(log, st, output, trits, m, nets, i, p, c, incl)
 }
 
-// The trits of port i become X.
-fn blank(trits: &mut [u8], m: Memory, i: usize, p: MemoryReadPort)
-    requires { ⌜ (i < 8) × (p ≡ readPort m i) ⌝ }
-    ensures { λ _. ⌜ now (trits .exit) ≡ blanked m i (now (trits .entry)) ⌝ }
+// A port that they pass: 22 where it has no flip-flop.
+fn unmap_port(
+    log: &mut [u32],
+    st: LogState,
+    output: &mut [u32],
+    trits: &mut [u8],
+    m: Memory,
+    nets: &[u32],
+    i: usize,
+    p: MemoryReadPort,
+    incl: bool,
+) -> Driven
+    requires { ⌜ (unmapResetNumber (st .next) (givenOf m (now nets) (now trits)) i incl (now output) ≡ 0) × (p ≡ readPort m i) ⌝ }
+    ensures { λ r. ⌜ drivenOf r (now (nets .entry)) (now (trits .exit)) (now (output .exit)) (now (log .exit)) ≡ driven (flipFlopRefusal (readAt (memoryOf m (now (nets .entry)) (now (trits .entry))) i) orElse drivenRefusal (roomsOf (now (nets .entry)) (now (trits .entry)) (now (output .entry))) (length (now (log .entry))) (stateOf st) (unmapReadInitResetTransparency (memoryOf m (now (nets .entry)) (now (trits .entry))) i incl (now (output .entry)))) (now (log .entry)) (stateOf st) (driving m (now (nets .entry)) (now (trits .entry)) (now (output .entry))) (unmapReadInitResetTransparency (memoryOf m (now (nets .entry)) (now (trits .entry))) i incl (now (output .entry))) ⌝ }
+    ensures { λ r. ⌜ ResetStruct m st i incl r (now (trits .entry)) (now (trits .exit)) ⌝ }
 {
-    let start = trit_start(m, i);
-    let size = net_memory::trit_size(p);
-    lists::fill_u8(trits, start, size, rules::TRIT_X);
+    let f = p.flip_flop;
+    match f {
+        MemoryReadFlipFlop::None => Driven {
+            refusal: 22,
+            memory: m,
+            state: st,
+        },
+        MemoryReadFlipFlop::Some(c) => {
+            unmap_some(log, st, output, trits, m, nets, i, p, c, incl)
+        }
+    }
+}
+
+// unmap_read_init_reset_transparency: new void nets take the port's place among the outputs, and the flip-flops of data and mask stand behind with the
+// muxes; the port keeps its clock and enable, and its clear, reset and init trits become X.
+pub fn unmap_read_init_reset_transparency(
+    log: &mut [u32],
+    st: LogState,
+    output: &mut [u32],
+    trits: &mut [u8],
+    m: Memory,
+    nets: &[u32],
+    port: usize,
+    incl: bool,
+) -> Driven
+    ensures { λ r. ⌜ drivenOf r (now (nets .entry)) (now (trits .exit)) (now (output .exit)) (now (log .exit)) ≡ unmapResetCall (roomsOf (now (nets .entry)) (now (trits .entry)) (now (output .entry))) (now (log .entry)) (stateOf st) (givenOf m (now (nets .entry)) (now (trits .entry))) port incl (now (output .entry)) ⌝ }
+    ensures { λ r. ⌜ ResetStruct m st port incl r (now (trits .entry)) (now (trits .exit)) ⌝ }
+{
+    let n = reset_number(m, nets, trits, port, incl, output, st.next);
+    if n != 0 {
+        return Driven {
+            refusal: n,
+            memory: m,
+            state: st,
+        };
+    }
+    let p = m.read_ports[port];
+    unmap_port(log, st, output, trits, m, nets, port, p, incl)
 }

@@ -29,11 +29,12 @@ use Rattle.merge_mux.specs.Runs.{bitwiseOf}
 use Rattle.merge_mux.proofs.Found.{limited-all}
 use Rattle.merge_mux.proofs.Spread.{length-spread, results-are}
 use Rattle.port_transparency.specs.Gave.{Gave}
+use Rattle.port_transparency.specs.Pairs.{withMask}
 use Rattle.port_transparency.proofs.Gave.{gave-done, gave-bind, gave-fresh, gave-next, gave-held}
 use Rattle.port_transparency.proofs.Covered.{gave-bitwise}
 use Rattle.port_overlay.specs.Laid.{laidFrom}
 use Rattle.port_overlay.proofs.Laid.{chains-laid-from}
-use Rattle.port_reset_emit.specs.Behind.{masked, startTrit, maskBehind, choice, resetBehind, resetLaid, resetIf}
+use Rattle.port_reset_emit.specs.Behind.{startTrit, maskBehind, choice, resetBehind, resetLaid, resetIf}
 
 -- ---- the flip-flop of the data
 dff-fresh : (f : FlipFlop) (l l1 : Lent) (out out′ : List ℕ) → l1 ≡ run (addDff f) l → out′ ≡ sets out 0 (upFrom (l .state .next) (l1 .state .next - l .state .next))
@@ -159,17 +160,13 @@ x-are : (n : ℕ) → replicate n X ≡ xNets n
 unfolding xNets
 x-are n = refl
 
-held-mask : (k : Value) → orEmpty (masked [] k .mask) ≡ k
-unfolding orEmpty
-held-mask k = refl
-
 module _ (m : Mem) (kr : ℕ) (r : ReadPort) (n : ℕ) (xs : List ℕ) (f g : Value → FlipFlop) (from : Value) where
   pub laid-gave : (l l1 l2 : Lent) (u w u1 w1 : Value) (v : Value) → u ≡ replicate n X → w ≡ replicate n 0
-      → Gave (laidFrom m kr r 0 xs (masked u w)) l l1 (masked u1 w1) → Gave (resetBehind (f u1) (g w1) n from) l1 l2 v → Gave (resetLaid m kr r n xs f g from) l l2 v
+      → Gave (laidFrom m kr r 0 xs (withMask u w)) l l1 (withMask u1 w1) → Gave (resetBehind (f u1) (g w1) n from) l1 l2 v → Gave (resetLaid m kr r n xs f g from) l l2 v
   unfolding resetLaid orEmpty
   laid-gave l l1 l2 u w u1 w1 v eu ew h k =
-      let q : Gave (laidFrom m kr r 0 xs (masked (xNets n) (replicate n 0))) l l1 (masked u1 w1) = rw (eu ∙ x-are n, ew) at h in
-      gave-bind (laidFrom m kr r 0 xs (masked (xNets n) (replicate n 0))) _ l l1 l2 (masked u1 w1) v (chains-laid-from m kr r 0 xs _) q k
+      let q : Gave (laidFrom m kr r 0 xs (withMask (xNets n) (replicate n 0))) l l1 (withMask u1 w1) = rw (eu ∙ x-are n, ew) at h in
+      gave-bind (laidFrom m kr r 0 xs (withMask (xNets n) (replicate n 0))) _ l l1 l2 (withMask u1 w1) v (chains-laid-from m kr r 0 xs _) q k
 
   pub if-many : (l : Lent) (i : ℕ) → maxMerge < n → Gave (resetIf m kr r n xs f g from) l l (upFrom i (i - i))
   unfolding resetIf
@@ -181,3 +178,7 @@ module _ (m : Mem) (kr : ℕ) (r : ReadPort) (n : ℕ) (xs : List ℕ) (f g : Va
   pub if-few : (l l1 : Lent) (v : Value) → n ≤ maxMerge → Gave (resetLaid m kr r n xs f g from) l l1 v → Gave (resetIf m kr r n xs f g from) l l1 v
   unfolding resetIf
   if-few l l1 v h k = rw (le-ltb maxMerge n h) k
+
+pub laid-wide : (m : Mem) (j kr : ℕ) (r : ReadPort) (n : ℕ) (xs : List ℕ) (f g : Value → FlipFlop) (from : Value) (l l1 : Lent) (v : Value) → j ≡ kr
+    → Gave (resetLaid m j r n xs f g from) l l1 v → Gave (resetLaid m kr r n xs f g from) l l1 v
+laid-wide m j kr r n xs f g from l l1 v e q = rw e at q

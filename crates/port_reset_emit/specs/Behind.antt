@@ -1,7 +1,6 @@
 -- unmap_read_init_reset_transparency without its numbers: the write ports laid over no data, the flip-flops of data and mask, and the muxes by them.
 use Prim.Native.Nat.{ℕ}
 use mathlib.Core.Bool.{Bool}
-use mathlib.Core.Option.{some}
 use mathlib.Core.List.{List, []}
 use lib.ListN.{replicate}
 use lib.Dec.{ltb}
@@ -12,12 +11,8 @@ use Rattle.rules.specs.Value.{Value, xNets}
 use Rattle.rules.specs.Cell.{Controls, FlipFlop, Relation, ReadPort, Mem, orEmpty}
 use Rattle.rules.specs.Log.{Trace, _>>=_, _>>_, done, addVoid, addDff, replaceValue}
 use Rattle.rules.specs.Merge.{addDedupDff, addBitwiseMux}
-use Rattle.rules.specs.Ports.{Overlay}
+use Rattle.port_transparency.specs.Pairs.{withMask}
 use Rattle.port_overlay.specs.Laid.{laidFrom}
-
--- data and its mask
-abbrev pub masked : Value → Value → Overlay
-masked b k = record { bits = b; mask = some k }
 
 -- the trit that the mask's flip-flop starts with
 abbrev pub startTrit : Bool → ℕ
@@ -45,7 +40,7 @@ resetBehind f g n from = do
 -- behind the write ports that these relations are Transparent to, laid over no data
 unfoldable pub resetLaid : Mem → ℕ → ReadPort → ℕ → List Relation → (Value → FlipFlop) → (Value → FlipFlop) → Value → Trace Value
 resetLaid m kr r n xs f g from = do
-  o ← laidFrom m kr r 0 xs (masked (xNets n) (replicate n 0))
+  o ← laidFrom m kr r 0 xs (withMask (xNets n) (replicate n 0))
   resetBehind (f (o .bits)) (g (orEmpty (o .mask))) n from
 
 -- more nets than a merge takes, which no port of a memory has, give nothing

@@ -4,9 +4,9 @@ ghost use mathlib.Core.Path.{_≡_};
 ghost use mathlib.Core.Bool.{Bool, not};
 ghost use mathlib.Core.List.{List};
 ghost use Prim.Native.Nat.{ℕ, _-_, _≤_};
-ghost use lib.ListN.{length, take};
+ghost use lib.ListN.{length, take, replicate};
 ghost use Rattle.lists.specs.Lists.{upFrom};
-ghost use Rattle.rules.specs.Limits.{maxMerge};
+ghost use Rattle.rules.specs.Limits.{maxMerge, X};
 ghost use Rattle.rules.specs.Logic.{isUndef};
 ghost use Rattle.rules.specs.Cell.{wideLog2};
 ghost use Rattle.rules.specs.Log.{addVoid, addDff};
@@ -183,6 +183,15 @@ fn emit_behind(
     }
 }
 
+// No data and no mask yet: n nets X and n nets 0.
+fn start_over(under: &mut [u32; rules::MAX_MERGE], over: &mut [u32; rules::MAX_MERGE], n: usize)
+    requires { ⌜ n ≤ maxMerge ⌝ }
+    ensures { λ _. ⌜ (take n (now (under .exit)) ≡ replicate n X) × (take n (now (over .exit)) ≡ replicate n 0) ⌝ }
+{
+    lists::fill_u32(under, 0, n, rules::NET_X);
+    lists::fill_u32(over, 0, n, 0);
+}
+
 // A port of n nets with these relations, controls and trits, whose outputs are `from`.
 fn emit_laid<'a>(
     log: &mut [u32],
@@ -216,8 +225,7 @@ fn emit_laid<'a>(
     ensures { λ r. ⌜ ((trits : List ℕ) → Gave (resetLaid (memoryOf m (now (nets .entry)) trits) (wideLog2 (m .width) n) (reading (now (raddr .entry)) n) n (now (rels .entry)) (λ b. flipFlop (controlsOf c) b (now (clear .entry)) (now (reset .entry)) (now (init .entry))) (λ k. maskBehind (controlsOf c) (not (isUndef (now (init .entry)))) n k) (now (from .entry))) (lent st (now (log .entry))) (lent (r .state) (now (log .exit))) (upFrom (r .first) (r .last - r .first))) ⌝ }
 {
     let size = n as usize;
-    lists::fill_u32(under, 0, size, rules::NET_X);
-    lists::fill_u32(over, 0, size, 0);
+    start_over(under, over, size);
     let kr = net_memory::wide::wide_log(m.width, size);
     let s1 = port_masked::emit_masked_pairs(
         log, st, under, over, bits, mask, sel, spare, kx, ky, at, m, nets, rels, kr, raddr, size,

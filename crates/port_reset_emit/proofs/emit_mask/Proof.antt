@@ -25,17 +25,17 @@ slice-reshare-prefix-own c = search needs
 slice-aggregate-own : tie.Need-slice-aggregate-own
 slice-aggregate-own c = sym (length-take-le _ _ (omega (arith, c .before .before .before .before .before .before .before .before .before .before .before .before .before .before .before .pre .3, c .before .before .before .before .before .before .before .before .fill-u8 .kept .0)))
 
-slice-aggregate-emit-dedup-dff : tie.Need-slice-aggregate-emit-dedup-dff
-slice-aggregate-emit-dedup-dff c = sym (length-take-le _ _ (c .before .before .before .before .before .before .before .before .before .before .before .before .before .before .before .before .before .before .pre .1))
+slice-aggregate-emit-dedup-dff-with : tie.Need-slice-aggregate-emit-dedup-dff-with
+slice-aggregate-emit-dedup-dff-with c = sym (length-take-le _ _ (c .before .before .before .before .before .before .before .before .before .before .before .before .before .before .before .before .before .before .before .before .before .before .before .before .before .pre .1))
 
-slice-reshare-prefix-emit-dedup-dff : tie.Need-slice-reshare-prefix-emit-dedup-dff
-slice-reshare-prefix-emit-dedup-dff c = search needs
+slice-reshare-prefix-emit-dedup-dff-with : tie.Need-slice-reshare-prefix-emit-dedup-dff-with
+slice-reshare-prefix-emit-dedup-dff-with c = search needs
 
-slice-aggregate-emit-dedup-dff-2 : tie.Need-slice-aggregate-emit-dedup-dff-2
-slice-aggregate-emit-dedup-dff-2 c = sym (length-take-le _ _ (omega (arith, c .before .before .before .before .before .before .before .before .before .before .before .before .before .before .before .before .before .before .before .pre .4, c .before .before .before .before .before .before .before .fill-u82 .kept .0)))
+slice-aggregate-emit-dedup-dff-with-2 : tie.Need-slice-aggregate-emit-dedup-dff-with-2
+slice-aggregate-emit-dedup-dff-with-2 c = sym (length-take-le _ _ (omega (arith, c .before .before .before .before .before .before .before .before .before .before .before .before .before .before .before .before .before .before .before .before .before .before .before .before .before .before .pre .4, c .before .before .before .before .before .before .before .before .before .before .before .before .before .before .fill-u82 .kept .0)))
 
-emit-dedup-dff-requires : tie.Need-emit-dedup-dff-requires
-emit-dedup-dff-requires c κs = search needs
+emit-dedup-dff-with-requires : tie.Need-emit-dedup-dff-with-requires
+emit-dedup-dff-with-requires c κs = search needs
 
 same-length : tie.Need-same-length
 same-length c = search needs
@@ -51,11 +51,11 @@ same-length-4 c = search needs
 
 returns : tie.Need-returns
 returns c =
-    let v = c .before .before .before .before .before .before .before .before .before .before .before .before .before .before .before .before .before .before .before .before .before .before .before .before .args in
-    let p = c .before .before .before .before .emit-dedup-dff in
-    let x = first-filled (v .ones .now) (c .before .before .before .before .before .before .before .before .before .before .before .before .before .before .before .before .before .fill-u8 .last .0) (v .n) 1 (c .before .before .before .before .before .before .before .before .before .before .before .before .before .before .before .before .before .fill-u8 .ensures) (c .before .before .before .before .before .before .before .before .before .before .before .before .before .before .before .before .before .before .before .before .before .before .before .before .pre .3) in
-    let y = first-filled (v .starts .now) (c .before .before .before .before .before .before .before .before .before .before .before .before .fill-u82 .last .0) (v .n) (c .before .before .before .before .before .before .before .before .before .before .before .before .before .start-trit .result) (c .before .before .before .before .before .before .before .before .before .before .before .before .fill-u82 .ensures) (c .before .before .before .before .before .before .before .before .before .before .before .before .before .before .before .before .before .before .before .before .before .before .before .before .pre .4) ∙ ap (replicate (v .n)) (c .before .before .before .before .before .before .before .before .before .before .before .before .before .start-trit .ensures) in
-    mask-gave (controlsOf (v .c)) (v .initial) (v .n) (take (v .n) (v .over .now)) (length-take-le _ _ (c .before .before .before .before .before .before .before .before .before .before .before .before .before .before .before .before .before .before .before .before .before .before .before .before .pre .1)) _ _ (v .out .now) (p .last .1 .1 .0) (lent (v .st) (v .log .now)) (lent (p .result) (p .last .0)) x y (c .before .before .before .before .before .before .before .before .before .before .before .before .before .before .before .before .before .before .before .before .before .before .before .before .pre .0) (c .before .before .before .before .before .before .before .before .before .before .before .before .before .before .before .before .before .before .before .before .before .before .before .before .pre .2) (p .ensures .0) (p .ensures .1)
+    let v = c .before .before .before .before .before .before .before .before .before .before .before .before .before .before .before .before .before .before .before .before .before .before .before .before .before .before .before .before .before .before .before .args in
+    let p = c .before .before .before .before .emit-dedup-dff-with in
+    let x = first-filled (v .ones .now) (c .before .before .before .before .before .before .before .before .before .before .before .before .before .before .before .before .before .before .before .before .before .before .before .before .fill-u8 .last .0) (v .n) 1 (c .before .before .before .before .before .before .before .before .before .before .before .before .before .before .before .before .before .before .before .before .before .before .before .before .fill-u8 .ensures) (c .before .before .before .before .before .before .before .before .before .before .before .before .before .before .before .before .before .before .before .before .before .before .before .before .before .before .before .before .before .before .before .pre .3) in
+    let y = first-filled (v .starts .now) (c .before .before .before .before .before .before .before .before .before .before .before .before .before .before .before .before .before .before .before .fill-u82 .last .0) (v .n) (c .before .before .before .before .before .before .before .before .before .before .before .before .before .before .before .before .before .before .before .before .start-trit .result) (c .before .before .before .before .before .before .before .before .before .before .before .before .before .before .before .before .before .before .before .fill-u82 .ensures) (c .before .before .before .before .before .before .before .before .before .before .before .before .before .before .before .before .before .before .before .before .before .before .before .before .before .before .before .before .before .before .before .pre .4) ∙ ap (replicate (v .n)) (c .before .before .before .before .before .before .before .before .before .before .before .before .before .before .before .before .before .before .before .before .start-trit .ensures) in
+    mask-gave (controlsOf (v .c)) (v .initial) (v .n) (take (v .n) (v .over .now)) (length-take-le _ _ (c .before .before .before .before .before .before .before .before .before .before .before .before .before .before .before .before .before .before .before .before .before .before .before .before .before .before .before .before .before .before .before .pre .1)) _ _ (v .out .now) (p .last .1 .1 .0) (lent (v .st) (v .log .now)) (lent (p .result) (p .last .0)) x y (c .before .before .before .before .before .before .before .before .before .before .before .before .before .before .before .before .before .before .before .before .before .before .before .before .before .before .before .before .before .before .before .pre .0) (c .before .before .before .before .before .before .before .before .before .before .before .before .before .before .before .before .before .before .before .before .before .before .before .before .before .before .before .before .before .before .before .pre .2) (p .ensures .0) (p .ensures .1)
 
 pub emit-mask-spec : {M : Type 1} → statement M
 emit-mask-spec =
@@ -66,10 +66,10 @@ emit-mask-spec =
     fill-u8-requires-2
     slice-reshare-prefix-own
     slice-aggregate-own
-    slice-aggregate-emit-dedup-dff
-    slice-reshare-prefix-emit-dedup-dff
-    slice-aggregate-emit-dedup-dff-2
-    emit-dedup-dff-requires
+    slice-aggregate-emit-dedup-dff-with
+    slice-reshare-prefix-emit-dedup-dff-with
+    slice-aggregate-emit-dedup-dff-with-2
+    emit-dedup-dff-with-requires
     same-length
     same-length-2
     same-length-3

@@ -6,8 +6,9 @@ use native.Mathlib.Omega.{arith}
 use mathlib.Core.Bool.{Bool, false}
 use mathlib.Core.Option.{none, some}
 use mathlib.Core.List.{List}
-use lib.ListN.{length, take, drop, getD, replicate, length-replicate}
-use lib.Seq.{sets, take-take, getD-take, length-sets}
+use lib.ListN.{length, take, replicate, length-replicate, replicate-append-replicate, List·getD-eq-default}
+use lib.Seq.{sets, take-take, getD-take, set-out, length-sets}
+use Rattle.lists.proofs.Stores.{sets-then}
 use borrow.Author.Tests.{eqb-true, not-false}
 use Rattle.lists.specs.Lists.{sumBy, part}
 use Rattle.lists.proofs.Choice.{or-false}
@@ -25,10 +26,8 @@ use Rattle.net_memory.specs.declared.Memory.{Memory}
 use Rattle.net_memory.specs.View.{noReadPort, memoryOf, readPort, readPorts, readBy, clockedBy, readTrits, readStart, tritStart, addrSize, tritSize, tritsTotal}
 use Rattle.net_memory.proofs.Ports.{read-of-view, reads-at, trits-at}
 use Rattle.net_memory.proofs.Changes.{withRead, read-changed}
-use Rattle.port_unmap.specs.Ready.{ownFlipFlop}
-use Rattle.port_reset.specs.Ready.{ResetReady}
-use Rattle.port_reset.specs.Call.{unresetControls, keptRelations, unresetPort, unreset, blanked}
-use Rattle.port_reset.proofs.Plain.{kept-part}
+use Rattle.port_unreset.specs.Struct.{unresetControls, keptRelations, unresetPort, unreset, blanked}
+use Rattle.port_unreset.proofs.Plain.{kept-part}
 
 -- ---- where a port's trits start, and that they are there
 pub start-is : (m : Memory) (i : ℕ) → i < 8
@@ -73,12 +72,14 @@ shape-lens : (v : Mem) (n : ℕ) (f : ReadFlipFlop) → badFlipFlopShape v n f �
 unfolding badFlipFlopShape
 shape-lens v n f e = or-false _ _ e .0
 
-module _ (m : Memory) (nets trits : List ℕ) (i : ℕ) (c : Controls) (incl : Bool) (g : ResetReady m nets trits i c incl) where
+module _ (m : Memory) (nets trits : List ℕ) (i : ℕ) (c : Controls) (incl : Bool) (there : i < min maxPorts (m .«read_count»))
+    (own-good : badFlipFlopShape (memoryOf m nets trits) (readAt (memoryOf m nets trits) i .dataLen) (clockedBy c (readPort m i) (readTrits m trits i)) ≡ false)
+    (fits : tritStart m i + tritSize (readPort m i) ≤ length trits) where
   abbrev M : Mem
   M = memoryOf m nets trits
 
   abbrev F : ReadFlipFlop
-  F = ownFlipFlop m trits i c
+  F = clockedBy c (readPort m i) (readTrits m trits i)
 
   abbrev p : MemoryReadPort
   p = readPort m i
@@ -90,10 +91,10 @@ module _ (m : Memory) (nets trits : List ℕ) (i : ℕ) (c : Controls) (incl : B
   size = tritSize (readPort m i)
 
   own-length : length (readTrits m trits i) ≡ size
-  own-length = ap length (trits-at m nets trits i (g .port .there)) ∙ length-part (tritStart m i) size trits (g .fits)
+  own-length = ap length (trits-at m nets trits i there) ∙ length-part (tritStart m i) size trits fits
 
   three : (length (F .clearValue) ≡ n) × (length (F .resetValue) ≡ n) × (length (F .initValue) ≡ n)
-  three = lens n (F .clearValue) (F .resetValue) (F .initValue) (shape-lens M n F (g .own-good))
+  three = lens n (F .clearValue) (F .resetValue) (F .initValue) (shape-lens M n F own-good)
 
   clear-n : p .«clear_len» ≡ n
   clear-n = sym (length-part 0 (p .«clear_len») (readTrits m trits i) (omega (arith, own-length))) ∙ three .0
@@ -113,7 +114,7 @@ module _ (m : Memory) (nets trits : List ℕ) (i : ℕ) (c : Controls) (incl : B
   stored : part (tritStart m i) size (blanked m i trits) ≡ xs
   stored =
       ap (λ (k : ℕ). part (tritStart m i) k (blanked m i trits)) (sym xs-length)
-      ∙ part-sets trits (tritStart m i) xs (omega (arith, xs-length, g .fits))
+      ∙ part-sets trits (tritStart m i) xs (omega (arith, xs-length, fits))
 
   -- a part of them
   x-part : (a k : ℕ) → a + k ≤ size → k ≡ n → part a k (part (tritStart m i) size (blanked m i trits)) ≡ undef n
@@ -130,12 +131,12 @@ module _ (m : Memory) (nets trits : List ℕ) (i : ℕ) (c : Controls) (incl : B
   }
 
   before : readAt M i ≡ readBy p (part (readStart m i) (addrSize p) nets) (part (tritStart m i) size trits)
-  before = read-of-view m nets trits i ∙ reads-at m nets trits i (g .port .there)
+  before = read-of-view m nets trits i ∙ reads-at m nets trits i there
 
   pub reset-view : memoryOf (unreset m i c incl) nets (blanked m i trits) ≡ withFlipFlop M i (some (unmappedReset incl n F))
   reset-view =
       let q = unresetPort p c incl in
-      read-changed m i q nets nets trits (blanked m i trits) (g .port .there) refl refl refl refl
+      read-changed m i q nets nets trits (blanked m i trits) there refl refl refl refl
       (take-sets (tritStart m i) xs trits (tritStart m i) (le-refl (tritStart m i)))
       (drop-sets (tritStart m i + size) xs trits (tritStart m i) (omega (arith, xs-length)))
       ∙ with-is M i (readBy q (part (readStart m i) (addrSize p) nets) (part (tritStart m i) size (blanked m i trits))) (unmappedReset incl n F)
@@ -143,3 +144,25 @@ module _ (m : Memory) (nets trits : List ℕ) (i : ℕ) (c : Controls) (incl : B
 
 pub blank-length : (m : Memory) (i : ℕ) (trits : List ℕ) → length (blanked m i trits) ≤ length trits
 blank-length m i trits = omega (arith, length-sets trits (tritStart m i) (replicate (tritSize (readPort m i)) tritX))
+
+-- ---- where there is no such port
+pub struct-past : (m : Memory) (i : ℕ) (c : Controls) (incl : Bool) → length (m .«read_ports») ≤ i → m ≡ unreset m i c incl
+struct-past m i c incl h =
+    ap (λ (ps : List MemoryReadPort). record { depth = m .depth; width = m .width; «init_len» = m .«init_len»; «write_count» = m .«write_count»; «read_count» = m .«read_count»; «write_ports» = m .«write_ports»; «read_ports» = ps })
+    (sym (set-out (m .«read_ports») i (unresetPort (readPort m i) c incl) h))
+
+pub trits-past : (m : Memory) (i : ℕ) (trits : List ℕ) → length (m .«read_ports») ≤ i → trits ≡ blanked m i trits
+trits-past m i trits h = sym (ap (λ (p : MemoryReadPort). sets trits (tritStart m i) (replicate (tritSize p) tritX)) (List·getD-eq-default (m .«read_ports») noReadPort h))
+
+-- ---- the three parts, one after the other
+pub three-blank : (m : Memory) (i : ℕ) (p : MemoryReadPort) (t t1 t2 t3 : List ℕ) (s a b c : ℕ) → p ≡ readPort m i → s ≡ tritStart m i → a ≡ p .«clear_len» → b ≡ p .«reset_len» → c ≡ p .«init_len»
+    → t1 ≡ sets t s (replicate a tritX) → t2 ≡ sets t1 (s + a) (replicate b tritX) → t3 ≡ sets t2 (s + a + b) (replicate c tritX) → t3 ≡ blanked m i t
+three-blank m i p t t1 t2 t3 s a b c ep es ea eb ec e1 e2 e3 =
+    let x = sets-then t t1 t2 s (s + a) (replicate a tritX) (replicate b tritX) e1 e2 (ap (λ (k : ℕ). s + k) (sym (length-replicate a tritX))) in
+    let y = x ∙ ap (sets t s) (replicate-append-replicate a b tritX) in
+    let z = sets-then t t2 t3 s (s + a + b) (replicate (a + b) tritX) (replicate c tritX) y e3 (sums s a b (length-replicate (a + b) tritX)) in
+    let n : a + b + c ≡ tritSize (readPort m i) = (λ k. ea k + eb k + ec k) ∙ ap tritSize ep in
+    z ∙ ap (sets t s) (replicate-append-replicate (a + b) c tritX) ∙ (λ k. sets t (es k) (replicate (n k) tritX))
+  where
+    sums : (s a b : ℕ) {k : ℕ} → k ≡ a + b → s + a + b ≡ s + k
+    sums s a b e = omega arith

@@ -1,7 +1,7 @@
--- Whether there is something to unmap, the relations that stay, and the numbers in their order.
+-- Whether there is something to unmap, and the relations that stay.
 use mathlib.Core.Path.{_≡_, refl, sym, ap, _∙_}
 use mathlib.Core.Logic.{_≢_}
-use Prim.Native.Nat.{ℕ, suc, _+_, _<_, _≤_, min}
+use Prim.Native.Nat.{ℕ, suc, _+_, _<_, _≤_}
 use native.Mathlib.Numerals.{add-one}
 use native.Mathlib.Omega.{arith}
 use mathlib.Core.Bool.{Bool, true, false, not, _&&_}
@@ -10,26 +10,37 @@ use lib.ListN.{length, take, drop, getD, set, drop-of-length-le}
 use lib.Seq.{take-all, take-suc-set, drop-set-lt, drop-cons, append-snoc}
 use borrow.Author.Tests.{eq-eqb, ne-eqb}
 use Rattle.lists.specs.Choice.{if_then_else_}
-use Rattle.lists.specs.Lists.{any, part}
-use Rattle.lists.proofs.Choice.{else-first, else-rest, hit, miss}
-use Rattle.rules.specs.Limits.{maxPorts}
+use Rattle.lists.specs.Lists.{part}
 use Rattle.rules.specs.Logic.{isUndef}
 use Rattle.rules.specs.Value.{isAlways}
-use Rattle.rules.specs.Cell.{ReadFlipFlop, readAt, isTransparent, transparentFrom, transparentPorts}
-use Rattle.rules.specs.Conditions.{shortPort}
+use Rattle.rules.specs.Cell.{ReadFlipFlop, isTransparent, transparentFrom, transparentPorts}
 use Rattle.rules.specs.Ports.{hasInit, hasReset, hasClear, wanted, isEmpty, isPlain, noTransparent}
-use Rattle.rules.specs.Refusals.{portNumber, drivingNumber, unmapResetNumber}
-use Rattle.net_memory.specs.declared.Memory.{Memory}
-use Rattle.net_memory.specs.View.{memoryOf, readsOf}
-use Rattle.net_memory.specs.Given.{givenOf}
-use Rattle.port_unmap.proofs.Short.{port-15, port-0}
-use Rattle.port_reset.specs.Call.{keptRelations}
+use Rattle.port_unreset.specs.Struct.{keptRelations}
 
 -- ---- relations
-pub any-there : (l : List ℕ) → any (λ j. true) l ≡ not (isEmpty l)
-unfolding isEmpty
-any-there [] = refl
-any-there (a ∷ l) = refl
+-- what is left from j on tells the whole
+abbrev pub Left : List ℕ → ℕ → Type 0
+Left rels j = isEmpty (transparentFrom j (drop j rels)) ≡ isEmpty (transparentFrom 0 rels)
+
+from-step : (rels : List ℕ) (j : ℕ) → j < length rels
+    → transparentFrom j (drop j rels) ≡ (if isTransparent (getD rels j 0) then j ∷ transparentFrom (suc j) (drop (suc j) rels) else transparentFrom (suc j) (drop (suc j) rels))
+unfolding transparentFrom
+from-step rels j h = ap (transparentFrom j) (drop-cons rels j 0 h)
+
+pub left-found : (rels : List ℕ) (j : ℕ) → j < length rels → getD rels j 0 ≡ 2 → Left rels j → true ≡ not (isEmpty (transparentFrom 0 rels))
+unfolding isEmpty isTransparent
+left-found rels j h e q =
+    ap not (sym (ap isEmpty (from-step rels j h) ∙ ap (λ (b : Bool). isEmpty (if b then j ∷ transparentFrom (suc j) (drop (suc j) rels) else transparentFrom (suc j) (drop (suc j) rels))) (eq-eqb (getD rels j 0) 2 e)) ∙ q)
+
+pub left-next : (rels : List ℕ) (j : ℕ) → j < length rels → getD rels j 0 ≢ 2 → Left rels j → Left rels (j + 1)
+unfolding isTransparent
+left-next rels j h e q =
+    ap (λ (k : ℕ). isEmpty (transparentFrom k (drop k rels))) (add-one j)
+    ∙ sym (ap isEmpty (from-step rels j h) ∙ ap (λ (b : Bool). isEmpty (if b then j ∷ transparentFrom (suc j) (drop (suc j) rels) else transparentFrom (suc j) (drop (suc j) rels))) (ne-eqb (getD rels j 0) 2 e)) ∙ q
+
+pub left-end : (rels : List ℕ) (j : ℕ) → length rels ≤ j → Left rels j → false ≡ not (isEmpty (transparentFrom 0 rels))
+unfolding isEmpty transparentFrom
+left-end rels j h q = ap not (sym (ap (λ (l : List ℕ). isEmpty (transparentFrom j l)) (drop-of-length-le rels h)) ∙ q)
 
 pub wanted-is : (incl : Bool) (f : ReadFlipFlop) → wanted incl f ≡ transparentFrom 0 (if incl then f .relations else [])
 unfolding wanted transparentPorts transparentFrom
@@ -113,35 +124,3 @@ map-take f (suc n) (x ∷ l) = ap (λ (t : List ℕ). f x ∷ t) (map-take f n l
 pub kept-part : (incl : Bool) (n : ℕ) (rels : List ℕ) → part 0 n (keptRelations incl rels) ≡ (if incl then map noTransparent (part 0 n rels) else part 0 n rels)
 kept-part true n rels = map-take noTransparent n rels
 kept-part false n rels = refl
-
--- ---- the numbers
-pub short-not : (incl b : Bool) → incl ≡ false → false ≡ (incl && b)
-short-not incl b e = stop incl b e
-
-pub short-is : (incl b x : Bool) → incl ≡ true → x ≡ b → x ≡ (incl && b)
-short-is incl b x e q = go incl b x e q
-
-module _ (next : ℕ) (m : Memory) (nets trits : List ℕ) (i : ℕ) (incl : Bool) (output : List ℕ) where
-  abbrev D : ℕ
-  D = drivingNumber false next (givenOf m nets trits) output
-
-  abbrev S : Bool
-  S = incl && shortPort (memoryOf m nets trits) (readAt (memoryOf m nets trits) i)
-
-  pub num-first : (n : ℕ) → n ≡ D → n ≢ 0 → n ≡ unmapResetNumber next (givenOf m nets trits) i incl output
-  unfolding unmapResetNumber
-  num-first n e h = e ∙ sym (else-first D _ (λ z. h (e ∙ z)))
-
-  module _ (z : D ≡ 0) where
-    pub num-14 : S ≡ true → 14 ≡ unmapResetNumber next (givenOf m nets trits) i incl output
-    unfolding unmapResetNumber
-    num-14 e = hit 14 _ e ∙ sym (else-rest D _ z)
-
-    module _ (e : S ≡ false) (k : length (readsOf m nets trits) ≡ min maxPorts (m .«read_count»)) where
-      pub num-15 : min maxPorts (m .«read_count») ≤ i → 15 ≡ unmapResetNumber next (givenOf m nets trits) i incl output
-      unfolding unmapResetNumber
-      num-15 h = miss 14 _ 15 e (sym (port-15 m nets trits i k h)) ∙ sym (else-rest D _ z)
-
-      pub num-0 : i < min maxPorts (m .«read_count») → 0 ≡ unmapResetNumber next (givenOf m nets trits) i incl output
-      unfolding unmapResetNumber
-      num-0 h = miss 14 _ 0 e (sym (port-0 m nets trits i k h)) ∙ sym (else-rest D _ z)
