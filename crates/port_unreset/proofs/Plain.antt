@@ -1,7 +1,7 @@
 -- Whether there is something to unmap, and the relations that stay.
 use mathlib.Core.Path.{_≡_, refl, sym, ap, _∙_}
 use mathlib.Core.Logic.{_≢_}
-use Prim.Native.Nat.{ℕ, suc, _+_, _<_, _≤_}
+use Prim.Native.Nat.{ℕ, zero, suc, _+_, _<_, _≤_}
 use native.Mathlib.Numerals.{add-one}
 use native.Mathlib.Omega.{arith}
 use mathlib.Core.Bool.{Bool, true, false, not, _&&_}
@@ -79,6 +79,11 @@ module _ (incl : Bool) (f : ReadFlipFlop) where
       go _ _ (not b) e (go _ _ (not b) r (go _ _ (not b) c
       (ap not h ∙ not-not (isEmpty (transparentFrom 0 rels)) ∙ ap (λ (x : List ℕ). isEmpty (transparentFrom 0 x)) q ∙ ap isEmpty (sym (wanted-is incl f))))) ∙ sym (plain-is incl f)
 
+-- by the init trits and the relations alone
+pub plain-as : (incl : Bool) (f : ReadFlipFlop) (init rels : List ℕ) (b : Bool) → b ≡ isPlain incl (record { controls = f .controls; clearValue = f .clearValue; resetValue = f .resetValue; initValue = init; relations = rels })
+    → init ≡ f .initValue → rels ≡ f .relations → b ≡ isPlain incl f
+plain-as incl f init rels b q ei er = q ∙ (λ k. isPlain incl (record { controls = f .controls; clearValue = f .clearValue; resetValue = f .resetValue; initValue = ei k; relations = er k }))
+
 -- ---- the relations that stay
 pub code-kept : (x : ℕ) → x ≢ 2 → x ≡ noTransparent x
 unfolding noTransparent isTransparent
@@ -116,7 +121,7 @@ pub kept-none : (incl : Bool) (rels : List ℕ) → incl ≡ false → rels ≡ 
 kept-none incl rels e = sym (ap (λ (b : Bool). keptRelations b rels) e)
 
 map-take : (f : ℕ → ℕ) (n : ℕ) (l : List ℕ) → take n (map f l) ≡ map f (take n l)
-map-take f 0 l = refl
+map-take f zero l = refl
 map-take f (suc n) [] = refl
 map-take f (suc n) (x ∷ l) = ap (λ (t : List ℕ). f x ∷ t) (map-take f n l)
 

@@ -44,13 +44,13 @@ trits-there m trits i h e =
     let a = take-take i (min maxPorts (m .«read_count»)) (m .«read_ports») (before i h) in
     let b = getD-take (min maxPorts (m .«read_count»)) (m .«read_ports») i noReadPort h in
     let s = sum-part tritSize noReadPort refl (readPorts m) i in
-    sums _ _ _ _ (ap (sumBy tritSize) a) (ap tritSize b) s e
+    sums _ _ (ap (sumBy tritSize) a) (ap tritSize b) s e
   where
     before : (j : ℕ) {k : ℕ} → j < k → j ≤ k
     before j g = omega arith
 
-    sums : (z t k n : ℕ) {x x′ y y′ : ℕ} → x ≡ x′ → y ≡ y′ → x + y ≤ t → n ≡ m .«init_len» + t → m .«init_len» + x′ + y′ ≤ n
-    sums z t k n p q r s = omega arith
+    sums : (t n : ℕ) {x x′ y y′ : ℕ} → x ≡ x′ → y ≡ y′ → x + y ≤ t → n ≡ m .«init_len» + t → m .«init_len» + x′ + y′ ≤ n
+    sums t n p q r s = omega arith
 
 -- ---- the view
 undef-is : (n : ℕ) → replicate n tritX ≡ undef n
