@@ -42,9 +42,13 @@ out-is : (v : Mem) (i : ℕ) (w output : Value) → sets output (outputStart v i
 unfolding withOutput
 out-is v i w output = refl
 
+long-out : (v : Mem) (i : ℕ) (w output : Value) → length (withOutput v i w output) ≤ length output
+unfolding withOutput
+long-out v i w output = omega (arith, length-sets output (outputStart v i) w)
+
 out-long : (v : Mem) (i : ℕ) (incl : Bool) (output : Value) (f : ReadFlipFlop) (k : ℕ) → length (unmapReset v i incl output f k .value .output) ≤ length output
-unfolding unmapReset _>>=_ _>>_ done withOutput
-out-long v i incl output f k = omega (arith, length-sets output (outputStart v i) _)
+unfolding unmapReset _>>=_ _>>_ done
+out-long v i incl output f k = long-out v i _ output
 
 module _ (m : Memory) (nets trits : List ℕ) (i : ℕ) (c : Controls) (incl : Bool) (g : ResetReady m nets trits i c incl) (output : List ℕ) where
   abbrev M : Mem

@@ -67,10 +67,10 @@ module _ (m : Mem) (i : ℕ) (s : (j : ℕ) → Small (writeAt m j) (readAt m i 
       let js = wanted incl f in
       let o = withMask (xNets n) (replicate n 0) in
       most-bind (transparencies m i js o) _ 98312 8192 (λ x. most-ports incl f h g x) (λ a.
-      most-bind (addDff _) _ 2048 6144 (data-most f _ (all-few m i s js o a (start-few n g))) (λ b.
-      most-bind (addDedupDff _) _ 2048 4096 (mask-most f n _ (all-mask-few m i s js o a (mask-few n g))) (λ c.
+      most-bind (addDff _) _ 2048 6144 (data-most f (transparencies m i js o a .value .bits) (all-few m i s js o a (start-few n g))) (λ b.
+      most-bind (addDedupDff _) _ 2048 4096 (mask-most f n (transparencies m i js o a .value) (all-mask-few m i s js o a (mask-few n g))) (λ c.
       most-bind (addVoid n) _ 2048 2048 (void-most n g) (λ d.
-      most-bind (addBitwiseMux _ _ _) _ 2048 0 (bitwise-most _ _ _ (data-few f _ b (all-few m i s js o a (start-few n g)))) (λ e.
+      most-bind (addBitwiseMux _ _ _) _ 2048 0 (bitwise-most _ _ _ (data-few f (transparencies m i js o a .value .bits) b (all-few m i s js o a (start-few n g)))) (λ e.
       most-bind (replaceValue _ _) _ 0 0 (replace-most _ _) (λ x. most-done _ 0))))))
     where
       most-ports : (incl : Bool) (f : ReadFlipFlop) → length (f .relations) ≤ 8 → readAt m i .dataLen ≤ 2048 → (x : ℕ)

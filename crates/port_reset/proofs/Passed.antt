@@ -94,7 +94,7 @@ done-value : (d : Driving) (k : ℕ) → done d k .value ≡ d
 unfolding done
 done-value d k = refl
 
-not-zero : 22 ≢ 0
+pub not-zero : _≢_ {A = ℕ} 22 0
 not-zero e = absurd (omega arith)
 
 module _ (m : Memory) (nets trits : List ℕ) (i : ℕ) (incl : Bool) (output log : List ℕ) (st : machine.LogState) where

@@ -75,9 +75,9 @@ data-by : (f : ReadFlipFlop) → (λ (b : Value). flipFlop (f .controls) b (f .c
 unfolding flipFlopOf
 data-by f = refl
 
-mask-by : (f : ReadFlipFlop) (n : ℕ) → (λ (k : Value). maskBehind (f .controls) (not (isUndef (f .initValue))) n k) ≡ (λ (k : Value). maskBehind (f .controls) (hasInit f) n k)
+mask-by : (f : ReadFlipFlop) (j : ℕ) → _≡_ {A = Value → FlipFlop} (λ k. maskBehind (f .controls) (not (isUndef (f .initValue))) j k) (λ k. maskBehind (f .controls) (hasInit f) j k)
 unfolding hasInit
-mask-by f n = refl
+mask-by f j = refl
 
 all-related : (incl : Bool) (l : List ℕ) (k : ℕ) → length l ≡ k → length (if incl then l else []) ≤ k
 all-related true l k e = omega arith
