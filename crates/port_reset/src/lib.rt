@@ -101,7 +101,32 @@ fn emit_port(
     let own = net_memory::read_trits(m, trits, i);
     let from = lists::part_u32(output, net_memory::output_start(m, i), p.data_len as usize);
     port_reset_emit::emit_reset(
-        log, st, under, over, bits, mask, sel, spare, kx, ky, at, clears, resets, inits, ones, starts, m, nets, net_memory::read_nets(m, nets, i), rels, p.data_len, c, net_memory::clear_of(p, own), net_memory::reset_of(p, own), net_memory::init_of(p, own), from,
+        log,
+        st,
+        under,
+        over,
+        bits,
+        mask,
+        sel,
+        spare,
+        kx,
+        ky,
+        at,
+        clears,
+        resets,
+        inits,
+        ones,
+        starts,
+        m,
+        nets,
+        net_memory::read_nets(m, nets, i),
+        rels,
+        p.data_len,
+        c,
+        net_memory::clear_of(p, own),
+        net_memory::reset_of(p, own),
+        net_memory::init_of(p, own),
+        from,
     )
 }
 
@@ -138,7 +163,30 @@ fn dry_number(
     let mut no_log = [0u32; 0];
     let start = log_entries::dry_start(st);
     let dry = emit_port(
-        &mut no_log, start, under, over, bits, mask, sel, spare, kx, ky, at, clears, resets, inits, ones, starts, m, nets, trits, i, p, c, incl, output,
+        &mut no_log,
+        start,
+        under,
+        over,
+        bits,
+        mask,
+        sel,
+        spare,
+        kx,
+        ky,
+        at,
+        clears,
+        resets,
+        inits,
+        ones,
+        starts,
+        m,
+        nets,
+        trits,
+        i,
+        p,
+        c,
+        incl,
+        output,
     );
     let after = dry.state;
     log_entries::dry_refusal(room, st, after)
@@ -176,7 +224,30 @@ fn unmap_with(
     ensures { λ r. ⌜ Acted m st i c incl r (now (trits .entry)) (now (trits .exit)) ⌝ }
 {
     let n = dry_number(
-        log.len(), st, under, over, bits, mask, sel, spare, kx, ky, at, clears, resets, inits, ones, starts, m, nets, trits, i, p, c, incl, output,
+        log.len(),
+        st,
+        under,
+        over,
+        bits,
+        mask,
+        sel,
+        spare,
+        kx,
+        ky,
+        at,
+        clears,
+        resets,
+        inits,
+        ones,
+        starts,
+        m,
+        nets,
+        trits,
+        i,
+        p,
+        c,
+        incl,
+        output,
     );
     if n != 0 {
         return Driven {
@@ -186,7 +257,30 @@ fn unmap_with(
         };
     }
     let done = emit_port(
-        log, st, under, over, bits, mask, sel, spare, kx, ky, at, clears, resets, inits, ones, starts, m, nets, trits, i, p, c, incl, output,
+        log,
+        st,
+        under,
+        over,
+        bits,
+        mask,
+        sel,
+        spare,
+        kx,
+        ky,
+        at,
+        clears,
+        resets,
+        inits,
+        ones,
+        starts,
+        m,
+        nets,
+        trits,
+        i,
+        p,
+        c,
+        incl,
+        output,
     );
     let state = done.state;
     let start = net_memory::output_start(m, i);
@@ -232,7 +326,30 @@ fn unmap_clocked(
     let mut ones = [0u8; rules::MAX_MERGE];
     let mut starts = [0u8; rules::MAX_MERGE];
     unmap_with(
-        log, st, output, trits, &mut under, &mut over, &mut bits, &mut mask, &mut sel, &mut spare, &mut kx, &mut ky, &mut at, &mut clears, &mut resets, &mut inits, &mut ones, &mut starts, m, nets, i, p, c, incl,
+        log,
+        st,
+        output,
+        trits,
+        &mut under,
+        &mut over,
+        &mut bits,
+        &mut mask,
+        &mut sel,
+        &mut spare,
+        &mut kx,
+        &mut ky,
+        &mut at,
+        &mut clears,
+        &mut resets,
+        &mut inits,
+        &mut ones,
+        &mut starts,
+        m,
+        nets,
+        i,
+        p,
+        c,
+        incl,
     )
 }
 

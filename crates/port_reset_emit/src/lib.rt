@@ -172,7 +172,22 @@ fn emit_behind(
     let initial = !net_logic::is_undef(init);
     let s1 = emit_data(log, st, bits, c, under, size, clear, reset, init);
     let s2 = emit_mask(
-        log, s1, mask, sel, kx, ky, at, clears, resets, inits, ones, starts, c, initial, over, size,
+        log,
+        s1,
+        mask,
+        sel,
+        kx,
+        ky,
+        at,
+        clears,
+        resets,
+        inits,
+        ones,
+        starts,
+        c,
+        initial,
+        over,
+        size,
     );
     let s3 = emit_read(log, s2, under, n);
     let s4 = emit_choice(log, s3, spare, kx, ky, at, mask, bits, under, size, from);
@@ -228,10 +243,47 @@ fn emit_laid<'a>(
     start_over(under, over, size);
     let kr = net_memory::wide::wide_log(m.width, size);
     let s1 = port_masked::emit_masked_pairs(
-        log, st, under, over, bits, mask, sel, spare, kx, ky, at, m, nets, rels, kr, raddr, size,
+        log,
+        st,
+        under,
+        over,
+        bits,
+        mask,
+        sel,
+        spare,
+        kx,
+        ky,
+        at,
+        m,
+        nets,
+        rels,
+        kr,
+        raddr,
+        size,
     );
     emit_behind(
-        log, s1, under, over, bits, mask, sel, spare, kx, ky, at, clears, resets, inits, ones, starts, n, c, clear, reset, init, from,
+        log,
+        s1,
+        under,
+        over,
+        bits,
+        mask,
+        sel,
+        spare,
+        kx,
+        ky,
+        at,
+        clears,
+        resets,
+        inits,
+        ones,
+        starts,
+        n,
+        c,
+        clear,
+        reset,
+        init,
+        from,
     )
 }
 
@@ -274,6 +326,31 @@ pub fn emit_reset<'a>(
         };
     }
     emit_laid(
-        log, st, under, over, bits, mask, sel, spare, kx, ky, at, clears, resets, inits, ones, starts, m, nets, raddr, rels, n, c, clear, reset, init, from,
+        log,
+        st,
+        under,
+        over,
+        bits,
+        mask,
+        sel,
+        spare,
+        kx,
+        ky,
+        at,
+        clears,
+        resets,
+        inits,
+        ones,
+        starts,
+        m,
+        nets,
+        raddr,
+        rels,
+        n,
+        c,
+        clear,
+        reset,
+        init,
+        from,
     )
 }

@@ -59,7 +59,14 @@ fn is_plain(c: Controls, init: &[u8], rels: &[u8], incl: bool) -> bool
 }
 
 // There is nothing to unmap of port i, whose struct and controls these are.
-pub fn port_plain(m: Memory, trits: &[u8], i: usize, p: MemoryReadPort, c: Controls, incl: bool) -> bool
+pub fn port_plain(
+    m: Memory,
+    trits: &[u8],
+    i: usize,
+    p: MemoryReadPort,
+    c: Controls,
+    incl: bool,
+) -> bool
     ensures { λ b. ⌜ b ≡ isPlain incl (clockedBy c p (readTrits m (now (trits .entry)) i)) ⌝ }
 {
     let relations = p.relations;
