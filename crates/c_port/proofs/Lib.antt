@@ -1,0 +1,2 @@
+-- Laws of the answers' structs.
+pub mod Drives

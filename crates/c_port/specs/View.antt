@@ -1,0 +1,23 @@
+-- The struct of a library's answer, the library's answer that a struct is, and the memory after a call.
+use mathlib.Core.Path.{_≡_}
+use mathlib.Core.Logic.{_≢_}
+use Rattle.lists.specs.Choice.{leaves}
+use Rattle.log_entries.specs.declared.LogState.{LogState}
+use Rattle.net_memory.specs.declared.Memory.{Memory as MachineMemory}
+use Rattle.port_unmap.specs.declared.Driven.{Driven as MachineDriven}
+use Rattle.c_memory.specs.declared.Memory.{Memory}
+use Rattle.c_memory.specs.View.{givenMemory, memoryStruct}
+use Rattle.c_port.specs.declared.Driven.{Driven}
+
+-- the struct of an answer to a call on m: m itself where the call is refused
+abbrev pub drivenStruct : Memory → MachineDriven → Driven
+drivenStruct m d = record { number = d .refusal; memory = leaves (d .refusal) m (memoryStruct (d .memory)); state = d .state }
+
+-- and the library's answer that a struct is
+abbrev pub givenDriven : Driven → MachineDriven
+givenDriven r = record { refusal = r .number; memory = givenMemory (r .memory); state = r .state }
+
+-- the struct itself: that of the library's memory w; a refused call gives memory and state back as they were
+pub record NewMemory (m : Memory) (st : LogState) (w : MachineMemory) (r : Driven) : Type 0 where
+  pub struct-is : r .memory ≡ leaves (r .number) m (memoryStruct w)
+  pub state-kept : r .number ≢ 0 → r .state ≡ st

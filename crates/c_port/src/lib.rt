@@ -1,0 +1,59 @@
+// Calls on a memory's ports for callers in C and Rust. Memory and log state go in by value and come back in the answer's struct; a refused call gives
+// both back as they were.
+ghost use mathlib.Core.Path.{_≡_};
+ghost use Rattle.rules.specs.Answers.{unmapReadDffCall};
+ghost use Rattle.log_entries.specs.View.{stateOf};
+ghost use Rattle.net_memory.specs.Given.{givenOf};
+ghost use Rattle.port_unmap.specs.Call.{unclocking, roomsOf, drivenOf};
+ghost use Rattle.c_memory.specs.View.{givenMemory};
+ghost use Rattle.c_port.specs.View.{drivenStruct, givenDriven, NewMemory};
+use c_memory::Memory;
+use log_entries::LogState;
+
+// A refusal's number, or 0; the memory and the log's state after the call.
+#[repr(C)]
+pub struct Driven {
+    pub number: u32,
+    pub memory: Memory,
+    pub state: LogState,
+}
+
+// The struct of an answer to a call on the memory m.
+fn driven_struct(m: Memory, d: port_unmap::Driven) -> Driven
+    ensures { λ r. ⌜ r ≡ drivenStruct m d ⌝ }
+{
+    let state = d.state;
+    if d.refusal != 0 {
+        return Driven {
+            number: d.refusal,
+            memory: m,
+            state,
+        };
+    }
+    let memory = d.memory;
+    Driven {
+        number: 0,
+        memory: c_memory::memory_struct(memory),
+        state,
+    }
+}
+
+#[no_mangle]
+pub extern "C" fn tablegoose_unmap_read_dff(
+    log: &mut [u32],
+    st: LogState,
+    output: &mut [u32],
+    m: Memory,
+    nets: &[u32],
+    trits: &[u8],
+    port: usize,
+) -> Driven
+    ensures { λ r. ⌜ drivenOf (givenDriven r) (now (nets .entry)) (now (trits .entry)) (now (output .exit)) (now (log .exit)) ≡ unmapReadDffCall (roomsOf (now (nets .entry)) (now (trits .entry)) (now (output .entry))) (now (log .entry)) (stateOf st) (givenOf (givenMemory m) (now (nets .entry)) (now (trits .entry))) port (now (output .entry)) ⌝ }
+    ensures { λ r. ⌜ NewMemory m st (unclocking (givenMemory m) port) r ⌝ }
+{
+    let given = c_memory::memory_of(m);
+    driven_struct(
+        m,
+        port_unmap::unmap_read_dff(log, st, output, given, nets, trits, port),
+    )
+}
