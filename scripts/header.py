@@ -40,6 +40,7 @@ STRUCTS = [
     ('c_memory::Memory', 'memory', 'Memory'),
     ('c_memory::Slice', 'slice', 'Slice'),
     ('c_memory::Extracted', 'extracted', 'Extracted'),
+    ('c_port::Driven', 'driven', 'Driven'),
     ('swizzle_plan::MemorySwizzle', 'memory_swizzle', 'MemorySwizzle'),
     ('swizzle_sizes::MuxBits', 'mux_bits', 'MuxBits'),
     ('image_geometry::Params', 'params', 'Params'),

@@ -2,6 +2,7 @@
 
 mod inputs;
 mod jobs;
+mod ports;
 mod time;
 
 use inputs::{Input, Plain};

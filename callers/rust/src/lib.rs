@@ -21,6 +21,7 @@ mod image;
 mod log;
 mod memory;
 mod net;
+mod ports;
 mod record;
 mod refusal;
 

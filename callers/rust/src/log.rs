@@ -111,6 +111,13 @@ impl Log {
         Ok(nets)
     }
 
+    /// A call that changes a memory: stores the state after it, and gives the memory.
+    pub(crate) fn driven(&mut self, call: impl FnOnce(&mut [u32], ffi::LogState) -> ffi::Driven) -> Result<ffi::Memory, Refusal> {
+        let driven = call(&mut self.words, self.state);
+        self.state = driven.state;
+        Refusal::check(driven.number).map(|()| driven.memory)
+    }
+
     /// So many new nets.
     pub fn add_void(&mut self, width: u32) -> Result<Vec<Net>, Refusal> {
         self.made(width as usize, |log, st| ffi::add_void(log, st, width))

@@ -254,6 +254,36 @@ fn memories() {
     assert_eq!(clocks.can_lower_fallback(), Ok(false));
 }
 
+/// The clocked port reads at once into a new net; its flip-flop and the write port's data stand behind it in the log.
+#[test]
+fn read_flip_flops_are_unmapped() {
+    let (before, mut log, mut output) = (ported(), Log::new(1_000, Net(100)), Net(80).run(3));
+    let mut memory = before.clone();
+    assert_eq!(memory.unmap_read_dff(&mut log, &mut output, 0), Ok(()));
+    assert_eq!(output, [100, 81, 82].map(Net));
+    let plain = ReadPort { flip_flop: None, relations: vec![], ..before.read_ports[0].clone() };
+    assert_eq!(memory, Memory { read_ports: vec![plain, before.read_ports[1].clone()], ..before.clone() });
+    let cells: Vec<Cell> = log.entries().map(|entry| entry.cell).collect();
+    let expected = [
+        Cell::Void,
+        Cell::Eq(vec![Net(60)], vec![Net(10)]),
+        Cell::Mux { select: Net(101), then: vec![Net(7)], other: vec![Net::ZERO] },
+        Cell::Mux { select: Net(102), then: vec![Net(20)], other: vec![Net(100)] },
+        Cell::FlipFlop { data: vec![Net(103)], flip_flop: before.read_ports[0].flip_flop.clone().expect("a flip-flop") },
+        Cell::Replace { from: vec![Net(80)], to: vec![Net(104)] },
+    ];
+    assert_eq!(cells, expected);
+    // A port without a flip-flop stays; refused calls change nothing.
+    let (again, words, outputs) = (memory.clone(), log.clone(), output.clone());
+    assert_eq!(memory.unmap_read_dff(&mut log, &mut output, 0), Ok(()));
+    assert_eq!(number(memory.unmap_read_dff(&mut log, &mut output, 2)), 15);
+    assert_eq!(number(memory.unmap_read_dff(&mut log, &mut output[..2], 0)), 2);
+    assert_eq!((&memory, &log, &output), (&again, &words, &outputs));
+    let (mut memory, mut log, mut output) = (before.clone(), Log::new(20, Net(100)), Net(80).run(3));
+    assert_eq!(number(memory.unmap_read_dff(&mut log, &mut output, 0)), 20);
+    assert_eq!((memory, log, output), (before, Log::new(20, Net(100)), Net(80).run(3)));
+}
+
 /// Codes that the safe types do not have: 4, and every field of the answer 0.
 #[test]
 fn flags_and_polarities() {

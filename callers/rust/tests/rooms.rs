@@ -146,6 +146,25 @@ fn memories_and_plans() {
     word_room("swizzle_depths", 2, depths(&[0]), 7, depths(&[1]));
 }
 
+/// A call that changes memory, state and outputs in place; a refused one leaves all of them.
+fn changing(driven: ffi::Driven, kept: bool) -> u32 {
+    let same = driven.memory == memory() && driven.state == state() && kept;
+    assert_eq!(same, driven.number != 0);
+    driven.number
+}
+
+#[test]
+fn ports() {
+    let unmap = |port: usize| {
+        move |log: &mut [u32]| {
+            let mut output = [80];
+            let driven = ffi::unmap_read_dff(log, state(), &mut output, memory(), &NETS, &TRITS, port);
+            changing(driven, output == [80])
+        }
+    };
+    word_room("unmap_read_dff", 47, unmap(0), 15, unmap(1));
+}
+
 fn laid() -> Laid {
     ffi::laid_out(first(), &FIRST_ENTRIES)
 }

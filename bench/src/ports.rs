@@ -1,0 +1,41 @@
+//! The calls that change a memory's ports. What a call changes is made anew for each run, on both sides: the memory is cloned, or its arrays are copied.
+
+use oracle::convert::*;
+use oracle::wire::{Call, Wire};
+use prjunnamed_memory::MemoryExt;
+use tablegoose::ffi;
+
+use crate::jobs::{Job, job, log, on_log};
+
+/// The Rust.
+pub fn rust(call: Call) -> Job {
+    let memory = to_memory(call.memory().expect("a call over a memory"));
+    match call {
+        Call::UnmapReadDff(c) => {
+            let (port, output) = (c.port as usize, to_value(&c.output));
+            on_log(c.log, move |design| {
+                let (mut memory, mut output) = (memory.clone(), output.clone());
+                memory.unmap_read_dff(design, port, &mut output);
+                (memory, output)
+            })
+        }
+        _ => unreachable!("a call on ports"),
+    }
+}
+
+/// The port.
+pub fn port(call: Call) -> Job {
+    let mut words = vec![];
+    call.memory().expect("a call over a memory").write(&mut words);
+    let tablegoose::Lowered { memory: numbers, nets, trits } = answer::memory(&words).expect("a whole memory");
+    match call {
+        Call::UnmapReadDff(c) => {
+            let ((mut words, st), mut output, port) = (log(c.log), c.output.clone(), c.port as usize);
+            job(move || {
+                output.copy_from_slice(&c.output);
+                ffi::unmap_read_dff(&mut words, st, &mut output, numbers, &nets, &trits, port)
+            })
+        }
+        _ => unreachable!("a call on ports"),
+    }
+}

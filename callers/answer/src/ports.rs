@@ -1,0 +1,24 @@
+//! The calls on a memory's ports, which add to a log.
+
+use tablegoose::ffi::{self, Driven, LogState};
+
+use crate::calls::{Outcome, logged, put_log, unless};
+use crate::wire::{Words, put_list, put_memory};
+
+/// A refused call gives back the memory and the state that it was given.
+fn driven(answer: &Driven, before: &ffi::Memory, st: LogState) -> u32 {
+    assert!(answer.number == 0 || answer.memory == *before, "finding: a refused call gives another memory");
+    logged(answer.number, st, answer.state)
+}
+
+pub fn unmap_read_dff(words: &mut Words) -> Option<Outcome> {
+    let ((mut log, st), m) = (words.log()?, words.memory()?);
+    let (port, mut output) = (words.word()? as usize, words.words("output")?);
+    words.end()?;
+    let answer = ffi::unmap_read_dff(log.get_mut(), st, output.get_mut(), m.numbers, m.nets.get(), m.trits.get(), port);
+    Some(unless(driven(&answer, &m.numbers, st), |to| {
+        put_log(to, &mut log, st, answer.state);
+        put_memory(to, &answer.memory, m.nets.get(), m.trits.get());
+        put_list(to, output.wrote_all());
+    }))
+}

@@ -1,0 +1,19 @@
+//! The calls that change a memory's ports: memory, outputs and log are changed in place, or the call is refused and changes nothing.
+
+use crate::ffi;
+use crate::log::Log;
+use crate::memory::{Lowered, Memory};
+use crate::net::{Net, nets_of, numbers};
+use crate::refusal::Refusal;
+
+impl Memory {
+    /// Takes a read port's flip-flop out of the memory and logs it behind the port, with what write ports it is transparent to. The port's part of
+    /// `output` becomes new nets. A port that has no flip-flop stays as it is.
+    pub fn unmap_read_dff(&mut self, log: &mut Log, output: &mut [Net], port: usize) -> Result<(), Refusal> {
+        let (l, mut nets) = (self.lowered(), numbers(output));
+        let memory = log.driven(|words, st| ffi::unmap_read_dff(words, st, &mut nets, l.memory, &l.nets, &l.trits, port))?;
+        output.copy_from_slice(&nets_of(&nets));
+        *self = Lowered { memory, ..l }.lifted();
+        Ok(())
+    }
+}
