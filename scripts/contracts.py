@@ -11,9 +11,12 @@ import sys
 
 # Emissions inside other calls, with scratch that the call clears once: what it holds afterwards is open, and nobody reads it.
 KEYS = ('kx', 'ky', 'at')
+TRITS = ('clears', 'resets', 'inits')
 OPEN = {
     'crates/merge_mux/src/emit.rt emit_dedup_mux_with': KEYS,
     'crates/merge_mux/src/emit.rt emit_bitwise_mux_with': KEYS,
+    'crates/merge_dff/src/lib.rt emit_dedup_dff_with': ('column',) + KEYS + TRITS,
+    'crates/port_delay/src/lib.rt emit_delayed': ('column',) + KEYS + ('trits',) + TRITS,
     'crates/port_transparency/src/lib.rt emit_transparency': ('bits', 'mask', 'sel', 'nets') + KEYS,
     'crates/port_overlay/src/lib.rt emit_unmap': ('under', 'bits', 'mask', 'sel', 'spare') + KEYS,
 }

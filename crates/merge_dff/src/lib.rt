@@ -59,11 +59,14 @@ fn unpack_part(to: &mut [u8], ps: &[u32], by: u32)
     }
 }
 
-// A flip-flop of kept bits, whose result nets go to each bit by its place.
+// A flip-flop of kept bits, whose result nets go to each bit by its place; their trits are unpacked into lent scratch.
 fn emit_kept_dff(
     log: &mut [u32],
     st: LogState,
     out: &mut [u32],
+    clear: &mut [u8; rules::MAX_MERGE],
+    reset: &mut [u8; rules::MAX_MERGE],
+    init: &mut [u8; rules::MAX_MERGE],
     c: Controls,
     bits: &[u32],
     ps: &[u32],
@@ -73,14 +76,14 @@ fn emit_kept_dff(
     ensures { λ r. ⌜ lent r (now (log .exit)) ≡ run (addDff (unpacked (controlsOf c) (now (bits .entry)) (now (ps .entry)))) (lent st (now (log .entry))) ⌝ }
     ensures { λ r. ⌜ now (out .exit) ≡ results (isOver (stateOf r)) (now (out .entry)) 0 (spread (now (at .entry)) (addDff (unpacked (controlsOf c) (now (bits .entry)) (now (ps .entry))) (st .next) .value)) ⌝ }
 {
-    let mut clear = [0u8; rules::MAX_MERGE];
-    let mut reset = [0u8; rules::MAX_MERGE];
-    let mut init = [0u8; rules::MAX_MERGE];
-    unpack_part(&mut clear, ps, 256);
-    unpack_part(&mut reset, ps, 1);
-    unpack_part(&mut init, ps, 65536);
+    unpack_part(clear, ps, 256);
+    unpack_part(reset, ps, 1);
+    unpack_part(init, ps, 65536);
     let n = ps.len();
-    let after = log_entries::emit_dff(log, st, c, bits, &clear[..n], &reset[..n], &init[..n]);
+    let cs = lists::part_u8(clear, 0, n);
+    let rs = lists::part_u8(reset, 0, n);
+    let is = lists::part_u8(init, 0, n);
+    let after = log_entries::emit_dff(log, st, c, bits, cs, rs, is);
     merge_mux::emit::spread_results(out, 0, st, after, at);
     after
 }
@@ -93,6 +96,9 @@ fn merge_packed(
     kx: &mut [u32],
     ky: &mut [u32],
     at: &mut [u32],
+    clear: &mut [u8; rules::MAX_MERGE],
+    reset: &mut [u8; rules::MAX_MERGE],
+    init: &mut [u8; rules::MAX_MERGE],
     c: Controls,
     bits: &[u32],
     ps: &[u32],
@@ -103,10 +109,59 @@ fn merge_packed(
 {
     let n = lists::smaller(rules::MAX_MERGE, lists::smaller(bits.len(), ps.len()));
     let k = merge_keys::merge(kx, ky, at, bits, ps);
-    emit_kept_dff(log, st, out, c, &kx[..k], &ky[..k], &at[..n])
+    emit_kept_dff(
+        log,
+        st,
+        out,
+        clear,
+        reset,
+        init,
+        c,
+        &kx[..k],
+        &ky[..k],
+        &at[..n],
+    )
 }
 
-// add_dedup_dff without its numbers: a flip-flop in which equal bits are kept once.
+// add_dedup_dff without its numbers, with lent scratch: a flip-flop in which equal bits are kept once.
+pub fn emit_dedup_dff_with(
+    log: &mut [u32],
+    st: LogState,
+    out: &mut [u32],
+    column: &mut [u32; rules::MAX_MERGE],
+    kx: &mut [u32; rules::MAX_MERGE],
+    ky: &mut [u32; rules::MAX_MERGE],
+    at: &mut [u32; rules::MAX_MERGE],
+    clears: &mut [u8; rules::MAX_MERGE],
+    resets: &mut [u8; rules::MAX_MERGE],
+    inits: &mut [u8; rules::MAX_MERGE],
+    c: Controls,
+    bits: &[u32],
+    clear: &[u8],
+    reset: &[u8],
+    init: &[u8],
+) -> LogState
+    ensures { λ r. ⌜ lent r (now (log .exit)) ≡ run (addDedupDff (flipFlop (controlsOf c) (limited (now (bits .entry))) (now (clear .entry)) (now (reset .entry)) (now (init .entry)))) (lent st (now (log .entry))) ⌝ }
+    ensures { λ r. ⌜ now (out .exit) ≡ results (isOver (stateOf r)) (now (out .entry)) 0 (addDedupDff (flipFlop (controlsOf c) (limited (now (bits .entry))) (now (clear .entry)) (now (reset .entry)) (now (init .entry))) (st .next) .value) ⌝ }
+{
+    let n = pack_trits(column, reset, clear, init);
+    merge_packed(
+        log,
+        st,
+        out,
+        kx,
+        ky,
+        at,
+        clears,
+        resets,
+        inits,
+        c,
+        bits,
+        lists::part_u32(column, 0, n),
+    )
+}
+
+// The same with scratch of its own.
 pub fn emit_dedup_dff(
     log: &mut [u32],
     st: LogState,
@@ -124,17 +179,25 @@ pub fn emit_dedup_dff(
     let mut kx = [0u32; rules::MAX_MERGE];
     let mut ky = [0u32; rules::MAX_MERGE];
     let mut at = [0u32; rules::MAX_MERGE];
-    let n = pack_trits(&mut column, reset, clear, init);
-    merge_packed(
+    let mut clears = [0u8; rules::MAX_MERGE];
+    let mut resets = [0u8; rules::MAX_MERGE];
+    let mut inits = [0u8; rules::MAX_MERGE];
+    emit_dedup_dff_with(
         log,
         st,
         out,
+        &mut column,
         &mut kx,
         &mut ky,
         &mut at,
+        &mut clears,
+        &mut resets,
+        &mut inits,
         c,
         bits,
-        &column[..n],
+        clear,
+        reset,
+        init,
     )
 }
 

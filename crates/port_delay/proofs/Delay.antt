@@ -36,9 +36,6 @@ use Rattle.port_delay.specs.Delay.{startTrit, maskDelay, portOf, cut, de
 pub first-filled : (u w : List ℕ) (n t : ℕ) → w ≡ sets u 0 (replicate n t) → n ≤ length u → take n w ≡ replicate n t
 first-filled u w n t e h = take-stored u w (replicate n t) n e (sym (length-replicate n t)) h
 
-pub filled-length : (u w : List ℕ) (n t : ℕ) → w ≡ sets u 0 (replicate n t) → n ≤ length u → n ≡ length (take n w)
-filled-length u w n t e h = sym (ap length (first-filled u w n t e h) ∙ length-replicate n t)
-
 pub undef-is : (n : ℕ) → replicate n 2 ≡ undef n
 unfolding undef
 undef-is n = refl

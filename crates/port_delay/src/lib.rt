@@ -46,17 +46,17 @@ fn emit_plain(
     log: &mut [u32],
     st: LogState,
     out: &mut [u32; rules::MAX_MERGE],
+    trits: &mut [u8; rules::MAX_MERGE],
     clock: ControlNet,
     bits: &[u32],
 ) -> LogState
     requires { ⌜ length (now bits) ≤ maxMerge ⌝ }
     ensures { λ r. ⌜ Gave (addDff (newFlipFlop (now (bits .entry)) (controlOf clock))) (lent st (now (log .entry))) (lent r (now (log .exit))) (take (length (now (bits .entry))) (now (out .exit))) ⌝ }
 {
-    let mut trits = [0u8; rules::MAX_MERGE];
     let n = bits.len();
-    lists::fill_u8(&mut trits, 0, n, rules::TRIT_X);
+    lists::fill_u8(trits, 0, n, rules::TRIT_X);
     let c = plain_controls(clock);
-    let xs = &trits[..n];
+    let xs = lists::part_u8(trits, 0, n);
     let after = log_entries::emit_dff(log, st, c, bits, xs, xs, xs);
     port_transparency::fresh_nets(out, 0, st.next, after.next);
     after
@@ -67,6 +67,14 @@ fn emit_mask(
     log: &mut [u32],
     st: LogState,
     out: &mut [u32; rules::MAX_MERGE],
+    column: &mut [u32; rules::MAX_MERGE],
+    kx: &mut [u32; rules::MAX_MERGE],
+    ky: &mut [u32; rules::MAX_MERGE],
+    at: &mut [u32; rules::MAX_MERGE],
+    trits: &mut [u8; rules::MAX_MERGE],
+    clears: &mut [u8; rules::MAX_MERGE],
+    resets: &mut [u8; rules::MAX_MERGE],
+    inits: &mut [u8; rules::MAX_MERGE],
     all_x: bool,
     clock: ControlNet,
     mask: &[u32],
@@ -74,12 +82,27 @@ fn emit_mask(
     requires { ⌜ length (now mask) ≤ maxMerge ⌝ }
     ensures { λ r. ⌜ Gave (addDedupDff (maskDelay «all_x» (length (now (mask .entry))) (now (mask .entry)) (controlOf clock))) (lent st (now (log .entry))) (lent r (now (log .exit))) (take (length (now (mask .entry))) (now (out .exit))) ⌝ }
 {
-    let mut trits = [0u8; rules::MAX_MERGE];
     let n = mask.len();
-    lists::fill_u8(&mut trits, 0, n, start_trit(all_x));
+    lists::fill_u8(trits, 0, n, start_trit(all_x));
     let c = plain_controls(clock);
-    let own = &trits[..n];
-    merge_dff::emit_dedup_dff(log, st, out, c, mask, own, own, own)
+    let own = lists::part_u8(trits, 0, n);
+    merge_dff::emit_dedup_dff_with(
+        log,
+        st,
+        out,
+        column,
+        kx,
+        ky,
+        at,
+        clears,
+        resets,
+        inits,
+        c,
+        mask,
+        own,
+        own,
+        own,
+    )
 }
 
 // The three flip-flops of a port with this clock.
@@ -89,6 +112,14 @@ fn emit_three(
     a: &mut [u32; rules::MAX_MERGE],
     d: &mut [u32; rules::MAX_MERGE],
     k: &mut [u32; rules::MAX_MERGE],
+    column: &mut [u32; rules::MAX_MERGE],
+    kx: &mut [u32; rules::MAX_MERGE],
+    ky: &mut [u32; rules::MAX_MERGE],
+    at: &mut [u32; rules::MAX_MERGE],
+    trits: &mut [u8; rules::MAX_MERGE],
+    clears: &mut [u8; rules::MAX_MERGE],
+    resets: &mut [u8; rules::MAX_MERGE],
+    inits: &mut [u8; rules::MAX_MERGE],
     all_x: bool,
     clock: ControlNet,
     addr: &[u32],
@@ -98,9 +129,24 @@ fn emit_three(
     requires { ⌜ Delayable (length (now addr)) (length (now bits)) (length (now mask)) ⌝ }
     ensures { λ r. ⌜ Gave (delayed «all_x» (portOf (now (addr .entry)) (now (bits .entry)) (now (mask .entry)) (controlOf clock))) (lent st (now (log .entry))) (lent r (now (log .exit))) (cut (portOf (now (addr .entry)) (now (bits .entry)) (now (mask .entry)) (controlOf clock)) (now (a .exit)) (now (d .exit)) (now (k .exit))) ⌝ }
 {
-    let s1 = emit_plain(log, st, a, clock, addr);
-    let s2 = emit_plain(log, s1, d, clock, bits);
-    emit_mask(log, s2, k, all_x, clock, mask)
+    let s1 = emit_plain(log, st, a, trits, clock, addr);
+    let s2 = emit_plain(log, s1, d, trits, clock, bits);
+    emit_mask(
+        log,
+        s2,
+        k,
+        column,
+        kx,
+        ky,
+        at,
+        trits,
+        clears,
+        resets,
+        inits,
+        all_x,
+        clock,
+        mask,
+    )
 }
 
 // Values of these lengths fit the scratch, and the mask is as long as the data.
@@ -116,13 +162,21 @@ fn can_delay(addr: usize, bits: usize, mask: usize) -> bool
     mask == bits
 }
 
-// The three flip-flops of a write port with these nets: the results are the first nets of `a`, `d` and `k`.
+// The three flip-flops of a write port with these nets: the results are the first nets of `a`, `d` and `k`; the other arrays are scratch.
 pub fn emit_delayed(
     log: &mut [u32],
     st: LogState,
     a: &mut [u32; rules::MAX_MERGE],
     d: &mut [u32; rules::MAX_MERGE],
     k: &mut [u32; rules::MAX_MERGE],
+    column: &mut [u32; rules::MAX_MERGE],
+    kx: &mut [u32; rules::MAX_MERGE],
+    ky: &mut [u32; rules::MAX_MERGE],
+    at: &mut [u32; rules::MAX_MERGE],
+    trits: &mut [u8; rules::MAX_MERGE],
+    clears: &mut [u8; rules::MAX_MERGE],
+    resets: &mut [u8; rules::MAX_MERGE],
+    inits: &mut [u8; rules::MAX_MERGE],
     all_x: bool,
     p: MemoryWritePort,
     nets: &[u32],
@@ -136,5 +190,24 @@ pub fn emit_delayed(
     if !can_delay(addr.len(), bits.len(), mask.len()) {
         return st;
     }
-    emit_three(log, st, a, d, k, all_x, clock, addr, bits, mask)
+    emit_three(
+        log,
+        st,
+        a,
+        d,
+        k,
+        column,
+        kx,
+        ky,
+        at,
+        trits,
+        clears,
+        resets,
+        inits,
+        all_x,
+        clock,
+        addr,
+        bits,
+        mask,
+    )
 }

@@ -26,8 +26,8 @@ use Rattle.rules.specs.Refusals.{memNumber, emulateNumber}
 use Rattle.rules.proofs.Counted.{AtMost, most-counted, most-done, most-bind, most-if, counted-dff, start-le}
 use Rattle.net_memory.specs.declared.Memory.{Memory}
 use Rattle.net_memory.specs.Given.{givenOf}
-use Rattle.net_memory.specs.View.{writesOf, memoryOf}
-use Rattle.net_check.proofs.Accept.{Valid, valid, sizes}
+use Rattle.net_memory.specs.View.{writesOf, readsStart, netsTotal, memoryOf}
+use Rattle.net_check.proofs.Accept.{Valid, valid, exact, sizes}
 use Rattle.port_overlay.proofs.Fits.{Shaped, Writes, writes-shaped}
 use Rattle.port_delay.specs.Delay.{Delayable}
 use Rattle.port_emulate.specs.Delays.{delays, noWrite, Fitting}
@@ -134,3 +134,7 @@ module _ (next : ℕ) (m : Memory) (nets trits : List ℕ) (z : (emulateNumber n
   pub fits-all : Fitting (writesOf m nets)
   unfolding memoryOf
   fits-all = fitting (memoryOf m nets trits) thin-is shapes
+
+  pub nets-there : readsStart m ≤ length nets
+  unfolding netsTotal
+  nets-there = omega (arith, exact v .nets-exact)

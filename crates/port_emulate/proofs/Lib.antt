@@ -5,3 +5,4 @@ pub mod Rooms
 pub mod Number
 pub mod Stored
 pub mod Ports
+pub mod Call

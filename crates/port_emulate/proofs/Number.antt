@@ -21,7 +21,8 @@ use Rattle.net_memory.specs.Given.{givenOf}
 use Rattle.net_memory.specs.View.{writesOf, memoryOf}
 use Rattle.log_entries.specs.Emission.{Lent, run}
 use Rattle.port_relations.proofs.Clocks.{before-is}
-use Rattle.port_emulate.specs.Delays.{isRead, delays, roomsOf}
+use Rattle.port_settle.specs.Settled.{isRead}
+use Rattle.port_emulate.specs.Delays.{delays, roomsOf}
 use Rattle.port_emulate.proofs.Delays.{emulate-run}
 use Rattle.port_emulate.proofs.Rooms.{emulate-fits}
 
@@ -63,7 +64,7 @@ module _ (m : Memory) (nets trits : List ℕ) where
   unfolding memoryOf
   init-is = refl
 
-  delays-rules : (allX : Bool) → allX ≡ isUndef (M .init) → delays (isRead m nets trits) allX 0 (writesOf m nets) ≡ delays (relatesTo isReadBeforeWrite M) (isUndef (M .init)) 0 (M .writes)
+  pub delays-rules : (allX : Bool) → allX ≡ isUndef (M .init) → delays (isRead m nets trits) allX 0 (writesOf m nets) ≡ delays (relatesTo isReadBeforeWrite M) (isUndef (M .init)) 0 (M .writes)
   delays-rules allX e = λ k. delays (λ j. before-is m nets trits j k) (e k) 0 (writes-are k)
 
   -- as the code finds it

@@ -17,7 +17,8 @@ use Rattle.net_memory.specs.View.{writesOf, memoryOf}
 use Rattle.port_transparency.specs.Gave.{Gave}
 use Rattle.port_transparency.proofs.Gave.{gave-done, gave-bind, gave-same}
 use Rattle.port_delay.specs.Delay.{Delayable}
-use Rattle.port_emulate.specs.Delays.{isRead, delays, noWrite, portAt, turnedBy, turnedFrom, PortDone, PortsDone, Fitting}
+use Rattle.port_settle.specs.Settled.{isRead, turnedBy, turnedFrom}
+use Rattle.port_emulate.specs.Delays.{delays, noWrite, portAt, PortDone, PortsDone, Fitting}
 use Rattle.port_emulate.proofs.Delays.{chains-step, chains-delays}
 
 -- ---- lists

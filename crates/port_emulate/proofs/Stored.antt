@@ -27,7 +27,8 @@ use Rattle.net_memory.proofs.Changes.{withWrite, write-end, write-stored, with-
 use Rattle.port_transparency.specs.Gave.{Gave}
 use Rattle.port_delay.specs.Delay.{cut, delayable, delayedIf, Delayable}
 use Rattle.port_delay.proofs.Delay.{can}
-use Rattle.port_emulate.specs.Delays.{isRead, delayedBy, cutBy, delays, noWrite, portAt, turnedBy, PortReady, PortDone}
+use Rattle.port_settle.specs.Settled.{isRead, turnedBy}
+use Rattle.port_emulate.specs.Delays.{delayedBy, cutBy, delays, noWrite, portAt, PortReady, PortDone}
 
 -- ---- three stores are one
 pub three-stored : (l l1 l2 l3 a d k : List ℕ) (at x y : ℕ) → l1 ≡ sets l at a → l2 ≡ sets l1 (at + x) d → l3 ≡ sets l2 (at + x + y) k → length a ≡ x → length d ≡ y

@@ -1,28 +1,28 @@
 -- The write ports delayed one after the other, by the test of each and by whether the image is all X.
 use mathlib.Core.Path.{_≡_}
+use mathlib.Core.Logic.{_≢_}
 use Prim.Native.Nat.{ℕ, suc, _<_, _≤_, min}
 use mathlib.Core.Bool.{Bool}
 use mathlib.Core.List.{List, [], _∷_}
 use lib.ListN.{length, getD, set}
-use Rattle.lists.specs.Choice.{if_then_else_}
+use Rattle.lists.specs.Choice.{if_then_else_, leaves, _orElse_}
 use Rattle.lists.specs.Lists.{any}
 use Rattle.rules.specs.Limits.{maxPorts}
-use Rattle.rules.specs.Value.{inverse}
 use Rattle.rules.specs.Cell.{WritePort}
 use Rattle.rules.specs.Log.{Trace, _>>=_, done}
 use Rattle.rules.specs.Ports.{delayed}
-use Rattle.rules.specs.Refusals.{Rooms}
+use Rattle.rules.specs.Conditions.{unclocked}
+use Rattle.rules.specs.Refusals.{Rooms, emulateNumber}
 use Rattle.net_memory.specs.declared.MemoryWritePort.{MemoryWritePort}
 use Rattle.net_memory.specs.declared.Memory.{Memory}
+use Rattle.net_memory.specs.Given.{givenOf}
 use Rattle.net_memory.specs.View.{noWritePort, writePort, writeStart, readsStart, writesOf, memoryOf, writeBy}
+use Rattle.log_entries.specs.declared.LogState.{LogState}
 use Rattle.log_entries.specs.Emission.{Lent}
 use Rattle.port_transparency.specs.Gave.{Gave}
 use Rattle.port_delay.specs.Delay.{cut, delayedIf, Delayable}
-use Rattle.port_relations.specs.Clocked.{hasRelation, flipFlopsFrom}
-
--- some read port reads before write port j writes
-abbrev pub isRead : Memory → List ℕ → List ℕ → ℕ → Bool
-isRead m nets trits j = any (hasRelation 1 j) (flipFlopsFrom m nets trits 0)
+use Rattle.port_settle.specs.Settled.{isRead, turnedBy, turnedFrom, settledMemory}
+use Rattle.port_unmap.specs.declared.Driven.{Driven}
 
 -- one port by this test; q is what its scratch holds
 abbrev pub delayedBy : Bool → Bool → WritePort → WritePort → Trace WritePort
@@ -56,10 +56,6 @@ roomsOf nets trits = record { nets = length nets; trits = length trits; output =
 abbrev pub portAt : Memory → List ℕ → ℕ → WritePort
 portAt m nets j = getD (writesOf m nets) j noWrite
 
--- a port at the other edge of its clock, by this test
-abbrev pub turnedBy : Bool → WritePort → WritePort
-turnedBy b w = if b then record { addr = w .addr; bits = w .bits; mask = w .mask; clock = inverse (w .clock) } else w
-
 -- a write port that is there, and fits
 pub record PortReady (m : Memory) (nets : List ℕ) (j at : ℕ) (p : MemoryWritePort) : Type 0 where
   pub there : j < min maxPorts (m .«write_count»)
@@ -77,13 +73,20 @@ pub record PortDone (m : Memory) (allX : Bool) (j : ℕ) (nets nets′ : List �
       ≡ record { depth = memoryOf m nets trits .depth; width = memoryOf m nets trits .width; init = memoryOf m nets trits .init; writes = set (memoryOf m nets trits .writes) j (portAt m nets′ j); reads = memoryOf m nets trits .reads }
   pub size : length nets′ ≡ length nets
 
--- the ports from j on, each by its test
-abbrev pub turnedFrom : (ℕ → Bool) → ℕ → List WritePort → List WritePort
-turnedFrom is j [] = []
-turnedFrom is j (w ∷ ws) = turnedBy (is j) w ∷ turnedFrom is (suc j) ws
-
 -- all ports in turn; the read ports stay
 pub record PortsDone (m : Memory) (allX : Bool) (nets nets′ : List ℕ) (l l1 : Lent) : Type 0 where
   pub gave : (x y : List ℕ) → Gave (delays (isRead m x y) allX 0 (writesOf m nets)) l l1 (turnedFrom (isRead m x y) 0 (writesOf m nets′))
   pub kept : (trits : List ℕ) → memoryOf m nets′ trits .reads ≡ memoryOf m nets trits .reads
+  pub size : length nets′ ≡ length nets
+
+-- ---- the call
+-- 1 to 4, 12, 13 and 22
+abbrev pub inputNumber : ℕ → Memory → List ℕ → List ℕ → ℕ
+inputNumber next m nets trits = emulateNumber next (givenOf m nets trits) orElse (if any unclocked (memoryOf m nets trits .reads) then 22 else 0)
+
+-- the struct and the nets themselves: a refused call gives both, and the state, back as they were
+pub record Emulated (m : Memory) (st : LogState) (nets nets′ : List ℕ) (r : Driven) : Type 0 where
+  pub struct-is : (x y : List ℕ) → r .memory ≡ leaves (r .refusal) m (settledMemory (isRead m x y) m)
+  pub nets-kept : r .refusal ≢ 0 → nets′ ≡ nets
+  pub state-kept : r .refusal ≢ 0 → r .state ≡ st
   pub size : length nets′ ≡ length nets

@@ -18,6 +18,13 @@ use net_memory::MemoryReadPort;
 use net_value::ControlNet;
 use net_value::Net;
 
+// The codes of a relation, as rules/specs/Cell.antt has them.
+pub const UNDEFINED: u8 = 0;
+
+pub const READ_BEFORE_WRITE: u8 = 1;
+
+pub const TRANSPARENT: u8 = 2;
+
 // The port has a flip-flop.
 fn is_clocked(p: MemoryReadPort) -> bool
     ensures { λ r. ⌜ r ≡ clocked (p .«flip_flop») ⌝ }
@@ -89,7 +96,7 @@ fn relation_to(p: MemoryReadPort, j: usize) -> u8
     let relations = p.relations;
     let named = lists::part_u8(&relations, 0, lists::usize_of_u32(p.relations_len));
     if named.len() <= j {
-        return 0;
+        return UNDEFINED;
     }
     named[j]
 }
@@ -124,10 +131,10 @@ pub fn relates_to(m: Memory, j: usize, code: u8) -> bool
 fn mixed_at(m: Memory, j: usize) -> bool
     ensures { λ r. ⌜ ((nets trits : List ℕ) → r ≡ (any (hasRelation 1 j) (flipFlopsFrom m nets trits 0) && any (hasRelation 2 j) (flipFlopsFrom m nets trits 0))) ⌝ }
 {
-    if !relates_to(m, j, 1) {
+    if !relates_to(m, j, READ_BEFORE_WRITE) {
         return false;
     }
-    relates_to(m, j, 2)
+    relates_to(m, j, TRANSPARENT)
 }
 
 // 13: both relate to one write port.

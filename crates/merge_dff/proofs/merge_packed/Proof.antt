@@ -22,42 +22,42 @@ merge-requires c κs = search needs
 
 slice-reshare-prefix-emit-kept-dff : tie.Need-slice-reshare-prefix-emit-kept-dff
 slice-reshare-prefix-emit-kept-dff c =
-    let k = c .before .before .before .before .before .before .before .before .before .before .before .before .before .before .before .before .before .before .before .before .before in
+    let k = c .before .before .before .before .before .before .before .before .before .before .before .before .before .before .before .before .before .before .before .before .before .before .before .before in
     let v = k .args in
-    let d = c .before .before .before .before .before .before .before .before .merge in
-    let n = c .before .before .before .before .before .before .before .before .before .before .before .before .smaller2 .result in
+    let d = c .before .before .before .before .before .before .before .before .before .before .before .merge in
+    let n = c .before .before .before .before .before .before .before .before .before .before .before .before .before .before .before .smaller2 .result in
     let f = found (v .bits .now) (v .ps .now) (v .kx .now) (v .ky .now) (v .at .now) (d .last .0) (d .last .1 .0) (d .last .1 .1 .0) n (d .result) (k .pre)
-    (c .before .before .before .before .before .before .before .before .before .before .before .before .smaller2 .ensures ∙ ap (min maxMerge) (c .before .before .before .before .before .before .before .before .before .before .before .before .before .smaller .ensures)) (d .ensures .0) (d .ensures .1 .0) (d .ensures .1 .1 .0) (d .ensures .1 .1 .1) in
+    (c .before .before .before .before .before .before .before .before .before .before .before .before .before .before .before .smaller2 .ensures ∙ ap (min maxMerge) (c .before .before .before .before .before .before .before .before .before .before .before .before .before .before .before .before .smaller .ensures)) (d .ensures .0) (d .ensures .1 .0) (d .ensures .1 .1 .0) (d .ensures .1 .1 .1) in
     f .in-kx
 
 slice-aggregate-emit-kept-dff : tie.Need-slice-aggregate-emit-kept-dff
 slice-aggregate-emit-kept-dff c =
-    let k = c .before .before .before .before .before .before .before .before .before .before .before .before .before .before .before .before .before .before .before .before .before .before in
+    let k = c .before .before .before .before .before .before .before .before .before .before .before .before .before .before .before .before .before .before .before .before .before .before .before .before .before in
     let v = k .args in
-    let d = c .before .before .before .before .before .before .before .before .before .merge in
-    let n = c .before .before .before .before .before .before .before .before .before .before .before .before .before .smaller2 .result in
+    let d = c .before .before .before .before .before .before .before .before .before .before .before .before .merge in
+    let n = c .before .before .before .before .before .before .before .before .before .before .before .before .before .before .before .before .smaller2 .result in
     let f = found (v .bits .now) (v .ps .now) (v .kx .now) (v .ky .now) (v .at .now) (d .last .0) (d .last .1 .0) (d .last .1 .1 .0) n (d .result) (k .pre)
-    (c .before .before .before .before .before .before .before .before .before .before .before .before .before .smaller2 .ensures ∙ ap (min maxMerge) (c .before .before .before .before .before .before .before .before .before .before .before .before .before .before .smaller .ensures)) (d .ensures .0) (d .ensures .1 .0) (d .ensures .1 .1 .0) (d .ensures .1 .1 .1) in
+    (c .before .before .before .before .before .before .before .before .before .before .before .before .before .before .before .before .smaller2 .ensures ∙ ap (min maxMerge) (c .before .before .before .before .before .before .before .before .before .before .before .before .before .before .before .before .before .smaller .ensures)) (d .ensures .0) (d .ensures .1 .0) (d .ensures .1 .1 .0) (d .ensures .1 .1 .1) in
     sym (length-take-le _ _ (f .in-kx))
 
 slice-reshare-prefix-emit-kept-dff-2 : tie.Need-slice-reshare-prefix-emit-kept-dff-2
 slice-reshare-prefix-emit-kept-dff-2 c =
-    let k = c .before .before .before .before .before .before .before .before .before .before .before .before .before .before .before .before .before .before .before .before .before .before in
+    let k = c .before .before .before .before .before .before .before .before .before .before .before .before .before .before .before .before .before .before .before .before .before .before .before .before .before in
     let v = k .args in
-    let d = c .before .before .before .before .before .before .before .before .before .merge in
-    let n = c .before .before .before .before .before .before .before .before .before .before .before .before .before .smaller2 .result in
+    let d = c .before .before .before .before .before .before .before .before .before .before .before .before .merge in
+    let n = c .before .before .before .before .before .before .before .before .before .before .before .before .before .before .before .before .smaller2 .result in
     let f = found (v .bits .now) (v .ps .now) (v .kx .now) (v .ky .now) (v .at .now) (d .last .0) (d .last .1 .0) (d .last .1 .1 .0) n (d .result) (k .pre)
-    (c .before .before .before .before .before .before .before .before .before .before .before .before .before .smaller2 .ensures ∙ ap (min maxMerge) (c .before .before .before .before .before .before .before .before .before .before .before .before .before .before .smaller .ensures)) (d .ensures .0) (d .ensures .1 .0) (d .ensures .1 .1 .0) (d .ensures .1 .1 .1) in
+    (c .before .before .before .before .before .before .before .before .before .before .before .before .before .before .before .before .smaller2 .ensures ∙ ap (min maxMerge) (c .before .before .before .before .before .before .before .before .before .before .before .before .before .before .before .before .before .smaller .ensures)) (d .ensures .0) (d .ensures .1 .0) (d .ensures .1 .1 .0) (d .ensures .1 .1 .1) in
     f .in-ky
 
 slice-aggregate-emit-kept-dff-2 : tie.Need-slice-aggregate-emit-kept-dff-2
 slice-aggregate-emit-kept-dff-2 c =
-    let k = c .before .before .before .before .before .before .before .before .before .before .before .before .before .before .before .before .before .before .before .before .before .before .before in
+    let k = c .before .before .before .before .before .before .before .before .before .before .before .before .before .before .before .before .before .before .before .before .before .before .before .before .before .before in
     let v = k .args in
-    let d = c .before .before .before .before .before .before .before .before .before .before .merge in
-    let n = c .before .before .before .before .before .before .before .before .before .before .before .before .before .before .smaller2 .result in
+    let d = c .before .before .before .before .before .before .before .before .before .before .before .before .before .merge in
+    let n = c .before .before .before .before .before .before .before .before .before .before .before .before .before .before .before .before .before .smaller2 .result in
     let f = found (v .bits .now) (v .ps .now) (v .kx .now) (v .ky .now) (v .at .now) (d .last .0) (d .last .1 .0) (d .last .1 .1 .0) n (d .result) (k .pre)
-    (c .before .before .before .before .before .before .before .before .before .before .before .before .before .before .smaller2 .ensures ∙ ap (min maxMerge) (c .before .before .before .before .before .before .before .before .before .before .before .before .before .before .before .smaller .ensures)) (d .ensures .0) (d .ensures .1 .0) (d .ensures .1 .1 .0) (d .ensures .1 .1 .1) in
+    (c .before .before .before .before .before .before .before .before .before .before .before .before .before .before .before .before .before .smaller2 .ensures ∙ ap (min maxMerge) (c .before .before .before .before .before .before .before .before .before .before .before .before .before .before .before .before .before .before .smaller .ensures)) (d .ensures .0) (d .ensures .1 .0) (d .ensures .1 .1 .0) (d .ensures .1 .1 .1) in
     sym (length-take-le _ _ (f .in-ky))
 
 slice-reshare-prefix-emit-kept-dff-3 : tie.Need-slice-reshare-prefix-emit-kept-dff-3
@@ -65,22 +65,22 @@ slice-reshare-prefix-emit-kept-dff-3 c = search needs
 
 slice-aggregate-emit-kept-dff-3 : tie.Need-slice-aggregate-emit-kept-dff-3
 slice-aggregate-emit-kept-dff-3 c =
-    let k = c .before .before .before .before .before .before .before .before .before .before .before .before .before .before .before .before .before .before .before .before .before .before .before .before in
+    let k = c .before .before .before .before .before .before .before .before .before .before .before .before .before .before .before .before .before .before .before .before .before .before .before .before .before .before .before in
     let v = k .args in
-    let d = c .before .before .before .before .before .before .before .before .before .before .before .merge in
-    let n = c .before .before .before .before .before .before .before .before .before .before .before .before .before .before .before .smaller2 .result in
+    let d = c .before .before .before .before .before .before .before .before .before .before .before .before .before .before .merge in
+    let n = c .before .before .before .before .before .before .before .before .before .before .before .before .before .before .before .before .before .before .smaller2 .result in
     let f = found (v .bits .now) (v .ps .now) (v .kx .now) (v .ky .now) (v .at .now) (d .last .0) (d .last .1 .0) (d .last .1 .1 .0) n (d .result) (k .pre)
-    (c .before .before .before .before .before .before .before .before .before .before .before .before .before .before .before .smaller2 .ensures ∙ ap (min maxMerge) (c .before .before .before .before .before .before .before .before .before .before .before .before .before .before .before .before .smaller .ensures)) (d .ensures .0) (d .ensures .1 .0) (d .ensures .1 .1 .0) (d .ensures .1 .1 .1) in
+    (c .before .before .before .before .before .before .before .before .before .before .before .before .before .before .before .before .before .before .smaller2 .ensures ∙ ap (min maxMerge) (c .before .before .before .before .before .before .before .before .before .before .before .before .before .before .before .before .before .before .before .smaller .ensures)) (d .ensures .0) (d .ensures .1 .0) (d .ensures .1 .1 .0) (d .ensures .1 .1 .1) in
     sym (length-take-le _ _ (f .in-at))
 
 emit-kept-dff-requires : tie.Need-emit-kept-dff-requires
 emit-kept-dff-requires c κs =
-    let k = c .before .before .before .before .before .before .before .before .before .before .before .before .before .before .before .before .before .before .before .before .before .before .before .before in
+    let k = c .before .before .before .before .before .before .before .before .before .before .before .before .before .before .before .before .before .before .before .before .before .before .before .before .before .before .before in
     let v = k .args in
-    let d = c .before .before .before .before .before .before .before .before .before .before .before .merge in
-    let n = c .before .before .before .before .before .before .before .before .before .before .before .before .before .before .before .smaller2 .result in
+    let d = c .before .before .before .before .before .before .before .before .before .before .before .before .before .before .merge in
+    let n = c .before .before .before .before .before .before .before .before .before .before .before .before .before .before .before .before .before .before .smaller2 .result in
     let f = found (v .bits .now) (v .ps .now) (v .kx .now) (v .ky .now) (v .at .now) (d .last .0) (d .last .1 .0) (d .last .1 .1 .0) n (d .result) (k .pre)
-    (c .before .before .before .before .before .before .before .before .before .before .before .before .before .before .before .smaller2 .ensures ∙ ap (min maxMerge) (c .before .before .before .before .before .before .before .before .before .before .before .before .before .before .before .before .smaller .ensures)) (d .ensures .0) (d .ensures .1 .0) (d .ensures .1 .1 .0) (d .ensures .1 .1 .1) in
+    (c .before .before .before .before .before .before .before .before .before .before .before .before .before .before .before .before .before .before .smaller2 .ensures ∙ ap (min maxMerge) (c .before .before .before .before .before .before .before .before .before .before .before .before .before .before .before .before .before .before .before .smaller .ensures)) (d .ensures .0) (d .ensures .1 .0) (d .ensures .1 .1 .0) (d .ensures .1 .1 .1) in
     kept-few (v .bits .now) (v .ps .now) (d .last .0) (d .last .1 .0) (d .last .1 .1 .0) n (d .result) f
 
 same-length : tie.Need-same-length
@@ -100,12 +100,12 @@ same-length-5 c = search needs
 
 returns : tie.Need-returns
 returns c =
-    let k = c .before .before .before .before .before .before .before .before .before .before .before .before .before .before .before .before .before .before .before .before .before .before .before .before .before .before .before .before .before in
+    let k = c .before .before .before .before .before .before .before .before .before .before .before .before .before .before .before .before .before .before .before .before .before .before .before .before .before .before .before .before .before .before .before .before in
     let v = k .args in
-    let d = c .before .before .before .before .before .before .before .before .before .before .before .before .before .before .before .before .merge in
-    let n = c .before .before .before .before .before .before .before .before .before .before .before .before .before .before .before .before .before .before .before .before .smaller2 .result in
+    let d = c .before .before .before .before .before .before .before .before .before .before .before .before .before .before .before .before .before .before .before .merge in
+    let n = c .before .before .before .before .before .before .before .before .before .before .before .before .before .before .before .before .before .before .before .before .before .before .before .smaller2 .result in
     let f = found (v .bits .now) (v .ps .now) (v .kx .now) (v .ky .now) (v .at .now) (d .last .0) (d .last .1 .0) (d .last .1 .1 .0) n (d .result) (k .pre)
-    (c .before .before .before .before .before .before .before .before .before .before .before .before .before .before .before .before .before .before .before .before .smaller2 .ensures ∙ ap (min maxMerge) (c .before .before .before .before .before .before .before .before .before .before .before .before .before .before .before .before .before .before .before .before .before .smaller .ensures)) (d .ensures .0) (d .ensures .1 .0) (d .ensures .1 .1 .0) (d .ensures .1 .1 .1) in
+    (c .before .before .before .before .before .before .before .before .before .before .before .before .before .before .before .before .before .before .before .before .before .before .before .smaller2 .ensures ∙ ap (min maxMerge) (c .before .before .before .before .before .before .before .before .before .before .before .before .before .before .before .before .before .before .before .before .before .before .before .before .smaller .ensures)) (d .ensures .0) (d .ensures .1 .0) (d .ensures .1 .1 .0) (d .ensures .1 .1 .1) in
     let p = c .before .before .before .before .emit-kept-dff in
     let l = lent (v .st) (v .log .now) in
     let l1 = lent (p .result) (p .last .0) in (

@@ -32,16 +32,16 @@ returns c =
     delayed-not (v .all-x) p (c .before .before .before .before .addr-of .result .now) (c .before .before .before .data-of .result .now) (c .before .before .mask-of .result .now) (controlOf (v .p .clock)) (c .before .before .before .before .addr-of .ensures) (c .before .before .before .data-of .ensures) (c .before .before .mask-of .ensures) refl l l (cut p (v .a .now) (v .d .now) (v .k .now)) (sym (c .before .can-delay .ensures) ∙ not-true _ (c .if1 .taken))
 
 emit-three-requires : tie.Need-emit-three-requires
-emit-three-requires c κs = can-told (length (c .before .before .before .before .before .before .before .before .addr-of .result .now)) (length (c .before .before .before .before .before .before .before .data-of .result .now)) (length (c .before .before .before .before .before .before .mask-of .result .now)) (sym (c .before .before .before .before .before .can-delay .ensures) ∙ not-false _ (c .before .before .before .before .if1 .left))
+emit-three-requires c κs = can-told (length (c .before .before .before .before .before .before .before .before .before .before .before .before .before .before .before .before .addr-of .result .now)) (length (c .before .before .before .before .before .before .before .before .before .before .before .before .before .before .before .data-of .result .now)) (length (c .before .before .before .before .before .before .before .before .before .before .before .before .before .before .mask-of .result .now)) (sym (c .before .before .before .before .before .before .before .before .before .before .before .before .before .can-delay .ensures) ∙ not-false _ (c .before .before .before .before .before .before .before .before .before .before .before .before .if1 .left))
 
 same-length : tie.Need-same-length
 same-length c = search needs
 
 returns-2 : tie.Need-returns-2
 returns-2 c =
-    let v = c .before .before .before .before .before .before .before .before .before .before .before .before .before .before .args in
+    let v = c .before .before .before .before .before .before .before .before .before .before .before .before .before .before .before .before .before .before .before .before .before .before .args in
     let p = writeBy (v .p) (v .nets .now) [] in
-    delayed-yes (v .all-x) p (c .before .before .before .before .before .before .before .before .before .before .before .addr-of .result .now) (c .before .before .before .before .before .before .before .before .before .before .data-of .result .now) (c .before .before .before .before .before .before .before .before .before .mask-of .result .now) (controlOf (v .p .clock)) (c .before .before .before .before .before .before .before .before .before .before .before .addr-of .ensures) (c .before .before .before .before .before .before .before .before .before .before .data-of .ensures) (c .before .before .before .before .before .before .before .before .before .mask-of .ensures) refl (lent (v .st) (v .log .now)) (lent (c .before .before .emit-three .result) (c .before .before .emit-three .last .0)) (cut p (v .a .now) (v .d .now) (v .k .now)) (c .before .before .emit-three .last .1 .1 .0) (c .before .before .emit-three .last .1 .1 .1 .0) (c .before .before .emit-three .last .1 .1 .1 .1 .0) (sym (c .before .before .before .before .before .before .before .before .can-delay .ensures) ∙ not-false _ (c .before .before .before .before .before .before .before .if1 .left)) (c .before .before .emit-three .ensures)
+    delayed-yes (v .all-x) p (c .before .before .before .before .before .before .before .before .before .before .before .before .before .before .before .before .before .before .before .addr-of .result .now) (c .before .before .before .before .before .before .before .before .before .before .before .before .before .before .before .before .before .before .data-of .result .now) (c .before .before .before .before .before .before .before .before .before .before .before .before .before .before .before .before .before .mask-of .result .now) (controlOf (v .p .clock)) (c .before .before .before .before .before .before .before .before .before .before .before .before .before .before .before .before .before .before .before .addr-of .ensures) (c .before .before .before .before .before .before .before .before .before .before .before .before .before .before .before .before .before .before .data-of .ensures) (c .before .before .before .before .before .before .before .before .before .before .before .before .before .before .before .before .before .mask-of .ensures) refl (lent (v .st) (v .log .now)) (lent (c .before .before .emit-three .result) (c .before .before .emit-three .last .0)) (cut p (v .a .now) (v .d .now) (v .k .now)) (c .before .before .emit-three .last .1 .1 .0) (c .before .before .emit-three .last .1 .1 .1 .0) (c .before .before .emit-three .last .1 .1 .1 .1 .0) (sym (c .before .before .before .before .before .before .before .before .before .before .before .before .before .before .before .before .can-delay .ensures) ∙ not-false _ (c .before .before .before .before .before .before .before .before .before .before .before .before .before .before .before .if1 .left)) (c .before .before .emit-three .ensures)
 
 pub emit-delayed-spec : {M : Type 1} → statement M
 emit-delayed-spec =

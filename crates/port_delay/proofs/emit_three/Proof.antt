@@ -21,10 +21,15 @@ same-length c = search needs
 
 returns : tie.Need-returns
 returns c =
-    let v = c .before .before .before .before .before .before .before .before .before .before .before .before .before .before .before .before .before .before .before .args in
-    three-gave (v .all-x) (v .addr .now) (v .bits .now) (v .mask .now) (c .before .before .before .before .before .before .before .before .before .before .before .before .emit-plain .last .1 .1 .0) (c .before .before .before .before .before .before .before .emit-plain2 .last .1 .1 .0) (c .before .before .emit-mask .last .1 .1 .0) (controlOf (v .clock)) (lent (v .st) (v .log .now)) (lent (c .before .before .before .before .before .before .before .before .before .before .before .before .emit-plain .result) (c .before .before .before .before .before .before .before .before .before .before .before .before .emit-plain .last .0)) (lent (c .before .before .before .before .before .before .before .emit-plain2 .result) (c .before .before .before .before .before .before .before .emit-plain2 .last .0)) (lent (c .before .before .emit-mask .result) (c .before .before .emit-mask .last .0)) (c .before .before .before .before .before .before .before .before .before .before .before .before .before .before .before .before .before .before .before .pre .masked) (c .before .before .before .before .before .before .before .before .before .before .before .before .emit-plain .ensures) (c .before .before .before .before .before .before .before .emit-plain2 .ensures) (c .before .before .emit-mask .ensures)
+    let v = c .before .before .before .before .before .before .before .before .before .before .before .before .before .before .before .before .before .before .before .before .before .before .before .before .before .before .before .before .before .args in
+    three-gave (v .all-x) (v .addr .now) (v .bits .now) (v .mask .now) (c .before .before .before .before .before .before .before .before .before .before .before .before .before .before .before .before .before .before .before .before .before .emit-plain .last .1 .1 .0) (c .before .before .before .before .before .before .before .before .before .before .before .before .before .before .before .emit-plain2 .last .1 .1 .0) (c .before .before .emit-mask .last .1 .1 .0) (controlOf (v .clock)) (lent (v .st) (v .log .now)) (lent (c .before .before .before .before .before .before .before .before .before .before .before .before .before .before .before .before .before .before .before .before .before .emit-plain .result) (c .before .before .before .before .before .before .before .before .before .before .before .before .before .before .before .before .before .before .before .before .before .emit-plain .last .0)) (lent (c .before .before .before .before .before .before .before .before .before .before .before .before .before .before .before .emit-plain2 .result) (c .before .before .before .before .before .before .before .before .before .before .before .before .before .before .before .emit-plain2 .last .0)) (lent (c .before .before .emit-mask .result) (c .before .before .emit-mask .last .0)) (c .before .before .before .before .before .before .before .before .before .before .before .before .before .before .before .before .before .before .before .before .before .before .before .before .before .before .before .before .before .pre .masked) (c .before .before .before .before .before .before .before .before .before .before .before .before .before .before .before .before .before .before .before .before .before .emit-plain .ensures) (c .before .before .before .before .before .before .before .before .before .before .before .before .before .before .before .emit-plain2 .ensures) (c .before .before .emit-mask .ensures)
 
 pub emit-three-spec : {M : Type 1} → statement M
 emit-three-spec =
     tie.close
-    (tie.spec emit-plain-requires emit-plain-requires-2 emit-mask-requires same-length returns)
+    (tie.spec
+    emit-plain-requires
+    emit-plain-requires-2
+    emit-mask-requires
+    same-length
+    returns)

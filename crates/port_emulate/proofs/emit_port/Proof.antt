@@ -30,10 +30,16 @@ same-length c = search needs
 returns-2 : tie.Need-returns-2
 returns-2 c =
     λ nets trits.
-    let v = c .before .before .before .before .before .before .before .before .before .before .before .args in
+    let v = c .before .before .before .before .before .before .before .before .before .before .before .before .before .before .before .before .before .before .before .args in
     let p = writeBy (v .p) (v .own .now) [] in
-    port-yes (v .all-x) p (cut p (v .a .now) (v .d .now) (v .k .now)) (c .before .before .emit-delayed .last .1 .1 .0) (c .before .before .emit-delayed .last .1 .1 .1 .0) (c .before .before .emit-delayed .last .1 .1 .1 .1 .0) (lent (v .st) (v .log .now)) (lent (c .before .before .emit-delayed .result) (c .before .before .emit-delayed .last .0)) _ (sym (c .before .before .before .before .before .before .before .before .relates-to .ensures nets trits) ∙ not-false _ (c .before .before .before .before .before .before .before .if1 .left)) (c .before .before .emit-delayed .ensures)
+    port-yes (v .all-x) p (cut p (v .a .now) (v .d .now) (v .k .now)) (c .before .before .emit-delayed .last .1 .1 .0) (c .before .before .emit-delayed .last .1 .1 .1 .0) (c .before .before .emit-delayed .last .1 .1 .1 .1 .0) (lent (v .st) (v .log .now)) (lent (c .before .before .emit-delayed .result) (c .before .before .emit-delayed .last .0)) _ (sym (c .before .before .before .before .before .before .before .before .before .before .before .before .before .before .before .before .relates-to .ensures nets trits) ∙ not-false _ (c .before .before .before .before .before .before .before .before .before .before .before .before .before .before .before .if1 .left)) (c .before .before .emit-delayed .ensures)
 
 pub emit-port-spec : {M : Type 1} → statement M
 emit-port-spec =
-    tie.close (tie.spec relates-to-requires returns emit-delayed-requires same-length returns-2)
+    tie.close
+    (tie.spec
+    relates-to-requires
+    returns
+    emit-delayed-requires
+    same-length
+    returns-2)

@@ -1,0 +1,3 @@
+-- Laws of a settled memory.
+pub mod Changed
+pub mod View

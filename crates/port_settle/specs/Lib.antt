@@ -1,0 +1,2 @@
+-- The definitions that the contracts of port_settle cite.
+pub mod Settled
