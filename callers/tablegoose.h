@@ -379,6 +379,11 @@ tablegoose_driven tablegoose_unmap_read_dff(uint32_t *log, size_t log_len, table
                                             tablegoose_memory m, const uint32_t *nets, size_t nets_len, const uint8_t *trits, size_t trits_len,
                                             size_t port);
 
+/* Each write port that has a read-before-write relation writes half a cycle later, with the other edge of its clock, behind logged flip-flops of its
+ * address, data and mask, whose new nets take their places in nets; the relations to it become undefined. Numbers 1 to 4, 12, 13, 22, 20, 21. */
+tablegoose_driven tablegoose_emulate_read_before_write(uint32_t *log, size_t log_len, tablegoose_log_state st, uint32_t *nets, size_t nets_len,
+                                                       tablegoose_memory m, const uint8_t *trits, size_t trits_len);
+
 /* ---- plans: a plan's numbers, and its lists as arrays: the entries of a row (a bit's number, or TABLEGOOSE_NO_BIT), and the new wide log of each write
  * port and of each read port */
 
@@ -586,6 +591,7 @@ tablegoose_count tablegoose_list_input(uint8_t *out, size_t out_len, const uint8
  *     128 tablegoose_const_or
  *     128 tablegoose_control_is_always
  *     128 tablegoose_control_not
+ *  143104 tablegoose_emulate_read_before_write
  *    6144 tablegoose_extract_read_ports
  *    1920 tablegoose_fill
  *    2176 tablegoose_fill_and_patch
@@ -623,7 +629,7 @@ tablegoose_count tablegoose_list_input(uint8_t *out, size_t out_len, const uint8
  *     128 tablegoose_trit_and
  *     128 tablegoose_trit_not
  *     128 tablegoose_trit_or
- *  145024 tablegoose_unmap_read_dff
+ *  143616 tablegoose_unmap_read_dff
  *     128 tablegoose_unset
  *     128 tablegoose_value_is_undef
  *     128 tablegoose_wide_log2

@@ -156,6 +156,16 @@ fn on_ports(out: &mut Vec<Input>) {
         let output = outputs(&memory);
         out.push(given(what, Call::UnmapReadDff(UnmapReadDff { log: LOG, memory, port: 0, output })));
     }
+    for (what, ports) in [("32 × 512, 2 ports", 1), ("32 × 512, 8 write ports", 8)] {
+        let memory = related(memory(512, 32, 9, ports, 1), READ_BEFORE_WRITE);
+        out.push(given(what, Call::EmulateReadBeforeWrite(EmulateReadBeforeWrite { log: LOG, memory })));
+    }
+}
+
+/// Every relation of the read ports becomes this one.
+fn related(mut memory: Memory, relation: u32) -> Memory {
+    memory.read_ports.iter_mut().filter_map(|port| port.flip_flop.as_mut()).for_each(|f| f.relations.fill(relation));
+    memory
 }
 
 fn sizes(n: usize) -> Sizes {

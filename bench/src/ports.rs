@@ -19,6 +19,11 @@ pub fn rust(call: Call) -> Job {
                 (memory, output)
             })
         }
+        Call::EmulateReadBeforeWrite(c) => on_log(c.log, move |design| {
+            let mut memory = memory.clone();
+            memory.emulate_read_before_write(design);
+            memory
+        }),
         _ => unreachable!("a call on ports"),
     }
 }
@@ -34,6 +39,13 @@ pub fn port(call: Call) -> Job {
             job(move || {
                 output.copy_from_slice(&c.output);
                 ffi::unmap_read_dff(&mut words, st, &mut output, numbers, &nets, &trits, port)
+            })
+        }
+        Call::EmulateReadBeforeWrite(c) => {
+            let ((mut words, st), mut after) = (log(c.log), nets.clone());
+            job(move || {
+                after.copy_from_slice(&nets);
+                ffi::emulate_read_before_write(&mut words, st, &mut after, numbers, &trits)
             })
         }
         _ => unreachable!("a call on ports"),

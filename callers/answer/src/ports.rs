@@ -22,3 +22,13 @@ pub fn unmap_read_dff(words: &mut Words) -> Option<Outcome> {
         put_list(to, output.wrote_all());
     }))
 }
+
+pub fn emulate_read_before_write(words: &mut Words) -> Option<Outcome> {
+    let ((mut log, st), mut m) = (words.log()?, words.memory()?);
+    words.end()?;
+    let answer = ffi::emulate_read_before_write(log.get_mut(), st, m.nets.get_mut(), m.numbers, m.trits.get());
+    Some(unless(driven(&answer, &m.numbers, st), |to| {
+        put_log(to, &mut log, st, answer.state);
+        put_memory(to, &answer.memory, m.nets.wrote_all(), m.trits.get());
+    }))
+}

@@ -257,6 +257,7 @@ exported! {
 
 exported! {
     unmap_read_dff(log: &mut [u32], st: LogState, output: &mut [u32], m: Memory, nets: &[u32], trits: &[u8], port: usize) -> Driven;
+    emulate_read_before_write(log: &mut [u32], st: LogState, nets: &mut [u32], m: Memory, trits: &[u8]) -> Driven;
 }
 
 exported! {

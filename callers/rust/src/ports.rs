@@ -16,4 +16,13 @@ impl Memory {
         *self = Lowered { memory, ..l }.lifted();
         Ok(())
     }
+
+    /// Emulates all read-before-write relations: a write port that has one writes half a cycle later, with the other edge of its clock, behind logged
+    /// flip-flops of its address, data and mask.
+    pub fn emulate_read_before_write(&mut self, log: &mut Log) -> Result<(), Refusal> {
+        let mut l = self.lowered();
+        let memory = log.driven(|words, st| ffi::emulate_read_before_write(words, st, &mut l.nets, l.memory, &l.trits))?;
+        *self = Lowered { memory, ..l }.lifted();
+        Ok(())
+    }
 }

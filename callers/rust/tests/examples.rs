@@ -284,6 +284,31 @@ fn read_flip_flops_are_unmapped() {
     assert_eq!((memory, log, output), (before, Log::new(20, Net(100)), Net(80).run(3)));
 }
 
+/// The write port writes at the other edge of its clock, behind flip-flops.
+#[test]
+fn read_before_write_is_emulated() {
+    let mut before = ported();
+    before.read_ports.pop();
+    before.read_ports[0].relations = vec![Relation::ReadBeforeWrite];
+    let (mut memory, mut log) = (before.clone(), Log::new(1_000, Net(100)));
+    assert_eq!(memory.emulate_read_before_write(&mut log), Ok(()));
+    let write = WritePort { addr: vec![Net(100)], data: vec![Net(101)], mask: vec![Net(102)], clock: Control::Neg(Net(5)) };
+    let read = ReadPort { relations: vec![Relation::Undefined], ..before.read_ports[0].clone() };
+    assert_eq!(memory, Memory { write_ports: vec![write], read_ports: vec![read], ..before.clone() });
+    let data: Vec<Vec<Net>> = log
+        .entries()
+        .map(|entry| match entry.cell {
+            Cell::FlipFlop { data, .. } => data,
+            cell => panic!("{cell:?}"),
+        })
+        .collect();
+    assert_eq!(data, [[10], [20], [7]].map(|nets| nets.map(Net).to_vec()));
+    let mut mixed = ported();
+    assert_eq!(number(mixed.emulate_read_before_write(&mut log)), 22);
+    mixed.read_ports[1] = before.read_ports[0].clone();
+    assert_eq!(number(mixed.emulate_read_before_write(&mut log)), 13);
+}
+
 /// Codes that the safe types do not have: 4, and every field of the answer 0.
 #[test]
 fn flags_and_polarities() {

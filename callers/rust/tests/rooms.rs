@@ -146,9 +146,9 @@ fn memories_and_plans() {
     word_room("swizzle_depths", 2, depths(&[0]), 7, depths(&[1]));
 }
 
-/// A call that changes memory, state and outputs in place; a refused one leaves all of them.
-fn changing(driven: ffi::Driven, kept: bool) -> u32 {
-    let same = driven.memory == memory() && driven.state == state() && kept;
+/// A call that changes a memory, the state and lent arrays in place; a refused one leaves all of them.
+fn changing(before: ffi::Memory, driven: ffi::Driven, kept: bool) -> u32 {
+    let same = driven.memory == before && driven.state == state() && kept;
     assert_eq!(same, driven.number != 0);
     driven.number
 }
@@ -159,10 +159,19 @@ fn ports() {
         move |log: &mut [u32]| {
             let mut output = [80];
             let driven = ffi::unmap_read_dff(log, state(), &mut output, memory(), &NETS, &TRITS, port);
-            changing(driven, output == [80])
+            changing(memory(), driven, output == [80])
         }
     };
     word_room("unmap_read_dff", 47, unmap(0), 15, unmap(1));
+    let emulate = |clocked: u32| {
+        move |log: &mut [u32]| {
+            let (mut nets, mut m) = (NETS, memory());
+            (m.read_ports[0].relations[0], m.read_ports[0].clocked) = (1, clocked);
+            let driven = ffi::emulate_read_before_write(log, state(), &mut nets, m, &TRITS);
+            changing(m, driven, nets == NETS)
+        }
+    };
+    word_room("emulate_read_before_write", 51, emulate(1), 22, emulate(0));
 }
 
 fn laid() -> Laid {

@@ -1,10 +1,14 @@
 -- The struct of a library's answer, the library's answer that a struct is, and the memory after a call.
 use mathlib.Core.Path.{_≡_}
 use mathlib.Core.Logic.{_≢_}
+use Prim.Native.Nat.{ℕ}
+use mathlib.Core.List.{List}
+use lib.ListN.{length}
 use Rattle.lists.specs.Choice.{leaves}
 use Rattle.log_entries.specs.declared.LogState.{LogState}
 use Rattle.net_memory.specs.declared.Memory.{Memory as MachineMemory}
 use Rattle.port_unmap.specs.declared.Driven.{Driven as MachineDriven}
+use Rattle.port_settle.specs.Settled.{isRead, settledMemory}
 use Rattle.c_memory.specs.declared.Memory.{Memory}
 use Rattle.c_memory.specs.View.{givenMemory, memoryStruct}
 use Rattle.c_port.specs.declared.Driven.{Driven}
@@ -21,3 +25,9 @@ givenDriven r = record { refusal = r .number; memory = givenMemory (r .memory); 
 pub record NewMemory (m : Memory) (st : LogState) (w : MachineMemory) (r : Driven) : Type 0 where
   pub struct-is : r .memory ≡ leaves (r .number) m (memoryStruct w)
   pub state-kept : r .number ≢ 0 → r .state ≡ st
+
+-- after an emulation: the struct, and the nets themselves, which a refused call leaves as they were
+pub record NewNets (m : Memory) (st : LogState) (nets nets′ : List ℕ) (r : Driven) : Type 0 where
+  pub memory-is : (x y : List ℕ) → NewMemory m st (settledMemory (isRead (givenMemory m) x y) (givenMemory m)) r
+  pub nets-kept : r .number ≢ 0 → nets′ ≡ nets
+  pub size : length nets′ ≡ length nets

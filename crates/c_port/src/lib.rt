@@ -1,12 +1,13 @@
 // Calls on a memory's ports for callers in C and Rust. Memory and log state go in by value and come back in the answer's struct; a refused call gives
 // both back as they were.
 ghost use mathlib.Core.Path.{_≡_};
-ghost use Rattle.rules.specs.Answers.{unmapReadDffCall};
+ghost use mathlib.Core.List.{[]};
+ghost use Rattle.rules.specs.Answers.{unmapReadDffCall, emulateCall};
 ghost use Rattle.log_entries.specs.View.{stateOf};
 ghost use Rattle.net_memory.specs.Given.{givenOf};
 ghost use Rattle.port_unmap.specs.Call.{unclocking, roomsOf, drivenOf};
 ghost use Rattle.c_memory.specs.View.{givenMemory};
-ghost use Rattle.c_port.specs.View.{drivenStruct, givenDriven, NewMemory};
+ghost use Rattle.c_port.specs.View.{drivenStruct, givenDriven, NewMemory, NewNets};
 use c_memory::Memory;
 use log_entries::LogState;
 
@@ -55,5 +56,24 @@ pub extern "C" fn tablegoose_unmap_read_dff(
     driven_struct(
         m,
         port_unmap::unmap_read_dff(log, st, output, given, nets, trits, port),
+    )
+}
+
+// The outputs play no part.
+#[no_mangle]
+pub extern "C" fn tablegoose_emulate_read_before_write(
+    log: &mut [u32],
+    st: LogState,
+    nets: &mut [u32],
+    m: Memory,
+    trits: &[u8],
+) -> Driven
+    ensures { λ r. ⌜ drivenOf (givenDriven r) (now (nets .exit)) (now (trits .entry)) [] (now (log .exit)) ≡ emulateCall (roomsOf (now (nets .entry)) (now (trits .entry)) []) (now (log .entry)) (stateOf st) (givenOf (givenMemory m) (now (nets .entry)) (now (trits .entry))) ⌝ }
+    ensures { λ r. ⌜ NewNets m st (now (nets .entry)) (now (nets .exit)) r ⌝ }
+{
+    let given = c_memory::memory_of(m);
+    driven_struct(
+        m,
+        port_emulate::emulate_read_before_write(log, st, nets, given, trits),
     )
 }

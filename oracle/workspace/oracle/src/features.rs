@@ -39,10 +39,10 @@ pub fn of_ports(call: &Call) -> Vec<String> {
 fn note_ports(call: &Call, memory: &Memory, log: &Log, found: &mut Vec<String>) {
     let log_of = |length: usize| wide_log(memory.width, length).unwrap_or(0);
     let read = match call {
-        Call::TransparencyMux(c) => c.read_port,
-        Call::UnmapReadDff(c) => c.port,
-        Call::UnmapReadReset(c) => c.port,
-        Call::EmulateReadBeforeWrite(_) => 0,
+        Call::TransparencyMux(c) => Some(c.read_port),
+        Call::UnmapReadDff(c) => Some(c.port),
+        Call::UnmapReadReset(c) => Some(c.port),
+        Call::EmulateReadBeforeWrite(_) => None,
         _ => return,
     };
     let full = crate::limits::PORTS;
@@ -52,7 +52,7 @@ fn note_ports(call: &Call, memory: &Memory, log: &Log, found: &mut Vec<String>) 
         "eight write and eight read ports",
     );
     note(found, log.used == log.room, "no room in the log");
-    let Some(port) = memory.read_ports.get(read as usize) else { return };
+    let Some(port) = read.and_then(|read| memory.read_ports.get(read as usize)) else { return };
     let overlaid = |place: usize| match call {
         Call::TransparencyMux(c) => c.write_port as usize == place,
         _ => port.flip_flop.as_ref().is_some_and(|f| f.relations.get(place) == Some(&TRANSPARENT)),
