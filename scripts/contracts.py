@@ -15,6 +15,10 @@ OPEN = {
     'crates/merge_mux/src/emit.rt emit_dedup_mux_with': KEYS,
     'crates/merge_mux/src/emit.rt emit_bitwise_mux_with': KEYS,
     'crates/port_transparency/src/lib.rt emit_transparency': ('bits', 'mask', 'sel', 'nets') + KEYS,
+    'crates/port_transparency/src/lib.rt emit_transparency_masked': ('bits', 'mask', 'sel', 'nets') + KEYS,
+    'crates/port_overlay/src/lib.rt emit_pair': ('bits', 'mask', 'sel', 'spare') + KEYS,
+    'crates/port_masked/src/lib.rt emit_masked_pair': ('bits', 'mask', 'sel', 'spare') + KEYS,
+    'crates/port_masked/src/lib.rt emit_masked_pairs': ('bits', 'mask', 'sel', 'spare') + KEYS,
     'crates/port_overlay/src/lib.rt emit_unmap': ('under', 'bits', 'mask', 'sel', 'spare') + KEYS,
 }
 
