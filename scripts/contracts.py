@@ -18,6 +18,10 @@ OPEN = {
     'crates/merge_dff/src/lib.rt emit_dedup_dff_with': ('column',) + KEYS + TRITS,
     'crates/port_delay/src/lib.rt emit_delayed': ('column',) + KEYS + ('trits',) + TRITS,
     'crates/port_transparency/src/lib.rt emit_transparency': ('bits', 'mask', 'sel', 'nets') + KEYS,
+    'crates/port_transparency/src/lib.rt emit_transparency_masked': ('bits', 'mask', 'sel', 'nets') + KEYS,
+    'crates/port_overlay/src/lib.rt emit_pair': ('bits', 'mask', 'sel', 'spare') + KEYS,
+    'crates/port_masked/src/lib.rt emit_masked_pair': ('bits', 'mask', 'sel', 'spare') + KEYS,
+    'crates/port_masked/src/lib.rt emit_masked_pairs': ('bits', 'mask', 'sel', 'spare') + KEYS,
     'crates/port_overlay/src/lib.rt emit_unmap': ('under', 'bits', 'mask', 'sel', 'spare') + KEYS,
 }
 

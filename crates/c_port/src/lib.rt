@@ -2,12 +2,16 @@
 // both back as they were.
 ghost use mathlib.Core.Path.{_≡_};
 ghost use mathlib.Core.List.{[]};
-ghost use Rattle.rules.specs.Answers.{unmapReadDffCall, emulateCall};
+ghost use lib.ListN.{length, take};
+ghost use Rattle.rules.specs.Answers.{unmapReadDffCall, emulateCall, transparencyMuxCall};
 ghost use Rattle.log_entries.specs.View.{stateOf};
 ghost use Rattle.net_memory.specs.Given.{givenOf};
+ghost use Rattle.port_mux.specs.Call.{overlayOf};
 ghost use Rattle.port_unmap.specs.Call.{unclocking, roomsOf, drivenOf};
 ghost use Rattle.c_memory.specs.View.{givenMemory};
+ghost use Rattle.c_port.specs.Overlays.{lentOverlay, overlayLeftBy};
 ghost use Rattle.c_port.specs.View.{drivenStruct, givenDriven, NewMemory, NewNets};
+use c_log::Logged;
 use c_memory::Memory;
 use log_entries::LogState;
 
@@ -76,4 +80,40 @@ pub extern "C" fn tablegoose_emulate_read_before_write(
         m,
         port_emulate::emulate_read_before_write(log, st, nets, given, trits),
     )
+}
+
+// Bits and mask after it go to the rooms; without a mask, `mask` and its room play no part.
+#[no_mangle]
+pub extern "C" fn tablegoose_transparency_mux(
+    log: &mut [u32],
+    st: LogState,
+    bits_to: &mut [u32],
+    mask_to: &mut [u32],
+    m: Memory,
+    nets: &[u32],
+    trits: &[u8],
+    read: usize,
+    write: usize,
+    bits: &[u32],
+    mask: &[u32],
+    masked: bool,
+) -> Logged
+    ensures { λ r. ⌜ overlayLeftBy (overlayOf masked (take (length (now (bits .entry))) (now («bits_to» .exit))) (take (length (now (bits .entry))) (now («mask_to» .exit)))) r (now (log .exit)) (now («bits_to» .exit)) (now («mask_to» .exit)) ≡ lentOverlay (stateOf st) (transparencyMuxCall (now («bits_to» .entry)) (now («mask_to» .entry)) (now (log .entry)) (stateOf st) (givenOf (givenMemory m) (now (nets .entry)) (now (trits .entry))) read write (overlayOf masked (now (bits .entry)) (now (mask .entry)))) ⌝ }
+{
+    let given = c_memory::memory_of(m);
+    let r = port_mux::transparency_mux(
+        log,
+        st,
+        bits_to,
+        mask_to,
+        given,
+        nets,
+        trits,
+        read,
+        write,
+        bits,
+        mask,
+        masked,
+    );
+    c_log::answer_struct(r, st)
 }

@@ -1,9 +1,9 @@
 -- An unmapping is in sequence and gives few nets, so that a run without a log never reaches X.
-use mathlib.Core.Path.{_≡_, refl, sym, ap, _∙_, subst}
+use mathlib.Core.Path.{_≡_, refl, sym, ap, _∙_}
 use Prim.Native.Nat.{ℕ, suc, _+_, _-_, _*_, _≤_}
 use native.Mathlib.Omega.{arith}
 use mathlib.Core.Bool.{Bool, true, false}
-use mathlib.Core.Option.{none}
+use mathlib.Core.Option.{Option, none, some}
 use mathlib.Core.List.{List, [], _∷_, _++_, map, append-nil}
 use lib.ListN.{length, take, drop, getD, replicate, length-map, length-take, length-drop, length-append}
 use lib.Dec.{ltb}
@@ -15,18 +15,17 @@ use Rattle.lists.proofs.Distinct.{length-kept}
 use Rattle.lists.proofs.Pairs.{pairs-size}
 use Rattle.rules.specs.Limits.{X}
 use Rattle.rules.specs.Value.{Value, Control, Pos, zext}
-use Rattle.rules.specs.Cell.{FlipFlop, WritePort, ReadPort, ReadFlipFlop, Mem, writeWideLog2, readWideLog2, writeAt, readAt, isTransparent, transparentFrom, transparentPorts, flipFlopOf, outputSlice}
-use Rattle.rules.specs.Log.{Trace, _>>=_, _>>_, done, request, addMux, addShl, addUshr, addEq, addVoid, addDff, replaceValue}
+use Rattle.rules.specs.Cell.{FlipFlop, WritePort, ReadPort, ReadFlipFlop, Mem, writeWideLog2, readWideLog2, writeAt, readAt, isTransparent, transparentFrom, transparentPorts, flipFlopOf, outputSlice, orEmpty}
+use Rattle.rules.specs.Log.{Trace, _>>=_, _>>_, done, request, addOr, addMux, addShl, addUshr, addEq, addVoid, addDff, replaceValue}
 use Rattle.rules.specs.Beside.Chain.{Chains}
 use Rattle.rules.specs.Merge.{same2, spread, addDedupMux, muxRuns, runs, addBitwiseMux}
 use Rattle.rules.specs.Ports.{Seen, seen, seenWider, seenNarrower, Overlay, overlaidMask, transparencyMux, transparencies, unmapDff}
 use Rattle.rules.proofs.Chain.{chains-void, chains-dff, chains-replace, chains-eq, chains-bind, chains-then, chains-done, chains-dedup-mux, chains-bitwise-mux}
-use Rattle.rules.proofs.Counted.{AtMost, most-counted, most-done, most-bind, most-if, counted-mux, counted-shl, counted-ushr, counted-eq, counted-void, counted-dff, counted-replace}
+use Rattle.rules.proofs.Counted.{AtMost, most-counted, most-done, most-bind, most-if, counted-mux, counted-shl, counted-ushr, counted-eq, counted-or, counted-void, counted-dff, counted-replace}
 use Rattle.log_entries.specs.Emission.{Lent, emit, run}
 use Rattle.port_transparency.specs.Pairs.{plain}
-use Rattle.port_transparency.proofs.Covered.{chains-seen, dedup-length, zext-length}
+use Rattle.port_transparency.proofs.Covered.{chains-seen, chains-overlaid, dedup-length, zext-length}
 use Rattle.port_overlay.specs.Laid.{laidFrom, behind, unmapped}
-use Rattle.port_overlay.proofs.Laid.{chains-overlaid}
 
 -- ---- merges
 most-dedup-mux : (c : Control) (a b : Value) → AtMost (addDedupMux c a b) (length a)
@@ -130,42 +129,73 @@ module _ (kw kr : ℕ) (w : WritePort) (r : ReadPort) (s : Small w (r .dataLen))
   unfolding seen done
   sees k = sees-if (ltb kw kr) _ _ k (sees-wider _ _ k) (sees-if (ltb kr kw) _ _ k (sees-narrower _ _ k) (record { sees-bits = s .in-bits; sees-mask = s .in-mask }))
 
+-- ---- the mask
+-- the mask of an overlay, where there is one, has few bits
+abbrev pub FewMask : Overlay → Type 0
+FewMask o = length (orEmpty (o .mask)) ≤ 2048
+
+pub plain-few : (v : Value) → FewMask (plain v)
+unfolding orEmpty
+plain-few v = omega arith
+
+or-few : (a b : Value) (k : ℕ) → length a ≤ 2048 → length (addOr a b k .value) ≤ 2048
+unfolding addOr request
+or-few a b k h = omega (arith, length-up k (length a))
+
+most-or : (a b : Value) → length a ≤ 2048 → AtMost (addOr a b) 2048
+most-or a b h n = omega (arith, counted-or a b .nets n)
+
+most-overlaid : (e : ℕ) (w : Value) (k : Option Value) → length (orEmpty k) ≤ 2048 → AtMost (overlaidMask e w k) 4096
+unfolding overlaidMask orEmpty
+most-overlaid e w none h = most-done none 4096
+most-overlaid e w (some m) h =
+    most-bind (addOr m w) _ 2048 2048 (most-or m w h) (λ a. most-bind (addDedupMux _ _ _) _ 2048 0 (dedup-most _ _ _ (or-few m w a h)) (λ b. most-done _ 0))
+
+overlaid-few : (e : ℕ) (w : Value) (k : Option Value) (n : ℕ) → length (orEmpty k) ≤ 2048 → length (orEmpty (overlaidMask e w k n .value)) ≤ 2048
+unfolding overlaidMask orEmpty _>>=_ done
+overlaid-few e w none n h = h
+overlaid-few e w (some m) n h = let a = addOr m w n in omega (arith, h, dedup-length (Pos e) (a .value) m (a .next))
+
 -- ---- one write port
-module _ (m : Mem) (i j : ℕ) (o : Value) (s : Small (writeAt m j) (readAt m i .dataLen)) where
+module _ (m : Mem) (i j : ℕ) (o : Overlay) (s : Small (writeAt m j) (readAt m i .dataLen)) where
   abbrev kw : ℕ
   kw = writeWideLog2 m (writeAt m j)
 
   abbrev kr : ℕ
   kr = readWideLog2 m (readAt m i)
 
-  pub most-mux : AtMost (transparencyMux m i j (plain o)) 8193
-  unfolding transparencyMux overlaidMask
-  most-mux n =
+  pub most-mux : FewMask o → AtMost (transparencyMux m i j o) 12289
+  unfolding transparencyMux
+  most-mux f n =
       let w = writeAt m j in
       let r = readAt m i in
-      most-bind (seen kw kr w r) _ 4096 4097 (most-seen kw kr w r s) (λ a.
-      most-bind (addEq _ _) _ 1 4096 (most-counted _ _ _ (counted-eq _ _)) (λ b.
-      most-bind (addDedupMux _ _ _) _ 2048 2048 (dedup-most _ _ _ (sees kw kr w r s a .sees-mask)) (λ d.
-      most-bind (addBitwiseMux _ _ _) _ 2048 0 (bitwise-most _ _ _ (sees kw kr w r s a .sees-bits)) (λ e.
-      most-bind (done none) _ 0 0 (most-done none 0) (λ f. most-done _ 0))))) n
+      most-bind (seen kw kr w r) _ 4096 8193 (most-seen kw kr w r s) (λ a.
+      most-bind (addEq _ _) _ 1 8192 (most-counted _ _ _ (counted-eq _ _)) (λ b.
+      most-bind (addDedupMux _ _ _) _ 2048 6144 (dedup-most _ _ _ (sees kw kr w r s a .sees-mask)) (λ d.
+      most-bind (addBitwiseMux _ _ _) _ 2048 4096 (bitwise-most _ _ _ (sees kw kr w r s a .sees-bits)) (λ e.
+      most-bind (overlaidMask _ _ (o .mask)) _ 4096 0 (most-overlaid _ _ (o .mask) f) (λ g. most-done _ 0))))) n
 
-  pub mux-few : (k : ℕ) → length (transparencyMux m i j (plain o) k .value .bits) ≤ 2048
+  pub mux-few : (k : ℕ) → length (transparencyMux m i j o k .value .bits) ≤ 2048
   unfolding transparencyMux _>>=_ done
   mux-few k =
       let a = seen kw kr (writeAt m j) (readAt m i) k in
       let e = addEq (zext (a .value .readAddr) (length (a .value .writeAddr))) (zext (a .value .writeAddr) (length (a .value .readAddr))) (a .next) in
       let x = addDedupMux (Pos (e .value)) (a .value .mask) (replicate (length (a .value .mask)) 0) (e .next) in
-      omega (arith, bitwise-few (x .value) (a .value .bits) o (x .next), sees kw kr (writeAt m j) (readAt m i) s k .sees-bits)
+      omega (arith, bitwise-few (x .value) (a .value .bits) (o .bits) (x .next), sees kw kr (writeAt m j) (readAt m i) s k .sees-bits)
+
+  pub mux-mask-few : FewMask o → (k : ℕ) → FewMask (transparencyMux m i j o k .value)
+  unfolding transparencyMux _>>=_ done
+  mux-mask-few f k = overlaid-few _ _ (o .mask) _ f
 
 -- ---- the whole: in sequence
-chains-mux-at : (m : Mem) (i j : ℕ) (o : Overlay) → Chains (transparencyMux m i j o)
+pub chains-mux-at : (m : Mem) (i j : ℕ) (o : Overlay) → Chains (transparencyMux m i j o)
 unfolding transparencyMux
 chains-mux-at m i j o =
     chains-bind _ _ (chains-seen _ _ _ _) (λ s. chains-bind _ _ (chains-eq _ _) (λ e.
     chains-bind _ _ (chains-dedup-mux _ _ _) (λ x. chains-bind _ _ (chains-bitwise-mux _ _ _) (λ v.
     chains-bind _ _ (chains-overlaid e (s .mask) (o .mask)) (λ n. chains-done _)))))
 
-chains-all : (m : Mem) (i : ℕ) (js : List ℕ) (o : Overlay) → Chains (transparencies m i js o)
+pub chains-all : (m : Mem) (i : ℕ) (js : List ℕ) (o : Overlay) → Chains (transparencies m i js o)
 unfolding transparencies
 chains-all m i [] o = chains-done o
 chains-all m i (j ∷ js) o = chains-bind (transparencyMux m i j o) _ (chains-mux-at m i j o) (λ p. chains-all m i js p)
@@ -177,10 +207,6 @@ chains-unmap m i output f =
     chains-bind _ _ (chains-dff _) (λ q. chains-then _ _ (chains-replace _ _) (chains-done _))))
 
 -- ---- and few nets
-mask-none : (m : Mem) (i j : ℕ) (o : Value) (k : ℕ) → transparencyMux m i j (plain o) k .value ≡ plain (transparencyMux m i j (plain o) k .value .bits)
-unfolding transparencyMux overlaidMask _>>=_ done
-mask-none m i j o k = refl
-
 dff-most : (f : FlipFlop) → length (f .bits) ≤ 2048 → AtMost (addDff f) 32408
 dff-most f h n = omega (arith, counted-dff f .nets n)
 
@@ -188,26 +214,27 @@ replace-most : (a b : Value) → AtMost (replaceValue a b) 0
 replace-most a b n = omega (arith, counted-replace a b .nets n)
 
 module _ (m : Mem) (i : ℕ) (s : (j : ℕ) → Small (writeAt m j) (readAt m i .dataLen)) where
-  most-all : (js : List ℕ) (o : Value) → AtMost (transparencies m i js (plain o)) (length js * 8193)
+  pub most-all : (js : List ℕ) (o : Overlay) → FewMask o → AtMost (transparencies m i js o) (length js * 12289)
   unfolding transparencies _>>=_ done
-  most-all [] o n = omega arith
-  most-all (j ∷ js) o n =
-      let a = transparencyMux m i j (plain o) in
-      let b = transparencies m i js in
-      let e : b (a n .value) (a n .next) .next ≤ a n .next + length js * 8193 = subst (λ (v : Overlay). b v (a n .next) .next ≤ a n .next + length js * 8193) (sym (mask-none m i j o n)) (most-all js (a n .value .bits) (a n .next)) in
-      most-step n (a n .next) _ (length js) (most-mux m i j o (s j) n) e
+  most-all [] o f n = omega arith
+  most-all (j ∷ js) o f n =
+      let a = transparencyMux m i j o n in
+      most-step n (a .next) _ (length js) (most-mux m i j o (s j) f n) (most-all js (a .value) (mux-mask-few m i j o (s j) f n) (a .next))
     where
-      most-step : (n x y k : ℕ) → x ≤ n + 8193 → y ≤ x + k * 8193 → y ≤ n + suc k * 8193
+      most-step : (n x y k : ℕ) → x ≤ n + 12289 → y ≤ x + k * 12289 → y ≤ n + suc k * 12289
       most-step n x y k p q = omega (arith, p, q)
 
-  all-few : (js : List ℕ) (o : Value) (k : ℕ) → length o ≤ 2048 → length (transparencies m i js (plain o) k .value .bits) ≤ 2048
+  pub all-few : (js : List ℕ) (o : Overlay) (k : ℕ) → length (o .bits) ≤ 2048 → length (transparencies m i js o k .value .bits) ≤ 2048
   unfolding transparencies _>>=_ done
   all-few [] o k h = h
-  all-few (j ∷ js) o k h =
-      let a = transparencyMux m i j (plain o) k in
-      subst (λ (v : Overlay). length (transparencies m i js v (a .next) .value .bits) ≤ 2048) (sym (mask-none m i j o k)) (all-few js (a .value .bits) (a .next) (mux-few m i j o (s j) k))
+  all-few (j ∷ js) o k h = let a = transparencyMux m i j o k in all-few js (a .value) (a .next) (mux-few m i j o (s j) k)
 
-  from-few : (j : ℕ) (xs : List ℕ) → length (transparentFrom j xs) ≤ length xs
+  pub all-mask-few : (js : List ℕ) (o : Overlay) (k : ℕ) → FewMask o → FewMask (transparencies m i js o k .value)
+  unfolding transparencies _>>=_ done
+  all-mask-few [] o k f = f
+  all-mask-few (j ∷ js) o k f = let a = transparencyMux m i j o k in all-mask-few js (a .value) (a .next) (mux-mask-few m i j o (s j) f k)
+
+  pub from-few : (j : ℕ) (xs : List ℕ) → length (transparentFrom j xs) ≤ length xs
   unfolding transparentFrom
   from-few j [] = omega arith
   from-few j (x ∷ xs) = on (isTransparent x) (from-few (suc j) xs)
@@ -216,12 +243,12 @@ module _ (m : Mem) (i : ℕ) (s : (j : ℕ) → Small (writeAt m j) (readAt m i 
       on true h = omega arith
       on false h = omega arith
 
-  pub most-unmap : (output : Value) (f : ReadFlipFlop) → length (f .relations) ≤ 8 → readAt m i .dataLen ≤ 2048 → AtMost (unmapDff m i output f) 100000
+  pub most-unmap : (output : Value) (f : ReadFlipFlop) → length (f .relations) ≤ 8 → readAt m i .dataLen ≤ 2048 → AtMost (unmapDff m i output f) 132768
   unfolding unmapDff _>>_ addVoid request transparentPorts flipFlopOf
   most-unmap output f h g =
-      most-bind (addVoid (readAt m i .dataLen)) _ 2048 97952 (λ x. omega (arith, counted-void (readAt m i .dataLen) .nets x)) (λ a.
-      most-bind (transparencies m i (transparentPorts f) (plain (addVoid (readAt m i .dataLen) a .value))) _ 65544 32408 (λ x. most-ports a x) (λ b.
-      most-bind (addDff _) _ 32408 0 (dff-most _ (all-few (transparentPorts f) (addVoid (readAt m i .dataLen) a .value) b (void-few a))) (λ d.
+      most-bind (addVoid (readAt m i .dataLen)) _ 2048 130720 (λ x. omega (arith, counted-void (readAt m i .dataLen) .nets x)) (λ a.
+      most-bind (transparencies m i (transparentPorts f) (plain (addVoid (readAt m i .dataLen) a .value))) _ 98312 32408 (λ x. most-ports a x) (λ b.
+      most-bind (addDff _) _ 32408 0 (dff-most _ (all-few (transparentPorts f) (plain (addVoid (readAt m i .dataLen) a .value)) b (void-few a))) (λ d.
       most-bind (replaceValue _ _) _ 0 0 (replace-most _ _) (λ e. most-done _ 0))))
     where
       void-length : (a : ℕ) → length (addVoid (readAt m i .dataLen) a .value) ≡ readAt m i .dataLen
@@ -233,8 +260,8 @@ module _ (m : Mem) (i : ℕ) (s : (j : ℕ) → Small (writeAt m j) (readAt m i 
       ports-few : length (transparentPorts f) ≤ 8
       ports-few = omega (arith, from-few 0 (f .relations))
 
-      most-ports : (a x : ℕ) → transparencies m i (transparentPorts f) (plain (addVoid (readAt m i .dataLen) a .value)) x .next ≤ x + 65544
-      most-ports a x = omega (arith, most-all (transparentPorts f) (addVoid (readAt m i .dataLen) a .value) x, ports-few)
+      most-ports : (a x : ℕ) → transparencies m i (transparentPorts f) (plain (addVoid (readAt m i .dataLen) a .value)) x .next ≤ x + 98312
+      most-ports a x = omega (arith, most-all (transparentPorts f) (plain (addVoid (readAt m i .dataLen) a .value)) (plain-few (addVoid (readAt m i .dataLen) a .value)) x, ports-few)
 
 -- ---- the rules' trace and the code's give the same entries
 module _ {A B C : Type 0} (t : Trace A) (f : A → Trace B) (g : A → Trace C) where

@@ -61,7 +61,7 @@ reads-shaped m r e =
     record { shape = shaped (m .width) (r .dataLen) (x .0); short = addr-few (r .addr) _ (y .0) }
 
 -- ---- sizes
-size-few : (width size k : ℕ) → width ≤ 128 → Shaped width size k → size ≤ 2048
+pub size-few : (width size k : ℕ) → width ≤ 128 → Shaped width size k → size ≤ 2048
 size-few width size k h s = rw (s .size-is) (mul-le-mul {n₁ = width} {m₁ = 2 ^ k} {n₂ = 128} {m₂ = 16} h (pow-mono {i = k} {j = 4} (s .few)))
 
 sizes-up : (width a b x y : ℕ) → Shaped width a x → Shaped width b y → x ≤ y → a ≤ b
@@ -130,7 +130,7 @@ module _ (m : Mem) (i : ℕ) where
     unfolding shortPair
     short-is j e = e
 
-    laid-is : (j : ℕ) (o : Overlay) → j < length (m .writes) → shortPair m r j ≡ false → laidBy m kr (reading (r .addr) (r .dataLen)) j o ≡ transparencyMux m i j o
+    pub laid-is : (j : ℕ) (o : Overlay) → j < length (m .writes) → shortPair m r j ≡ false → laidBy m kr (reading (r .addr) (r .dataLen)) j o ≡ transparencyMux m i j o
     unfolding laidBy
     laid-is j o h e =
         laid-reads (writeWideLog2 m (writeAt m j)) kr (writeAt m j) r o

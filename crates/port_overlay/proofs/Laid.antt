@@ -3,7 +3,6 @@ use mathlib.Core.Path.{_≡_, refl, sym, ap, _∙_}
 use Prim.Native.Nat.{ℕ, suc, _+_, _-_, _<_, _≤_}
 use native.Mathlib.Numerals.{add-one}
 use mathlib.Core.Bool.{Bool, true, false}
-use mathlib.Core.Option.{Option, none, some}
 use mathlib.Core.List.{List, [], _∷_}
 use mathlib.Core.Logic.{_≢_}
 use borrow.Author.Tests.{lt-ltb, le-ltb, ne-eqb, eq-eqb}
@@ -25,15 +24,10 @@ use Rattle.log_entries.specs.Emission.{Lent, isOver, run}
 use Rattle.port_transparency.specs.Gave.{Gave}
 use Rattle.port_transparency.specs.Pairs.{writing, reading, plain, laidOver, laidIf, fitting}
 use Rattle.port_transparency.proofs.Gave.{gave-done, gave-bind, gave-fresh, gave-next, gave-held}
-use Rattle.port_transparency.proofs.Covered.{chains-seen}
+use Rattle.port_transparency.proofs.Covered.{chains-seen, chains-overlaid}
 use Rattle.port_overlay.specs.Laid.{laidBy, laidAs, laidFrom, behind, unmapped, unmappedIf}
 
 -- ---- the entries are in sequence
-pub chains-overlaid : (e : ℕ) (w : Value) (o : Option Value) → Chains (overlaidMask e w o)
-unfolding overlaidMask
-chains-overlaid e w none = chains-done none
-chains-overlaid e w (some m) = chains-bind _ _ (chains-or _ _) (λ x. chains-bind _ _ (chains-dedup-mux _ _ _) (λ y. chains-done _))
-
 pub chains-laid : (kw kr : ℕ) (w : WritePort) (r : ReadPort) (o : Overlay) → Chains (laidOver kw kr w r o)
 unfolding laidOver
 chains-laid kw kr w r o =
@@ -64,32 +58,32 @@ wide-is : (m : Mem) (w : WritePort) → wideLog2 (m .width) (length (w .bits)) �
 unfolding writeWideLog2
 wide-is m w = refl
 
-pub pair-by : (m : Mem) (kw kr width n j : ℕ) (waddr wdata wmask raddr u v : Value) (l l1 : Lent)
+pub pair-by : (m : Mem) (kw kr width n j : ℕ) (waddr wdata wmask raddr : Value) (o p : Overlay) (l l1 : Lent)
     → waddr ≡ writeAt m j .addr → wdata ≡ writeAt m j .bits → wmask ≡ writeAt m j .mask → width ≡ m .width → kw ≡ wideLog2 width (length wdata)
-    → Gave (laidIf kw kr (writing waddr wdata wmask) (reading raddr n) (plain u)) l l1 (plain v)
-    → Gave (laidBy m kr (reading raddr n) j (plain u)) l l1 (plain v)
+    → Gave (laidIf kw kr (writing waddr wdata wmask) (reading raddr n) o) l l1 p
+    → Gave (laidBy m kr (reading raddr n) j o) l l1 p
 unfolding laidBy
-pair-by m kw kr width n j waddr wdata wmask raddr u v l l1 ea eb em ew ek g =
+pair-by m kw kr width n j waddr wdata wmask raddr o p l l1 ea eb em ew ek g =
     let w = writeAt m j in
     let k : kw ≡ writeWideLog2 m w = ek ∙ (λ i. wideLog2 (ew i) (length (eb i))) ∙ wide-is m w in
-    let e : laidIf kw kr (writing waddr wdata wmask) (reading raddr n) (plain u) ≡ laidIf (writeWideLog2 m w) kr w (reading raddr n) (plain u) =
-    (λ i. laidIf (k i) kr (writing (ea i) (eb i) (em i)) (reading raddr n) (plain u)) ∙ laid-like (writeWideLog2 m w) kr w (reading raddr n) (plain u) in
+    let e : laidIf kw kr (writing waddr wdata wmask) (reading raddr n) o ≡ laidIf (writeWideLog2 m w) kr w (reading raddr n) o =
+    (λ i. laidIf (k i) kr (writing (ea i) (eb i) (em i)) (reading raddr n) o) ∙ laid-like (writeWideLog2 m w) kr w (reading raddr n) o in
     rw e at g
 
 -- ---- by its relation
-module _ (m : Mem) (kr : ℕ) (r : ReadPort) (x j : ℕ) (u : Value) (l : Lent) where
-  pub as-laid : isTransparent x ≡ true → (l1 : Lent) (v : Value) → Gave (laidBy m kr r j (plain u)) l l1 (plain v) → Gave (laidAs m kr r x j (plain u)) l l1 (plain v)
+module _ (m : Mem) (kr : ℕ) (r : ReadPort) (x j : ℕ) (o : Overlay) (l : Lent) where
+  pub as-laid : isTransparent x ≡ true → (l1 : Lent) (p : Overlay) → Gave (laidBy m kr r j o) l l1 p → Gave (laidAs m kr r x j o) l l1 p
   unfolding laidAs
-  as-laid e l1 v g = rw e g
+  as-laid e l1 p g = rw e g
 
-  pub as-not : isTransparent x ≡ false → Gave (laidAs m kr r x j (plain u)) l l (plain u)
+  pub as-not : isTransparent x ≡ false → Gave (laidAs m kr r x j o) l l o
   unfolding laidAs
-  as-not e = rw e (gave-done (plain u) l)
+  as-not e = rw e (gave-done o l)
 
 -- ---- the loop: what is left from j on gives the whole
 module _ (m : Mem) (kr : ℕ) (r : ReadPort) (rels : List ℕ) where
-  abbrev pub Going : Value → Lent → ℕ → Value → Lent → Type 0
-  Going u₀ l₀ j u l = (l′ : Lent) (v : Overlay) → Gave (laidFrom m kr r j (drop j rels) (plain u)) l l′ v → Gave (laidFrom m kr r 0 rels (plain u₀)) l₀ l′ v
+  abbrev pub Going : Overlay → Lent → ℕ → Overlay → Lent → Type 0
+  Going o₀ l₀ j o l = (l′ : Lent) (v : Overlay) → Gave (laidFrom m kr r j (drop j rels) o) l l′ v → Gave (laidFrom m kr r 0 rels o₀) l₀ l′ v
 
   from-cons : (j : ℕ) (o : Overlay) → j < length rels → laidFrom m kr r j (drop j rels) o ≡ (laidAs m kr r (getD rels j 0) j o >>= λ p. laidFrom m kr r (j + 1) (drop (j + 1) rels) p)
   unfolding laidFrom
@@ -98,18 +92,18 @@ module _ (m : Mem) (kr : ℕ) (r : ReadPort) (rels : List ℕ) where
       ∙ ap (λ (k : ℕ). laidAs m kr r (getD rels j 0) j o >>= λ p. laidFrom m kr r k (drop (suc j) rels) p) (sym (add-one j))
       ∙ ap (λ (k : ℕ). laidAs m kr r (getD rels j 0) j o >>= λ p. laidFrom m kr r (j + 1) (drop k rels) p) (sym (add-one j))
 
-  pub going-turn : (u₀ : Value) (l₀ : Lent) (j : ℕ) (u u1 : Value) (l l1 : Lent) → j < length rels → Going u₀ l₀ j u l
-      → Gave (laidAs m kr r (getD rels j 0) j (plain u)) l l1 (plain u1) → Going u₀ l₀ (j + 1) u1 l1
-  going-turn u₀ l₀ j u u1 l l1 h inv g =
-      λ l′ v k. inv l′ v (rw (from-cons j (plain u) h)
-      (gave-bind (laidAs m kr r (getD rels j 0) j (plain u)) (λ p. laidFrom m kr r (j + 1) (drop (j + 1) rels) p) l l1 l′ (plain u1) v (chains-laid-as m kr r (getD rels j 0) j (plain u)) g k))
+  pub going-turn : (o₀ : Overlay) (l₀ : Lent) (j : ℕ) (o p : Overlay) (l l1 : Lent) → j < length rels → Going o₀ l₀ j o l
+      → Gave (laidAs m kr r (getD rels j 0) j o) l l1 p → Going o₀ l₀ (j + 1) p l1
+  going-turn o₀ l₀ j o p l l1 h inv g =
+      λ l′ v k. inv l′ v (rw (from-cons j o h)
+      (gave-bind (laidAs m kr r (getD rels j 0) j o) (λ q. laidFrom m kr r (j + 1) (drop (j + 1) rels) q) l l1 l′ p v (chains-laid-as m kr r (getD rels j 0) j o) g k))
 
   from-nil : (j : ℕ) (o : Overlay) → length rels ≤ j → laidFrom m kr r j (drop j rels) o ≡ done o
   unfolding laidFrom
   from-nil j o h = ap (λ (xs : List ℕ). laidFrom m kr r j xs o) (drop-of-length-le rels h)
 
-  pub going-end : (u₀ : Value) (l₀ : Lent) (j : ℕ) (u : Value) (l : Lent) → length rels ≤ j → Going u₀ l₀ j u l → Gave (laidFrom m kr r 0 rels (plain u₀)) l₀ l (plain u)
-  going-end u₀ l₀ j u l h inv = inv l (plain u) (rw (from-nil j (plain u) h) (gave-done (plain u) l))
+  pub going-end : (o₀ : Overlay) (l₀ : Lent) (j : ℕ) (o : Overlay) (l : Lent) → length rels ≤ j → Going o₀ l₀ j o l → Gave (laidFrom m kr r 0 rels o₀) l₀ l o
+  going-end o₀ l₀ j o l h inv = inv l o (rw (from-nil j o h) (gave-done o l))
 
 -- ---- the void nets, and the flip-flop
 pub void-fresh : (n : ℕ) (l l1 : Lent) (out out′ : List ℕ) → l1 ≡ run (addVoid n) l → out′ ≡ sets out 0 (upFrom (l .state .next) (l1 .state .next - l .state .next)) → n ≤ length out

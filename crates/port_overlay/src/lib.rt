@@ -48,7 +48,7 @@ pub fn write_data(m: Memory, nets: &[u32], i: usize) -> &[u32]
 }
 
 // Write port j over the n nets that a read port of this k reads.
-fn emit_pair<'a>(
+pub fn emit_pair<'a>(
     log: &mut [u32],
     st: LogState,
     under: &mut [u32; rules::MAX_MERGE],

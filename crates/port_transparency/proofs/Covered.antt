@@ -1,16 +1,16 @@
 -- The two muxes over scratch, the address test, and the whole of a pair.
-use mathlib.Core.Path.{_≡_, refl, sym, ap, _∙_}
+use mathlib.Core.Path.{_≡_, refl, sym, ap, _∙_, subst}
 use Prim.Native.Nat.{ℕ, _-_, _<_, _≤_, min, max}
 use native.Mathlib.Omega.{arith}
 use mathlib.Core.Bool.{Bool, true, false}
-use mathlib.Core.Option.{none}
+use mathlib.Core.Option.{Option, none, some}
 use mathlib.Core.List.{List, []}
 use lib.ListN.{length, take, drop, replicate, length-append, length-replicate, length-drop}
 use lib.Seq.{sets, take-all, length-take-le}
 use lib.Dec.{ltb, eqb}
 use borrow.Author.Tests.{lt-ltb, le-ltb, ltb-false, eqb-true, leb-true}
 use Rattle.lists.specs.Choice.{if_then_else_}
-use Rattle.lists.specs.Lists.{pairs}
+use Rattle.lists.specs.Lists.{pairs, upFrom}
 use Rattle.lists.specs.Distinct.{places}
 use Rattle.lists.proofs.Stores.{take-stored}
 use Rattle.lists.proofs.Pairs.{pairs-size}
@@ -18,10 +18,10 @@ use Rattle.lists.proofs.Distinct.{length-places}
 use Rattle.rules.specs.Limits.{maxMerge}
 use Rattle.rules.specs.Value.{Value, zext, Control, Pos}
 use Rattle.rules.specs.Cell.{WritePort, ReadPort}
-use Rattle.rules.specs.Log.{Trace, _>>=_, done, addEq}
+use Rattle.rules.specs.Log.{Or, Trace, _>>=_, done, addOr, addEq}
 use Rattle.rules.specs.Merge.{same2, addDedupMux, addBitwiseMux}
-use Rattle.rules.specs.Ports.{Seen, seen, overlaidMask}
-use Rattle.rules.proofs.Chain.{chains-dedup-mux, chains-bitwise-mux, chains-eq, chains-bind, chains-done, chains-shl, chains-ushr, chains-if}
+use Rattle.rules.specs.Ports.{Seen, seen, Overlay, overlaidMask}
+use Rattle.rules.proofs.Chain.{chains-dedup-mux, chains-bitwise-mux, chains-eq, chains-or, chains-bind, chains-done, chains-shl, chains-ushr, chains-if}
 use Rattle.rules.specs.Beside.Chain.{Chains}
 use Rattle.rules.specs.Ports.{seenWider, seenNarrower}
 use Rattle.log_entries.specs.Emission.{Lent, isOver, run}
@@ -31,8 +31,8 @@ use Rattle.merge_mux.proofs.Spread.{length-spread, results-are}
 use Rattle.merge_mux.proofs.Found.{limited-all}
 use Rattle.merge_mux.proofs.Bitwise.{bitwise-length}
 use Rattle.port_transparency.specs.Gave.{Gave}
-use Rattle.port_transparency.specs.Pairs.{writing, reading, plain, covered, laidOver, laidIf, likeWide, fitting, Fit, Sized}
-use Rattle.port_transparency.proofs.Gave.{gave-done, gave-bind, gave-assoc}
+use Rattle.port_transparency.specs.Pairs.{writing, reading, covered, laidOver, laidIf, likeWide, fitting, Fit, Sized}
+use Rattle.port_transparency.proofs.Gave.{gave-done, gave-bind, gave-assoc, gave-fresh}
 
 -- ---- the muxes
 pub dedup-length : (c : Control) (a b : Value) (n : ℕ) → length (addDedupMux c a b n .value) ≡ min (length a) (length b)
@@ -45,32 +45,37 @@ bitwise-all s a b n es ea eb h =
     let e : min (min maxMerge (length s)) (min (length a) (length b)) ≡ n = omega arith in
     rw e (λ i. addBitwiseMux (take-all n s (omega arith) i) (take-all n a (omega arith) i) (take-all n b (omega arith) i))
 
--- the select mux, whose result nets go to scratch
+-- a merging mux of n bits, whose result nets go to scratch
+module _ (e n : ℕ) (a b sel sel′ : List ℕ) (l l1 : Lent) (h : n ≤ maxMerge) (ea : length a ≡ n) (eb : length b ≡ n) (rs : maxMerge ≤ length sel) where
+  all-of : addDedupMux (Pos e) (limited a) (limited b) ≡ addDedupMux (Pos e) a b
+  all-of =
+      let x = limited-all a (omega arith) in
+      let y = limited-all b (omega arith) in
+      λ i. addDedupMux (Pos e) (x i) (y i)
+
+  pub gave-merge : l1 ≡ run (addDedupMux (Pos e) (limited a) (limited b)) l
+      → sel′ ≡ results (isOver (l1 .state)) sel 0 (addDedupMux (Pos e) (limited a) (limited b) (l .state .next) .value)
+      → Gave (addDedupMux (Pos e) a b) l l1 (take n sel′)
+  gave-merge q s = record {
+    ran = q ∙ ap (λ (t : Trace Value). run t l) all-of;
+    value = λ o.
+        let k = l .state .next in
+        let p : sel′ ≡ sets sel 0 (addDedupMux (Pos e) a b k .value) = s ∙ results-are (isOver (l1 .state)) sel 0 _ o ∙ ap (λ (t : Trace Value). sets sel 0 (t k .value)) all-of in
+        take-stored sel sel′ (addDedupMux (Pos e) a b k .value) n p (sym (dedup-length (Pos e) a b k ∙ (omega arith))) (omega arith);
+  }
+
+-- the select mux
 module _ (e n : ℕ) (mask zeros zeros′ sel sel′ : List ℕ) (l l1 : Lent) (h : n ≤ maxMerge) (em : length mask ≡ n)
     (ez : zeros′ ≡ sets zeros 0 (replicate n 0)) (rz : maxMerge ≤ length zeros) (rs : maxMerge ≤ length sel) where
   zeros-are : take n zeros′ ≡ replicate (length mask) 0
   zeros-are = take-stored zeros zeros′ (replicate n 0) n ez (sym (length-replicate {A = ℕ} n 0)) (omega arith) ∙ ap (λ (k : ℕ). replicate k 0) (sym em)
 
-  abbrev select : Trace Value
-  select = addDedupMux (Pos e) mask (replicate (length mask) 0)
-
-  select-is : addDedupMux (Pos e) (limited mask) (limited (take n zeros′)) ≡ select
-  select-is =
-      let x = limited-all mask (omega arith) in
-      let y = ap limited zeros-are ∙ limited-all (replicate (length mask) 0) (omega (arith, length-replicate {A = ℕ} (length mask) 0)) in
-      λ i. addDedupMux (Pos e) (x i) (y i)
-
   pub gave-select : l1 ≡ run (addDedupMux (Pos e) (limited mask) (limited (take n zeros′))) l
       → sel′ ≡ results (isOver (l1 .state)) sel 0 (addDedupMux (Pos e) (limited mask) (limited (take n zeros′)) (l .state .next) .value)
-      → Gave select l l1 (take n sel′)
-  gave-select q s = record {
-    ran = q ∙ ap (λ (t : Trace Value). run t l) select-is;
-    value = λ o.
-        let k = l .state .next in
-        let p : sel′ ≡ sets sel 0 (select k .value) = s ∙ results-are (isOver (l1 .state)) sel 0 _ o ∙ ap (λ (t : Trace Value). sets sel 0 (t k .value)) select-is in
-        take-stored sel sel′ (select k .value) n p
-        (sym (dedup-length (Pos e) mask (replicate (length mask) 0) k ∙ (omega (arith, length-replicate {A = ℕ} (length mask) 0)))) (omega arith);
-  }
+      → Gave (addDedupMux (Pos e) mask (replicate (length mask) 0)) l l1 (take n sel′)
+  gave-select q s =
+      let k : length (take n zeros′) ≡ n = ap length zeros-are ∙ length-replicate {A = ℕ} (length mask) 0 ∙ em in
+      subst (λ (z : Value). Gave (addDedupMux (Pos e) mask z) l l1 (take n sel′)) zeros-are (gave-merge e n mask (take n zeros′) sel sel′ l l1 h em k rs q s)
 
 -- the data muxes, whose result nets go to scratch and then over the data
 module _ (n : ℕ) (s bits under0 nets nets′ : List ℕ) (l l1 : Lent) (h : n ≤ maxMerge) (es : length s ≡ n) (eb : length bits ≡ n) (eu : length under0 ≡ n) (rn : maxMerge ≤ length nets) where
@@ -135,31 +140,70 @@ chains-seen kw kr w r =
     chains-if (ltb kw kr) _ _ (chains-bind _ _ (chains-shl _ _ _) (λ v. chains-bind _ _ (chains-shl _ _ _) (λ n. chains-done _)))
     (chains-if (ltb kr kw) _ _ (chains-bind _ _ (chains-ushr _ _ _) (λ v. chains-bind _ _ (chains-ushr _ _ _) (λ n. chains-done _))) (chains-done _))
 
-module _ (kw kr : ℕ) (w : WritePort) (r : ReadPort) (u : Value) (l l1 l2 l3 : Lent) (s : Seen) (e : ℕ) (v : Value) where
+pub chains-overlaid : (e : ℕ) (w : Value) (o : Option Value) → Chains (overlaidMask e w o)
+unfolding overlaidMask
+chains-overlaid e w none = chains-done none
+chains-overlaid e w (some m) = chains-bind _ _ (chains-or _ _) (λ x. chains-bind _ _ (chains-dedup-mux _ _ _) (λ y. chains-done _))
+
+module _ (kw kr : ℕ) (w : WritePort) (r : ReadPort) (u : Value) (o : Option Value) (l l1 l2 l3 l4 : Lent) (s : Seen) (e : ℕ) (v : Value) (k : Option Value) where
   abbrev test : Trace ℕ
   test = addEq (zext (s .readAddr) (length (s .writeAddr))) (zext (s .writeAddr) (length (s .readAddr)))
 
-  gave-tail : Gave (covered e (s .mask) (s .bits) u) l2 l3 v
-      → Gave (addDedupMux (Pos e) (s .mask) (replicate (length (s .mask)) 0) >>= λ x. (addBitwiseMux x (s .bits) u >>= λ y. (overlaidMask e (s .mask) none >>= λ n. done (record { bits = y; mask = n })))) l2 l3 (plain v)
-  unfolding covered overlaidMask
-  gave-tail g =
-      gave-assoc (addDedupMux (Pos e) (s .mask) (replicate (length (s .mask)) 0)) (λ x. addBitwiseMux x (s .bits) u) (λ y. (done none >>= λ n. done (record { bits = y; mask = n }))) l2 l3 (plain v)
-      (gave-bind (addDedupMux (Pos e) (s .mask) (replicate (length (s .mask)) 0) >>= λ x. addBitwiseMux x (s .bits) u) _ l2 l3 l3 v (plain v) (chains-covered e (s .mask) (s .bits) u) g
-      (gave-bind (done none) _ l3 l3 l3 none (plain v) (chains-done none) (gave-done none l3) (gave-done (plain v) l3)))
+  abbrev after : Overlay
+  after = record { bits = v; mask = k }
 
-  pub gave-laid : Gave (seen kw kr w r) l l1 s → Gave test l1 l2 e → Gave (covered e (s .mask) (s .bits) u) l2 l3 v → Gave (laidOver kw kr w r (plain u)) l l3 (plain v)
+  gave-tail : Gave (covered e (s .mask) (s .bits) u) l2 l3 v → Gave (overlaidMask e (s .mask) o) l3 l4 k
+      → Gave (addDedupMux (Pos e) (s .mask) (replicate (length (s .mask)) 0) >>= λ x. (addBitwiseMux x (s .bits) u >>= λ y. (overlaidMask e (s .mask) o >>= λ n. done (record { bits = y; mask = n })))) l2 l4 after
+  unfolding covered
+  gave-tail g h =
+      gave-assoc (addDedupMux (Pos e) (s .mask) (replicate (length (s .mask)) 0)) (λ x. addBitwiseMux x (s .bits) u) (λ y. (overlaidMask e (s .mask) o >>= λ n. done (record { bits = y; mask = n }))) l2 l4 after
+      (gave-bind (addDedupMux (Pos e) (s .mask) (replicate (length (s .mask)) 0) >>= λ x. addBitwiseMux x (s .bits) u) _ l2 l3 l4 v after (chains-covered e (s .mask) (s .bits) u) g
+      (gave-bind (overlaidMask e (s .mask) o) _ l3 l4 l4 k after (chains-overlaid e (s .mask) o) h (gave-done after l4)))
+
+  pub gave-laid : Gave (seen kw kr w r) l l1 s → Gave test l1 l2 e → Gave (covered e (s .mask) (s .bits) u) l2 l3 v → Gave (overlaidMask e (s .mask) o) l3 l4 k
+      → Gave (laidOver kw kr w r (record { bits = u; mask = o })) l l4 after
   unfolding laidOver
-  gave-laid g h k = gave-bind (seen kw kr w r) _ l l1 l3 s (plain v) (chains-seen kw kr w r) g (gave-bind test _ l1 l2 l3 e (plain v) (chains-eq _ _) h (gave-tail k))
+  gave-laid g h i j = gave-bind (seen kw kr w r) _ l l1 l4 s after (chains-seen kw kr w r) g (gave-bind test _ l1 l2 l4 e after (chains-eq _ _) h (gave-tail i j))
 
--- the same as the code has it: the rests of the addresses, and the values in scratch
+-- the same as the code has it: the rests of the addresses, and the values in scratch; then the mask
 pub laid-all : (kw kr n : ℕ) (waddr raddr wdata wmask wrest rrest x y u v : Value) (l l1 l2 l3 : Lent) (e : ℕ)
     → wrest ≡ drop (kr - kw) waddr → rrest ≡ drop (kw - kr) raddr
     → Gave (seen kw kr (writing waddr wdata wmask) (reading raddr n)) l l1 (record { writeAddr = drop (kr - kw) waddr; readAddr = drop (kw - kr) raddr; bits = x; mask = y })
     → Gave (addEq (zext rrest (length wrest)) (zext wrest (length rrest))) l1 l2 e
     → Gave (covered e y x u) l2 l3 v
-    → Gave (laidOver kw kr (writing waddr wdata wmask) (reading raddr n) (plain u)) l l3 (plain v)
-laid-all kw kr n waddr raddr wdata wmask wrest rrest x y u v l l1 l2 l3 e ew er g h k =
-    gave-laid kw kr (writing waddr wdata wmask) (reading raddr n) u l l1 l2 l3 (record { writeAddr = drop (kr - kw) waddr; readAddr = drop (kw - kr) raddr; bits = x; mask = y }) e v g (rw (ew, er) at h) k
+    → (o k : Option Value) (l4 : Lent) → Gave (overlaidMask e y o) l3 l4 k
+    → Gave (laidOver kw kr (writing waddr wdata wmask) (reading raddr n) (record { bits = u; mask = o })) l l4 (record { bits = v; mask = k })
+laid-all kw kr n waddr raddr wdata wmask wrest rrest x y u v l l1 l2 l3 e ew er g h i o k l4 j =
+    gave-laid kw kr (writing waddr wdata wmask) (reading raddr n) u o l l1 l2 l3 l4 (record { writeAddr = drop (kr - kw) waddr; readAddr = drop (kw - kr) raddr; bits = x; mask = y }) e v k g (rw (ew, er) at h) i j
+
+-- no mask is wanted
+pub no-mask : (e : ℕ) (w : Value) (l : Lent) → Gave (overlaidMask e w none) l l none
+unfolding overlaidMask
+no-mask e w l = gave-done none l
+
+-- the or of the masks, and the mux of it and the old mask, as the code has them in scratch
+or-fresh : (a b : Value) (n : ℕ) (l l1 : Lent) (out out′ : List ℕ) → length a ≡ n → l1 ≡ run (addOr a b) l
+    → out′ ≡ sets out 0 (upFrom (l .state .next) (l1 .state .next - l .state .next)) → n ≤ length out → Gave (addOr a b) l l1 (take n out′)
+unfolding addOr
+or-fresh a b n l l1 out out′ e q s h =
+    subst (λ (k : ℕ). Gave (addOr a b) l l1 (take k out′)) e (gave-fresh (λ first. Or first a b) (length a) l l1 out out′ (chains-or a b) q s (omega arith))
+
+module _ (e n : ℕ) (mask over over′ nets nets′ sel sel′ : List ℕ) (l l1 l2 : Lent) (h : n ≤ maxMerge)
+    (ro : maxMerge ≤ length over) (rs : maxMerge ≤ length sel) (rn : maxMerge ≤ length nets) (ks : length sel′ ≡ length sel) (kn : length nets′ ≡ length nets) where
+  pub over-all : l1 ≡ run (addOr (take n over) (take n mask)) l → nets′ ≡ sets nets 0 (upFrom (l .state .next) (l1 .state .next - l .state .next))
+      → l2 ≡ run (addDedupMux (Pos e) (limited (take n nets′)) (limited (take n over))) l1
+      → sel′ ≡ results (isOver (l2 .state)) sel 0 (addDedupMux (Pos e) (limited (take n nets′)) (limited (take n over)) (l1 .state .next) .value)
+      → over′ ≡ sets over 0 (take n sel′)
+      → Gave (overlaidMask e (take n mask) (some (take n over))) l l2 (some (take n over′))
+  unfolding overlaidMask
+  over-all q1 s1 q2 s2 eo =
+      let ko = length-take-le n over (omega arith) in
+      let g1 = or-fresh (take n over) (take n mask) n l l1 nets nets′ ko q1 s1 (omega arith) in
+      let g2 = gave-merge e n (take n nets′) (take n over) sel sel′ l1 l2 h (length-take-le n nets′ (omega arith)) ko rs q2 s2 in
+      let c = copied over over′ (take n sel′) n eo (length-take-le n sel′ (omega arith)) (omega arith) in
+      gave-as (overlaidMask e (take n mask) (some (take n over))) l l2 (some (take n sel′)) (some (take n over′)) (ap (λ (x : Value). some x) c)
+      (gave-bind (addOr (take n over) (take n mask)) _ l l1 l2 (take n nets′) (some (take n sel′)) (chains-or _ _) g1
+      (gave-bind (addDedupMux (Pos e) (take n nets′) (take n over)) _ l1 l2 l2 (take n sel′) (some (take n sel′)) (chains-dedup-mux _ _ _) g2 (gave-done (some (take n sel′)) l2)))
 
 pub rest-short : (x a : List ℕ) (d k : ℕ) → x ≡ drop d a → length a ≤ k → length x ≤ k
 rest-short x a d k e h = omega (arith, ap length e, length-drop d a)
@@ -213,14 +257,14 @@ module _ (kw kr waddr raddr size mask n : ℕ) where
       same2′ p = omega arith
 
 -- a pair that fits, and one that does not
-module _ (kw kr : ℕ) (w : WritePort) (r : ReadPort) (u : Value) (l : Lent) where
+module _ (kw kr : ℕ) (w : WritePort) (r : ReadPort) (o : Overlay) (l : Lent) where
   abbrev test-of : Bool
   test-of = fitting kw kr (length (w .addr)) (length (r .addr)) (length (w .bits)) (length (w .mask)) (r .dataLen)
 
-  pub laid-fits : (l1 : Lent) (v : Value) → test-of ≡ true → Gave (laidOver kw kr w r (plain u)) l l1 (plain v) → Gave (laidIf kw kr w r (plain u)) l l1 (plain v)
+  pub laid-fits : (l1 : Lent) (p : Overlay) → test-of ≡ true → Gave (laidOver kw kr w r o) l l1 p → Gave (laidIf kw kr w r o) l l1 p
   unfolding laidIf
-  laid-fits l1 v e g = rw e g
+  laid-fits l1 p e g = rw e g
 
-  pub laid-not : test-of ≡ false → Gave (laidIf kw kr w r (plain u)) l l (plain u)
+  pub laid-not : test-of ≡ false → Gave (laidIf kw kr w r o) l l o
   unfolding laidIf
-  laid-not e = rw e (gave-done (plain u) l)
+  laid-not e = rw e (gave-done o l)

@@ -2,21 +2,29 @@
 //
 // Values stand in lent scratch of as many nets as a merge takes; where the emission overflowed the scratch is left open.
 ghost use mathlib.Core.Path.{_≡_};
+ghost use mathlib.Core.Option.{Option, some};
 ghost use mathlib.Core.List.{List};
 ghost use Prim.Native.Nat.{ℕ, _-_, _<_, _≤_, max};
 ghost use lib.ListN.{length, take, drop};
 ghost use lib.Seq.{sets};
 ghost use Rattle.lists.specs.Lists.{upFrom};
 ghost use Rattle.rules.specs.Limits.{maxMerge};
-ghost use Rattle.rules.specs.Value.{zext};
+ghost use Rattle.rules.specs.Value.{Value, zext};
 ghost use Rattle.rules.specs.Log.{addEq, addShl, addUshr};
-ghost use Rattle.rules.specs.Ports.{seen, seenWider, seenNarrower};
+ghost use Rattle.rules.specs.Ports.{seen, seenWider, seenNarrower, overlaidMask};
+ghost use Rattle.log_entries.specs.Emission.{Lent};
 ghost use Rattle.log_entries.specs.View.{lent};
 ghost use Rattle.port_transparency.specs.Gave.{Gave};
-ghost use Rattle.port_transparency.specs.Pairs.{writing, reading, plain, covered, laidOver, laidIf, likeWide, fitting, Fit, Sized};
+ghost use Rattle.port_transparency.specs.Pairs.{writing, reading, plain, withMask, covered, laidOver, laidIf, likeWide, fitting, Fit, Sized};
 use log_entries::LogState;
 use net_value::ControlNet;
 use net_value::Net;
+
+// The state after the data of a pair, and the net of its address test.
+struct Tested {
+    state: LogState,
+    same: u32,
+}
 
 // Stores the nets from `first` to below `last`, from `to` on.
 pub fn fresh_nets(out: &mut [u32], to: usize, first: u32, last: u32)
@@ -226,6 +234,7 @@ fn emit_covered(
 }
 
 // A pair of ports that fit, over what is read: `under` has n nets, and then those with the write port's data laid over them.
+// `mask` then has the write mask as the read port sees it; the overlay's own mask, where there is one, is left to do.
 fn emit_laid<'a>(
     log: &mut [u32],
     st: LogState,
@@ -244,9 +253,9 @@ fn emit_laid<'a>(
     wdata: &[u32],
     wmask: &[u32],
     n: usize,
-) -> LogState
+) -> Tested
     requires { ⌜ Fit kw kr (length (now waddr)) (length (now raddr)) (length (now wdata)) (length (now wmask)) n × (maxMerge ≤ length (now under)) × (maxMerge ≤ length (now bits)) × (maxMerge ≤ length (now mask)) × (maxMerge ≤ length (now sel)) × (maxMerge ≤ length (now nets)) ⌝ }
-    ensures { λ r. ⌜ Gave (laidOver kw kr (writing (now (waddr .entry)) (now (wdata .entry)) (now (wmask .entry))) (reading (now (raddr .entry)) n) (plain (take n (now (under .entry))))) (lent st (now (log .entry))) (lent r (now (log .exit))) (plain (take n (now (under .exit)))) ⌝ }
+    ensures { λ r. ⌜ ((o k : Option Value) (l : Lent) → Gave (overlaidMask (r .same) (take n (now (mask .exit))) o) (lent (r .state) (now (log .exit))) l k → Gave (laidOver kw kr (writing (now (waddr .entry)) (now (wdata .entry)) (now (wmask .entry))) (reading (now (raddr .entry)) n) (record { bits = take n (now (under .entry)); mask = o })) (lent st (now (log .entry))) l (record { bits = take n (now (under .exit)); mask = k })) ⌝ }
 {
     let s1 = emit_seen(
         log,
@@ -265,7 +274,7 @@ fn emit_laid<'a>(
     let wrest = addr_rest(waddr, kr, kw);
     let rrest = addr_rest(raddr, kw, kr);
     let s2 = emit_same(log, s1, sel, nets, wrest, rrest);
-    emit_covered(
+    let s3 = emit_covered(
         log,
         s2,
         under,
@@ -278,7 +287,45 @@ fn emit_laid<'a>(
         n,
         &bits[..n],
         &mask[..n],
-    )
+    );
+    Tested {
+        state: s3,
+        same: s1.next,
+    }
+}
+
+// The write mask added to the mask of an overlay where the addresses are equal.
+fn emit_over(
+    log: &mut [u32],
+    st: LogState,
+    over: &mut [u32],
+    sel: &mut [u32],
+    nets: &mut [u32],
+    kx: &mut [u32; rules::MAX_MERGE],
+    ky: &mut [u32; rules::MAX_MERGE],
+    at: &mut [u32; rules::MAX_MERGE],
+    same: u32,
+    n: usize,
+    mask: &[u32],
+) -> LogState
+    requires { ⌜ (n ≤ maxMerge) × (maxMerge ≤ length (now mask)) × (maxMerge ≤ length (now over)) × (maxMerge ≤ length (now sel)) × (maxMerge ≤ length (now nets)) ⌝ }
+    ensures { λ r. ⌜ Gave (overlaidMask same (take n (now (mask .entry))) (some (take n (now (over .entry))))) (lent st (now (log .entry))) (lent r (now (log .exit))) (some (take n (now (over .exit)))) ⌝ }
+{
+    let s1 = log_entries::emit_or(log, st, &over[..n], &mask[..n]);
+    fresh_nets(nets, 0, st.next, s1.next);
+    let s2 = merge_mux::emit::emit_dedup_mux_with(
+        log,
+        s1,
+        sel,
+        kx,
+        ky,
+        at,
+        ControlNet::Pos(Net(same)),
+        &nets[..n],
+        &over[..n],
+    );
+    lists::copy_u32(over, 0, &sel[..n]);
+    s2
 }
 
 // The data's lengths go with the k's.
@@ -363,7 +410,7 @@ pub fn emit_transparency<'a>(
     ) {
         return st;
     }
-    emit_laid(
+    let t = emit_laid(
         log,
         st,
         under,
@@ -381,5 +428,62 @@ pub fn emit_transparency<'a>(
         wdata,
         wmask,
         n,
-    )
+    );
+    t.state
+}
+
+// The same with a mask: the first n nets of `over` become those with the write mask added where the addresses are equal.
+pub fn emit_transparency_masked<'a>(
+    log: &mut [u32],
+    st: LogState,
+    under: &mut [u32; rules::MAX_MERGE],
+    over: &mut [u32; rules::MAX_MERGE],
+    bits: &mut [u32; rules::MAX_MERGE],
+    mask: &mut [u32; rules::MAX_MERGE],
+    sel: &mut [u32; rules::MAX_MERGE],
+    nets: &mut [u32; rules::MAX_MERGE],
+    kx: &mut [u32; rules::MAX_MERGE],
+    ky: &mut [u32; rules::MAX_MERGE],
+    at: &mut [u32; rules::MAX_MERGE],
+    kw: u32,
+    kr: u32,
+    waddr: &'a [u32],
+    raddr: &'a [u32],
+    wdata: &[u32],
+    wmask: &[u32],
+    n: usize,
+) -> LogState
+    ensures { λ r. ⌜ Gave (laidIf kw kr (writing (now (waddr .entry)) (now (wdata .entry)) (now (wmask .entry))) (reading (now (raddr .entry)) n) (withMask (take n (now (under .entry))) (take n (now (over .entry))))) (lent st (now (log .entry))) (lent r (now (log .exit))) (withMask (take n (now (under .exit))) (take n (now (over .exit)))) ⌝ }
+{
+    if !pair_fits(
+        kw,
+        kr,
+        waddr.len(),
+        raddr.len(),
+        wdata.len(),
+        wmask.len(),
+        n,
+    ) {
+        return st;
+    }
+    let t = emit_laid(
+        log,
+        st,
+        under,
+        bits,
+        mask,
+        sel,
+        nets,
+        kx,
+        ky,
+        at,
+        kw,
+        kr,
+        waddr,
+        raddr,
+        wdata,
+        wmask,
+        n,
+    );
+    emit_over(log, t.state, over, sel, nets, kx, ky, at, t.same, n, mask)
 }

@@ -107,13 +107,13 @@ module _ (m : Memory) (nets trits : List ℕ) (i : ℕ) (p : MemoryReadPort) (h 
   abbrev M : Mem
   M = memoryOf m nets trits
 
-  view-at : readAt M i ≡ readBy p (part (readStart m i) (addrSize p) nets) (part (tritStart m i) (tritSize p) trits)
+  pub view-at : readAt M i ≡ readBy p (part (readStart m i) (addrSize p) nets) (part (tritStart m i) (tritSize p) trits)
   view-at = read-of-view m nets trits i ∙ reads-at m nets trits i h ∙ (λ k. readBy (sym e k) (part (readStart m i) (addrSize (sym e k)) nets) (part (tritStart m i) (tritSize (sym e k)) trits))
 
   pub at-none : p .«flip_flop» ≡ None → false ≡ shortPort M (readAt M i)
   at-none q = short-none M (readAt M i) (ap (λ (r : ReadPort). r .flipFlop) view-at ∙ (λ k. flipFlopBy (q k) p (part (tritStart m i) (tritSize p) trits)))
 
-  addr-is : readNets m nets i ≡ readAt M i .addr
+  pub addr-is : readNets m nets i ≡ readAt M i .addr
   addr-is =
       nets-at m nets trits i h ∙ (λ k. part (readStart m i) (addrSize (sym e k)) nets)
       ∙ sym (take-take (addrSize p) (addrSize p) (drop (readStart m i) nets) (le-refl (addrSize p))) ∙ sym (ap (λ (r : ReadPort). r .addr) view-at)

@@ -133,7 +133,7 @@ fn dry_number(
 }
 
 // The pair of a read port of this k and address and write port j has too few address bits.
-fn pair_short(m: Memory, nets: &[u32], raddr: &[u32], kr: u32, j: usize) -> bool
+pub fn pair_short(m: Memory, nets: &[u32], raddr: &[u32], kr: u32, j: usize) -> bool
     ensures { λ b. ⌜ ((trits : List ℕ) (r : ReadPort) → kr ≡ readWideLog2 (memoryOf m (now (nets .entry)) trits) r → now (raddr .entry) ≡ r .addr → b ≡ shortPair (memoryOf m (now (nets .entry)) trits) r j) ⌝ }
 {
     let waddr = port_overlay::write_addr(m, nets, j);

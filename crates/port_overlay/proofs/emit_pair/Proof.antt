@@ -2,6 +2,7 @@
 use lib.ListN.{take}
 use Rattle.log_entries.specs.View.{lent}
 use Rattle.net_memory.specs.View.{memoryOf}
+use Rattle.port_transparency.specs.Pairs.{plain}
 use Rattle.port_overlay.proofs.Laid.{pair-by, width-is}
 use borrow.Author.Needs.{needs}
 use Rattle.port_overlay.proofs.emit_pair.Statement.{statement}
@@ -29,7 +30,7 @@ returns : tie.Need-returns
 returns c =
     let v = c .before .before .before .before .before .before .before .before .before .before .before .before .before .before .before .before .before .before .before .args in
     let p = c .before .before .emit-transparency in
-    λ trits. pair-by (memoryOf (v .m) (v .nets .now) trits) (c .before .before .before .before .before .before .before .before .before .before .before .before .wide-log .result) (v .kr) (v .m .width) (v .n) (v .j) _ _ _ (v .raddr .now) (take (v .n) (v .under .now)) (take (v .n) (p .last .1 .1 .0)) (lent (v .st) (v .log .now)) (lent (p .result) (p .last .0))
+    λ trits. pair-by (memoryOf (v .m) (v .nets .now) trits) (c .before .before .before .before .before .before .before .before .before .before .before .before .wide-log .result) (v .kr) (v .m .width) (v .n) (v .j) _ _ _ (v .raddr .now) (plain (take (v .n) (v .under .now))) (plain (take (v .n) (p .last .1 .1 .0))) (lent (v .st) (v .log .now)) (lent (p .result) (p .last .0))
     (c .before .before .before .before .before .before .before .before .before .before .before .before .before .before .before .write-addr .ensures trits) (c .before .before .before .before .before .before .before .before .before .before .before .before .before .before .write-data .ensures trits) (c .before .before .before .before .before .before .before .before .before .before .before .before .before .write-mask .ensures trits) (width-is (v .m) (v .nets .now) trits) (c .before .before .before .before .before .before .before .before .before .before .before .before .wide-log .ensures .0) (p .ensures)
 
 pub emit-pair-spec : {M : Type 1} → statement M

@@ -6,7 +6,7 @@ use mathlib.Core.List.{List}
 use lib.ListN.{length, take}
 use Rattle.log_entries.specs.View.{lent}
 use Rattle.net_memory.specs.View.{memoryOf}
-use Rattle.port_transparency.specs.Pairs.{reading}
+use Rattle.port_transparency.specs.Pairs.{reading, plain}
 use Rattle.port_overlay.proofs.Laid.{Going, going-turn, going-end}
 use borrow.Author.Needs.{needs}
 use Rattle.port_overlay.proofs.emit_pairs.Statement.{statement}
@@ -14,7 +14,7 @@ use Rattle.port_overlay.proofs.emit_pairs.Tie as tie
 
 abbrev Inv-loop : tie.InvT-loop
 Inv-loop log₀ under₀ bits₀ mask₀ sel₀ spare₀ kx₀ ky₀ at₀ m nets rels kr raddr n state₀ j₀ log under bits mask sel spare kx ky at state j =
-    (length log ≡ length log₀) × ((trits : List ℕ) → Going (memoryOf m nets trits) kr (reading raddr n) rels (take n under₀) (lent state₀ log₀) j (take n under) (lent state log))
+    (length log ≡ length log₀) × ((trits : List ℕ) → Going (memoryOf m nets trits) kr (reading raddr n) rels (plain (take n under₀)) (lent state₀ log₀) j (plain (take n under)) (lent state log))
 
 abbrev μ-loop : tie.MeasureT-loop
 μ-loop log₀ under₀ bits₀ mask₀ sel₀ spare₀ kx₀ ky₀ at₀ m nets rels kr raddr n state₀ j₀ log under bits mask sel spare kx ky at state j = length rels - j
@@ -39,7 +39,7 @@ loop-again c =
     let v = c .before .before .before .before .before .before .before .before .before .before .before .before .before .before .before .before .before .before .before .args in
     let h = c .before .before .before .before .before .before .before .before .before .before .before .before .before .before .loop in
     let p = c .before .before .emit-related in
-    (p .kept .0 ∙ h .inv .0, λ trits. going-turn (memoryOf (v .m) (v .nets .now) trits) (v .kr) (reading (v .raddr .now) (v .n)) (v .rels .now) (take (v .n) (v .under .now)) (lent (v .st) (v .log .now)) (h .j) (take (v .n) (h .under)) (take (v .n) (p .last .1 .1 .0)) (lent (h .state) (h .log)) (lent (p .result) (p .last .0)) (c .before .before .before .before .before .before .before .before .before .before .before .before .before .loop-test .taken) (h .inv .1 trits) (p .ensures trits))
+    (p .kept .0 ∙ h .inv .0, λ trits. going-turn (memoryOf (v .m) (v .nets .now) trits) (v .kr) (reading (v .raddr .now) (v .n)) (v .rels .now) (plain (take (v .n) (v .under .now))) (lent (v .st) (v .log .now)) (h .j) (plain (take (v .n) (h .under))) (plain (take (v .n) (p .last .1 .1 .0))) (lent (h .state) (h .log)) (lent (p .result) (p .last .0)) (c .before .before .before .before .before .before .before .before .before .before .before .before .before .loop-test .taken) (h .inv .1 trits) (p .ensures trits))
 
 same-length : tie.Need-same-length Inv-loop μ-loop
 same-length c = c .before .loop .inv .0
@@ -48,7 +48,7 @@ returns : tie.Need-returns Inv-loop μ-loop
 returns c =
     let v = c .before .before .before .before .before .before .args in
     let h = c .before .loop in
-    λ trits. going-end (memoryOf (v .m) (v .nets .now) trits) (v .kr) (reading (v .raddr .now) (v .n)) (v .rels .now) (take (v .n) (v .under .now)) (lent (v .st) (v .log .now)) (h .j) (take (v .n) (h .under)) (lent (h .state) (h .log)) (c .loop-test .left) (h .inv .1 trits)
+    λ trits. going-end (memoryOf (v .m) (v .nets .now) trits) (v .kr) (reading (v .raddr .now) (v .n)) (v .rels .now) (plain (take (v .n) (v .under .now))) (lent (v .st) (v .log .now)) (h .j) (plain (take (v .n) (h .under))) (lent (h .state) (h .log)) (c .loop-test .left) (h .inv .1 trits)
 
 pub emit-pairs-spec : {M : Type 1} → statement M
 emit-pairs-spec =
