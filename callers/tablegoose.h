@@ -8,11 +8,12 @@
  * - An array is a pointer and a length in elements; a pointer may be null where the length is 0. What is written to comes first; it must not overlap what
  *   else is given. An accepted call writes what its text says, from the array's start, and keeps the rest.
  * - A trit is a byte: 0, 1, or 2 for X. A net is a word: 0, 1, TABLEGOOSE_NET_X, or a cell's number + 2. A control is a net or its inverse.
- * - A flag is 0 or 1; another word is refused by 4.
+ * - A flag in a struct is 0 or 1; another word is refused by 4. A flag that is an argument is a bool.
  * - The functions keep no state, allocate nothing and may be called from many threads at once. A list at the end says how much stack each takes. */
 #ifndef TABLEGOOSE_H
 #define TABLEGOOSE_H
 
+#include <stdbool.h>
 #include <stddef.h>
 #include <stdint.h>
 
@@ -384,6 +385,14 @@ tablegoose_driven tablegoose_unmap_read_dff(uint32_t *log, size_t log_len, table
 tablegoose_driven tablegoose_emulate_read_before_write(uint32_t *log, size_t log_len, tablegoose_log_state st, uint32_t *nets, size_t nets_len,
                                                        tablegoose_memory m, const uint8_t *trits, size_t trits_len);
 
+/* The data of write port `write` laid over bits, which read port `read` reads, where the two are at one address and the write port's mask is set; with
+ * masked also over mask, a 1 at each such bit. The results go to bits_to and mask_to, bits_len (mask_len) of them; without masked, mask and mask_to play no
+ * part. Numbers 1 (also above MAX_MERGE bits), 2 (also bits_len, mask_len), 3, 4 (also bits, mask), 14, 15, 20 (bits_to, mask_to or log), 21. */
+tablegoose_logged tablegoose_transparency_mux(uint32_t *log, size_t log_len, tablegoose_log_state st, uint32_t *bits_to, size_t bits_to_len,
+                                              uint32_t *mask_to, size_t mask_to_len, tablegoose_memory m, const uint32_t *nets, size_t nets_len,
+                                              const uint8_t *trits, size_t trits_len, size_t read, size_t write, const uint32_t *bits,
+                                              size_t bits_len, const uint32_t *mask, size_t mask_len, bool masked);
+
 /* ---- plans: a plan's numbers, and its lists as arrays: the entries of a row (a bit's number, or TABLEGOOSE_NO_BIT), and the new wide log of each write
  * port and of each read port */
 
@@ -626,10 +635,11 @@ tablegoose_count tablegoose_list_input(uint8_t *out, size_t out_len, const uint8
  *     128 tablegoose_slice_refusal
  *    3840 tablegoose_swizzle_depths
  *    6272 tablegoose_swizzle_mux_bits
+ *  158976 tablegoose_transparency_mux
  *     128 tablegoose_trit_and
  *     128 tablegoose_trit_not
  *     128 tablegoose_trit_or
- *  143616 tablegoose_unmap_read_dff
+ *  144128 tablegoose_unmap_read_dff
  *     128 tablegoose_unset
  *     128 tablegoose_value_is_undef
  *     128 tablegoose_wide_log2

@@ -156,6 +156,12 @@ fn on_ports(out: &mut Vec<Input>) {
         let output = outputs(&memory);
         out.push(given(what, Call::UnmapReadDff(UnmapReadDff { log: LOG, memory, port: 0, output })));
     }
+    for (what, k, masked) in [("32 × 512, k 0", 0, false), ("32 × 512, k 4, with a mask", 4, true)] {
+        let memory = wide(k);
+        let (data, mask) = (outputs(&memory), masked.then(|| nets(200_000, 32 << k)));
+        let call = TransparencyMux { log: LOG, memory, read_port: 0, write_port: 0, data, mask };
+        out.push(given(what, Call::TransparencyMux(call)));
+    }
     for (what, ports) in [("32 × 512, 2 ports", 1), ("32 × 512, 8 write ports", 8)] {
         let memory = related(memory(512, 32, 9, ports, 1), READ_BEFORE_WRITE);
         out.push(given(what, Call::EmulateReadBeforeWrite(EmulateReadBeforeWrite { log: LOG, memory })));

@@ -3,6 +3,7 @@
 use oracle::convert::*;
 use oracle::wire::{Call, Wire};
 use prjunnamed_memory::MemoryExt;
+use prjunnamed_memory_open::open;
 use tablegoose::ffi;
 
 use crate::jobs::{Job, job, log, on_log};
@@ -18,6 +19,11 @@ pub fn rust(call: Call) -> Job {
                 memory.unmap_read_dff(design, port, &mut output);
                 (memory, output)
             })
+        }
+        Call::TransparencyMux(c) => {
+            let (read, write) = (c.read_port as usize, c.write_port as usize);
+            let (data, mask) = (to_value(&c.data), c.mask.as_deref().map(to_value));
+            on_log(c.log, move |design| open::transparency_mux(&memory, design, read, write, data.clone(), mask.clone()))
         }
         Call::EmulateReadBeforeWrite(c) => on_log(c.log, move |design| {
             let mut memory = memory.clone();
@@ -39,6 +45,15 @@ pub fn port(call: Call) -> Job {
             job(move || {
                 output.copy_from_slice(&c.output);
                 ffi::unmap_read_dff(&mut words, st, &mut output, numbers, &nets, &trits, port)
+            })
+        }
+        Call::TransparencyMux(c) => {
+            let ((mut words, st), masked, mask) = (log(c.log), c.mask.is_some(), c.mask.unwrap_or_default());
+            let (mut bits_to, mut mask_to) = (vec![0; c.data.len()], vec![0; mask.len()]);
+            let (read, write) = (c.read_port as usize, c.write_port as usize);
+            job(move || {
+                let (bits_to, mask_to) = (&mut bits_to, &mut mask_to);
+                ffi::transparency_mux(&mut words, st, bits_to, mask_to, numbers, &nets, &trits, read, write, &c.data, &mask, masked)
             })
         }
         Call::EmulateReadBeforeWrite(c) => {

@@ -257,6 +257,10 @@ exported! {
 
 exported! {
     unmap_read_dff(log: &mut [u32], st: LogState, output: &mut [u32], m: Memory, nets: &[u32], trits: &[u8], port: usize) -> Driven;
+    transparency_mux(
+        log: &mut [u32], st: LogState, bits_to: &mut [u32], mask_to: &mut [u32],
+        m: Memory, nets: &[u32], trits: &[u8], read: usize, write: usize, bits: &[u32], mask: &[u32], masked: bool
+    ) -> Logged;
     emulate_read_before_write(log: &mut [u32], st: LogState, nets: &mut [u32], m: Memory, trits: &[u8]) -> Driven;
 }
 

@@ -284,6 +284,22 @@ fn read_flip_flops_are_unmapped() {
     assert_eq!((memory, log, output), (before, Log::new(20, Net(100)), Net(80).run(3)));
 }
 
+/// The write port's data over one net that a read port reads, without a mask and with one.
+#[test]
+fn writes_are_laid_over_reads() {
+    let (memory, mut log) = (ported(), Log::new(1_000, Net(100)));
+    let plain = memory.transparency_mux(&mut log, 0, 0, &[Net(80)], None);
+    assert_eq!(plain, Ok(Overlay { bits: vec![Net(102)], mask: None }));
+    let masked = memory.transparency_mux(&mut log, 0, 0, &[Net(80)], Some(&[Net(81)])).expect("an overlay");
+    assert_eq!((masked.bits.len(), masked.mask.map(|mask| mask.len())), (1, Some(1)));
+    let before = log.clone();
+    assert_eq!(number(memory.transparency_mux(&mut log, 2, 0, &[Net(80)], None)), 15);
+    assert_eq!(number(memory.transparency_mux(&mut log, 0, 0, &[], None)), 2);
+    assert_eq!(number(memory.transparency_mux(&mut log, 0, 0, &[Net(80)], Some(&[]))), 2);
+    assert_eq!(number(memory.transparency_mux(&mut log, 0, 0, &[Net(999)], None)), 4);
+    assert_eq!(log, before);
+}
+
 /// The write port writes at the other edge of its clock, behind flip-flops.
 #[test]
 fn read_before_write_is_emulated() {

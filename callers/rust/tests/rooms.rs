@@ -174,6 +174,21 @@ fn ports() {
     word_room("emulate_read_before_write", 51, emulate(1), 22, emulate(0));
 }
 
+#[test]
+fn overlays() {
+    let mux = |write: usize, masked: bool| {
+        move |r: &mut [Room]| {
+            let [log, bits, rest @ ..] = r else { panic!("two rooms") };
+            let mut none = words(0);
+            let mask = rest.first_mut().unwrap_or(&mut none).words();
+            let (log, bits) = (log.words(), bits.words());
+            ffi::transparency_mux(log, state(), bits, mask, memory(), &NETS, &TRITS, 0, write, &[80], &[81], masked).number
+        }
+    };
+    sweep(case("transparency_mux", vec![words(20), words(1)], mux(0, false), 15, mux(1, false)));
+    sweep(case("transparency_mux with a mask", vec![words(33), words(1), words(1)], mux(0, true), 15, mux(1, true)));
+}
+
 fn laid() -> Laid {
     ffi::laid_out(first(), &FIRST_ENTRIES)
 }
