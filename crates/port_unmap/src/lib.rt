@@ -187,7 +187,8 @@ fn port_short_at(m: Memory, nets: &[u32], i: usize, p: MemoryReadPort) -> bool
     }
 }
 
-fn port_short(m: Memory, nets: &[u32], i: usize) -> bool
+// The same of any port: one that is not there has none.
+pub fn port_short(m: Memory, nets: &[u32], i: usize) -> bool
     ensures { λ b. ⌜ ((trits : List ℕ) → b ≡ shortPort (memoryOf m (now (nets .entry)) trits) (readAt (memoryOf m (now (nets .entry)) trits) i)) ⌝ }
 {
     if net_memory::ports_used(m.read_count) <= i {
