@@ -393,6 +393,13 @@ tablegoose_logged tablegoose_transparency_mux(uint32_t *log, size_t log_len, tab
                                               const uint8_t *trits, size_t trits_len, size_t read, size_t write, const uint32_t *bits,
                                               size_t bits_len, const uint32_t *mask, size_t mask_len, bool masked);
 
+/* Reset, clear and initial value taken off a clocked read port, and with include_transparency its transparent relations too, and logged behind the port. The
+ * port's part of output becomes new nets and its trits become X. A port that has none of them stays as it is. Numbers 1, 2 (also output_len), 3, 4 (also
+ * output), 14 (with include_transparency: a transparent pair's narrower address is too short), 15, 22, 20, 21. */
+tablegoose_driven tablegoose_unmap_read_init_reset_transparency(uint32_t *log, size_t log_len, tablegoose_log_state st, uint32_t *output,
+                                                                size_t output_len, uint8_t *trits, size_t trits_len, tablegoose_memory m,
+                                                                const uint32_t *nets, size_t nets_len, size_t port, bool include_transparency);
+
 /* ---- plans: a plan's numbers, and its lists as arrays: the entries of a row (a bit's number, or TABLEGOOSE_NO_BIT), and the new wide log of each write
  * port and of each read port */
 
@@ -640,6 +647,7 @@ tablegoose_count tablegoose_list_input(uint8_t *out, size_t out_len, const uint8
  *     128 tablegoose_trit_not
  *     128 tablegoose_trit_or
  *  144128 tablegoose_unmap_read_dff
+ *  184192 tablegoose_unmap_read_init_reset_transparency
  *     128 tablegoose_unset
  *     128 tablegoose_value_is_undef
  *     128 tablegoose_wide_log2

@@ -154,7 +154,9 @@ fn wide(k: u32) -> Memory {
 fn on_ports(out: &mut Vec<Input>) {
     for (what, memory) in [("32 × 512, 2 ports", typical()), ("32 × 512, 8 transparent write ports of k 4", wide(4))] {
         let output = outputs(&memory);
+        let reset = UnmapReadReset { log: LOG, memory: memory.clone(), port: 0, include_transparency: true, output: output.clone() };
         out.push(given(what, Call::UnmapReadDff(UnmapReadDff { log: LOG, memory, port: 0, output })));
+        out.push(given(what, Call::UnmapReadReset(reset)));
     }
     for (what, k, masked) in [("32 × 512, k 0", 0, false), ("32 × 512, k 4, with a mask", 4, true)] {
         let memory = wide(k);

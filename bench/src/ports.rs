@@ -25,6 +25,14 @@ pub fn rust(call: Call) -> Job {
             let (data, mask) = (to_value(&c.data), c.mask.as_deref().map(to_value));
             on_log(c.log, move |design| open::transparency_mux(&memory, design, read, write, data.clone(), mask.clone()))
         }
+        Call::UnmapReadReset(c) => {
+            let (port, include, output) = (c.port as usize, c.include_transparency, to_value(&c.output));
+            on_log(c.log, move |design| {
+                let (mut memory, mut output) = (memory.clone(), output.clone());
+                memory.unmap_read_init_reset_transparency(design, port, include, &mut output);
+                (memory, output)
+            })
+        }
         Call::EmulateReadBeforeWrite(c) => on_log(c.log, move |design| {
             let mut memory = memory.clone();
             memory.emulate_read_before_write(design);
@@ -54,6 +62,15 @@ pub fn port(call: Call) -> Job {
             job(move || {
                 let (bits_to, mask_to) = (&mut bits_to, &mut mask_to);
                 ffi::transparency_mux(&mut words, st, bits_to, mask_to, numbers, &nets, &trits, read, write, &c.data, &mask, masked)
+            })
+        }
+        Call::UnmapReadReset(c) => {
+            let ((mut words, st), mut output, mut after) = (log(c.log), c.output.clone(), trits.clone());
+            let (port, include) = (c.port as usize, c.include_transparency);
+            job(move || {
+                output.copy_from_slice(&c.output);
+                after.copy_from_slice(&trits);
+                ffi::unmap_read_init_reset_transparency(&mut words, st, &mut output, &mut after, numbers, &nets, port, include)
             })
         }
         Call::EmulateReadBeforeWrite(c) => {

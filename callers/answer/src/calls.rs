@@ -24,6 +24,7 @@ pub fn outcome(op: u32, words: &mut Words) -> Option<Outcome> {
         12 => add_bitwise_mux(words),
         20 => extract_read_ports(words),
         21 => ports::unmap_read_dff(words),
+        22 => ports::unmap_read_init_reset_transparency(words),
         13 => ports::transparency_mux(words),
         23 => ports::emulate_read_before_write(words),
         24 => make_data_swizzle(words),

@@ -57,3 +57,16 @@ pub fn transparency_mux(words: &mut Words) -> Option<Outcome> {
         }
     }))
 }
+
+pub fn unmap_read_init_reset_transparency(words: &mut Words) -> Option<Outcome> {
+    let ((mut log, st), mut m) = (words.log()?, words.memory()?);
+    let (port, include, mut output) = (words.word()? as usize, words.flag()? == 1, words.words("output")?);
+    words.end()?;
+    let answer =
+        ffi::unmap_read_init_reset_transparency(log.get_mut(), st, output.get_mut(), m.trits.get_mut(), m.numbers, m.nets.get(), port, include);
+    Some(unless(driven(&answer, &m.numbers, st), |to| {
+        put_log(to, &mut log, st, answer.state);
+        put_memory(to, &answer.memory, m.nets.get(), m.trits.wrote_all());
+        put_list(to, output.wrote_all());
+    }))
+}

@@ -257,6 +257,10 @@ exported! {
 
 exported! {
     unmap_read_dff(log: &mut [u32], st: LogState, output: &mut [u32], m: Memory, nets: &[u32], trits: &[u8], port: usize) -> Driven;
+    unmap_read_init_reset_transparency(
+        log: &mut [u32], st: LogState, output: &mut [u32], trits: &mut [u8],
+        m: Memory, nets: &[u32], port: usize, include_transparency: bool
+    ) -> Driven;
     transparency_mux(
         log: &mut [u32], st: LogState, bits_to: &mut [u32], mask_to: &mut [u32],
         m: Memory, nets: &[u32], trits: &[u8], read: usize, write: usize, bits: &[u32], mask: &[u32], masked: bool

@@ -45,4 +45,22 @@ impl Memory {
         })?;
         Ok(Overlay { bits: nets_of(&to), mask: mask.map(|_| nets_of(&mask_to)) })
     }
+
+    /// Takes reset, clear and initial value off a clocked read port, and with `include_transparency` its transparent relations too: they are logged behind
+    /// the port, and the port's part of `output` becomes new nets. A port that has none of them stays as it is.
+    pub fn unmap_read_init_reset_transparency(
+        &mut self,
+        log: &mut Log,
+        output: &mut [Net],
+        port: usize,
+        include_transparency: bool,
+    ) -> Result<(), Refusal> {
+        let (mut l, mut nets) = (self.lowered(), numbers(output));
+        let memory = log.driven(|words, st| {
+            ffi::unmap_read_init_reset_transparency(words, st, &mut nets, &mut l.trits, l.memory, &l.nets, port, include_transparency)
+        })?;
+        output.copy_from_slice(&nets_of(&nets));
+        *self = Lowered { memory, ..l }.lifted();
+        Ok(())
+    }
 }

@@ -300,6 +300,28 @@ fn writes_are_laid_over_reads() {
     assert_eq!(log, before);
 }
 
+/// The port keeps its flip-flop, without an initial value; what it had stands behind it in the log.
+#[test]
+fn initial_values_are_unmapped() {
+    let (before, mut log, mut output) = (ported(), Log::new(1_000, Net(100)), Net(80).run(3));
+    let mut memory = before.clone();
+    assert_eq!(memory.unmap_read_init_reset_transparency(&mut log, &mut output, 0, false), Ok(()));
+    let undefined = vec![Trit::X];
+    let f = before.read_ports[0].flip_flop.clone().expect("a flip-flop");
+    let f = FlipFlop { clear_value: undefined.clone(), reset_value: undefined.clone(), init_value: undefined, ..f };
+    let port = ReadPort { flip_flop: Some(f), ..before.read_ports[0].clone() };
+    assert_eq!(memory, Memory { read_ports: vec![port, before.read_ports[1].clone()], ..before.clone() });
+    assert_eq!((output[0] != Net(80), &output[1..]), (true, &Net(81).run(2)[..]));
+    // Nothing is left but the transparency; refused calls change nothing.
+    let (again, words, outputs) = (memory.clone(), log.clone(), output.clone());
+    assert_eq!(memory.unmap_read_init_reset_transparency(&mut log, &mut output, 0, false), Ok(()));
+    assert_eq!(number(memory.unmap_read_init_reset_transparency(&mut log, &mut output, 1, true)), 22);
+    assert_eq!(number(memory.unmap_read_init_reset_transparency(&mut log, &mut output, 2, true)), 15);
+    assert_eq!((&memory, &log, &output), (&again, &words, &outputs));
+    assert_eq!(memory.unmap_read_init_reset_transparency(&mut log, &mut output, 0, true), Ok(()));
+    assert_eq!(memory.read_ports[0].relations, [Relation::Undefined]);
+}
+
 /// The write port writes at the other edge of its clock, behind flip-flops.
 #[test]
 fn read_before_write_is_emulated() {

@@ -163,6 +163,14 @@ fn ports() {
         }
     };
     word_room("unmap_read_dff", 47, unmap(0), 15, unmap(1));
+    let reset = |port: usize| {
+        move |log: &mut [u32]| {
+            let (mut output, mut trits) = ([80], TRITS);
+            let driven = ffi::unmap_read_init_reset_transparency(log, state(), &mut output, &mut trits, memory(), &NETS, port, true);
+            changing(memory(), driven, output == [80] && trits == TRITS)
+        }
+    };
+    word_room("unmap_read_init_reset_transparency", 84, reset(0), 15, reset(1));
     let emulate = |clocked: u32| {
         move |log: &mut [u32]| {
             let (mut nets, mut m) = (NETS, memory());

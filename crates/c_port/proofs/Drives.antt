@@ -3,6 +3,7 @@ use mathlib.Core.Path.{_≡_, refl, sym, ap, subst, _∙_}
 use mathlib.Core.Bool.{Bool, true, false}
 use mathlib.Core.Logic.{_≢_}
 use Prim.Native.Nat.{ℕ}
+use mathlib.Core.List.{List}
 use lib.Dec.{eqb}
 use Rattle.lists.specs.Choice.{if_then_else_, leaves}
 use Rattle.lists.proofs.Choice.{leaves-refused, leaves-accepted}
@@ -50,3 +51,7 @@ module _ (m : Memory) (g : MachineMemory) (same : g ≡ givenMemory m) (w : Mach
     struct-is = ap (λ (x : MachineMemory). leaves (d .refusal) m (memoryStruct x)) kept ∙ new-struct (d .refusal) m g (w g) ∙ ap (λ (x : MachineMemory). leaves (d .refusal) m (memoryStruct (w x))) same;
     state-kept = s;
   })
+
+  -- a lent array that the call leaves where it is refused, and makes of g where not
+  pub new-array : (l l′ : List ℕ) (f : MachineMemory → List ℕ) → l′ ≡ leaves (d .refusal) l (f g) → l′ ≡ leaves (r .number) l (f (givenMemory m))
+  new-array l l′ f e = e ∙ ap (λ (x : MachineMemory). leaves (d .refusal) l (f x)) same ∙ ap (λ (x : Driven). leaves (x .number) l (f (givenMemory m))) (sym made)

@@ -2,12 +2,15 @@
 use mathlib.Core.Path.{_≡_}
 use mathlib.Core.Logic.{_≢_}
 use Prim.Native.Nat.{ℕ}
+use mathlib.Core.Bool.{Bool}
 use mathlib.Core.List.{List}
 use lib.ListN.{length}
 use Rattle.lists.specs.Choice.{leaves}
 use Rattle.log_entries.specs.declared.LogState.{LogState}
 use Rattle.net_memory.specs.declared.Memory.{Memory as MachineMemory}
+use Rattle.net_memory.specs.View.{readPort}
 use Rattle.port_unmap.specs.declared.Driven.{Driven as MachineDriven}
+use Rattle.port_unreset.specs.Struct.{structAfter, tritsAfter}
 use Rattle.port_settle.specs.Settled.{isRead, settledMemory}
 use Rattle.c_memory.specs.declared.Memory.{Memory}
 use Rattle.c_memory.specs.View.{givenMemory, memoryStruct}
@@ -25,6 +28,11 @@ givenDriven r = record { refusal = r .number; memory = givenMemory (r .memory); 
 pub record NewMemory (m : Memory) (st : LogState) (w : MachineMemory) (r : Driven) : Type 0 where
   pub struct-is : r .memory ≡ leaves (r .number) m (memoryStruct w)
   pub state-kept : r .number ≢ 0 → r .state ≡ st
+
+-- after reset, clear and initial value of port i are unmapped: the struct, and the trits themselves, which a refused call leaves as they were
+pub record NewTrits (m : Memory) (st : LogState) (i : ℕ) (incl : Bool) (trits trits′ : List ℕ) (r : Driven) : Type 0 where
+  pub memory-is : NewMemory m st (structAfter (readPort (givenMemory m) i .«flip_flop») (givenMemory m) trits i incl) r
+  pub trits-are : trits′ ≡ leaves (r .number) trits (tritsAfter (readPort (givenMemory m) i .«flip_flop») (givenMemory m) trits i incl)
 
 -- after an emulation: the struct, and the nets themselves, which a refused call leaves as they were
 pub record NewNets (m : Memory) (st : LogState) (nets nets′ : List ℕ) (r : Driven) : Type 0 where

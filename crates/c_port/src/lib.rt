@@ -3,14 +3,14 @@
 ghost use mathlib.Core.Path.{_≡_};
 ghost use mathlib.Core.List.{[]};
 ghost use lib.ListN.{length, take};
-ghost use Rattle.rules.specs.Answers.{unmapReadDffCall, emulateCall, transparencyMuxCall};
+ghost use Rattle.rules.specs.Answers.{unmapReadDffCall, unmapResetCall, emulateCall, transparencyMuxCall};
 ghost use Rattle.log_entries.specs.View.{stateOf};
 ghost use Rattle.net_memory.specs.Given.{givenOf};
 ghost use Rattle.port_mux.specs.Call.{overlayOf};
 ghost use Rattle.port_unmap.specs.Call.{unclocking, roomsOf, drivenOf};
 ghost use Rattle.c_memory.specs.View.{givenMemory};
 ghost use Rattle.c_port.specs.Overlays.{lentOverlay, overlayLeftBy};
-ghost use Rattle.c_port.specs.View.{drivenStruct, givenDriven, NewMemory, NewNets};
+ghost use Rattle.c_port.specs.View.{drivenStruct, givenDriven, NewMemory, NewTrits, NewNets};
 use c_log::Logged;
 use c_memory::Memory;
 use log_entries::LogState;
@@ -60,6 +60,36 @@ pub extern "C" fn tablegoose_unmap_read_dff(
     driven_struct(
         m,
         port_unmap::unmap_read_dff(log, st, output, given, nets, trits, port),
+    )
+}
+
+#[no_mangle]
+pub extern "C" fn tablegoose_unmap_read_init_reset_transparency(
+    log: &mut [u32],
+    st: LogState,
+    output: &mut [u32],
+    trits: &mut [u8],
+    m: Memory,
+    nets: &[u32],
+    port: usize,
+    include_transparency: bool,
+) -> Driven
+    ensures { λ r. ⌜ drivenOf (givenDriven r) (now (nets .entry)) (now (trits .exit)) (now (output .exit)) (now (log .exit)) ≡ unmapResetCall (roomsOf (now (nets .entry)) (now (trits .entry)) (now (output .entry))) (now (log .entry)) (stateOf st) (givenOf (givenMemory m) (now (nets .entry)) (now (trits .entry))) port «include_transparency» (now (output .entry)) ⌝ }
+    ensures { λ r. ⌜ NewTrits m st port «include_transparency» (now (trits .entry)) (now (trits .exit)) r ⌝ }
+{
+    let given = c_memory::memory_of(m);
+    driven_struct(
+        m,
+        port_reset::unmap_read_init_reset_transparency(
+            log,
+            st,
+            output,
+            trits,
+            given,
+            nets,
+            port,
+            include_transparency,
+        ),
     )
 }
 
