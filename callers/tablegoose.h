@@ -642,12 +642,12 @@ tablegoose_count tablegoose_list_input(uint8_t *out, size_t out_len, const uint8
  *     128 tablegoose_slice_refusal
  *    3840 tablegoose_swizzle_depths
  *    6272 tablegoose_swizzle_mux_bits
- *  158976 tablegoose_transparency_mux
+ *  158848 tablegoose_transparency_mux
  *     128 tablegoose_trit_and
  *     128 tablegoose_trit_not
  *     128 tablegoose_trit_or
- *  144128 tablegoose_unmap_read_dff
- *  184192 tablegoose_unmap_read_init_reset_transparency
+ *  143360 tablegoose_unmap_read_dff
+ *  183808 tablegoose_unmap_read_init_reset_transparency
  *     128 tablegoose_unset
  *     128 tablegoose_value_is_undef
  *     128 tablegoose_wide_log2
