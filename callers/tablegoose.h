@@ -2,16 +2,18 @@
  *
  * Rules of all calls
  * - A call is total: any values may be given. Bad ones are refused by a number (tablegoose_refusal), and a refused call changes nothing that it was lent.
- *   A number is the function's result, or the first field of it; 0 means accepted. In a refused answer every other field is 0, but a log state is the one
- *   that was given. "Numbers 2, 4, 20" lists a call's numbers in the order in which they are tried, each over the whole input.
+ *   A number is the function's result, or the first field of it; 0 means accepted. In a refused answer every other field is 0, but a log state, and a
+ *   memory that the call changes, is the one that was given. "Numbers 2, 4, 20" lists a call's numbers in the order in which they are tried, each over
+ *   the whole input.
  * - An array is a pointer and a length in elements; a pointer may be null where the length is 0. What is written to comes first; it must not overlap what
  *   else is given. An accepted call writes what its text says, from the array's start, and keeps the rest.
  * - A trit is a byte: 0, 1, or 2 for X. A net is a word: 0, 1, TABLEGOOSE_NET_X, or a cell's number + 2. A control is a net or its inverse.
- * - A flag is 0 or 1; another word is refused by 4.
+ * - A flag in a struct is 0 or 1; another word is refused by 4. A flag that is an argument is a bool.
  * - The functions keep no state, allocate nothing and may be called from many threads at once. A list at the end says how much stack each takes. */
 #ifndef TABLEGOOSE_H
 #define TABLEGOOSE_H
 
+#include <stdbool.h>
 #include <stddef.h>
 #include <stdint.h>
 
@@ -359,6 +361,45 @@ tablegoose_extracted tablegoose_extract_read_ports(uint32_t *room_nets, size_t r
                                                    size_t nets_len, const uint8_t *trits, size_t trits_len, const uint32_t *list, size_t list_len,
                                                    const uint32_t *output, size_t output_len);
 
+/* ---- calls on a memory's ports, which add to a log
+ *
+ * Memory and log state go in by value and come back in the answer, so that `memory = r.memory; st = r.state;` is right after accepted and refused calls: a
+ * refused call gives both back as they were. After an accepted call the controls of ports without a flip-flop are 0. The arrays change in place: output
+ * has a net for each output bit, read port after read port. Each call ends with 20 (used words and new ones pass log_len) and 21. */
+
+typedef struct {
+    uint32_t number;
+    tablegoose_memory memory;
+    tablegoose_log_state state;
+} tablegoose_driven;
+
+/* The read port's flip-flop taken out of the memory and logged behind the port, with muxes for the write ports that the port is transparent to. The port's
+ * part of output becomes new nets; its trits stay in the array and play no part. A port without a flip-flop stays as it is.
+ * Numbers 1, 2 (also output_len), 3, 4 (also output), 14 (a transparent pair's narrower address is too short), 15, 20, 21. */
+tablegoose_driven tablegoose_unmap_read_dff(uint32_t *log, size_t log_len, tablegoose_log_state st, uint32_t *output, size_t output_len,
+                                            tablegoose_memory m, const uint32_t *nets, size_t nets_len, const uint8_t *trits, size_t trits_len,
+                                            size_t port);
+
+/* Each write port that has a read-before-write relation writes half a cycle later, with the other edge of its clock, behind logged flip-flops of its
+ * address, data and mask, whose new nets take their places in nets; the relations to it become undefined. Numbers 1 to 4, 12, 13, 22, 20, 21. */
+tablegoose_driven tablegoose_emulate_read_before_write(uint32_t *log, size_t log_len, tablegoose_log_state st, uint32_t *nets, size_t nets_len,
+                                                       tablegoose_memory m, const uint8_t *trits, size_t trits_len);
+
+/* The data of write port `write` laid over bits, which read port `read` reads, where the two are at one address and the write port's mask is set; with
+ * masked also over mask, a 1 at each such bit. The results go to bits_to and mask_to, bits_len (mask_len) of them; without masked, mask and mask_to play no
+ * part. Numbers 1 (also above MAX_MERGE bits), 2 (also bits_len, mask_len), 3, 4 (also bits, mask), 14, 15, 20 (bits_to, mask_to or log), 21. */
+tablegoose_logged tablegoose_transparency_mux(uint32_t *log, size_t log_len, tablegoose_log_state st, uint32_t *bits_to, size_t bits_to_len,
+                                              uint32_t *mask_to, size_t mask_to_len, tablegoose_memory m, const uint32_t *nets, size_t nets_len,
+                                              const uint8_t *trits, size_t trits_len, size_t read, size_t write, const uint32_t *bits,
+                                              size_t bits_len, const uint32_t *mask, size_t mask_len, bool masked);
+
+/* Reset, clear and initial value taken off a clocked read port, and with include_transparency its transparent relations too, and logged behind the port. The
+ * port's part of output becomes new nets and its trits become X. A port that has none of them stays as it is. Numbers 1, 2 (also output_len), 3, 4 (also
+ * output), 14 (with include_transparency: a transparent pair's narrower address is too short), 15, 22, 20, 21. */
+tablegoose_driven tablegoose_unmap_read_init_reset_transparency(uint32_t *log, size_t log_len, tablegoose_log_state st, uint32_t *output,
+                                                                size_t output_len, uint8_t *trits, size_t trits_len, tablegoose_memory m,
+                                                                const uint32_t *nets, size_t nets_len, size_t port, bool include_transparency);
+
 /* ---- plans: a plan's numbers, and its lists as arrays: the entries of a row (a bit's number, or TABLEGOOSE_NO_BIT), and the new wide log of each write
  * port and of each read port */
 
@@ -566,6 +607,7 @@ tablegoose_count tablegoose_list_input(uint8_t *out, size_t out_len, const uint8
  *     128 tablegoose_const_or
  *     128 tablegoose_control_is_always
  *     128 tablegoose_control_not
+ *  143104 tablegoose_emulate_read_before_write
  *    6144 tablegoose_extract_read_ports
  *    1920 tablegoose_fill
  *    2176 tablegoose_fill_and_patch
@@ -600,9 +642,12 @@ tablegoose_count tablegoose_list_input(uint8_t *out, size_t out_len, const uint8
  *     128 tablegoose_slice_refusal
  *    3840 tablegoose_swizzle_depths
  *    6272 tablegoose_swizzle_mux_bits
+ *  158848 tablegoose_transparency_mux
  *     128 tablegoose_trit_and
  *     128 tablegoose_trit_not
  *     128 tablegoose_trit_or
+ *  143360 tablegoose_unmap_read_dff
+ *  183808 tablegoose_unmap_read_init_reset_transparency
  *     128 tablegoose_unset
  *     128 tablegoose_value_is_undef
  *     128 tablegoose_wide_log2

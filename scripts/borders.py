@@ -4,7 +4,8 @@
     python3 scripts/borders.py target/borders
 
 Of each border the last size that is taken and the first that is not, for the calls over a memory that change nothing: extract_read_ports (20),
-make_data_swizzle (24), swizzle_depths (25), swizzle_mux_bits (26), can_lower_fallback (28); and the layout alone (40). `oracle/compare` runs them.
+make_data_swizzle (24), swizzle_depths (25), swizzle_mux_bits (26), can_lower_fallback (28); for the calls on its ports: transparency_mux (13),
+unmap_read_dff (21), unmap_read_init_reset_transparency (22), emulate_read_before_write (23); and the layout alone (40). `oracle/compare` runs them.
 """
 import array
 import sys
@@ -13,6 +14,8 @@ NONE = 0xFFFFFFFF
 # The largest room that a case may name.
 IMAGE_ROOM = 131112
 X = 0xFFFFFFFF
+# A log for the calls on ports: room, used words, and a next free net above all nets of a case.
+LOG = [200000, 3, 400000]
 
 
 def listed(words):
@@ -81,6 +84,19 @@ def over(memory, ports=None, granularities=None, **fields):
     rows = (0, max(memory.depth, 1) - 1, memory.depth)
     patches = [word for row in rows for word in (IMAGE_ROOM, row, *listed([2, 1, 0] * (memory.width // 3) + [1] * (memory.width % 3)))]
     yield case(40, [IMAGE_ROOM] + memory.rows() + p + [len(rows)] + patches)
+
+
+def on_ports(memory):
+    """The calls on the first and the last port of a memory, and the emulation."""
+    m, output = memory.words(), nets(300000, memory.outputs())
+    for port in sorted({0, max(len(memory.reads), 1) - 1}):
+        length = memory.width << memory.reads[port][1] if memory.reads else 0
+        for mask in ([0], [1, *nets(360000, length)]):
+            yield case(13, LOG + m + [port, 0] + nets(350000, length) + mask)
+        yield case(21, LOG + m + [port] + output)
+        for flag in (0, 1):
+            yield case(22, LOG + m + [port, flag] + output)
+    yield case(23, LOG + m)
 
 
 def memories():
@@ -155,6 +171,7 @@ def rooms():
 def all_cases():
     for memory in memories():
         yield from over(memory, hard=4)
+        yield from on_ports(memory)
     for memory, fields in plans():
         yield from over(memory, **fields)
     for memory, fields in lists():

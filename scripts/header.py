@@ -40,6 +40,7 @@ STRUCTS = [
     ('c_memory::Memory', 'memory', 'Memory'),
     ('c_memory::Slice', 'slice', 'Slice'),
     ('c_memory::Extracted', 'extracted', 'Extracted'),
+    ('c_port::Driven', 'driven', 'Driven'),
     ('swizzle_plan::MemorySwizzle', 'memory_swizzle', 'MemorySwizzle'),
     ('swizzle_sizes::MuxBits', 'mux_bits', 'MuxBits'),
     ('image_geometry::Params', 'params', 'Params'),
@@ -56,7 +57,7 @@ STRUCTS = [
 IN_HEADER = {source: name for source, name, _ in STRUCTS}
 IN_FFI = {source: name for source, _, name in STRUCTS}
 
-NUMBERS = {'u8': ('uint8_t', 1), 'u32': ('uint32_t', 4), 'u64': ('uint64_t', 8), 'usize': ('size_t', 8)}
+NUMBERS = {'bool': ('bool', 1), 'u8': ('uint8_t', 1), 'u32': ('uint32_t', 4), 'u64': ('uint64_t', 8), 'usize': ('size_t', 8)}
 
 FUNCTION = re.compile(r'#\[no_mangle\]\s*pub extern "C" fn (\w+)(?:<[^>]*>)?\((.*?)\)\s*(?:->\s*([\w:]+))?\s*(?:ensures|\{)', re.S)
 STRUCT = re.compile(r'#\[repr\(C\)\]\s*pub struct (\w+) \{(.*?)\n\}', re.S)

@@ -18,9 +18,11 @@ LOGS = [6, 10, 11, 12, 13, 21, 22, 23, 29]
 MAX_LOG_ROOM = 200000
 SEED = 7
 RANDOM = 60000
-# layouts are drawn apart, so that the other random cases stay as they are
+# layouts and the calls on ports are drawn apart, so that the other random cases stay as they are
 LAYOUT = 40
 RANDOM_LAYOUTS = 6000
+ON_PORTS = [13, 21, 22, 23]
+RANDOM_ON_PORTS = 12000
 # of each call and number: from the systematic list, from the random ones, from those at borders, and the most words of a random case
 KEEP_SMALL = 160
 KEEP_RANDOM = 60
@@ -29,7 +31,7 @@ MAX_RANDOM = 160
 # the most words of a case at a border
 MAX_BORDER = 260
 # the calls over a memory, whose cases are longer: of these a quarter; and the most words of a case
-MEMORIES = [*range(20, 31), LAYOUT]
+MEMORIES = [13, *range(20, 31), LAYOUT]
 MAX_CASE = 20480
 
 
@@ -91,9 +93,12 @@ def main():
     if len(sys.argv) != 2:
         sys.exit('usage: stored.py ORACLE')
     program = sys.argv[1]
-    ops = [str(op) for op in OPS if op != LAYOUT]
+    ops = [str(op) for op in OPS if op not in (LAYOUT, *ON_PORTS)]
+    on_ports = [str(op) for op in OPS if op in ON_PORTS]
     systematic = [p for p in answered(program, run(program, ['gen-small'])) if p[0][0] in OPS and fits(p[0])]
     drawn = run(program, ['gen', str(SEED), str(RANDOM), *ops]) + run(program, ['gen', str(SEED), str(RANDOM_LAYOUTS), str(LAYOUT)])
+    if on_ports:
+        drawn += run(program, ['gen', str(SEED), str(RANDOM_ON_PORTS), *on_ports])
     random = [p for p in answered(program, drawn) if len(p[0]) <= MAX_RANDOM and fits(p[0])]
     border = [p for p in answered(program, borders()) if p[0][0] in OPS and len(p[0]) <= MAX_BORDER]
     chosen = kept(systematic, KEEP_SMALL) + kept(border, KEEP_BORDER) + kept(random, KEEP_RANDOM)

@@ -142,6 +142,40 @@ fn over_memory(out: &mut Vec<Input>, what: &'static str, memory: Memory) {
     out.push(given(what, Call::CanLowerFallback(CanLowerFallback { memory })));
 }
 
+/// A table of 512 words of 32 bits whose ports are of this k: eight write ports, and a read port that is transparent to all of them.
+fn wide(k: u32) -> Memory {
+    let (bits, addr) = (32 << k, 9 - k as usize);
+    let table = memory(512, 32, addr, 0, 0);
+    let write_ports = (0..8).map(|i| write_port(1_000 + 10_000 * i, addr, bits)).collect();
+    Memory { write_ports, read_ports: vec![read_port(700, addr, bits, 8)], ..table }
+}
+
+/// The calls that change a memory's ports.
+fn on_ports(out: &mut Vec<Input>) {
+    for (what, memory) in [("32 × 512, 2 ports", typical()), ("32 × 512, 8 transparent write ports of k 4", wide(4))] {
+        let output = outputs(&memory);
+        let reset = UnmapReadReset { log: LOG, memory: memory.clone(), port: 0, include_transparency: true, output: output.clone() };
+        out.push(given(what, Call::UnmapReadDff(UnmapReadDff { log: LOG, memory, port: 0, output })));
+        out.push(given(what, Call::UnmapReadReset(reset)));
+    }
+    for (what, k, masked) in [("32 × 512, k 0", 0, false), ("32 × 512, k 4, with a mask", 4, true)] {
+        let memory = wide(k);
+        let (data, mask) = (outputs(&memory), masked.then(|| nets(200_000, 32 << k)));
+        let call = TransparencyMux { log: LOG, memory, read_port: 0, write_port: 0, data, mask };
+        out.push(given(what, Call::TransparencyMux(call)));
+    }
+    for (what, ports) in [("32 × 512, 2 ports", 1), ("32 × 512, 8 write ports", 8)] {
+        let memory = related(memory(512, 32, 9, ports, 1), READ_BEFORE_WRITE);
+        out.push(given(what, Call::EmulateReadBeforeWrite(EmulateReadBeforeWrite { log: LOG, memory })));
+    }
+}
+
+/// Every relation of the read ports becomes this one.
+fn related(mut memory: Memory, relation: u32) -> Memory {
+    memory.read_ports.iter_mut().filter_map(|port| port.flip_flop.as_mut()).for_each(|f| f.relations.fill(relation));
+    memory
+}
+
 fn sizes(n: usize) -> Sizes {
     Sizes { unit: 16, full: 1, full_depth: n as u32 / 16, partial: 0, partial_depth: 0 }
 }
@@ -191,6 +225,7 @@ pub fn all() -> Vec<Input> {
     over_memory(&mut out, "32 × 512, 2 ports", typical());
     over_memory(&mut out, "128 × 256, 16 ports", limit());
     over_memory(&mut out, "1 × 32,768, 2 ports", deep());
+    on_ports(&mut out);
     records(&mut out);
     layouts(&mut out);
     out

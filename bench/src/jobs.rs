@@ -9,9 +9,11 @@ use prjunnamed_memory_open::open;
 use prjunnamed_netlist::{ControlNet, Design, FlipFlop, Value};
 use tablegoose::ffi::{self, LogState, Params};
 
+use crate::ports;
+
 pub type Job = Box<dyn FnMut()>;
 
-fn job<T>(mut call: impl FnMut() -> T + 'static) -> Job {
+pub fn job<T>(mut call: impl FnMut() -> T + 'static) -> Job {
     Box::new(move || drop(black_box(call())))
 }
 
@@ -20,7 +22,7 @@ fn usizes(words: &[u32]) -> Vec<usize> {
 }
 
 /// Runs a request on a fresh log.
-fn on_log<T>(log: wire::Log, mut call: impl FnMut(&Design) -> T + 'static) -> Job {
+pub fn on_log<T>(log: wire::Log, mut call: impl FnMut(&Design) -> T + 'static) -> Job {
     job(move || {
         let design = Design::recording(log.next, log.room as u64);
         (call(&design), design.recorded().count)
@@ -54,6 +56,7 @@ pub fn rust(call: &Call) -> Job {
         Call::ReadRecord(c) => job(move || oracle::record::read(&c.bytes)),
         Call::Lister(c) => job(move || oracle::record::list(&c.bytes)),
         Call::RemapReset(_) | Call::DedupMux(_) | Call::DedupDff(_) | Call::BitwiseMux(_) => rust_on_log(call.clone()),
+        Call::UnmapReadDff(_) | Call::UnmapReadReset(_) | Call::EmulateReadBeforeWrite(_) | Call::TransparencyMux(_) => ports::rust(call.clone()),
         other => rust_over_memory(other),
     }
 }
@@ -128,7 +131,7 @@ fn controls(c: &wire::Controls) -> ffi::Controls {
 }
 
 /// A log of the call's room and its state.
-fn log(log: wire::Log) -> (Vec<u32>, LogState) {
+pub fn log(log: wire::Log) -> (Vec<u32>, LogState) {
     (vec![0; log.room as usize], LogState { used: log.used as usize, next: log.next })
 }
 
@@ -167,6 +170,7 @@ pub fn port(call: &Call) -> Job {
             job(move || ffi::list_record(&mut out, &record))
         }
         Call::RemapReset(_) | Call::DedupMux(_) | Call::DedupDff(_) | Call::BitwiseMux(_) => port_on_log(call.clone()),
+        Call::UnmapReadDff(_) | Call::UnmapReadReset(_) | Call::EmulateReadBeforeWrite(_) | Call::TransparencyMux(_) => ports::port(call.clone()),
         other => port_over_memory(other),
     }
 }

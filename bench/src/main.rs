@@ -2,6 +2,7 @@
 
 mod inputs;
 mod jobs;
+mod ports;
 mod time;
 
 use inputs::{Input, Plain};
@@ -16,10 +17,15 @@ fn name(input: &Input) -> String {
     format!("{} {} | {}", input.call.op(), oracle::wire::name(input.call.op()), input.what)
 }
 
-fn row(input: &Input) {
+/// Whether the port and the oracle accept an input and answer alike.
+fn agreed(input: &Input) -> bool {
     let case = input.call.case();
-    let (answered, expected) = (answer::answer(&case), oracle::answer(&case));
-    if answered != expected || answered[0] != 0 {
+    let answered = answer::answer(&case);
+    answered[0] == 0 && answered == oracle::answer(&case)
+}
+
+fn row(input: &Input) {
+    if !agreed(input) {
         println!("| {} | **refused, or the answers differ** | | |", name(input));
         return;
     }
@@ -41,4 +47,10 @@ fn main() {
     let word = std::env::args().nth(1).unwrap_or_default();
     println!("| call | input | the Rust, or a plain copy | the port | port / other |\n|---|---|---|---|---|");
     inputs::all().iter().filter(|input| name(input).contains(&word)).for_each(row);
+}
+
+/// Without a clock: every line can be measured.
+#[test]
+fn lines_are_answered_alike() {
+    inputs::all().iter().for_each(|input| assert!(agreed(input), "{}", name(input)));
 }

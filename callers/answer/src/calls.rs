@@ -4,6 +4,7 @@ use tablegoose::ffi::{self, LogState};
 
 use crate::layouts;
 use crate::lent::Lent;
+use crate::ports;
 use crate::wire::{Words, put_control, put_list, put_memory};
 
 /// The payload of an accepted call, or a refusal number.
@@ -22,6 +23,10 @@ pub fn outcome(op: u32, words: &mut Words) -> Option<Outcome> {
         11 => add_dedup_dff(words),
         12 => add_bitwise_mux(words),
         20 => extract_read_ports(words),
+        21 => ports::unmap_read_dff(words),
+        22 => ports::unmap_read_init_reset_transparency(words),
+        13 => ports::transparency_mux(words),
+        23 => ports::emulate_read_before_write(words),
         24 => make_data_swizzle(words),
         25 => swizzle_depths(words),
         26 => swizzle_mux_bits(words),
@@ -86,13 +91,13 @@ fn control_inverse(words: &mut Words) -> Option<Outcome> {
 // ---- calls with a log
 
 /// Used words, next net and the appended words of an accepted call.
-fn put_log(to: &mut Vec<u32>, log: &mut Lent<u32>, before: LogState, after: LogState) {
+pub fn put_log(to: &mut Vec<u32>, log: &mut Lent<u32>, before: LogState, after: LogState) {
     to.extend([after.used as u32, after.next]);
     put_list(to, log.wrote(before.used..after.used));
 }
 
 /// A refused call gives back the state that it was given.
-fn logged(number: u32, before: LogState, after: LogState) -> u32 {
+pub fn logged(number: u32, before: LogState, after: LogState) -> u32 {
     assert!(number == 0 || before == after, "finding: a refused call gives another log state");
     number
 }

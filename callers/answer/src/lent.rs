@@ -90,6 +90,11 @@ impl<T: Element> Lent<T> {
         self.right[part.clone()].copy_from_slice(&written);
         &self.get()[part]
     }
+
+    /// All of it may have changed.
+    pub fn wrote_all(&mut self) -> &[T] {
+        self.wrote(0..self.right.len())
+    }
 }
 
 impl<T: Element> Drop for Lent<T> {

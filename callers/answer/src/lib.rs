@@ -4,6 +4,7 @@
 mod calls;
 mod layouts;
 mod lent;
+mod ports;
 mod wire;
 
 use tablegoose::Lowered;

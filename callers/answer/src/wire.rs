@@ -193,6 +193,11 @@ impl<T: Copy + Into<u32>> Parts<'_, T> {
         self.0 = rest;
         put_list(out, part);
     }
+
+    /// A part that plays no part.
+    fn skip(&mut self, length: u32) {
+        self.0 = &self.0[length as usize..];
+    }
 }
 
 /// A memory that a call gave, with its arrays.
@@ -213,6 +218,8 @@ pub fn put_memory(out: &mut Vec<u32>, m: &ffi::Memory, nets: &[u32], trits: &[u8
             out.push(port.reset_over_enable);
             [port.clear_len, port.reset_len, port.init_len].iter().for_each(|&length| trits.put(out, length));
             put_list(out, &port.relations[..port.relations_len as usize]);
+        } else {
+            [port.clear_len, port.reset_len, port.init_len].iter().for_each(|&length| trits.skip(length));
         }
     }
 }

@@ -104,6 +104,10 @@ c_struct! {
     Extracted { number: u32, memory: Memory }
 }
 c_struct! {
+    /// The refusal number or 0, and the memory and the log's state after the call.
+    Driven { number: u32, memory: Memory, state: LogState }
+}
+c_struct! {
     /// A plan without its lists.
     #[derive(Default)]
     MemorySwizzle { soft_addr_bits_mask: u32, hard_addr_bits: u32, data_width_unit: u32 }
@@ -249,6 +253,19 @@ exported! {
         m: Memory, nets: &[u32], trits: &[u8], ports: &[u32],
         s: MemorySwizzle, entries: &[u32], writes: &[u32], reads: &[u32]
     ) -> MuxBits;
+}
+
+exported! {
+    unmap_read_dff(log: &mut [u32], st: LogState, output: &mut [u32], m: Memory, nets: &[u32], trits: &[u8], port: usize) -> Driven;
+    unmap_read_init_reset_transparency(
+        log: &mut [u32], st: LogState, output: &mut [u32], trits: &mut [u8],
+        m: Memory, nets: &[u32], port: usize, include_transparency: bool
+    ) -> Driven;
+    transparency_mux(
+        log: &mut [u32], st: LogState, bits_to: &mut [u32], mask_to: &mut [u32],
+        m: Memory, nets: &[u32], trits: &[u8], read: usize, write: usize, bits: &[u32], mask: &[u32], masked: bool
+    ) -> Logged;
+    emulate_read_before_write(log: &mut [u32], st: LogState, nets: &mut [u32], m: Memory, trits: &[u8]) -> Driven;
 }
 
 exported! {

@@ -21,6 +21,7 @@ mod image;
 mod log;
 mod memory;
 mod net;
+mod ports;
 mod record;
 mod refusal;
 
@@ -28,6 +29,7 @@ pub use image::{Image, Laid, Layout, Patch, Place, Shape};
 pub use log::{Cell, Controls, Entries, Entry, FlipFlop, Log};
 pub use memory::{Lowered, Memory, MuxBits, ReadPort, Relation, Swizzle, WritePort, wide_log2};
 pub use net::{Control, Driver, Net, Trit, const_and, const_not, const_or, is_undef, narrower_select, slice, trits, value_is_undef, zext};
+pub use ports::Overlay;
 pub use record::{HEAD_BYTES, Record, Sizes, Summary, header, list_input, memory_summary};
 pub use refusal::Refusal;
 

@@ -93,7 +93,7 @@ impl Log {
     }
 
     /// Stores the state after a call, and gives so many nets from the next free one before it.
-    fn made(&mut self, count: usize, call: impl FnOnce(&mut [u32], ffi::LogState) -> ffi::Logged) -> Result<Vec<Net>, Refusal> {
+    pub(crate) fn made(&mut self, count: usize, call: impl FnOnce(&mut [u32], ffi::LogState) -> ffi::Logged) -> Result<Vec<Net>, Refusal> {
         let first = self.next();
         let logged = call(&mut self.words, self.state);
         self.state = logged.state;
@@ -109,6 +109,13 @@ impl Log {
         })?;
         self.state = state;
         Ok(nets)
+    }
+
+    /// A call that changes a memory: stores the state after it, and gives the memory.
+    pub(crate) fn driven(&mut self, call: impl FnOnce(&mut [u32], ffi::LogState) -> ffi::Driven) -> Result<ffi::Memory, Refusal> {
+        let driven = call(&mut self.words, self.state);
+        self.state = driven.state;
+        Refusal::check(driven.number).map(|()| driven.memory)
     }
 
     /// So many new nets.

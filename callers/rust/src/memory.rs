@@ -159,7 +159,7 @@ impl<'a, T> Parts<'a, T> {
 }
 
 impl Lowered {
-    /// The memory of a struct and its arrays, which an accepted call gave.
+    /// The memory of a struct and its arrays, which an accepted call gave. The trits of a port without a flip-flop play no part.
     pub fn lifted(&self) -> Memory {
         let (m, mut nets, mut trits) = (&self.memory, Parts(&self.nets), Parts(&self.trits));
         let init_value = trits_of(trits.next(m.init_len));
@@ -173,7 +173,7 @@ impl Lowered {
         let read = |p: &ffi::ReadPort| ReadPort {
             addr: nets_of(nets.next(p.addr_len)),
             data_len: p.data_len as usize,
-            flip_flop: (p.clocked == 1).then(|| lifted_flip_flop(p, &mut trits)),
+            flip_flop: lifted_flip_flop(p, &mut trits),
             relations: if p.clocked == 1 { lifted_relations(p) } else { vec![] },
         };
         let read_ports = m.read_ports[..m.read_count as usize].iter().map(read).collect();
@@ -181,14 +181,16 @@ impl Lowered {
     }
 }
 
-fn lifted_flip_flop(p: &ffi::ReadPort, trits: &mut Parts<u8>) -> FlipFlop {
+/// Takes a port's trits, which are there also where it has no flip-flop.
+fn lifted_flip_flop(p: &ffi::ReadPort, trits: &mut Parts<u8>) -> Option<FlipFlop> {
     let controls = ffi::Controls { clock: p.clock, clear: p.clear, reset: p.reset, enable: p.enable, reset_over_enable: p.reset_over_enable };
-    FlipFlop {
+    let (clear, reset, init) = (trits.next(p.clear_len), trits.next(p.reset_len), trits.next(p.init_len));
+    (p.clocked == 1).then(|| FlipFlop {
         controls: Controls::lifted(controls),
-        clear_value: trits_of(trits.next(p.clear_len)),
-        reset_value: trits_of(trits.next(p.reset_len)),
-        init_value: trits_of(trits.next(p.init_len)),
-    }
+        clear_value: trits_of(clear),
+        reset_value: trits_of(reset),
+        init_value: trits_of(init),
+    })
 }
 
 fn lifted_relations(p: &ffi::ReadPort) -> Vec<Relation> {

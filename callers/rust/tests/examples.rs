@@ -254,6 +254,99 @@ fn memories() {
     assert_eq!(clocks.can_lower_fallback(), Ok(false));
 }
 
+/// The clocked port reads at once into a new net; its flip-flop and the write port's data stand behind it in the log.
+#[test]
+fn read_flip_flops_are_unmapped() {
+    let (before, mut log, mut output) = (ported(), Log::new(1_000, Net(100)), Net(80).run(3));
+    let mut memory = before.clone();
+    assert_eq!(memory.unmap_read_dff(&mut log, &mut output, 0), Ok(()));
+    assert_eq!(output, [100, 81, 82].map(Net));
+    let plain = ReadPort { flip_flop: None, relations: vec![], ..before.read_ports[0].clone() };
+    assert_eq!(memory, Memory { read_ports: vec![plain, before.read_ports[1].clone()], ..before.clone() });
+    let cells: Vec<Cell> = log.entries().map(|entry| entry.cell).collect();
+    let expected = [
+        Cell::Void,
+        Cell::Eq(vec![Net(60)], vec![Net(10)]),
+        Cell::Mux { select: Net(101), then: vec![Net(7)], other: vec![Net::ZERO] },
+        Cell::Mux { select: Net(102), then: vec![Net(20)], other: vec![Net(100)] },
+        Cell::FlipFlop { data: vec![Net(103)], flip_flop: before.read_ports[0].flip_flop.clone().expect("a flip-flop") },
+        Cell::Replace { from: vec![Net(80)], to: vec![Net(104)] },
+    ];
+    assert_eq!(cells, expected);
+    // A port without a flip-flop stays; refused calls change nothing.
+    let (again, words, outputs) = (memory.clone(), log.clone(), output.clone());
+    assert_eq!(memory.unmap_read_dff(&mut log, &mut output, 0), Ok(()));
+    assert_eq!(number(memory.unmap_read_dff(&mut log, &mut output, 2)), 15);
+    assert_eq!(number(memory.unmap_read_dff(&mut log, &mut output[..2], 0)), 2);
+    assert_eq!((&memory, &log, &output), (&again, &words, &outputs));
+    let (mut memory, mut log, mut output) = (before.clone(), Log::new(20, Net(100)), Net(80).run(3));
+    assert_eq!(number(memory.unmap_read_dff(&mut log, &mut output, 0)), 20);
+    assert_eq!((memory, log, output), (before, Log::new(20, Net(100)), Net(80).run(3)));
+}
+
+/// The write port's data over one net that a read port reads, without a mask and with one.
+#[test]
+fn writes_are_laid_over_reads() {
+    let (memory, mut log) = (ported(), Log::new(1_000, Net(100)));
+    let plain = memory.transparency_mux(&mut log, 0, 0, &[Net(80)], None);
+    assert_eq!(plain, Ok(Overlay { bits: vec![Net(102)], mask: None }));
+    let masked = memory.transparency_mux(&mut log, 0, 0, &[Net(80)], Some(&[Net(81)])).expect("an overlay");
+    assert_eq!((masked.bits.len(), masked.mask.map(|mask| mask.len())), (1, Some(1)));
+    let before = log.clone();
+    assert_eq!(number(memory.transparency_mux(&mut log, 2, 0, &[Net(80)], None)), 15);
+    assert_eq!(number(memory.transparency_mux(&mut log, 0, 0, &[], None)), 2);
+    assert_eq!(number(memory.transparency_mux(&mut log, 0, 0, &[Net(80)], Some(&[]))), 2);
+    assert_eq!(number(memory.transparency_mux(&mut log, 0, 0, &[Net(999)], None)), 4);
+    assert_eq!(log, before);
+}
+
+/// The port keeps its flip-flop, without an initial value; what it had stands behind it in the log.
+#[test]
+fn initial_values_are_unmapped() {
+    let (before, mut log, mut output) = (ported(), Log::new(1_000, Net(100)), Net(80).run(3));
+    let mut memory = before.clone();
+    assert_eq!(memory.unmap_read_init_reset_transparency(&mut log, &mut output, 0, false), Ok(()));
+    let undefined = vec![Trit::X];
+    let f = before.read_ports[0].flip_flop.clone().expect("a flip-flop");
+    let f = FlipFlop { clear_value: undefined.clone(), reset_value: undefined.clone(), init_value: undefined, ..f };
+    let port = ReadPort { flip_flop: Some(f), ..before.read_ports[0].clone() };
+    assert_eq!(memory, Memory { read_ports: vec![port, before.read_ports[1].clone()], ..before.clone() });
+    assert_eq!((output[0] != Net(80), &output[1..]), (true, &Net(81).run(2)[..]));
+    // Nothing is left but the transparency; refused calls change nothing.
+    let (again, words, outputs) = (memory.clone(), log.clone(), output.clone());
+    assert_eq!(memory.unmap_read_init_reset_transparency(&mut log, &mut output, 0, false), Ok(()));
+    assert_eq!(number(memory.unmap_read_init_reset_transparency(&mut log, &mut output, 1, true)), 22);
+    assert_eq!(number(memory.unmap_read_init_reset_transparency(&mut log, &mut output, 2, true)), 15);
+    assert_eq!((&memory, &log, &output), (&again, &words, &outputs));
+    assert_eq!(memory.unmap_read_init_reset_transparency(&mut log, &mut output, 0, true), Ok(()));
+    assert_eq!(memory.read_ports[0].relations, [Relation::Undefined]);
+}
+
+/// The write port writes at the other edge of its clock, behind flip-flops.
+#[test]
+fn read_before_write_is_emulated() {
+    let mut before = ported();
+    before.read_ports.pop();
+    before.read_ports[0].relations = vec![Relation::ReadBeforeWrite];
+    let (mut memory, mut log) = (before.clone(), Log::new(1_000, Net(100)));
+    assert_eq!(memory.emulate_read_before_write(&mut log), Ok(()));
+    let write = WritePort { addr: vec![Net(100)], data: vec![Net(101)], mask: vec![Net(102)], clock: Control::Neg(Net(5)) };
+    let read = ReadPort { relations: vec![Relation::Undefined], ..before.read_ports[0].clone() };
+    assert_eq!(memory, Memory { write_ports: vec![write], read_ports: vec![read], ..before.clone() });
+    let data: Vec<Vec<Net>> = log
+        .entries()
+        .map(|entry| match entry.cell {
+            Cell::FlipFlop { data, .. } => data,
+            cell => panic!("{cell:?}"),
+        })
+        .collect();
+    assert_eq!(data, [[10], [20], [7]].map(|nets| nets.map(Net).to_vec()));
+    let mut mixed = ported();
+    assert_eq!(number(mixed.emulate_read_before_write(&mut log)), 22);
+    mixed.read_ports[1] = before.read_ports[0].clone();
+    assert_eq!(number(mixed.emulate_read_before_write(&mut log)), 13);
+}
+
 /// Codes that the safe types do not have: 4, and every field of the answer 0.
 #[test]
 fn flags_and_polarities() {

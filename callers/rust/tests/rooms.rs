@@ -146,6 +146,57 @@ fn memories_and_plans() {
     word_room("swizzle_depths", 2, depths(&[0]), 7, depths(&[1]));
 }
 
+/// A call that changes a memory, the state and lent arrays in place; a refused one leaves all of them.
+fn changing(before: ffi::Memory, driven: ffi::Driven, kept: bool) -> u32 {
+    let same = driven.memory == before && driven.state == state() && kept;
+    assert_eq!(same, driven.number != 0);
+    driven.number
+}
+
+#[test]
+fn ports() {
+    let unmap = |port: usize| {
+        move |log: &mut [u32]| {
+            let mut output = [80];
+            let driven = ffi::unmap_read_dff(log, state(), &mut output, memory(), &NETS, &TRITS, port);
+            changing(memory(), driven, output == [80])
+        }
+    };
+    word_room("unmap_read_dff", 47, unmap(0), 15, unmap(1));
+    let reset = |port: usize| {
+        move |log: &mut [u32]| {
+            let (mut output, mut trits) = ([80], TRITS);
+            let driven = ffi::unmap_read_init_reset_transparency(log, state(), &mut output, &mut trits, memory(), &NETS, port, true);
+            changing(memory(), driven, output == [80] && trits == TRITS)
+        }
+    };
+    word_room("unmap_read_init_reset_transparency", 84, reset(0), 15, reset(1));
+    let emulate = |clocked: u32| {
+        move |log: &mut [u32]| {
+            let (mut nets, mut m) = (NETS, memory());
+            (m.read_ports[0].relations[0], m.read_ports[0].clocked) = (1, clocked);
+            let driven = ffi::emulate_read_before_write(log, state(), &mut nets, m, &TRITS);
+            changing(m, driven, nets == NETS)
+        }
+    };
+    word_room("emulate_read_before_write", 51, emulate(1), 22, emulate(0));
+}
+
+#[test]
+fn overlays() {
+    let mux = |write: usize, masked: bool| {
+        move |r: &mut [Room]| {
+            let [log, bits, rest @ ..] = r else { panic!("two rooms") };
+            let mut none = words(0);
+            let mask = rest.first_mut().unwrap_or(&mut none).words();
+            let (log, bits) = (log.words(), bits.words());
+            ffi::transparency_mux(log, state(), bits, mask, memory(), &NETS, &TRITS, 0, write, &[80], &[81], masked).number
+        }
+    };
+    sweep(case("transparency_mux", vec![words(20), words(1)], mux(0, false), 15, mux(1, false)));
+    sweep(case("transparency_mux with a mask", vec![words(33), words(1), words(1)], mux(0, true), 15, mux(1, true)));
+}
+
 fn laid() -> Laid {
     ffi::laid_out(first(), &FIRST_ENTRIES)
 }

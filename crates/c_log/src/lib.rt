@@ -80,7 +80,7 @@ pub fn controls_struct(c: net_flip_flop::Controls) -> Controls
 }
 
 // The answer of a request on the state st: one function for all requests and merges that give no more than the state.
-fn answer_struct(r: Answer, st: LogState) -> Logged
+pub fn answer_struct(r: Answer, st: LogState) -> Logged
     ensures { λ s. ⌜ s ≡ loggedStruct st r ⌝ }
 {
     match r {

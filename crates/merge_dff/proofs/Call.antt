@@ -39,12 +39,12 @@ module _ (next : ℕ) (f : FlipFlop) where
   number-few e = ltb-false maxMerge (length (f .bits)) (refused-not (ltb maxMerge (length (f .bits))) 1 (dffNumber next f) (omega arith) e .0)
 
 -- ---- the nets
-few-keys : (f : FlipFlop) → length (kept same4 (dffKeys f)) ≤ length (f .bits)
+pub few-keys : (f : FlipFlop) → length (kept same4 (dffKeys f)) ≤ length (f .bits)
 unfolding dffKeys
 few-keys f =
     omega (arith, length-kept same4 [] (pairs (pairs (f .bits) (f .resetValue)) (pairs (f .clearValue) (f .initValue))), pairs-size (pairs (f .bits) (f .resetValue)) (pairs (f .clearValue) (f .initValue)), pairs-size (f .bits) (f .resetValue))
 
-dedup-next : (f : FlipFlop) (n : ℕ) → addDedupDff f n .next ≡ n + length (kept same4 (dffKeys f))
+pub dedup-next : (f : FlipFlop) (n : ℕ) → addDedupDff f n .next ≡ n + length (kept same4 (dffKeys f))
 unfolding addDedupDff _>>=_ done addDff request dffOf
 dedup-next f n = ap (λ (k : ℕ). n + k) (length-map (kept same4 (dffKeys f)) _)
 

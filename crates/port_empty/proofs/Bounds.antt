@@ -1,5 +1,5 @@
 -- Whatever the memory, the entries of depth 0 are in sequence and give few nets, so that a run without a log never reaches X.
-use mathlib.Core.Path.{_≡_, refl, sym, ap, _∙_, subst}
+use mathlib.Core.Path.{_≡_, refl, sym, subst}
 use Prim.Native.Nat.{ℕ, suc, _+_, _*_, _<_, _≤_}
 use native.Mathlib.Omega.{arith}
 use mathlib.Core.Bool.{Bool, true, false}
@@ -13,7 +13,7 @@ use Rattle.lists.specs.Lists.{upFrom}
 use Rattle.lists.proofs.UpFrom.{length-up}
 use Rattle.rules.specs.Limits.{X, maxMerge, maxPorts}
 use Rattle.rules.specs.Value.{Value, Control, Pos, zext}
-use Rattle.rules.specs.Cell.{FlipFlop, WritePort, ReadPort, ReadFlipFlop, Mem, writeWideLog2, readWideLog2, writeAt, readAt, isTransparent, flipFlopOf, outputSlice}
+use Rattle.rules.specs.Cell.{FlipFlop, WritePort, ReadPort, ReadFlipFlop, Mem, readWideLog2, readAt, isTransparent, flipFlopOf}
 use Rattle.rules.specs.Log.{Trace, _>>=_, _>>_, done, request, addShl, addUshr, addEq, addVoid, addDff, replaceValue, LogState, startNet}
 use Rattle.rules.specs.Merge.{addDedupMux, addBitwiseMux}
 use Rattle.rules.specs.Ports.{Seen, seen, seenWider, seenNarrower, Overlay, overlaidMask}

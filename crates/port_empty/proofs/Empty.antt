@@ -1,12 +1,12 @@
 -- The outputs after replaced by X; and that the whole is the rules' swizzle of depth 0.
-use mathlib.Core.Path.{_≡_, refl, sym, ap, _∙_}
-use Prim.Native.Nat.{ℕ, _+_, _*_, _<_, _≤_}
+use mathlib.Core.Path.{_≡_, sym, ap, _∙_}
+use Prim.Native.Nat.{ℕ, _*_, _<_, _≤_}
 use native.Mathlib.Omega.{arith}
-use mathlib.Core.Bool.{Bool, true, false, not}
+use mathlib.Core.Bool.{Bool, false}
 use mathlib.Core.List.{List, [], _∷_, _++_}
 use lib.ListN.{length, take, replicate, length-replicate}
 use lib.Seq.{sets, length-take-le}
-use lib.Dec.{eqb, ltb}
+use lib.Dec.{ltb}
 use borrow.Author.Tests.{lt-ltb, le-ltb, eqb-true, not-false}
 use Rattle.lists.specs.Choice.{if_then_else_}
 use Rattle.lists.specs.Lists.{any, sumBy}
@@ -16,7 +16,7 @@ use Rattle.rules.specs.Limits.{X}
 use Rattle.rules.specs.Value.{Value, xNets}
 use Rattle.rules.specs.Cell.{ReadPort, Mem, outputLen}
 use Rattle.rules.specs.Conditions.{badReadShape, badOutputLen}
-use Rattle.rules.specs.Log.{Made, Trace, _>>=_, _>>_, done, replaceValue, LogState}
+use Rattle.rules.specs.Log.{Trace, _>>=_, _>>_, done, replaceValue, LogState}
 use Rattle.rules.specs.Beside.Chain.{Chains}
 use Rattle.rules.specs.Ports.{Driving, unmapAll}
 use Rattle.rules.specs.Swizzle.{swizzleEmpty}

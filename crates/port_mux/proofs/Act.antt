@@ -2,12 +2,11 @@
 use mathlib.Core.Path.{_≡_, refl, sym, ap, _∙_}
 use mathlib.Core.Logic.{_≢_}
 use Prim.Native.Nat.{ℕ, _≤_}
-use native.Mathlib.Omega.{arith}
 use mathlib.Core.Bool.{Bool, true, false}
 use mathlib.Core.List.{List, []}
 use lib.ListN.{length, take}
 use lib.Seq.{sets, length-take-le}
-use Rattle.lists.specs.Choice.{if_then_else_, leaves, _orElse_}
+use Rattle.lists.specs.Choice.{_orElse_}
 use Rattle.lists.proofs.Choice.{else-first, else-rest, leaves-refused, leaves-accepted}
 use Rattle.lists.proofs.Stores.{take-stored}
 use Rattle.rules.specs.Cell.{readAt, orEmpty}
@@ -18,7 +17,7 @@ use Rattle.rules.specs.Ports.{Overlay, transparencyMux}
 use Rattle.rules.specs.Refusals.{logRefusal, transparencyMuxNumber, overlayRefusal, transparencyMuxRefusal}
 use Rattle.rules.specs.Answers as rules
 use Rattle.rules.specs.Answers.{transparencyMuxCall}
-use Rattle.log_entries.specs.Emission.{Lent, isOver, run}
+use Rattle.log_entries.specs.Emission.{Lent, isOver}
 use Rattle.log_entries.specs.View.{stateOf, lent}
 use Rattle.log_entries.specs.declared.LogState as machine
 use Rattle.log_entries.proofs.Emission.{accepted-run, accepted-held}

@@ -3,14 +3,13 @@ use mathlib.Core.Path.{_≡_, refl, sym, ap, _∙_}
 use mathlib.Core.Logic.{_≢_}
 use Prim.Native.Nat.{ℕ, _<_, _≤_, min}
 use mathlib.Core.Bool.{Bool, true, false, not, _&&_, _||_}
-use mathlib.Core.Option.{none, some}
 use mathlib.Core.List.{List}
 use lib.ListN.{length}
 use lib.Dec.{eqb, ltb, leb}
 use borrow.Author.Tests.{le-leb, lt-leb, lt-ltb, le-ltb}
 use Rattle.lists.specs.Choice.{if_then_else_}
 use Rattle.lists.specs.Lists.{any}
-use Rattle.lists.proofs.Choice.{else-first, else-rest, hit, miss}
+use Rattle.lists.proofs.Choice.{else-first, else-rest}
 use Rattle.rules.specs.Limits.{maxPorts}
 use Rattle.rules.specs.Value.{Value}
 use Rattle.rules.specs.Cell.{ReadPort, Mem, wideLog2, readWideLog2, readAt, held}
@@ -18,9 +17,9 @@ use Rattle.rules.specs.Conditions.{shortPair, badPort, notBelow, noRoom, longVa
 use Rattle.rules.specs.Ports.{Overlay}
 use Rattle.rules.specs.Refusals.{memNumber, overlayValues, badOverlayLens, noPair, pairPortsNumber, transparencyMuxNumber, overlayRefusal}
 use Rattle.net_memory.specs.declared.Memory.{Memory}
-use Rattle.net_memory.specs.declared.MemoryReadPort.{MemoryReadPort}
 use Rattle.net_memory.specs.View.{memoryOf, readsOf, writesOf, readPort, readNets}
 use Rattle.net_memory.specs.Given.{givenOf}
+use Rattle.port_overlay.proofs.Laid.{width-is}
 use Rattle.port_unmap.proofs.Short.{view-at, addr-is}
 use Rattle.port_mux.specs.Call.{overlayOf}
 
@@ -47,10 +46,6 @@ wide-by : (v : Mem) (r : ReadPort) → wideLog2 (v .width) (r .dataLen) ≡ read
 unfolding readWideLog2
 wide-by v r = refl
 
-width-of : (m : Memory) (nets trits : List ℕ) → m .width ≡ memoryOf m nets trits .width
-unfolding memoryOf
-width-of m nets trits = refl
-
 module _ (m : Memory) (nets trits : List ℕ) (i : ℕ) (h : i < min maxPorts (m .«read_count»)) where
   abbrev M : Mem
   M = memoryOf m nets trits
@@ -62,7 +57,7 @@ module _ (m : Memory) (nets trits : List ℕ) (i : ℕ) (h : i < min maxPorts (m
   addr-at = addr-is m nets trits i (readPort m i) h refl
 
   pub wide-at : (kr n : ℕ) → kr ≡ wideLog2 (m .width) n → n ≡ readPort m i .«data_len» → kr ≡ readWideLog2 M (readAt M i)
-  wide-at kr n e d = e ∙ (λ j. wideLog2 (width-of m nets trits j) ((d ∙ sym data-at) j)) ∙ wide-by M (readAt M i)
+  wide-at kr n e d = e ∙ (λ j. wideLog2 (width-is m nets trits j) ((d ∙ sym data-at) j)) ∙ wide-by M (readAt M i)
 
 module _ (m : Memory) (nets trits : List ℕ) (i : ℕ) (rl : length (readsOf m nets trits) ≡ min maxPorts (m .«read_count»)) where
   pub port-none : min maxPorts (m .«read_count») ≤ i → badPort (memoryOf m nets trits) i ≡ true

@@ -1,13 +1,12 @@
 -- What is known of a pair that numbers 1 to 4, 14 and 15 pass, and its trace as the code has it.
 use mathlib.Core.Path.{_≡_, refl, sym, ap, _∙_, subst}
-use Prim.Native.Nat.{ℕ, _*_, _^_, _<_, _≤_, min}
+use Prim.Native.Nat.{ℕ, _*_, _<_, _≤_, min}
 use native.Mathlib.Omega.{arith}
 use mathlib.Core.Bool.{Bool, true, false, not, _&&_, _||_}
-use mathlib.Core.Option.{Option, none, some}
-use mathlib.Core.List.{List, []}
+use mathlib.Core.List.{List}
 use lib.ListN.{length, take}
 use lib.Seq.{sets}
-use lib.Dec.{eqb, ltb, leb}
+use lib.Dec.{eqb, ltb}
 use borrow.Author.Tests.{leb-false, ltb-false, eqb-true, not-false}
 use Rattle.lists.specs.Choice.{if_then_else_}
 use Rattle.lists.specs.Lists.{any}
@@ -16,7 +15,7 @@ use Rattle.lists.proofs.All.{any-at}
 use Rattle.lists.proofs.Stores.{take-stored}
 use Rattle.rules.specs.Limits.{maxPorts, X}
 use Rattle.rules.specs.Value.{Value}
-use Rattle.rules.specs.Cell.{Mem, wideLog2, readWideLog2, writeAt, readAt, held, orEmpty}
+use Rattle.rules.specs.Cell.{Mem, wideLog2, writeAt, readAt, held, orEmpty}
 use Rattle.rules.specs.Log.{LogState, startNet}
 use Rattle.rules.specs.Conditions.{badWriteShape, badReadShape, badShape, badPort, notBelow, shortPair, noRoom, longValue, badValue}
 use Rattle.rules.specs.Ports.{Overlay, transparencyMux}
@@ -25,12 +24,13 @@ use Rattle.rules.proofs.Counted.{start-le}
 use Rattle.log_entries.specs.Emission.{Lent}
 use Rattle.net_memory.specs.declared.Memory.{Memory}
 use Rattle.net_memory.specs.declared.MemoryReadPort.{MemoryReadPort}
-use Rattle.net_memory.specs.View.{memoryOf, readsOf, writesOf, readPort, readNets}
+use Rattle.net_memory.specs.View.{memoryOf, readsOf, readPort, readNets}
 use Rattle.net_memory.specs.Given.{givenOf}
 use Rattle.net_check.proofs.Accept.{Valid, valid, sizes}
 use Rattle.port_transparency.specs.Gave.{Gave}
 use Rattle.port_transparency.specs.Pairs.{reading, plain, withMask}
 use Rattle.port_overlay.specs.Laid.{laidBy}
+use Rattle.port_overlay.proofs.Laid.{width-is}
 use Rattle.port_overlay.proofs.Fits.{Reads, Writes, writes-shaped, reads-shaped, size-few, laid-is}
 use Rattle.port_overlay.proofs.Bounds.{Small, FewMask, most-mux}
 use Rattle.port_mux.specs.Call.{overlayOf, Paired}
@@ -138,10 +138,6 @@ module _ (bits mask n : ℕ) (masked : Bool) (b k : Value) (z : overlayRefusal (
   mask-fit q = ltb-false mask n (or-false (ltb mask n) false (ap (λ (t : Bool). any (λ x. ltb mask n) (held (overlayOf t b k .mask))) (sym q) ∙ fits .1) .0)
 
 -- ---- the trace
-width-of : (m : Memory) (nets trits : List ℕ) → memoryOf m nets trits .width ≡ m .width
-unfolding memoryOf
-width-of m nets trits = refl
-
 at-shaped : (m : Mem) (j : ℕ) → any (badWriteShape m) (m .writes) ≡ false → j < length (m .writes) → badWriteShape m (writeAt m j) ≡ false
 unfolding writeAt
 at-shaped m j e h = any-at (badWriteShape m) (m .writes) e j _ h
@@ -162,7 +158,7 @@ module _ (m : Memory) (nets trits : List ℕ) (i j : ℕ) (masked : Bool) (bits 
   writes-of = writes-shaped W (writeAt W j) (at-shaped W j (g .writes-good) (g .written))
 
   thin-of : W .width ≤ 128
-  thin-of = rw (width-of m nets trits) (g .thin)
+  thin-of = rw (sym (width-is m nets trits)) (g .thin)
 
   read-few : readAt W i .dataLen ≤ 2048
   read-few = size-few (W .width) _ _ thin-of (reads-of .shape)

@@ -54,7 +54,7 @@ most-bitwise s a b = most-mux-runs (runs s) s a b
 dedup-most : (c : Control) (a b : Value) → length a ≤ 2048 → AtMost (addDedupMux c a b) 2048
 dedup-most c a b h n = omega (arith, most-dedup-mux c a b n)
 
-bitwise-most : (s a b : Value) → length a ≤ 2048 → AtMost (addBitwiseMux s a b) 2048
+pub bitwise-most : (s a b : Value) → length a ≤ 2048 → AtMost (addBitwiseMux s a b) 2048
 bitwise-most s a b h n = omega (arith, most-bitwise s a b n)
 
 -- as many results as bits at most

@@ -108,9 +108,9 @@ module _ (m : Memory) (nets trits : List ℕ) (i : ℕ) (c : Controls) (g : Read
       let ch = chains-unmap M i output (ownFlipFlop m trits i c) in
       let q = r ∙ accepted-run T (length log) (stateOf st) log ch y in
       let o = ap (λ (x : Lent). isOver (x .state)) r ∙ accepted-held T (length log) (stateOf st) log ch y in
-      let d : last - st .next ≡ readAt M i .dataLen = omega (arith, l o, data-is m nets trits i c g) in
+      let d : last - st .next ≡ readAt M i .dataLen = omega (arith, l o, data-is m nets trits i c (g .port)) in
       driven-done _ M output log (stateOf st) T (memoryOf m′ nets trits) output′ log′ (stateOf st′) y
-      ((λ k. memoryOf (em k) nets trits) ∙ unclock-view m nets trits i (g .there) ∙ sym (unmap-memory M i output (ownFlipFlop m trits i c) (st .next)))
+      ((λ k. memoryOf (em k) nets trits) ∙ unclock-view m nets trits i (g .port .there) ∙ sym (unmap-memory M i output (ownFlipFlop m trits i c) (st .next)))
       (eo ∙ (λ k. sets output (es k) (upFrom (st .next) (d k))) ∙ sym (unmap-output M i output (ownFlipFlop m trits i c) (st .next)))
       (ap (λ (x : Lent). x .log) q)
       (ap (λ (x : Lent). x .state) q)

@@ -35,7 +35,7 @@ use Rattle.net_memory.specs.View.{noReadPort, withReadPort, memoryOf, readsOf, 
 use Rattle.net_memory.proofs.Ports.{read-of-view, reads-at, trits-at}
 use Rattle.net_check.proofs.Accept.{Valid, valid, sizes}
 use Rattle.net_memory.specs.Given.{givenOf}
-use Rattle.port_unmap.specs.Ready.{ownFlipFlop, Ready}
+use Rattle.port_unmap.specs.Ready.{ownFlipFlop, PortShape, Ready}
 use Rattle.port_unmap.specs.Call.{without, driving, roomsOf, drivenOf, NewStruct}
 use Rattle.port_unmap.proofs.Act.{driven-refused}
 
@@ -55,17 +55,11 @@ any-some : (f : ReadFlipFlop → Bool) (o : Option ReadFlipFlop) (x : ReadFlipFl
 unfolding held
 any-some f o x e q = or-false (f x) false (ap (λ (y : Option ReadFlipFlop). any f (held y)) (sym e) ∙ q) .0
 
-module _ (next : ℕ) (m : Memory) (nets trits : List ℕ) (i : ℕ) (output : List ℕ) (z : unmapReadDffNumber next (givenOf m nets trits) i output ≡ 0)
+-- ---- a call that drives nets, of a port that is there
+module _ (next : ℕ) (m : Memory) (nets trits : List ℕ) (i : ℕ) (output : List ℕ) (z : drivingNumber false next (givenOf m nets trits) output ≡ 0) (y : portNumber (memoryOf m nets trits) i ≡ 0)
     (rl : length (readsOf m nets trits) ≡ min maxPorts (m .«read_count»)) (wl : length (writesOf m nets) ≡ min maxPorts (m .«write_count»)) where
   abbrev M : Mem
   M = memoryOf m nets trits
-
-  both : (drivingNumber false next (givenOf m nets trits) output ≡ 0) × ((if shortPort M (readAt M i) then 14 else portNumber M i) ≡ 0)
-  unfolding unmapReadDffNumber
-  both = else-zero (drivingNumber false next (givenOf m nets trits) output) _ z
-
-  short-not : (shortPort M (readAt M i) ≡ false) × (portNumber M i ≡ 0)
-  short-not = refused-not (shortPort M (readAt M i)) 14 (portNumber M i) (omega arith) (both .1)
 
   reads-are : length (M .reads) ≡ min maxPorts (m .«read_count»)
   unfolding memoryOf
@@ -79,12 +73,12 @@ module _ (next : ℕ) (m : Memory) (nets trits : List ℕ) (i : ℕ) (output : L
   unfolding portNumber badPort notBelow
   below e = leb-false (length (M .reads)) i (refused-not (leb (length (M .reads)) i) 15 0 (omega arith) e .0)
 
-  pub is-there : i < min maxPorts (m .«read_count»)
-  is-there = omega (arith, below (short-not .1), reads-are)
+  pub port-there : i < min maxPorts (m .«read_count»)
+  port-there = omega (arith, below y, reads-are)
 
-  good : Valid false (badOutputLen M output) (badValue next output) next m nets trits
+  pub good : Valid false (badOutputLen M output) (badValue next output) next m nets trits
   unfolding drivingNumber
-  good = valid false (badOutputLen M output) (badValue next output) next m nets trits (both .0)
+  good = valid false (badOutputLen M output) (badValue next output) next m nets trits z
 
   shapes : (any (badWriteShape M) (M .writes) ≡ false) × (any (badReadShape M) (M .reads) ≡ false)
   unfolding badShape
@@ -92,7 +86,7 @@ module _ (next : ℕ) (m : Memory) (nets trits : List ℕ) (i : ℕ) (output : L
 
   read-shape : badReadShape M (readAt M i) ≡ false
   unfolding readAt
-  read-shape = any-at (badReadShape M) (M .reads) (shapes .1) i _ (below (short-not .1))
+  read-shape = any-at (badReadShape M) (M .reads) (shapes .1) i _ (below y)
 
   flip-shape : any (badFlipFlopShape M (readAt M i .dataLen)) (held (readAt M i .flipFlop)) ≡ false
   unfolding badReadShape
@@ -102,23 +96,48 @@ module _ (next : ℕ) (m : Memory) (nets trits : List ℕ) (i : ℕ) (output : L
   unfolding badFlipFlopShape
   related-by f n e = eqb-true _ _ (not-false _ (or-false (badTritLens n (f .clearValue) (f .resetValue) (f .initValue)) _ e .1))
 
-  long-by : any (λ (f : ReadFlipFlop). any (shortPair M (readAt M i)) (transparentPorts f)) (held (readAt M i .flipFlop)) ≡ false
-  unfolding shortPort
-  long-by = short-not .0
+  module _ (c : Controls) (e : readPort m i .«flip_flop» ≡ Some c) where
+    -- the shape of its flip-flop
+    pub own-shape : badFlipFlopShape M (readAt M i .dataLen) (ownFlipFlop m trits i c) ≡ false
+    own-shape = any-some (badFlipFlopShape M (readAt M i .dataLen)) (readAt M i .flipFlop) (ownFlipFlop m trits i c) (flip-some m nets trits i port-there c e) flip-shape
+
+    pub shaped : PortShape m nets trits i c
+    shaped = record {
+      there = port-there;
+      clocked = e;
+      thin = sizes good .width-ok;
+      writes-good = shapes .0;
+      read-good = read-shape;
+      related = related-by (ownFlipFlop m trits i c) (readAt M i .dataLen) own-shape;
+      few = omega (arith, writes-are);
+    }
+
+-- what 14 tells of a clocked port
+pub long-by : (v : Mem) (r : ReadPort) (f : ReadFlipFlop) → r .flipFlop ≡ some f → shortPort v r ≡ false → any (shortPair v r) (transparentPorts f) ≡ false
+unfolding shortPort
+long-by v r f e q = any-some (λ (x : ReadFlipFlop). any (shortPair v r) (transparentPorts x)) (r .flipFlop) f e q
+
+-- ---- unmap_read_dff
+module _ (next : ℕ) (m : Memory) (nets trits : List ℕ) (i : ℕ) (output : List ℕ) (z : unmapReadDffNumber next (givenOf m nets trits) i output ≡ 0)
+    (rl : length (readsOf m nets trits) ≡ min maxPorts (m .«read_count»)) (wl : length (writesOf m nets) ≡ min maxPorts (m .«write_count»)) where
+  abbrev Mv : Mem
+  Mv = memoryOf m nets trits
+
+  both : (drivingNumber false next (givenOf m nets trits) output ≡ 0) × ((if shortPort Mv (readAt Mv i) then 14 else portNumber Mv i) ≡ 0)
+  unfolding unmapReadDffNumber
+  both = else-zero (drivingNumber false next (givenOf m nets trits) output) _ z
+
+  short-not : (shortPort Mv (readAt Mv i) ≡ false) × (portNumber Mv i ≡ 0)
+  short-not = refused-not (shortPort Mv (readAt Mv i)) 14 (portNumber Mv i) (omega arith) (both .1)
+
+  pub is-there : i < min maxPorts (m .«read_count»)
+  is-there = port-there next m nets trits i output (both .0) (short-not .1) rl wl
 
   pub ready : (c : Controls) → readPort m i .«flip_flop» ≡ Some c → Ready m nets trits i c
-  ready c e =
-      let f = flip-some m nets trits i is-there c e in
-      record {
-        there = is-there;
-        clocked = e;
-        thin = sizes good .width-ok;
-        writes-good = shapes .0;
-        read-good = read-shape;
-        related = related-by (ownFlipFlop m trits i c) (readAt M i .dataLen) (any-some (badFlipFlopShape M (readAt M i .dataLen)) (readAt M i .flipFlop) (ownFlipFlop m trits i c) f flip-shape);
-        few = omega (arith, writes-are);
-        long = any-some (λ (x : ReadFlipFlop). any (shortPair M (readAt M i)) (transparentPorts x)) (readAt M i .flipFlop) (ownFlipFlop m trits i c) f long-by;
-      }
+  ready c e = record {
+    port = shaped next m nets trits i output (both .0) (short-not .1) rl wl c e;
+    long = long-by Mv (readAt Mv i) (ownFlipFlop m trits i c) (flip-some m nets trits i is-there c e) (short-not .0);
+  }
 
 -- ---- by the flip-flop
 pub dff-some : (v : Mem) (i : ℕ) (output : Value) (f : ReadFlipFlop) → readAt v i .flipFlop ≡ some f → unmapDff v i output f ≡ unmapReadDff v i output
@@ -132,7 +151,7 @@ dff-none v i output e = ap (λ (o : Option ReadFlipFlop). unmapReadDffOf o v i o
 pub driven-as : (d : Driving) (log : List ℕ) (s : LogState) (room : ℕ) (t u : Trace Driving) (x : rules.Driven) → t ≡ u → x ≡ driven (logRefusal room s t) log s d t → x ≡ driven (logRefusal room s u) log s d u
 driven-as d log s room t u x e q = q ∙ (λ k. driven (logRefusal room s (e k)) log s d (e k))
 
-same : {A : Type 0} (n : ℕ) (a : A) → leaves n a a ≡ a
+pub same : {A : Type 0} (n : ℕ) (a : A) → leaves n a a ≡ a
 unfolding leaves
 same n a = on (eqb n 0)
   where
@@ -141,7 +160,7 @@ same n a = on (eqb n 0)
     on false = refl
 
 -- nothing done
-done-driven : (n : ℕ) (d : Driving) (log : List ℕ) (s : LogState) → record { answer = answerOf n s; log = log; memory = d .memory; output = d .output } ≡ driven n log s d (done d)
+pub done-driven : (n : ℕ) (d : Driving) (log : List ℕ) (s : LogState) → record { answer = answerOf n s; log = log; memory = d .memory; output = d .output } ≡ driven n log s d (done d)
 unfolding driven done logAfter stateAfter added words
 done-driven n d log s = λ k. record {
   answer = ap (λ (x : ℕ). answerOf n (record { used = x; next = s .next })) (sym (add-zero (s .used))) k;

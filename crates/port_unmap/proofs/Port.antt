@@ -31,7 +31,7 @@ use Rattle.port_transparency.specs.Pairs.{reading}
 use Rattle.port_overlay.specs.Laid.{laidFrom, unmapped, unmappedIf}
 use Rattle.port_overlay.proofs.Fits.{Shaped, Reads, writes-shaped, reads-shaped, from-is}
 use Rattle.port_overlay.proofs.Bounds.{Small, most-unmap, unmap-runs}
-use Rattle.port_unmap.specs.Ready.{ownFlipFlop, Ready}
+use Rattle.port_unmap.specs.Ready.{ownFlipFlop, PortShape, Ready}
 
 size-few : (width size k : ℕ) → width ≤ 128 → Shaped width size k → size ≤ 2048
 size-few width size k h s = rw (s .size-is) (mul-le-mul {n₁ = width} {m₁ = 2 ^ k} {n₂ = 128} {m₂ = 16} h (pow-mono {i = k} {j = 4} (s .few)))
@@ -60,7 +60,8 @@ at-shaped : (m : Mem) (j : ℕ) → any (badWriteShape m) (m .writes) ≡ false 
 unfolding writeAt
 at-shaped m j e h = any-at (badWriteShape m) (m .writes) e j _ h
 
-module _ (m : Memory) (nets trits : List ℕ) (i : ℕ) (c : Controls) (g : Ready m nets trits i c) where
+-- ---- a port that 1, 2 and 15 pass
+module _ (m : Memory) (nets trits : List ℕ) (i : ℕ) (c : Controls) (g : PortShape m nets trits i c) where
   abbrev M : Mem
   M = memoryOf m nets trits
 
@@ -68,7 +69,7 @@ module _ (m : Memory) (nets trits : List ℕ) (i : ℕ) (c : Controls) (g : Read
   F = ownFlipFlop m trits i c
 
   -- the view's port i
-  port-is : readAt M i ≡ record { addr = readNets m nets i; dataLen = readPort m i .«data_len»; flipFlop = some F }
+  pub port-is : readAt M i ≡ record { addr = readNets m nets i; dataLen = readPort m i .«data_len»; flipFlop = some F }
   port-is =
       let p = readPort m i in
       let a : readAt M i ≡ readBy p (part (readStart m i) (addrSize p) nets) (part (tritStart m i) (tritSize p) trits) = read-of-view m nets trits i ∙ reads-at m nets trits i (g .there) in
@@ -88,7 +89,7 @@ module _ (m : Memory) (nets trits : List ℕ) (i : ℕ) (c : Controls) (g : Read
   pub read-few : readAt M i .dataLen ≤ 2048
   read-few = size-few (M .width) _ _ thin-of (reads-of .shape)
 
-  small : (j : ℕ) → Small (writeAt M j) (readAt M i .dataLen)
+  pub small : (j : ℕ) → Small (writeAt M j) (readAt M i .dataLen)
   small j = cases-le (length (M .writes)) j none-at some-at
     where
       none-at : length (M .writes) ≤ j → Small (writeAt M j) (readAt M i .dataLen)
@@ -100,28 +101,10 @@ module _ (m : Memory) (nets trits : List ℕ) (i : ℕ) (c : Controls) (g : Read
           let q = size-few (M .width) _ _ thin-of (s .shape) in
           record { in-bits = q; in-mask = omega (arith, s .masked); in-read = read-few }
 
-  -- few nets, and in sequence
-  pub unmap-below : (output : Value) (s : LogState) → unmapDff M i output F (startNet s) .next < X
-  unmap-below output s = omega (arith, most-unmap M i small output F (omega (arith, g .related, g .few)) read-few (startNet s), start-le s)
-
-  long-of : any (shortPair M (readAt M i)) (transparentFrom 0 (F .relations)) ≡ false
-  unfolding transparentPorts
-  long-of = g .long
-
-  laid-all : (o : Overlay) → laidFrom M (readWideLog2 M (readAt M i)) (reading (readAt M i .addr) (readAt M i .dataLen)) 0 (F .relations) o ≡ transparencies M i (transparentFrom 0 (F .relations)) o
-  laid-all o = from-is M i (g .writes-good) reads-of thin-of 0 (F .relations) o (omega (arith, g .related)) long-of
-
-  pub port-runs : (output : Value) (l : Lent)
-      → run (unmappedIf M (wideLog2 (m .width) (readPort m i .«data_len»)) (reading (readNets m nets i) (readPort m i .«data_len»)) (readPort m i .«data_len») (F .relations) (λ b. flipFlop (F .controls) b (F .clearValue) (F .resetValue) (F .initValue)) (outputSlice M i output)) l
-      ≡ run (unmapDff M i output F) l
-  port-runs output l =
-      let n = readPort m i .«data_len» in
-      let e : readAt M i .dataLen ≡ n = ap (λ (r : ReadPort). r .dataLen) port-is in
-      let a : readAt M i .addr ≡ readNets m nets i = ap (λ (r : ReadPort). r .addr) port-is in
-      let k : wideLog2 (m .width) n ≡ readWideLog2 M (readAt M i) = (λ j. wideLog2 (sym (width-of m nets trits) j) (sym e j)) ∙ wide-by M (readAt M i) in
-      (λ j. run (unmappedIf M (k j) (reading (sym a j) (sym e j)) (sym e j) (F .relations) (behind-is F j) (outputSlice M i output)) l)
-      ∙ few-is M (readWideLog2 M (readAt M i)) (reading (readAt M i .addr) (readAt M i .dataLen)) (readAt M i .dataLen) (F .relations) (flipFlopOf F) (outputSlice M i output) l (omega (arith, read-few))
-      ∙ unmap-runs M i (readWideLog2 M (readAt M i)) (reading (readAt M i .addr) (readAt M i .dataLen)) output F l laid-all
+  -- the write ports of relations that have long enough addresses
+  pub laid-all : (xs : List ℕ) (o : Overlay) → length xs ≤ length (M .writes) → any (shortPair M (readAt M i)) (transparentFrom 0 xs) ≡ false
+      → laidFrom M (readWideLog2 M (readAt M i)) (reading (readAt M i .addr) (readAt M i .dataLen)) 0 xs o ≡ transparencies M i (transparentFrom 0 xs) o
+  laid-all xs o h e = from-is M i (g .writes-good) reads-of thin-of 0 xs o (omega arith) e
 
   pub data-is : readAt M i .dataLen ≡ readPort m i .«data_len»
   data-is = ap (λ (r : ReadPort). r .dataLen) port-is
@@ -129,21 +112,58 @@ module _ (m : Memory) (nets trits : List ℕ) (i : ℕ) (c : Controls) (g : Read
   pub data-few : readPort m i .«data_len» ≤ maxMerge
   data-few = omega (arith, data-is, read-few)
 
-  slice-is : (output : Value) → part (outputStart M i) (readPort m i .«data_len») output ≡ outputSlice M i output
+  pub slice-is : (output : Value) → part (outputStart M i) (readPort m i .«data_len») output ≡ outputSlice M i output
   unfolding outputSlice
   slice-is output = ap (λ (n : ℕ). part (outputStart M i) n output) (sym data-is)
+
+  -- its data and address as the struct has them
+  pub addr-is : readAt M i .addr ≡ readNets m nets i
+  addr-is = ap (λ (r : ReadPort). r .addr) port-is
+
+  pub wide-is : wideLog2 (m .width) (readPort m i .«data_len») ≡ readWideLog2 M (readAt M i)
+  wide-is = (λ j. wideLog2 (sym (width-of m nets trits) j) (sym data-is j)) ∙ wide-by M (readAt M i)
+
+-- ---- one that 14 passes too
+module _ (m : Memory) (nets trits : List ℕ) (i : ℕ) (c : Controls) (g : Ready m nets trits i c) where
+  abbrev Mv : Mem
+  Mv = memoryOf m nets trits
+
+  abbrev own-flip : ReadFlipFlop
+  own-flip = ownFlipFlop m trits i c
+
+  -- few nets, and in sequence
+  pub unmap-below : (output : Value) (s : LogState) → unmapDff Mv i output own-flip (startNet s) .next < X
+  unmap-below output s = omega (arith, most-unmap Mv i (small m nets trits i c (g .port)) output own-flip (omega (arith, g .port .related, g .port .few)) (read-few m nets trits i c (g .port)) (startNet s), start-le s)
+
+  long-of : any (shortPair Mv (readAt Mv i)) (transparentFrom 0 (own-flip .relations)) ≡ false
+  unfolding transparentPorts
+  long-of = g .long
+
+  laid-own : (o : Overlay) → laidFrom Mv (readWideLog2 Mv (readAt Mv i)) (reading (readAt Mv i .addr) (readAt Mv i .dataLen)) 0 (own-flip .relations) o ≡ transparencies Mv i (transparentFrom 0 (own-flip .relations)) o
+  laid-own o = laid-all m nets trits i c (g .port) (own-flip .relations) o (omega (arith, g .port .related)) long-of
+
+  pub port-runs : (output : Value) (l : Lent)
+      → run (unmappedIf Mv (wideLog2 (m .width) (readPort m i .«data_len»)) (reading (readNets m nets i) (readPort m i .«data_len»)) (readPort m i .«data_len») (own-flip .relations) (λ b. flipFlop (own-flip .controls) b (own-flip .clearValue) (own-flip .resetValue) (own-flip .initValue)) (outputSlice Mv i output)) l
+      ≡ run (unmapDff Mv i output own-flip) l
+  port-runs output l =
+      let e = data-is m nets trits i c (g .port) in
+      let a = addr-is m nets trits i c (g .port) in
+      let k = wide-is m nets trits i c (g .port) in
+      (λ j. run (unmappedIf Mv (k j) (reading (sym a j) (sym e j)) (sym e j) (own-flip .relations) (behind-is own-flip j) (outputSlice Mv i output)) l)
+      ∙ few-is Mv (readWideLog2 Mv (readAt Mv i)) (reading (readAt Mv i .addr) (readAt Mv i .dataLen)) (readAt Mv i .dataLen) (own-flip .relations) (flipFlopOf own-flip) (outputSlice Mv i output) l (omega (arith, read-few m nets trits i c (g .port)))
+      ∙ unmap-runs Mv i (readWideLog2 Mv (readAt Mv i)) (reading (readAt Mv i .addr) (readAt Mv i .dataLen)) output own-flip l laid-own
 
   -- the same as the code has it
   pub port-from : (output : Value) (p : MemoryReadPort) (raddr rels own clear reset init from : List ℕ) (start : ℕ) (l l1 : Lent) → p ≡ readPort m i → raddr ≡ readNets m nets i
       → rels ≡ part 0 (p .«relations_len») (p .relations) → own ≡ readTrits m trits i → clear ≡ part 0 (p .«clear_len») own → reset ≡ part (p .«clear_len») (p .«reset_len») own
-      → init ≡ part (p .«clear_len» + p .«reset_len») (p .«init_len») own → start ≡ outputStart M i → from ≡ part start (p .«data_len») output
-      → l1 ≡ run (unmappedIf M (wideLog2 (m .width) (p .«data_len»)) (reading raddr (p .«data_len»)) (p .«data_len») rels (λ b. flipFlop (controlsOf c) b clear reset init) from) l
-      → l1 ≡ run (unmapDff M i output F) l
+      → init ≡ part (p .«clear_len» + p .«reset_len») (p .«init_len») own → start ≡ outputStart Mv i → from ≡ part start (p .«data_len») output
+      → l1 ≡ run (unmappedIf Mv (wideLog2 (m .width) (p .«data_len»)) (reading raddr (p .«data_len»)) (p .«data_len») rels (λ b. flipFlop (controlsOf c) b clear reset init) from) l
+      → l1 ≡ run (unmapDff Mv i output own-flip) l
   port-from output p raddr rels own clear reset init from start l l1 ep ea er eo ec es ei et ef h =
       let r1 = er ∙ (λ k. part 0 (ep k .«relations_len») (ep k .relations)) in
       let c1 = ec ∙ (λ k. part 0 (ep k .«clear_len») (eo k)) in
       let s1 = es ∙ (λ k. part (ep k .«clear_len») (ep k .«reset_len») (eo k)) in
       let i1 = ei ∙ (λ k. part (ep k .«clear_len» + ep k .«reset_len») (ep k .«init_len») (eo k)) in
-      let f1 = ef ∙ (λ k. part (et k) (ep k .«data_len») output) ∙ slice-is output in
-      h ∙ (λ k. run (unmappedIf M (wideLog2 (m .width) (ep k .«data_len»)) (reading (ea k) (ep k .«data_len»)) (ep k .«data_len») (r1 k) (λ b. flipFlop (controlsOf c) b (c1 k) (s1 k) (i1 k)) (f1 k)) l)
+      let f1 = ef ∙ (λ k. part (et k) (ep k .«data_len») output) ∙ slice-is m nets trits i c (g .port) output in
+      h ∙ (λ k. run (unmappedIf Mv (wideLog2 (m .width) (ep k .«data_len»)) (reading (ea k) (ep k .«data_len»)) (ep k .«data_len») (r1 k) (λ b. flipFlop (controlsOf c) b (c1 k) (s1 k) (i1 k)) (f1 k)) l)
       ∙ port-runs output l

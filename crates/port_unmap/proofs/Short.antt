@@ -129,6 +129,14 @@ module _ (m : Memory) (nets trits : List ℕ) (i : ℕ) (p : MemoryReadPort) (h 
       (f (readAt M i) k (ea ∙ addr-is) ∙ ap (λ (xs : List ℕ). any (shortPair M (readAt M i)) (transparentFrom 0 xs)) er)
 
 -- ---- the numbers
+pub port-15 : (m : Memory) (nets trits : List ℕ) (i : ℕ) → length (readsOf m nets trits) ≡ min maxPorts (m .«read_count») → min maxPorts (m .«read_count») ≤ i → portNumber (memoryOf m nets trits) i ≡ 15
+unfolding portNumber badPort notBelow memoryOf
+port-15 m nets trits i k h = ap (λ (t : Bool). if t then 15 else 0) (ap (λ (n : ℕ). leb n i) k ∙ le-leb _ _ h)
+
+pub port-0 : (m : Memory) (nets trits : List ℕ) (i : ℕ) → length (readsOf m nets trits) ≡ min maxPorts (m .«read_count») → i < min maxPorts (m .«read_count») → portNumber (memoryOf m nets trits) i ≡ 0
+unfolding portNumber badPort notBelow memoryOf
+port-0 m nets trits i k h = ap (λ (t : Bool). if t then 15 else 0) (ap (λ (n : ℕ). leb n i) k ∙ lt-leb _ _ h)
+
 module _ (next : ℕ) (m : Memory) (nets trits : List ℕ) (i : ℕ) (output : List ℕ) where
   abbrev D : ℕ
   D = drivingNumber false next (givenOf m nets trits) output
@@ -145,18 +153,10 @@ module _ (next : ℕ) (m : Memory) (nets trits : List ℕ) (i : ℕ) (output : L
     unfolding unmapReadDffNumber
     num-14 e = hit 14 _ e ∙ sym (else-rest D _ z)
 
-    port-15 : length (readsOf m nets trits) ≡ min maxPorts (m .«read_count») → min maxPorts (m .«read_count») ≤ i → portNumber (memoryOf m nets trits) i ≡ 15
-    unfolding portNumber badPort notBelow memoryOf
-    port-15 k h = ap (λ (t : Bool). if t then 15 else 0) (ap (λ (n : ℕ). leb n i) k ∙ le-leb _ _ h)
-
-    port-0 : length (readsOf m nets trits) ≡ min maxPorts (m .«read_count») → i < min maxPorts (m .«read_count») → portNumber (memoryOf m nets trits) i ≡ 0
-    unfolding portNumber badPort notBelow memoryOf
-    port-0 k h = ap (λ (t : Bool). if t then 15 else 0) (ap (λ (n : ℕ). leb n i) k ∙ lt-leb _ _ h)
-
     pub num-15 : S ≡ false → length (readsOf m nets trits) ≡ min maxPorts (m .«read_count») → min maxPorts (m .«read_count») ≤ i → 15 ≡ unmapReadDffNumber next (givenOf m nets trits) i output
     unfolding unmapReadDffNumber
-    num-15 e k h = miss 14 _ 15 e (sym (port-15 k h)) ∙ sym (else-rest D _ z)
+    num-15 e k h = miss 14 _ 15 e (sym (port-15 m nets trits i k h)) ∙ sym (else-rest D _ z)
 
     pub num-0 : S ≡ false → length (readsOf m nets trits) ≡ min maxPorts (m .«read_count») → i < min maxPorts (m .«read_count») → 0 ≡ unmapReadDffNumber next (givenOf m nets trits) i output
     unfolding unmapReadDffNumber
-    num-0 e k h = miss 14 _ 0 e (sym (port-0 k h)) ∙ sym (else-rest D _ z)
+    num-0 e k h = miss 14 _ 0 e (sym (port-0 m nets trits i k h)) ∙ sym (else-rest D _ z)

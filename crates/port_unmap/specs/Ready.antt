@@ -17,7 +17,8 @@ use Rattle.net_memory.specs.View.{memoryOf, readPort, readTrits, clockedBy}
 abbrev pub ownFlipFlop : Memory → List ℕ → ℕ → Controls → ReadFlipFlop
 ownFlipFlop m trits i c = clockedBy c (readPort m i) (readTrits m trits i)
 
-pub record Ready (m : Memory) (nets trits : List ℕ) (i : ℕ) (c : Controls) : Type 0 where
+-- numbers 1, 2 and 15
+pub record PortShape (m : Memory) (nets trits : List ℕ) (i : ℕ) (c : Controls) : Type 0 where
   pub there : i < min maxPorts (m .«read_count»)
   pub clocked : readPort m i .«flip_flop» ≡ Some c
   pub thin : m .width ≤ 128
@@ -25,4 +26,8 @@ pub record Ready (m : Memory) (nets trits : List ℕ) (i : ℕ) (c : Controls) :
   pub read-good : badReadShape (memoryOf m nets trits) (readAt (memoryOf m nets trits) i) ≡ false
   pub related : length (ownFlipFlop m trits i c .relations) ≡ length (memoryOf m nets trits .writes)
   pub few : length (memoryOf m nets trits .writes) ≤ 8
+
+-- and 14
+pub record Ready (m : Memory) (nets trits : List ℕ) (i : ℕ) (c : Controls) : Type 0 where
+  pub port : PortShape m nets trits i c
   pub long : any (shortPair (memoryOf m nets trits) (readAt (memoryOf m nets trits) i)) (transparentPorts (ownFlipFlop m trits i c)) ≡ false

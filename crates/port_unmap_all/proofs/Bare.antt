@@ -1,8 +1,8 @@
 -- The read ports of which the first n have lost their flip-flops.
-use mathlib.Core.Path.{_≡_, refl, sym, ap, _∙_}
+use mathlib.Core.Path.{_≡_, refl, ap}
 use Prim.Native.Nat.{ℕ, zero, suc, _+_, _<_, _≤_}
 use native.Mathlib.Omega.{arith}
-use mathlib.Core.Option.{Option, none}
+use mathlib.Core.Option.{none}
 use mathlib.Core.List.{List, [], _∷_, map}
 use lib.ListN.{length, take, getD, set}
 use Rattle.lists.specs.Lists.{sumBy}

@@ -1,20 +1,19 @@
 -- One clocked port: the values that the code reads of it are the view's, and its void nets take its place in the room.
-use mathlib.Core.Path.{_≡_, refl, sym, ap, _∙_, subst}
+use mathlib.Core.Path.{_≡_, refl, sym, ap, _∙_}
 use Prim.Native.Nat.{ℕ, _+_, _-_, _<_, _≤_, min}
 use native.Mathlib.Nat.{le-refl}
 use native.Mathlib.Omega.{arith}
-use mathlib.Core.Bool.{Bool, false}
-use mathlib.Core.Option.{Option, none, some}
-use mathlib.Core.List.{List, _++_, append-nil}
+use mathlib.Core.Bool.{false}
+use mathlib.Core.Option.{none, some}
+use mathlib.Core.List.{List, append-nil}
 use lib.ListN.{length, take, drop, length-take}
 use lib.Seq.{sets, take-take, take-all}
 use borrow.Author.Tests.{le-ltb, lt-ltb}
-use Rattle.lists.specs.Choice.{if_then_else_}
 use Rattle.lists.specs.Lists.{part, upFrom}
 use Rattle.rules.specs.Limits.{maxPorts, maxMerge}
 use Rattle.rules.specs.Value.{Value}
-use Rattle.rules.specs.Cell.{FlipFlop, ReadFlipFlop, ReadPort, Mem, readAt, wideLog2, readWideLog2, flipFlopOf, outputStart, outputSlice}
-use Rattle.rules.specs.Log.{Trace, _>>=_, _>>_, done, request, addVoid}
+use Rattle.rules.specs.Cell.{ReadFlipFlop, ReadPort, Mem, readAt, wideLog2, readWideLog2, flipFlopOf, outputStart, outputSlice}
+use Rattle.rules.specs.Log.{_>>=_, _>>_, done, request, addVoid}
 use Rattle.net_flip_flop.specs.declared.Controls.{Controls}
 use Rattle.net_flip_flop.specs.View.{controlsOf, flipFlop}
 use Rattle.log_entries.specs.Emission.{Lent, isOver, emit, run}
@@ -23,9 +22,9 @@ use Rattle.net_memory.specs.declared.MemoryReadPort.{MemoryReadPort}
 use Rattle.net_memory.specs.View.{memoryOf, readPort, readBy, readStart, tritStart, addrSize, tritSize, readNets, readTrits}
 use Rattle.net_memory.proofs.Ports.{read-of-view, reads-at, nets-at}
 use Rattle.port_transparency.specs.Gave.{Gave}
-use Rattle.port_transparency.specs.Pairs.{reading, plain}
+use Rattle.port_transparency.specs.Pairs.{reading}
 use Rattle.port_transparency.proofs.Gave.{gave-done}
-use Rattle.port_overlay.specs.Laid.{laidFrom, behind, unmapped, unmappedIf}
+use Rattle.port_overlay.specs.Laid.{unmapped, unmappedIf}
 use Rattle.port_unmap.specs.Ready.{ownFlipFlop}
 use Rattle.port_unmap_all.specs.All.{related, portTrace, unmappedTo, unmappedOf, unmappedAt}
 

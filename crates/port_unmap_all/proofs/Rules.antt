@@ -1,6 +1,6 @@
 -- Where numbers 1, 2 and 14 pass, the code's trace is the rules': the entries, the outputs after in the room, and the memory after.
 use mathlib.Core.Path.{_≡_, refl, sym, ap, _∙_}
-use Prim.Native.Nat.{ℕ, zero, suc, _+_, _*_, _^_, _<_, _≤_}
+use Prim.Native.Nat.{ℕ, suc, _*_, _^_, _<_, _≤_}
 use native.Mathlib.Nat.{mul-le-mul}
 use native.Mathlib.Omega.{arith}
 use lib.Pow.{pow-mono}
@@ -22,7 +22,7 @@ use Rattle.rules.specs.Value.{Value}
 use Rattle.rules.specs.Cell.{ReadFlipFlop, Mem, readAt, readWideLog2, outputStart, held, transparentFrom, transparentPorts}
 use Rattle.rules.specs.Conditions.{tooLarge, badShape, badDataLen, badAddrLen, badTritLens, badFlipFlopShape, badWriteShape, badReadShape, badOutputLen, badValue, shortPair, shortPort, shortPorts}
 use Rattle.rules.specs.Log.{Entry, Made, _>>=_, _>>_, done, addVoid}
-use Rattle.rules.specs.Ports.{Overlay, transparencies, Driving, unmapAll}
+use Rattle.rules.specs.Ports.{Overlay, transparencies, unmapAll}
 use Rattle.rules.specs.Refusals.{drivingNumber}
 use Rattle.log_entries.specs.Emission.{Lent, emit, run}
 use Rattle.net_memory.specs.declared.Memory.{Memory}

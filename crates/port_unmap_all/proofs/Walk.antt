@@ -1,8 +1,7 @@
 -- The loop over the ports: what is left from port i on gives the whole.
-use mathlib.Core.Path.{_≡_, refl, sym, ap, _∙_, subst}
+use mathlib.Core.Path.{_≡_, ap, subst}
 use Prim.Native.Nat.{ℕ, _+_, _-_, _<_, _≤_}
 use native.Mathlib.Omega.{arith}
-use mathlib.Core.Bool.{Bool}
 use mathlib.Core.Option.{Option, none, some}
 use mathlib.Core.List.{List, [], _∷_}
 use lib.ListN.{length}
@@ -13,7 +12,7 @@ use Rattle.lists.proofs.UpFrom.{count-step, count-end}
 use Rattle.rules.specs.Limits.{maxMerge}
 use Rattle.rules.specs.Value.{Value}
 use Rattle.rules.specs.Cell.{FlipFlop, ReadFlipFlop, Mem, readAt}
-use Rattle.rules.specs.Log.{Trace, _>>=_, done}
+use Rattle.rules.specs.Log.{_>>=_, done}
 use Rattle.rules.specs.Beside.Chain.{Chains}
 use Rattle.rules.proofs.Chain.{chains-void, chains-dff, chains-replace, chains-bind, chains-then, chains-done, chains-if}
 use Rattle.log_entries.specs.Emission.{Lent}

@@ -114,7 +114,7 @@ pub fn swizzle<'a>(
         trits: trits_to.len(),
         scratch: scratch.len(),
     };
-    let n = swizzle_refuse::swizzle_refusal(
+    let n = swizzle_refusal::swizzle_refusal(
         r,
         log.len(),
         st,

@@ -94,11 +94,11 @@ module _ (g : WideMemory) where
         mems-small = leb-true (g .mems) maxColumns (a .0);
         unit-small = leb-true (g .unit) maxUnit (b .0);
         writes-small = λ j h. leb-true (writePort g j .wide) maxWide
-        (subst (λ (p : WideWritePort). smallWrite p ≡ true) (getD-take (min maxPorts (g .«write_count»)) (g .«write_ports») j noWrite h) (all-at smallWrite noWrite (writePorts g) (c .0) refl j));
+            (subst (λ (p : WideWritePort). smallWrite p ≡ true) (getD-take (min maxPorts (g .«write_count»)) (g .«write_ports») j noWrite h) (all-at smallWrite noWrite (writePorts g) (c .0) refl j));
         reads-small = λ i h.
-        (let q = and-true (leb (readPort g i .wide) maxWide) (leb (readPort g i .first) maxNets)
-        (subst (λ (p : WideReadPort). smallRead p ≡ true) (getD-take (min maxPorts (g .«read_count»)) (g .«read_ports») i noRead h) (all-at smallRead noRead (readPorts g) (c .1) refl i)) in
-        (leb-true (readPort g i .wide) maxWide (q .0), leb-true (readPort g i .first) maxNets (q .1)));
+            (let q = and-true (leb (readPort g i .wide) maxWide) (leb (readPort g i .first) maxNets)
+            (subst (λ (p : WideReadPort). smallRead p ≡ true) (getD-take (min maxPorts (g .«read_count»)) (g .«read_ports») i noRead h) (all-at smallRead noRead (readPorts g) (c .1) refl i)) in
+            (leb-true (readPort g i .wide) maxWide (q .0), leb-true (readPort g i .first) maxNets (q .1)));
       }
 
   pub many-mems : maxColumns < g .mems → false ≡ isSmall g

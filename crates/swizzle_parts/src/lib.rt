@@ -241,11 +241,7 @@ pub fn write_addr(g: WideMemory, nets: &[u32], n: usize, j: usize) -> &[u32]
         return &nets[..0];
     }
     let p = g.write_ports[j];
-    lists::part_u32(
-        write_nets(g, nets, j),
-        0,
-        lists::usize_of_u32(p.addr_len),
-    )
+    lists::part_u32(write_nets(g, nets, j), 0, lists::usize_of_u32(p.addr_len))
 }
 
 // Memory n's data of write port j.

@@ -26,12 +26,12 @@ use net_memory::MemoryReadFlipFlop;
 use net_memory::MemoryReadPort;
 use net_value::ControlNet;
 use net_value::Net;
+use swizzle_columns::WidePort;
 use swizzle_pieces::Pieces;
 use swizzle_result::WideMemory;
 use swizzle_result::WideReadPort;
 use swizzle_split::Outcome;
 use swizzle_split::Split;
-use swizzle_columns::WidePort;
 
 // Room for a part of an address, which has at most 32 nets.
 const ROOM: usize = rules::ADDR_BITS as usize;

@@ -1,6 +1,5 @@
 -- `port_empty::emit_emptied` meets its contract.
 use mathlib.Core.Path.{_≡_, refl}
-use native.Mathlib.Omega.{arith}
 use lib.ListN.{length}
 use Rattle.log_entries.specs.View.{lent}
 use Rattle.net_memory.specs.View.{memoryOf}

@@ -1,5 +1,4 @@
 -- `port_mux::mux_fitting` meets its contract.
-use mathlib.Core.Path.{sym, _∙_}
 use native.Mathlib.Omega.{arith}
 use lib.ListN.{length}
 use Rattle.rules.specs.Ports.{transparencyMux}

@@ -1,8 +1,7 @@
 -- `port_mux::overlay_unlike` meets its contract.
 use mathlib.Core.Path.{refl, ap}
-use Prim.Native.Nat.{ℕ}
 use native.Mathlib.Omega.{arith}
-use mathlib.Core.Bool.{Bool, true, not}
+use mathlib.Core.Bool.{Bool, not}
 use lib.ListN.{length}
 use lib.Dec.{eqb}
 use borrow.Author.Tests.{not-true, not-false, ne-eqb, eq-eqb}

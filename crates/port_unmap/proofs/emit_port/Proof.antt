@@ -55,7 +55,7 @@ returns c =
     let g = c .before .before .before .before .before .before .before .before .before .before .before .before .before .before .before .before .before .before .before .before .before .before .before .before .before .before .before .before .pre .0 in
     let e = c .before .before .before .before .before .before .before .before .before .before .before .before .before .before .before .before .before .before .before .before .before .before .before .before .before .before .before .before .pre .1 in
     let u = c .before .before .emit-unmap in
-    let n : v .p .«data_len» ≤ maxMerge = rw e (data-few (v .m) (v .nets .now) (v .trits .now) (v .i) (v .c) g) in
+    let n : v .p .«data_len» ≤ maxMerge = rw e (data-few (v .m) (v .nets .now) (v .trits .now) (v .i) (v .c) (g .port)) in
     (port-from (v .m) (v .nets .now) (v .trits .now) (v .i) (v .c) g (v .output .now) (v .p) _ _ _ _ _ _ _ (c .before .before .before .before .before .before .before .before .before .before .before .before .before .before .before .before .before .before .output-start .result) (lent (v .st) (v .log .now)) (lent (u .result .state) (u .last .0)) e (c .before .before .before .before .before .before .read-nets .ensures .0) (c .before .before .before .before .before .before .before .before .before .before .before .before .before .before .before .before .before .before .before .before .part-u8 .ensures .0) (c .before .before .before .before .before .before .before .before .before .before .before .before .before .before .before .before .before .before .before .read-trits .ensures .0) (c .before .before .before .before .before .clear-of .ensures) (c .before .before .before .before .reset-of .ensures) (c .before .before .before .init-of .ensures) (c .before .before .before .before .before .before .before .before .before .before .before .before .before .before .before .before .before .before .output-start .ensures .0 (v .nets .now) (v .trits .now)) (c .before .before .before .before .before .before .before .before .before .before .before .before .before .before .before .before .part-u32 .ensures .0) (u .ensures .0 (v .trits .now)), λ o. u .ensures .1 n o ∙ ap (λ (q : MemoryReadPort). v .st .next + q .«data_len») e)
 
 pub emit-port-spec : {M : Type 1} → statement M

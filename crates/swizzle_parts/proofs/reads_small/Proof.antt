@@ -54,10 +54,11 @@ loop-again : tie.Need-loop-again Inv-loop μ-loop
 loop-again c =
     let h = c .before .before .before .before in
     let v = h .before .before .args in
-    let n = read-ports-length (v .t1) _ (h .before .before .good .0) in
-    (omega arith,
-    all-pass smallRead (readPorts (v .t1)) (h .loop .i) noRead (omega (arith, n))
-    (ap smallRead (getD-take (min maxPorts (v .t1 .«read_count»)) (v .t1 .«read_ports») (h .loop .i) noRead (omega arith)) ∙ sym (c .before .read-small .ensures) ∙ not-false _ (c .if1 .left)) (h .loop .inv .1))
+    let n = read-ports-length (v .t1) _ (h .before .before .good .0) in (
+      omega arith,
+      all-pass smallRead (readPorts (v .t1)) (h .loop .i) noRead (omega (arith, n))
+          (ap smallRead (getD-take (min maxPorts (v .t1 .«read_count»)) (v .t1 .«read_ports») (h .loop .i) noRead (omega arith)) ∙ sym (c .before .read-small .ensures) ∙ not-false _ (c .if1 .left)) (h .loop .inv .1),
+    )
 
 returns-2 : tie.Need-returns-2 Inv-loop μ-loop
 returns-2 c =

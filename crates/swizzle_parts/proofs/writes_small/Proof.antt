@@ -51,10 +51,11 @@ loop-again : tie.Need-loop-again Inv-loop μ-loop
 loop-again c =
     let h = c .before .before .before .before in
     let v = h .before .before .args in
-    let n = write-ports-length (v .t1) _ (h .before .before .good .0) in
-    (omega arith,
-    all-pass smallWrite (writePorts (v .t1)) (h .loop .j) noWrite (omega (arith, n))
-    (ap smallWrite (getD-take (min maxPorts (v .t1 .«write_count»)) (v .t1 .«write_ports») (h .loop .j) noWrite (omega arith)) ∙ le-leb (writePort (v .t1) (h .loop .j) .wide) 4 (omega arith)) (h .loop .inv .1))
+    let n = write-ports-length (v .t1) _ (h .before .before .good .0) in (
+      omega arith,
+      all-pass smallWrite (writePorts (v .t1)) (h .loop .j) noWrite (omega (arith, n))
+          (ap smallWrite (getD-take (min maxPorts (v .t1 .«write_count»)) (v .t1 .«write_ports») (h .loop .j) noWrite (omega arith)) ∙ le-leb (writePort (v .t1) (h .loop .j) .wide) 4 (omega arith)) (h .loop .inv .1),
+    )
 
 returns-2 : tie.Need-returns-2 Inv-loop μ-loop
 returns-2 c =

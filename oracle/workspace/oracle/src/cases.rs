@@ -8,6 +8,7 @@ pub mod examples;
 mod memories;
 pub mod numbers;
 mod pieces;
+mod ports;
 pub mod rng;
 mod rooms;
 pub mod sample;
@@ -37,6 +38,13 @@ impl Calls {
         let ops = if ops.is_empty() { OPS.to_vec() } else { ops.to_vec() };
         let examples: Vec<Call> = examples::all().into_iter().filter(|call| ops.contains(&call.op())).collect();
         Calls { maker: Maker::new(Rng::new(seed)), ops, examples: examples.into_iter() }
+    }
+
+    /// The same without the borders of calls on ports.
+    pub fn plain(seed: u64, ops: &[u32]) -> Calls {
+        let mut calls = Calls::new(seed, ops);
+        calls.maker.borders = false;
+        calls
     }
 
     /// A random call: two in three keep all rules, and one in fifty stands at a limit.

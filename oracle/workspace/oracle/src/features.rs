@@ -24,6 +24,48 @@ pub fn of(call: &Call) -> Vec<String> {
     found
 }
 
+/// The same of an accepted call on ports: its pairs by their k's, full memories, ports without a flip-flop, and logs without room. The sample, which
+/// was chosen before, does not go by these.
+pub fn of_ports(call: &Call) -> Vec<String> {
+    let mut found = vec![];
+    if let (Some(memory), Some(log)) = (call.memory(), call.log()) {
+        note_ports(call, memory, log, &mut found);
+    }
+    found.sort();
+    found.dedup();
+    found
+}
+
+fn note_ports(call: &Call, memory: &Memory, log: &Log, found: &mut Vec<String>) {
+    let log_of = |length: usize| wide_log(memory.width, length).unwrap_or(0);
+    let read = match call {
+        Call::TransparencyMux(c) => Some(c.read_port),
+        Call::UnmapReadDff(c) => Some(c.port),
+        Call::UnmapReadReset(c) => Some(c.port),
+        Call::EmulateReadBeforeWrite(_) => None,
+        _ => return,
+    };
+    let full = crate::limits::PORTS;
+    note(
+        found,
+        memory.write_ports.len() == full && memory.read_ports.len() == full,
+        "eight write and eight read ports",
+    );
+    note(found, log.used == log.room, "no room in the log");
+    let Some(port) = read.and_then(|read| memory.read_ports.get(read as usize)) else { return };
+    let overlaid = |place: usize| match call {
+        Call::TransparencyMux(c) => c.write_port as usize == place,
+        _ => port.flip_flop.as_ref().is_some_and(|f| f.relations.get(place) == Some(&TRANSPARENT)),
+    };
+    for (_, write) in memory.write_ports.iter().enumerate().filter(|&(place, _)| overlaid(place)) {
+        let (kw, kr) = (log_of(write.data.len()), log_of(port.data_len as usize));
+        found.push(format!("overlaid pair, write k {kw}, read k {kr}"));
+        let narrower = if kw < kr { write.addr.len() } else { port.addr.len() };
+        note(found, kw != kr && narrower == kw.abs_diff(kr) as usize, "address as long as the difference of the k's");
+    }
+    note(found, call.op() == 21 && port.flip_flop.is_none(), "port without a flip-flop");
+}
+
 fn note(found: &mut Vec<String>, holds: bool, what: &str) {
     if holds {
         found.push(what.into());

@@ -25,7 +25,8 @@ impl Stats {
             for part in parts(op, &answer[2..]).unwrap_or_default() {
                 *self.parts.entry(op).or_default().entry(part).or_default() += 1;
             }
-            for feature in Call::from_case(case).map(|call| features::of(&call)).unwrap_or_default() {
+            let shown = |call: Call| [features::of(&call), features::of_ports(&call)].concat();
+            for feature in Call::from_case(case).map(shown).unwrap_or_default() {
                 *self.features.entry(feature).or_default() += 1;
             }
         }

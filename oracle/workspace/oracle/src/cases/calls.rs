@@ -92,9 +92,9 @@ impl Maker {
 
     fn transparency_mux(&mut self) -> TransparencyMux {
         let log = self.log();
-        let mut memory = self.memory(Style::READ);
+        let mut memory = self.port_memory(Style::READ);
         while memory.write_ports.is_empty() {
-            memory = self.memory(Style::READ);
+            memory = self.port_memory(Style::READ);
         }
         let read_port = self.rng.below(memory.read_ports.len() as u32);
         let write_port = self.rng.below(memory.write_ports.len() as u32);
@@ -121,14 +121,14 @@ impl Maker {
 
     fn unmap_read_dff(&mut self) -> UnmapReadDff {
         let log = self.log();
-        let memory = self.memory(Style { clocked: 85, ..Style::READ });
+        let memory = self.port_memory(Style { clocked: 85, ..Style::READ });
         let port = self.rng.below(memory.read_ports.len() as u32);
         UnmapReadDff { log, port, output: self.output(&memory), memory }
     }
 
     fn unmap_read_reset(&mut self) -> UnmapReadReset {
         let log = self.log();
-        let mut memory = self.memory(Style { clocked: 95, ..Style::READ });
+        let mut memory = self.port_memory(Style { clocked: 95, ..Style::READ });
         let port = self.rng.below(memory.read_ports.len() as u32);
         if self.rng.chance(20) {
             quiet(&mut memory.read_ports[port as usize]);
@@ -139,7 +139,7 @@ impl Maker {
 
     fn emulate(&mut self) -> EmulateReadBeforeWrite {
         let log = self.log();
-        EmulateReadBeforeWrite { log, memory: self.memory(Style::CLOCKED) }
+        EmulateReadBeforeWrite { log, memory: self.port_memory(Style::CLOCKED) }
     }
 
     fn make_data_swizzle(&mut self) -> MakeDataSwizzle {

@@ -59,6 +59,37 @@ impl Maker {
         memory
     }
 
+    /// A memory for a call on ports: one in three has ports of any k, often eight of both kinds, and addresses about as long as the k's differ.
+    pub fn port_memory(&mut self, style: Style) -> Memory {
+        if !self.borders || self.rng.chance(67) {
+            return self.memory(style);
+        }
+        let (depth, width) = (16 * self.rng.below(3), self.rng.pick(&[1, 1, 2, 3]));
+        let init = self.trits((depth * width) as usize);
+        let mut memory = Memory { depth, width, init, write_ports: vec![], read_ports: vec![] };
+        let clock = if self.rng.chance(style.one_clock) { Some(self.control()) } else { None };
+        let counts = [(30, 1), (20, 2), (15, 4), (35, PORTS)];
+        let writes = self.rng.weighted(&counts);
+        for _ in 0..writes {
+            let mut port = self.write_port(&memory, WIDE, clock);
+            port.addr = self.near_address();
+            memory.write_ports.push(port);
+        }
+        let relations = self.relation_codes(style, writes);
+        for _ in 0..self.rng.weighted(&counts) {
+            let mut port = self.read_port(&memory, WIDE, clock, style, &relations);
+            port.addr = self.near_address();
+            memory.read_ports.push(port);
+        }
+        memory
+    }
+
+    /// Four address bits, which select in the widest port, or about as many.
+    fn near_address(&mut self) -> Value {
+        let length = self.rng.weighted(&[(2, 0), (4, 1), (6, 2), (8, 3), (60, WIDE as usize), (20, WIDE as usize + 1)]);
+        self.value(length)
+    }
+
     fn port_count(&mut self) -> usize {
         self.rng.weighted(&[(16, 0), (46, 1), (22, 2), (10, 3), (4, 5), (2, PORTS)])
     }

@@ -9,6 +9,8 @@ pub struct Maker {
     pub rng: Rng,
     /// The next free net that the nets keep below.
     pub next: u32,
+    /// Whether calls on ports also stand at their borders.
+    pub borders: bool,
     /// The nets in use: `span` of them from `base` on.
     base: u32,
     span: u32,
@@ -16,7 +18,7 @@ pub struct Maker {
 
 impl Maker {
     pub fn new(rng: Rng) -> Maker {
-        Maker { rng, next: NETS, base: FIRST_CELL, span: 1 }
+        Maker { rng, next: NETS, borders: true, base: FIRST_CELL, span: 1 }
     }
 
     /// Sets the next free net, and chooses which nets below it are used.

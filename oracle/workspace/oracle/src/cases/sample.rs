@@ -77,8 +77,8 @@ pub fn all() -> Vec<Sampled> {
 /// The calls to choose from, those made by hand first.
 fn candidates(op: u32) -> impl Iterator<Item = Call> {
     let numbered = numbers::all().into_iter().map(|(_, call)| call);
-    let listed = examples::all().into_iter().chain(numbered).chain(small::all());
-    let random = Calls::new(op as u64, &[op]).take(3_000);
+    let listed = examples::all().into_iter().chain(numbered).chain(small::plain());
+    let random = Calls::plain(op as u64, &[op]).take(3_000);
     listed.filter(move |call| call.op() == op).chain(random)
 }
 

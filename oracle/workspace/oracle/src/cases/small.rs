@@ -1,13 +1,18 @@
 //! A systematic list of small calls: for each op the combinations of a few small choices.
 
 use super::build::*;
-use super::{examples, numbers};
+use super::{examples, numbers, ports};
 use crate::limits::{NETS, X};
 use crate::record;
 use crate::wire::*;
 
-/// Every small call; each number that an op can give is among their answers.
+/// Every small call, and the calls on ports at their borders.
 pub fn all() -> Vec<Call> {
+    [plain(), ports::all()].concat()
+}
+
+/// Without the borders; each number that an op can give is among their answers. The sample is chosen from these.
+pub fn plain() -> Vec<Call> {
     let numbered = numbers::all().into_iter().map(|(_, call)| call).collect();
     let lists: Vec<Vec<Call>> = vec![
         examples::all(),

@@ -1,0 +1,3 @@
+-- Laws of the answers' structs.
+pub mod Drives
+pub mod Overlaid

@@ -1,0 +1,3 @@
+-- The definitions that the contracts of port_reset cite.
+pub mod Call
+pub mod Ready

@@ -1,0 +1,2 @@
+-- Laws of the emission.
+pub mod Behind

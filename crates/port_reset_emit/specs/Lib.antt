@@ -1,0 +1,2 @@
+-- The definitions that the contracts of port_reset_emit cite.
+pub mod Behind

@@ -1,0 +1,2 @@
+-- The definitions that the contracts of port_unreset cite.
+pub mod Struct

@@ -1,0 +1,2 @@
+-- The whole refusal by its tests.
+pub mod Joined

@@ -1,0 +1,1 @@
+-- The crate cites the rules' definition.

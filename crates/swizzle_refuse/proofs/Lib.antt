@@ -1,2 +1,0 @@
--- Laws of the whole refusal of a swizzle.
-pub mod Whole
