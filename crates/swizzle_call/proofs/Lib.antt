@@ -3,3 +3,4 @@ pub mod Cases
 pub mod Images
 pub mod Logs
 pub mod Fronts
+pub mod Answer

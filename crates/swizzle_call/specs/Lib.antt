@@ -1,3 +1,4 @@
 -- The definitions that the contracts of swizzle_call cite.
 pub mod Acted
 pub mod Whole
+pub mod Answer

@@ -1,7 +1,9 @@
 // The call `swizzle`: all numbers first; then width 0 does nothing, depth 0 unmaps the flip-flops, and rows have their ports made anew.
 ghost use mathlib.Core.Path.{_≡_};
 ghost use lib.ListN.{drop};
-ghost use Rattle.log_entries.specs.View.{lent};
+ghost use Rattle.rules.specs.Answers.{swizzleCall};
+ghost use Rattle.log_entries.specs.View.{stateOf, lent};
+ghost use Rattle.net_memory.specs.Given.{givenOf};
 ghost use Rattle.rules.specs.Geometry.{layoutOf};
 ghost use Rattle.rules.specs.Swizzle.{swizzle, swizzleScratch};
 ghost use Rattle.net_memory.specs.View.{memoryOf};
@@ -14,6 +16,7 @@ ghost use Rattle.image_geometry.specs.View.{layoutBy};
 ghost use Rattle.image_state.specs.View.{laidOf};
 ghost use Rattle.swizzle_call.specs.Acted.{Passed, Acted};
 ghost use Rattle.swizzle_call.specs.Whole.{Swizzles};
+ghost use Rattle.swizzle_call.specs.Answer.{swizzledOf};
 use image_geometry::Params;
 use image_state::Laid;
 use image_state::Sized;
@@ -106,6 +109,7 @@ pub fn swizzle<'a>(
     writes: &[u32],
     reads: &[u32],
 ) -> Swizzled
+    ensures { λ x. ⌜ swizzledOf x (swizzleScratch (memoryOf m (now (nets .entry)) (now (trits .entry))) (planOf s (now (entries .entry)) (now (writes .entry)) (now (reads .entry)))) (now (log .exit)) (now (image .exit)) (now («nets_to» .exit)) (now («trits_to» .exit)) (now (scratch .exit)) ≡ swizzleCall (record { image = now (image .entry); nets = now («nets_to» .entry); trits = now («trits_to» .entry); scratch = now (scratch .entry) }) (now (log .entry)) (stateOf st) (givenOf m (now (nets .entry)) (now (trits .entry))) (now (output .entry)) (planOf s (now (entries .entry)) (now (writes .entry)) (now (reads .entry))) ⌝ }
     ensures { λ x. ⌜ Swizzles m (now (nets .entry)) (now (trits .entry)) (now (output .entry)) s (now (entries .entry)) (now (writes .entry)) (now (reads .entry)) st (now (log .entry)) (now (image .entry)) (now («nets_to» .entry)) (now («trits_to» .entry)) (now (scratch .entry)) x (now (log .exit)) (now (image .exit)) (now («nets_to» .exit)) (now («trits_to» .exit)) (now (scratch .exit)) ⌝ }
 {
     let r = SwizzleRooms {

@@ -11,6 +11,7 @@ use Rattle.swizzle_reads.specs.declared.Reads.{Reads}
 use Rattle.swizzle_reads.specs.Going.{goingOf}
 use Rattle.swizzle_call.proofs.Cases.{roomsOf, same-layout}
 use Rattle.swizzle_call.proofs.Fronts.{results-read}
+use Rattle.swizzle_call.proofs.Answer.{promises}
 use Rattle.swizzle_call.proofs.Logs.{log-after}
 use Rattle.swizzle_call.proofs.Images.{handed, image-laid, sizes-told}
 use borrow.Author.Needs.{needs}
@@ -29,7 +30,7 @@ unset-requires c κs = search needs
 returns : tie.Need-returns
 returns c =
     let v = c .before .before .before .before .before .before .before .before .before .before .before .before .before .before .before .args in
-    record {
+    promises (record {
       number = c .before .before .before .swizzle-refusal .ensures;
       refused = λ h. record {
         made-is = ap (λ (y : Reads). goingOf y (v .log .now) (v .nets-to .now) (v .trits-to .now)) (c .before .none-yet .ensures);
@@ -39,7 +40,7 @@ returns c =
         sizes-are = refl;
       };
       accepted = λ h. absurd (c .before .before .if1 .taken h);
-    }
+    })
 
 act-requires : tie.Need-act-requires
 act-requires c κs =
@@ -82,7 +83,7 @@ returns-2 c =
     let told = l .ensures .0 ∙ handed (roomsOf (length (v .image .now)) (v .nets-to .now) (v .trits-to .now) (v .scratch .now)) (length (v .log .now)) (v .st) (v .m) (v .nets .now) (v .trits .now) (v .output .now) (planOf (v .s) (v .entries .now) (v .writes .now) (v .reads .now)) z x q in
     let laid-image = image-laid (roomsOf (length (v .image .now)) (v .nets-to .now) (v .trits-to .now) (v .scratch .now)) (length (v .log .now)) (v .st) (v .m) (v .nets .now) (v .trits .now) (v .output .now) (planOf (v .s) (v .entries .now) (v .writes .now) (v .reads .now)) z (v .image .now) (l .last .0) refl x q (l .ensures .1) in
     let after = log-after (roomsOf (length (v .image .now)) (v .nets-to .now) (v .trits-to .now) (v .scratch .now)) (length (v .log .now)) (v .st) (v .m) (v .nets .now) (v .trits .now) (v .output .now) (planOf (v .s) (v .entries .now) (v .writes .now) (v .reads .now)) z (v .log .now) (lent (a .result .state) (a .last .0)) (a .ensures .0 .log-is) in
-    record {
+    promises (record {
       number = sym z;
       refused = λ h. absurd (h refl);
       accepted = λ h. record {
@@ -95,7 +96,7 @@ returns-2 c =
         laid-is = told;
         sizes-are = c .sizes-of .ensures .0 ∙ ap sizesCall told ∙ sizes-told (roomsOf (length (v .image .now)) (v .nets-to .now) (v .trits-to .now) (v .scratch .now)) (length (v .log .now)) (v .st) (v .m) (v .nets .now) (v .trits .now) (v .output .now) (planOf (v .s) (v .entries .now) (v .writes .now) (v .reads .now)) z;
       };
-    }
+    })
 
 pub swizzle-spec : {M : Type 1} → statement M
 swizzle-spec =
