@@ -1,4 +1,4 @@
--- What a memory's view holds fits the arrays that it is read from, and the rooms of a call that are as long.
+-- What a memory's view holds fits the arrays that it is read from.
 use mathlib.Core.Path.{_≡_, sym, _∙_, subst}
 use Prim.Native.Nat.{ℕ, _+_, _≤_}
 use native.Mathlib.Nat.{le-refl}
@@ -6,15 +6,10 @@ use native.Mathlib.Omega.{arith}
 use mathlib.Core.Option.{Option, none, some}
 use mathlib.Core.List.{List, [], _∷_, _++_}
 use lib.ListN.{length, take, drop, length-append, length-take, length-drop}
-use borrow.Author.Tests.{le-ltb}
 use Rattle.lists.specs.Lists.{sumBy, part, concatMap}
 use Rattle.lists.specs.Views.{views}
-use Rattle.lists.proofs.Choice.{or-both, if-false}
 use Rattle.rules.specs.Value.{Value}
 use Rattle.rules.specs.Cell.{ReadFlipFlop, ReadPort, Mem, held, portNets, flipFlopTrits, portTrits, flatNets, flatTrits}
-use Rattle.rules.specs.Conditions.{noRoom}
-use Rattle.rules.specs.Ports.{Driving}
-use Rattle.rules.specs.Refusals.{Rooms, noRooms, drivingRefusal}
 use Rattle.net_memory.specs.declared.MemoryReadFlipFlop.{MemoryReadFlipFlop}
 use Rattle.net_memory.specs.declared.MemoryReadFlipFlop.the-variants.{None, Some}
 use Rattle.net_memory.specs.declared.MemoryWritePort.{MemoryWritePort}
@@ -96,8 +91,3 @@ unfolding flatTrits memoryOf
 trits-fit m nets trits =
     within (part 0 (m .«init_len») trits) (concatMap portTrits (readsOf m nets trits)) trits (m .«init_len») (sumBy tritSize (readPorts m)) (le-refl (length (part 0 (m .«init_len») trits)))
     (second-fits addrSize tritSize readBy portTrits values-fit (readPorts m) (drop (readsStart m) nets) (drop (m .«init_len») trits))
-
--- ---- the rooms are enough
-pub enough : (r : Rooms) (d : Driving) → length (flatNets (d .memory)) ≤ r .nets → length (flatTrits (d .memory)) ≤ r .trits → length (d .output) ≤ r .output → drivingRefusal r d ≡ 0
-unfolding drivingRefusal noRooms noRoom
-enough r d a b c = if-false _ 20 0 (or-both (le-ltb (r .nets) _ a) (or-both (le-ltb (r .trits) _ b) (le-ltb (r .output) _ c)))

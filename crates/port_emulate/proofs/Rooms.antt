@@ -32,7 +32,8 @@ use Rattle.net_memory.specs.declared.MemoryWritePort.{MemoryWritePort}
 use Rattle.net_memory.specs.declared.MemoryReadPort.{MemoryReadPort}
 use Rattle.net_memory.specs.declared.Memory.{Memory}
 use Rattle.net_memory.specs.View.{writePorts, readPorts, writeSize, addrSize, tritSize, noTrits, writeBy, readBy, flipFlopBy, writesOf, readsOf, readsStart, memoryOf}
-use Rattle.net_memory.proofs.Fits.{nets-fit, trits-fit, enough}
+use Rattle.net_memory.proofs.Fits.{nets-fit, trits-fit}
+use Rattle.port_unmap.proofs.Rooms.{enough}
 
 -- ---- a delayed port has no more nets
 dedup-length : (f : FlipFlop) (n : ℕ) → length (addDedupDff f n .value) ≡ length (dffKeys f)

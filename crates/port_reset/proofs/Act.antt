@@ -23,7 +23,8 @@ use Rattle.log_entries.specs.declared.LogState as machine
 use Rattle.log_entries.proofs.Emission.{accepted-run, accepted-held}
 use Rattle.net_memory.specs.declared.Memory.{Memory}
 use Rattle.net_memory.specs.View.{memoryOf}
-use Rattle.net_memory.proofs.Fits.{nets-fit, trits-fit, enough}
+use Rattle.net_memory.proofs.Fits.{nets-fit, trits-fit}
+use Rattle.port_unmap.proofs.Rooms.{enough}
 use Rattle.port_unmap.specs.Ready.{ownFlipFlop}
 use Rattle.port_unmap.specs.Call.{driving, roomsOf, drivenOf}
 use Rattle.port_unmap.proofs.Act.{driven-refused, driven-done}

@@ -29,7 +29,8 @@ use Rattle.net_memory.specs.declared.MemoryReadFlipFlop.{MemoryReadFlipFlop}
 use Rattle.net_memory.specs.declared.MemoryReadFlipFlop.the-variants.{Some}
 use Rattle.net_memory.specs.View.{memoryOf, readsOf, writesOf, readPort}
 use Rattle.net_memory.specs.Given.{givenOf}
-use Rattle.net_memory.proofs.Fits.{nets-fit, trits-fit, enough}
+use Rattle.net_memory.proofs.Fits.{nets-fit, trits-fit}
+use Rattle.port_unmap.proofs.Rooms.{enough}
 use Rattle.net_check.proofs.Accept.{exact}
 use Rattle.port_unmap.specs.Ready.{ownFlipFlop}
 use Rattle.port_unmap.specs.Call.{driving, roomsOf, drivenOf}

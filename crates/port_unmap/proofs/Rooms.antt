@@ -26,7 +26,12 @@ use Rattle.net_memory.specs.declared.Memory.{Memory}
 use Rattle.net_memory.specs.View.{writePorts, readPorts, writeSize, addrSize, tritSize, noTrits, writeBy, readBy, flipFlopBy, writesOf, readsOf, readsStart, memoryOf}
 use Rattle.port_unmap.specs.Call.{unclocking, roomsOf}
 use Rattle.port_unmap.proofs.Act.{unmap-memory, unmap-output, unclock-view}
-use Rattle.net_memory.proofs.Fits.{nets-fit, trits-fit, enough}
+use Rattle.net_memory.proofs.Fits.{nets-fit, trits-fit}
+
+-- ---- the rooms are enough
+pub enough : (r : Rooms) (d : Driving) → length (flatNets (d .memory)) ≤ r .nets → length (flatTrits (d .memory)) ≤ r .trits → length (d .output) ≤ r .output → drivingRefusal r d ≡ 0
+unfolding drivingRefusal noRooms noRoom
+enough r d a b c = if-false _ 20 0 (or-both (le-ltb (r .nets) _ a) (or-both (le-ltb (r .trits) _ b) (le-ltb (r .output) _ c)))
 
 same-long : (l : List ℕ) (i : ℕ) (v : List ℕ) → length (sets l i v) ≤ length l
 same-long l i v = omega (arith, length-sets l i v)
