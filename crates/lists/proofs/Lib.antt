@@ -17,3 +17,4 @@ pub mod DistinctMap
 pub mod DistinctOrder
 pub mod Lent
 pub mod Flat
+pub mod Runs

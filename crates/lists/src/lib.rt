@@ -1,9 +1,10 @@
-// Copies, fills, stores and parts at the element widths in use, and casts and sums that ask nothing. What lies past the end of a lent array is not stored.
+// Copies, fills, stores and parts at the element widths in use, and casts, sums and powers that ask nothing. What lies past the end of a lent array is not
+// stored.
 ghost use mathlib.Core.Path.{_≡_};
-ghost use Prim.Native.Nat.{_-_, _<_, _≤_, min};
+ghost use Prim.Native.Nat.{_-_, _^_, _<_, _≤_, min, max};
 ghost use lib.ListN.{length, replicate, set};
 ghost use lib.Seq.{sets};
-ghost use Rattle.lists.specs.Lists.{part};
+ghost use Rattle.lists.specs.Lists.{part, upFrom};
 
 // How many of `want` elements fit an array of length `room` from `at` on.
 pub fn fitting(room: usize, at: usize, want: usize) -> usize
@@ -60,6 +61,20 @@ pub fn fill_u8(to: &mut [u8], at: usize, count: usize, value: u8)
     let mut i = 0;
     while i < n {
         to[at + i] = value;
+        i += 1;
+    }
+}
+
+// Stores the numbers from `first` to below `last` from `at` on.
+pub fn store_run(to: &mut [u32], at: usize, first: u32, last: u32)
+    ensures { λ _. ⌜ now (to .exit) ≡ sets (now (to .entry)) at (upFrom first (last - first)) ⌝ }
+{
+    let n = fitting(to.len(), at, usize_of_u32(minus(last, first)));
+    let mut i = 0;
+    let mut number = first;
+    while i < n {
+        to[at + i] = number;
+        number += 1;
         i += 1;
     }
 }
@@ -177,4 +192,30 @@ pub fn smaller(a: usize, b: usize) -> usize
         return a;
     }
     b
+}
+
+// The larger of two numbers.
+pub fn larger(a: usize, b: usize) -> usize
+    ensures { λ r. ⌜ r ≡ max a b ⌝ }
+{
+    if a < b {
+        return b;
+    }
+    a
+}
+
+// 2^k; 2^32 where k is above 32.
+pub fn two_to(k: u32) -> u64
+    ensures { λ r. ⌜ (r ≡ 2 ^ min k 32) × (0 < r) × (r ≤ 4294967296) ⌝ }
+{
+    let mut power: u64 = 1;
+    let mut i: u32 = 0;
+    while i < k {
+        if i == 32 {
+            return power;
+        }
+        power *= 2;
+        i += 1;
+    }
+    power
 }
