@@ -18,3 +18,4 @@ pub mod DistinctOrder
 pub mod Lent
 pub mod Flat
 pub mod Runs
+pub mod Powers

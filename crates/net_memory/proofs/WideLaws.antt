@@ -1,4 +1,4 @@
--- Laws of usize-of-u32 logs and of the test of a depth.
+-- Laws of wide logs and of the test of a depth.
 use mathlib.Core.Path.{_≡_, refl, sym, ap, _∙_}
 use Prim.Native.Nat.{ℕ, _-_, _*_, _/_, _%_, _^_, _<_, _≤_}
 use native.Mathlib.Nat.{div-zero, mod-eq-of-lt, pow-le-pow-right}

@@ -1,6 +1,6 @@
 // The wide log of a port: k, where its data is width × 2^k; and whether 2^k divides a depth.
 ghost use mathlib.Core.Path.{_≡_};
-ghost use Prim.Native.Nat.{_^_, _≤_, _<_};
+ghost use Prim.Native.Nat.{_≤_};
 ghost use Rattle.rules.specs.Limits.{addrBits};
 ghost use Rattle.rules.specs.Numbers.{topBits};
 ghost use Rattle.rules.specs.Cell.{wideLog2};
@@ -30,20 +30,6 @@ fn top_bits(word: usize) -> u32
     count
 }
 
-// 2^k.
-fn two_to(k: u32) -> usize
-    requires { ⌜ k ≤ addrBits ⌝ }
-    ensures { λ r. ⌜ (r ≡ 2 ^ k) × (0 < r) × (r ≤ 4294967296) ⌝ }
-{
-    let mut power: usize = 1;
-    let mut i: u32 = 0;
-    while i < k {
-        power *= 2;
-        i += 1;
-    }
-    power
-}
-
 // k, where data of this size is width × 2^k; whatever it is where there is no such k.
 pub fn wide_log(width: u32, size: usize) -> u32
     ensures { λ r. ⌜ (r ≡ wideLog2 width size) × (r ≤ 31) ⌝ }
@@ -66,7 +52,8 @@ pub fn data_len_bad(width: u32, size: usize) -> bool
     if rules::MAX_WIDE < k {
         return true;
     }
-    size != (width as usize) * two_to(k)
+    let rows = lists::usize_of_u64(lists::two_to(k));
+    size != (width as usize) * rows
 }
 
 // The depth is no multiple of 2^k.
@@ -76,7 +63,8 @@ pub fn is_indivisible(depth: u32, k: u32) -> bool
     if rules::ADDR_BITS < k {
         return depth != 0;
     }
-    (depth as usize) % two_to(k) != 0
+    let rows = lists::usize_of_u64(lists::two_to(k));
+    (depth as usize) % rows != 0
 }
 
 // k of a port with this many data bits.

@@ -58,7 +58,7 @@ fn emit_plain(
     let c = plain_controls(clock);
     let xs = lists::part_u8(trits, 0, n);
     let after = log_entries::emit_dff(log, st, c, bits, xs, xs, xs);
-    port_transparency::fresh_nets(out, 0, st.next, after.next);
+    lists::store_run(out, 0, st.next, after.next);
     after
 }
 

@@ -192,7 +192,7 @@ fn emit_start(log: &mut [u32], st: LogState, under: &mut [u32], n: u32) -> LogSt
     ensures { λ r. ⌜ Gave (addVoid n) (lent st (now (log .entry))) (lent r (now (log .exit))) (take n (now (under .exit))) ⌝ }
 {
     let after = log_entries::emit_void(log, st, n);
-    port_transparency::fresh_nets(under, 0, st.next, after.next);
+    lists::store_run(under, 0, st.next, after.next);
     after
 }
 
@@ -213,7 +213,7 @@ fn emit_behind(
     ensures { λ r. ⌜ lent r (now (log .exit)) ≡ run (behind (flipFlop (controlsOf c) (take n (now (under .entry))) (now (clear .entry)) (now (reset .entry)) (now (init .entry))) (now (from .entry))) (lent st (now (log .entry))) ⌝ }
 {
     let after = log_entries::emit_dff(log, st, c, &under[..n], clear, reset, init);
-    port_transparency::fresh_nets(q, 0, st.next, after.next);
+    lists::store_run(q, 0, st.next, after.next);
     log_entries::emit_replace(log, after, from, &q[..n])
 }
 

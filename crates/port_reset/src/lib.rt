@@ -284,7 +284,7 @@ fn unmap_with(
     );
     let state = done.state;
     let start = net_memory::output_start(m, i);
-    port_transparency::fresh_nets(output, start, done.first, done.last);
+    lists::store_run(output, start, done.first, done.last);
     port_unreset::blank(trits, m, i);
     let memory = port_unreset::unreset(m, i, c, incl);
     Driven {

@@ -51,7 +51,7 @@ fn emit_data(
     ensures { λ r. ⌜ Gave (addDff (flipFlop (controlsOf c) (take n (now (under .entry))) (now (clear .entry)) (now (reset .entry)) (now (init .entry)))) (lent st (now (log .entry))) (lent r (now (log .exit))) (take n (now (out .exit))) ⌝ }
 {
     let after = log_entries::emit_dff(log, st, c, &under[..n], clear, reset, init);
-    port_transparency::fresh_nets(out, 0, st.next, after.next);
+    lists::store_run(out, 0, st.next, after.next);
     after
 }
 
@@ -105,7 +105,7 @@ fn emit_read(log: &mut [u32], st: LogState, out: &mut [u32], n: u32) -> LogState
     ensures { λ r. ⌜ Gave (addVoid n) (lent st (now (log .entry))) (lent r (now (log .exit))) (take n (now (out .exit))) ⌝ }
 {
     let after = log_entries::emit_void(log, st, n);
-    port_transparency::fresh_nets(out, 0, st.next, after.next);
+    lists::store_run(out, 0, st.next, after.next);
     after
 }
 

@@ -77,19 +77,3 @@ module _ (e : ℕ → Entry) (k : ℕ) (l l1 : Lent) (out out′ : List ℕ) whe
         ap (λ (j : ℕ). upFrom n (j - n)) (gave-next (request e k) l l1 c q o) ∙ request-nets e k n in
         take-stored out out′ (request e k n .value) k (s ∙ ap (sets out 0) m) (sym (length-request n)) h;
   }
-
--- ---- the loop that stores fresh nets
-module _ (out₀ : List ℕ) (first last to : ℕ) where
-  abbrev pub Storing : List ℕ → ℕ → ℕ → Type 0
-  Storing out net i = sets out i (upFrom net (last - net)) ≡ sets out₀ to (upFrom first (last - first))
-
-  pub store-turn : (out : List ℕ) (net i : ℕ) → net < last → Storing out net i → Storing (set out i net) (net + 1) (i + 1)
-  store-turn out net i h e =
-      ap (λ (j : ℕ). sets (set out i net) j (upFrom (net + 1) (last - (net + 1)))) (add-one i)
-      ∙ ap (sets out i) (sym (count-step net last h)) ∙ e
-
-  pub store-full : (out : List ℕ) (net i : ℕ) → length out ≤ i → Storing out net i → out ≡ sets out₀ to (upFrom first (last - first))
-  store-full out net i h e = sym (sets-out (upFrom net (last - net)) out i h) ∙ e
-
-  pub store-end : (out : List ℕ) (net i : ℕ) → last ≤ net → Storing out net i → out ≡ sets out₀ to (upFrom first (last - first))
-  store-end out net i h e = ap (sets out i) (sym (count-end net last h)) ∙ e

@@ -26,32 +26,6 @@ struct Tested {
     same: u32,
 }
 
-// Stores the nets from `first` to below `last`, from `to` on.
-pub fn fresh_nets(out: &mut [u32], to: usize, first: u32, last: u32)
-    ensures { λ _. ⌜ now (out .exit) ≡ sets (now (out .entry)) to (upFrom first (last - first)) ⌝ }
-{
-    let mut net = first;
-    let mut i = to;
-    while net < last {
-        if out.len() <= i {
-            return;
-        }
-        out[i] = net;
-        net += 1;
-        i += 1;
-    }
-}
-
-// The larger of the two.
-fn higher(a: usize, b: usize) -> usize
-    ensures { λ r. ⌜ r ≡ max a b ⌝ }
-{
-    if a < b {
-        return b;
-    }
-    a
-}
-
 // The difference, or 0 where there is none.
 fn less(a: u32, b: u32) -> usize
     ensures { λ r. ⌜ r ≡ a - b ⌝ }
@@ -82,7 +56,7 @@ fn shl_into(
 {
     net_value::store_zext(z, v, n);
     let after = log_entries::emit_shl(log, st, v.len() as u32, select, &z[..n]);
-    fresh_nets(out, 0, st.next, after.next);
+    lists::store_run(out, 0, st.next, after.next);
     after
 }
 
@@ -99,7 +73,7 @@ fn ushr_into(
     ensures { λ r. ⌜ Gave (addUshr n (now (select .entry)) (now (v .entry))) (lent st (now (log .entry))) (lent r (now (log .exit))) (take (length (now (v .entry))) (now (out .exit))) ⌝ }
 {
     let after = log_entries::emit_ushr(log, st, n as u32, select, v);
-    fresh_nets(out, 0, st.next, after.next);
+    lists::store_run(out, 0, st.next, after.next);
     after
 }
 
@@ -182,7 +156,7 @@ fn emit_same(
     requires { ⌜ (length (now waddr) ≤ maxMerge) × (length (now raddr) ≤ maxMerge) × (maxMerge ≤ length (now x)) × (maxMerge ≤ length (now y)) ⌝ }
     ensures { λ r. ⌜ Gave (addEq (zext (now (raddr .entry)) (length (now (waddr .entry)))) (zext (now (waddr .entry)) (length (now (raddr .entry))))) (lent st (now (log .entry))) (lent r (now (log .exit))) (st .next) ⌝ }
 {
-    let n = higher(waddr.len(), raddr.len());
+    let n = lists::larger(waddr.len(), raddr.len());
     net_value::store_zext(x, raddr, waddr.len());
     net_value::store_zext(y, waddr, raddr.len());
     log_entries::emit_eq(log, st, &x[..n], &y[..n])
@@ -312,7 +286,7 @@ fn emit_over(
     ensures { λ r. ⌜ Gave (overlaidMask same (take n (now (mask .entry))) (some (take n (now (over .entry))))) (lent st (now (log .entry))) (lent r (now (log .exit))) (some (take n (now (over .exit)))) ⌝ }
 {
     let s1 = log_entries::emit_or(log, st, &over[..n], &mask[..n]);
-    fresh_nets(nets, 0, st.next, s1.next);
+    lists::store_run(nets, 0, st.next, s1.next);
     let s2 = merge_mux::emit::emit_dedup_mux_with(
         log,
         s1,

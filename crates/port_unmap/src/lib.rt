@@ -307,7 +307,7 @@ fn unmap_clocked(
     );
     let state = done.state;
     let start = net_memory::output_start(m, i);
-    port_transparency::fresh_nets(output, start, st.next, done.last);
+    lists::store_run(output, start, st.next, done.last);
     let memory = unclock(m, i, p);
     Driven {
         refusal: 0,

@@ -136,7 +136,7 @@ fn emit_clocked(
     );
     let state = done.state;
     let start = net_memory::output_start(m, i);
-    port_transparency::fresh_nets(after, start, st.next, done.last);
+    lists::store_run(after, start, st.next, done.last);
     state
 }
 

@@ -3,7 +3,7 @@
 ghost use mathlib.Core.Path.{_≡_};
 ghost use mathlib.Core.Bool.{true};
 ghost use mathlib.Core.List.{[]};
-ghost use Prim.Native.Nat.{_*_, _^_, _≤_, max};
+ghost use Prim.Native.Nat.{_*_, _^_, _≤_};
 ghost use lib.ListN.{length};
 ghost use Rattle.rules.specs.Limits.{maxPorts, maxWide, maxWidth, maxRow, maxMerge};
 ghost use Rattle.image_geometry.specs.View.{layoutBy};
@@ -35,15 +35,6 @@ pub struct SwizzleRooms {
     pub scratch: usize,
 }
 
-fn larger(a: usize, b: usize) -> usize
-    ensures { λ r. ⌜ r ≡ max a b ⌝ }
-{
-    if a < b {
-        return b;
-    }
-    a
-}
-
 // What two ask for together; the scratch serves one after the other.
 fn plus(a: Needs, b: Needs) -> Needs
     requires { ⌜ Most (16 * portMost) a × Most (16 * portMost) b ⌝ }
@@ -54,7 +45,7 @@ fn plus(a: Needs, b: Needs) -> Needs
         nets: a.nets + b.nets,
         room: a.room + b.room,
         trits: a.trits + b.trits,
-        scratch: larger(a.scratch, b.scratch),
+        scratch: lists::larger(a.scratch, b.scratch),
     }
 }
 

@@ -88,7 +88,7 @@ fn mux_addr(
     if log_entries::is_over(after) {
         return after;
     }
-    swizzle_tree::store_run(room, 0, st.next, after.next);
+    lists::store_run(room, 0, st.next, after.next);
     after
 }
 

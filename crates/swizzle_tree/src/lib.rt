@@ -16,26 +16,6 @@ use log_entries::LogState;
 use net_value::ControlNet;
 use net_value::Net;
 
-// Stores the nets from `first` to below `last`, from `at` on. What lies past the end is not stored.
-pub fn store_run(out: &mut [u32], at: usize, first: u32, last: u32)
-    ensures { λ _. ⌜ now (out .exit) ≡ sets (now (out .entry)) at (upFrom first (last - first)) ⌝ }
-{
-    if out.len() <= at {
-        return;
-    }
-    let room = out.len() - at;
-    let mut i = 0;
-    let mut net = first;
-    while net < last {
-        if room <= i {
-            return;
-        }
-        out[at + i] = net;
-        i += 1;
-        net += 1;
-    }
-}
-
 // The mux of two neighbouring pieces: the second where the bit is 1.
 fn emit_pair(
     log: &mut [u32],
@@ -77,7 +57,7 @@ fn pair_at(
     if log_entries::is_over(after) {
         return after;
     }
-    store_run(pieces, to, st.next, after.next);
+    lists::store_run(pieces, to, st.next, after.next);
     after
 }
 

@@ -3,13 +3,10 @@ use mathlib.Core.Path.{_≡_, refl, sym, ap, _∙_}
 use Prim.Native.Nat.{ℕ, _-_, _*_, _^_, _≤_, min}
 use native.Mathlib.Omega.{arith}
 use native.Mathlib.Nat.{pow-suc}
-use lib.Pow.{pow-mono}
+use Rattle.lists.proofs.Powers.{two-to-most}
 use native.Mathlib.Numerals.{add-one}
 use Rattle.lists.proofs.two_to.Statement.{statement}
 use Rattle.lists.proofs.two_to.Tie as tie
-
-pow-32 : (k : ℕ) → k ≤ 32 → 2 ^ k ≤ 4294967296
-pow-32 k l = pow-mono l
 
 abbrev Inv-loop : tie.InvT-loop
 Inv-loop k power₀ i₀ power i = (i ≤ min k 32) × (power ≡ 2 ^ i) × (1 ≤ power)
@@ -24,10 +21,10 @@ returns : tie.Need-returns Inv-loop μ-loop
 returns c =
     let l = c .before .before .loop in
     let e : l .i ≡ min (c .before .before .before .args .k) 32 = omega arith in
-    (l .inv .1 ∙ ap (λ (n : ℕ). 2 ^ n) e, omega arith, omega (arith, pow-32 (l .i) (omega arith)))
+    (l .inv .1 ∙ ap (λ (n : ℕ). 2 ^ n) e, omega arith, omega (arith, two-to-most (l .i) (omega arith)))
 
 mul-power : tie.Need-mul-power Inv-loop μ-loop
-mul-power c = omega (arith, pow-32 (c .before .before .loop .i) (omega arith))
+mul-power c = omega (arith, two-to-most (c .before .before .loop .i) (omega arith))
 
 add-i : tie.Need-add-i Inv-loop μ-loop
 add-i c = omega arith
@@ -44,7 +41,7 @@ returns-2 : tie.Need-returns-2 Inv-loop μ-loop
 returns-2 c =
     let l = c .before .loop in
     let e : l .i ≡ min (c .before .before .args .k) 32 = omega arith in
-    (l .inv .1 ∙ ap (λ (n : ℕ). 2 ^ n) e, omega arith, omega (arith, pow-32 (l .i) (omega arith)))
+    (l .inv .1 ∙ ap (λ (n : ℕ). 2 ^ n) e, omega arith, omega (arith, two-to-most (l .i) (omega arith)))
 
 pub two-to-spec : {M : Type 1} → statement M
 two-to-spec =

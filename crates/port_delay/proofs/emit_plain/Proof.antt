@@ -22,8 +22,8 @@ part-u8-requires c κs = search needs
 emit-dff-requires : tie.Need-emit-dff-requires
 emit-dff-requires c κs = search needs
 
-fresh-nets-requires : tie.Need-fresh-nets-requires
-fresh-nets-requires c κs = search needs
+store-run-requires : tie.Need-store-run-requires
+store-run-requires c κs = search needs
 
 same-length : tie.Need-same-length
 same-length c = search needs
@@ -33,7 +33,7 @@ returns c =
     let v = c .before .before .before .before .before .before .before .before .before .before .before .before .before .before .args in
     let n = length (v .bits .now) in
     let q = c .before .before .before .before .before .before .part-u8 .ensures .0 ∙ first-filled (v .trits .now) (c .before .before .before .before .before .before .before .before .before .before .fill-u8 .last .0) n 2 (c .before .before .before .before .before .before .before .before .before .before .fill-u8 .ensures) (omega (arith, c .before .before .before .before .before .before .before .before .before .before .before .before .before .before .pre, c .before .before .before .before .before .before .before .before .before .before .before .fill-u8-arg .given)) ∙ undef-is n in
-    plain-gave (v .bits .now) _ (v .out .now) (c .fresh-nets .last .0) (controlOf (v .clock)) (controlsOf (c .before .before .before .before .before .before .before .before .before .plain-controls .result)) (lent (v .st) (v .log .now)) (lent (c .before .before .before .before .emit-dff .result) (c .before .before .before .before .emit-dff .last .0)) (c .before .before .before .before .before .before .before .before .before .plain-controls .ensures) q (c .before .before .before .before .emit-dff .ensures) (c .fresh-nets .ensures) (omega (arith, c .before .before .before .before .before .before .before .before .before .before .before .before .before .before .pre, c .before .fresh-nets-arg .given))
+    plain-gave (v .bits .now) _ (v .out .now) (c .store-run .last .0) (controlOf (v .clock)) (controlsOf (c .before .before .before .before .before .before .before .before .before .plain-controls .result)) (lent (v .st) (v .log .now)) (lent (c .before .before .before .before .emit-dff .result) (c .before .before .before .before .emit-dff .last .0)) (c .before .before .before .before .before .before .before .before .before .plain-controls .ensures) q (c .before .before .before .before .emit-dff .ensures) (c .store-run .ensures) (omega (arith, c .before .before .before .before .before .before .before .before .before .before .before .before .before .before .pre, c .before .store-run-arg .given))
 
 pub emit-plain-spec : {M : Type 1} → statement M
 emit-plain-spec =
@@ -43,6 +43,6 @@ emit-plain-spec =
     plain-controls-requires
     part-u8-requires
     emit-dff-requires
-    fresh-nets-requires
+    store-run-requires
     same-length
     returns)

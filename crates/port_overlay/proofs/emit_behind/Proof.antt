@@ -16,14 +16,14 @@ slice-aggregate-emit-dff c = sym (length-take-le _ _ (c .before .before .before 
 emit-dff-requires : tie.Need-emit-dff-requires
 emit-dff-requires c κs = search needs
 
-fresh-nets-requires : tie.Need-fresh-nets-requires
-fresh-nets-requires c κs = search needs
+store-run-requires : tie.Need-store-run-requires
+store-run-requires c κs = search needs
 
 slice-reshare-prefix-emit-replace : tie.Need-slice-reshare-prefix-emit-replace
 slice-reshare-prefix-emit-replace c = search needs
 
 slice-aggregate-emit-replace : tie.Need-slice-aggregate-emit-replace
-slice-aggregate-emit-replace c = sym (length-take-le _ _ (omega (arith, c .before .before .before .before .before .before .before .before .before .before .before .before .before .before .before .before .before .before .pre .1, c .before .before .before .before .fresh-nets .kept .0)))
+slice-aggregate-emit-replace c = sym (length-take-le _ _ (omega (arith, c .before .before .before .before .before .before .before .before .before .before .before .before .before .before .before .before .before .before .pre .1, c .before .before .before .before .store-run .kept .0)))
 
 emit-replace-requires : tie.Need-emit-replace-requires
 emit-replace-requires c κs = search needs
@@ -40,7 +40,7 @@ returns c =
     let p = c .before .before .before .before .before .before .before .before .before .before .before .emit-dff in
     let r = c .before .before .emit-replace in
     behind-ran (flipFlop (controlsOf (v .c)) (take (v .n) (v .under .now)) (v .clear .now) (v .reset .now) (v .init .now)) (v .from .now) (v .n) (lent (v .st) (v .log .now)) (lent (p .result) (p .last .0)) (lent (r .result) (r .last .0))
-    (v .q .now) (c .before .before .before .before .before .before .before .fresh-nets .last .0) (length-take-le (v .n) (v .under .now) (c .before .before .before .before .before .before .before .before .before .before .before .before .before .before .before .before .before .before .before .before .before .pre .0)) (p .ensures) (c .before .before .before .before .before .before .before .fresh-nets .ensures) (c .before .before .before .before .before .before .before .before .before .before .before .before .before .before .before .before .before .before .before .before .before .pre .1) (r .ensures)
+    (v .q .now) (c .before .before .before .before .before .before .before .store-run .last .0) (length-take-le (v .n) (v .under .now) (c .before .before .before .before .before .before .before .before .before .before .before .before .before .before .before .before .before .before .before .before .before .pre .0)) (p .ensures) (c .before .before .before .before .before .before .before .store-run .ensures) (c .before .before .before .before .before .before .before .before .before .before .before .before .before .before .before .before .before .before .before .before .before .pre .1) (r .ensures)
 
 pub emit-behind-spec : {M : Type 1} → statement M
 emit-behind-spec =
@@ -48,7 +48,7 @@ emit-behind-spec =
     (tie.spec
     slice-aggregate-emit-dff
     emit-dff-requires
-    fresh-nets-requires
+    store-run-requires
     slice-reshare-prefix-emit-replace
     slice-aggregate-emit-replace
     emit-replace-requires

@@ -25,8 +25,8 @@ emit-port-requires c κs = (c .before .before .before .before .before .before .b
 output-start-requires : tie.Need-output-start-requires
 output-start-requires c κs = search needs
 
-fresh-nets-requires : tie.Need-fresh-nets-requires
-fresh-nets-requires c κs = search needs
+store-run-requires : tie.Need-store-run-requires
+store-run-requires c κs = search needs
 
 blank-requires : tie.Need-blank-requires
 blank-requires c κs = search needs
@@ -38,7 +38,7 @@ same-length-3 : tie.Need-same-length-3
 same-length-3 c = c .before .before .before .before .before .before .before .before .before .before .before .before .before .emit-port .kept .0
 
 same-length-4 : tie.Need-same-length-4
-same-length-4 c = c .before .before .before .before .before .before .before .fresh-nets .kept .0
+same-length-4 c = c .before .before .before .before .before .before .before .store-run .kept .0
 
 same-length-5 : tie.Need-same-length-5
 same-length-5 c = c .before .before .before .blank .kept .0
@@ -49,7 +49,7 @@ returns-2 c =
     let n = c .before .before .before .before .before .before .before .before .before .before .before .before .before .before .before .before .before .before .before .before .before .before .before .before .before .before .before .before .before .before .before .before .dry-number in
     let u = c .before .before .before .before .before .before .before .before .before .before .before .before .before .emit-port in
     let s = c .before .before .before .before .before .before .before .before .before .output-start in
-    (clocked-done (v .m) (v .nets .now) (v .trits .now) (v .i) (v .c) (v .incl) (c .before .before .before .before .before .before .before .before .before .before .before .before .before .before .before .before .before .before .before .before .before .before .before .before .before .before .before .before .before .before .before .before .before .before .before .before .before .before .before .before .before .before .before .before .before .before .before .before .before .before .before .before .before .pre .0) (v .output .now) (v .log .now) (v .st) (n .result) (u .result .first) (u .result .last) (s .result) (c .unreset .result) (u .result .state) (c .before .before .before .blank .last .0) (c .before .before .before .before .before .before .before .fresh-nets .last .0) (u .last .0) (n .ensures) (c .before .before .before .before .before .before .before .before .before .before .before .before .before .before .before .before .before .before .before .before .before .before .before .before .before .before .before .before .before .before .before .if1 .left) (u .ensures .0) (u .ensures .1) (s .ensures .0 (v .nets .now) (v .trits .now)) (c .before .before .before .before .before .before .before .fresh-nets .ensures) (c .before .before .before .blank .ensures) (c .unreset .ensures), acted-done (v .m) (v .st) (v .i) (v .c) (v .incl) (v .trits .now) (c .unreset .result) (u .result .state) (c .before .before .before .blank .last .0) (c .unreset .ensures) (c .before .before .before .blank .ensures))
+    (clocked-done (v .m) (v .nets .now) (v .trits .now) (v .i) (v .c) (v .incl) (c .before .before .before .before .before .before .before .before .before .before .before .before .before .before .before .before .before .before .before .before .before .before .before .before .before .before .before .before .before .before .before .before .before .before .before .before .before .before .before .before .before .before .before .before .before .before .before .before .before .before .before .before .before .pre .0) (v .output .now) (v .log .now) (v .st) (n .result) (u .result .first) (u .result .last) (s .result) (c .unreset .result) (u .result .state) (c .before .before .before .blank .last .0) (c .before .before .before .before .before .before .before .store-run .last .0) (u .last .0) (n .ensures) (c .before .before .before .before .before .before .before .before .before .before .before .before .before .before .before .before .before .before .before .before .before .before .before .before .before .before .before .before .before .before .before .if1 .left) (u .ensures .0) (u .ensures .1) (s .ensures .0 (v .nets .now) (v .trits .now)) (c .before .before .before .before .before .before .before .store-run .ensures) (c .before .before .before .blank .ensures) (c .unreset .ensures), acted-done (v .m) (v .st) (v .i) (v .c) (v .incl) (v .trits .now) (c .unreset .result) (u .result .state) (c .before .before .before .blank .last .0) (c .unreset .ensures) (c .before .before .before .blank .ensures))
 
 pub unmap-with-spec : {M : Type 1} → statement M
 unmap-with-spec =
@@ -61,7 +61,7 @@ unmap-with-spec =
     returns
     emit-port-requires
     output-start-requires
-    fresh-nets-requires
+    store-run-requires
     blank-requires
     unreset-requires
     same-length-3

@@ -15,8 +15,8 @@ slice-aggregate-emit-dff c = sym (length-take-le _ _ (c .before .before .before 
 emit-dff-requires : tie.Need-emit-dff-requires
 emit-dff-requires c κs = search needs
 
-fresh-nets-requires : tie.Need-fresh-nets-requires
-fresh-nets-requires c κs = search needs
+store-run-requires : tie.Need-store-run-requires
+store-run-requires c κs = search needs
 
 same-length : tie.Need-same-length
 same-length c = search needs
@@ -28,7 +28,7 @@ returns : tie.Need-returns
 returns c =
     let v = c .before .before .before .before .before .before .before .before .before .before .before .before .before .before .before .args in
     let p = c .before .before .before .before .before .before .emit-dff in
-    data-gave (flipFlop (controlsOf (v .c)) (take (v .n) (v .under .now)) (v .clear .now) (v .reset .now) (v .init .now)) (v .n) (lent (v .st) (v .log .now)) (lent (p .result) (p .last .0)) (v .out .now) (c .before .before .fresh-nets .last .0) (length-take-le (v .n) (v .under .now) (c .before .before .before .before .before .before .before .before .before .before .before .before .before .before .before .pre .0)) (p .ensures) (c .before .before .fresh-nets .ensures) (c .before .before .before .before .before .before .before .before .before .before .before .before .before .before .before .pre .1)
+    data-gave (flipFlop (controlsOf (v .c)) (take (v .n) (v .under .now)) (v .clear .now) (v .reset .now) (v .init .now)) (v .n) (lent (v .st) (v .log .now)) (lent (p .result) (p .last .0)) (v .out .now) (c .before .before .store-run .last .0) (length-take-le (v .n) (v .under .now) (c .before .before .before .before .before .before .before .before .before .before .before .before .before .before .before .pre .0)) (p .ensures) (c .before .before .store-run .ensures) (c .before .before .before .before .before .before .before .before .before .before .before .before .before .before .before .pre .1)
 
 pub emit-data-spec : {M : Type 1} → statement M
 emit-data-spec =
@@ -36,7 +36,7 @@ emit-data-spec =
     (tie.spec
     slice-aggregate-emit-dff
     emit-dff-requires
-    fresh-nets-requires
+    store-run-requires
     same-length
     same-length-2
     returns)

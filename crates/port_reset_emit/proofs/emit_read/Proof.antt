@@ -8,8 +8,8 @@ use Rattle.port_reset_emit.proofs.emit_read.Tie as tie
 emit-void-requires : tie.Need-emit-void-requires
 emit-void-requires c κs = search needs
 
-fresh-nets-requires : tie.Need-fresh-nets-requires
-fresh-nets-requires c κs = search needs
+store-run-requires : tie.Need-store-run-requires
+store-run-requires c κs = search needs
 
 same-length : tie.Need-same-length
 same-length c = search needs
@@ -21,8 +21,8 @@ returns : tie.Need-returns
 returns c =
     let v = c .before .before .before .before .before .before .before .before .before .before .args in
     let p = c .before .before .before .before .before .before .emit-void in
-    void-fresh (v .n) (lent (v .st) (v .log .now)) (lent (p .result) (p .last .0)) (v .out .now) (c .before .before .fresh-nets .last .0) (p .ensures) (c .before .before .fresh-nets .ensures) (c .before .before .before .before .before .before .before .before .before .before .pre)
+    void-fresh (v .n) (lent (v .st) (v .log .now)) (lent (p .result) (p .last .0)) (v .out .now) (c .before .before .store-run .last .0) (p .ensures) (c .before .before .store-run .ensures) (c .before .before .before .before .before .before .before .before .before .before .pre)
 
 pub emit-read-spec : {M : Type 1} → statement M
 emit-read-spec =
-    tie.close (tie.spec emit-void-requires fresh-nets-requires same-length same-length-2 returns)
+    tie.close (tie.spec emit-void-requires store-run-requires same-length same-length-2 returns)

@@ -20,14 +20,14 @@ slice-aggregate-emit-or-2 c = sym (length-take-le _ _ (omega (arith, c .before .
 emit-or-requires : tie.Need-emit-or-requires
 emit-or-requires c κs = search needs
 
-fresh-nets-requires : tie.Need-fresh-nets-requires
-fresh-nets-requires c κs = search needs
+store-run-requires : tie.Need-store-run-requires
+store-run-requires c κs = search needs
 
 slice-reshare-prefix-emit-dedup-mux-with : tie.Need-slice-reshare-prefix-emit-dedup-mux-with
 slice-reshare-prefix-emit-dedup-mux-with c = search needs
 
 slice-aggregate-emit-dedup-mux-with : tie.Need-slice-aggregate-emit-dedup-mux-with
-slice-aggregate-emit-dedup-mux-with c = sym (length-take-le _ _ (omega (arith, c .before .before .before .before .before .before .before .before .before .before .before .before .before .before .before .before .before .before .before .before .before .pre .0, c .before .before .before .before .before .before .before .before .before .before .before .before .before .before .before .before .before .before .before .before .before .pre .4, c .before .before .before .before .before .before .before .before .fresh-nets .kept .0)))
+slice-aggregate-emit-dedup-mux-with c = sym (length-take-le _ _ (omega (arith, c .before .before .before .before .before .before .before .before .before .before .before .before .before .before .before .before .before .before .before .before .before .pre .0, c .before .before .before .before .before .before .before .before .before .before .before .before .before .before .before .before .before .before .before .before .before .pre .4, c .before .before .before .before .before .before .before .before .store-run .kept .0)))
 
 slice-reshare-prefix-emit-dedup-mux-with-2 : tie.Need-slice-reshare-prefix-emit-dedup-mux-with-2
 slice-reshare-prefix-emit-dedup-mux-with-2 c = search needs
@@ -62,7 +62,7 @@ same-length-4 c = search needs
 returns : tie.Need-returns
 returns c =
     let v = c .before .before .before .before .before .before .before .before .before .before .before .before .before .before .before .before .before .before .before .before .before .before .before .before .before .before .before .before .before .before .before .before .args in
-    let f = c .before .before .before .before .before .before .before .before .before .before .before .before .before .before .before .before .before .before .before .fresh-nets in
+    let f = c .before .before .before .before .before .before .before .before .before .before .before .before .before .before .before .before .before .before .before .store-run in
     let q = c .before .before .before .before .before .before .before .before .before .emit-dedup-mux-with in
     over-all (v .same) (v .n) (v .mask .now) (v .over .now) (c .before .before .copy-u32 .last .0) (v .nets .now) (f .last .0) (v .sel .now) (q .last .1 .1 .0)
     (lent (v .st) (v .log .now)) (lent (c .before .before .before .before .before .before .before .before .before .before .before .before .before .before .before .before .before .before .before .before .before .before .before .emit-or .result) (c .before .before .before .before .before .before .before .before .before .before .before .before .before .before .before .before .before .before .before .before .before .before .before .emit-or .last .0)) (lent (q .result) (q .last .0)) (c .before .before .before .before .before .before .before .before .before .before .before .before .before .before .before .before .before .before .before .before .before .before .before .before .before .before .before .before .before .before .before .before .pre .0) (c .before .before .before .before .before .before .before .before .before .before .before .before .before .before .before .before .before .before .before .before .before .before .before .before .before .before .before .before .before .before .before .before .pre .2) (c .before .before .before .before .before .before .before .before .before .before .before .before .before .before .before .before .before .before .before .before .before .before .before .before .before .before .before .before .before .before .before .before .pre .3) (c .before .before .before .before .before .before .before .before .before .before .before .before .before .before .before .before .before .before .before .before .before .before .before .before .before .before .before .before .before .before .before .before .pre .4) (q .kept .1 .1 .0) (f .kept .0)
@@ -76,7 +76,7 @@ emit-over-spec =
     slice-aggregate-emit-or
     slice-aggregate-emit-or-2
     emit-or-requires
-    fresh-nets-requires
+    store-run-requires
     slice-reshare-prefix-emit-dedup-mux-with
     slice-aggregate-emit-dedup-mux-with
     slice-reshare-prefix-emit-dedup-mux-with-2

@@ -12,8 +12,8 @@ use borrow.Author.Needs.{needs}
 use Rattle.port_transparency.proofs.emit_same.Statement.{statement}
 use Rattle.port_transparency.proofs.emit_same.Tie as tie
 
-higher-requires : tie.Need-higher-requires
-higher-requires c κs = search needs
+larger-requires : tie.Need-larger-requires
+larger-requires c κs = search needs
 
 store-zext-requires : tie.Need-store-zext-requires
 store-zext-requires c κs = search needs
@@ -25,13 +25,13 @@ slice-reshare-prefix-emit-eq : tie.Need-slice-reshare-prefix-emit-eq
 slice-reshare-prefix-emit-eq c = search needs
 
 slice-aggregate-emit-eq : tie.Need-slice-aggregate-emit-eq
-slice-aggregate-emit-eq c = sym (length-take-le _ _ (omega (arith, c .before .before .before .before .before .before .before .before .before .before .higher .ensures, c .before .before .before .before .before .before .before .before .store-zext .kept .0)))
+slice-aggregate-emit-eq c = sym (length-take-le _ _ (omega (arith, c .before .before .before .before .before .before .before .before .before .before .larger .ensures, c .before .before .before .before .before .before .before .before .store-zext .kept .0)))
 
 slice-reshare-prefix-emit-eq-2 : tie.Need-slice-reshare-prefix-emit-eq-2
 slice-reshare-prefix-emit-eq-2 c = search needs
 
 slice-aggregate-emit-eq-2 : tie.Need-slice-aggregate-emit-eq-2
-slice-aggregate-emit-eq-2 c = sym (length-take-le _ _ (omega (arith, c .before .before .before .before .before .before .before .before .before .before .before .higher .ensures, c .before .before .before .before .before .store-zext2 .kept .0)))
+slice-aggregate-emit-eq-2 c = sym (length-take-le _ _ (omega (arith, c .before .before .before .before .before .before .before .before .before .before .before .larger .ensures, c .before .before .before .before .before .store-zext2 .kept .0)))
 
 emit-eq-requires : tie.Need-emit-eq-requires
 emit-eq-requires c κs = search needs
@@ -50,8 +50,8 @@ returns c =
     let v = c .before .before .before .before .before .before .before .before .before .before .before .before .before .before .before .before .before .before .before .before .args in
     let w = v .waddr .now in
     let r = v .raddr .now in
-    let k = c .before .before .before .before .before .before .before .before .before .before .before .before .before .before .higher .result in
-    let e : k ≡ max (length w) (length r) = c .before .before .before .before .before .before .before .before .before .before .before .before .before .before .higher .ensures in
+    let k = c .before .before .before .before .before .before .before .before .before .before .before .before .before .before .larger .result in
+    let e : k ≡ max (length w) (length r) = c .before .before .before .before .before .before .before .before .before .before .before .before .before .before .larger .ensures in
     let p = c .before .before .emit-eq in
     gave-eq (zext r (length w)) (zext w (length r)) (take k (c .before .before .before .before .before .before .before .before .before .before .before .before .store-zext .last .0)) (take k (c .before .before .before .before .before .before .before .before .store-zext2 .last .0)) (lent (v .st) (v .log .now)) (lent (p .result) (p .last .0))
     (zext-stored (v .x .now) (c .before .before .before .before .before .before .before .before .before .before .before .before .store-zext .last .0) r (length w) k (c .before .before .before .before .before .before .before .before .before .before .before .before .store-zext .ensures) (zext-length r (length w) ∙ sym e) (omega arith))
@@ -62,7 +62,7 @@ pub emit-same-spec : {M : Type 1} → statement M
 emit-same-spec =
     tie.close
     (tie.spec
-    higher-requires
+    larger-requires
     store-zext-requires
     store-zext-requires-2
     slice-reshare-prefix-emit-eq

@@ -24,8 +24,8 @@ slice-aggregate-emit-shl c = sym (length-take-le _ _ (omega (arith, c .before .b
 emit-shl-requires : tie.Need-emit-shl-requires
 emit-shl-requires c κs = search needs
 
-fresh-nets-requires : tie.Need-fresh-nets-requires
-fresh-nets-requires c κs = search needs
+store-run-requires : tie.Need-store-run-requires
+store-run-requires c κs = search needs
 
 same-length : tie.Need-same-length
 same-length c = search needs
@@ -41,8 +41,8 @@ returns c =
     let v = c .before .before .before .before .before .before .before .before .before .before .before .before .before .before .before .before .before .before .args in
     let p = c .before .before .before .before .before .before .emit-shl in
     let z = c .before .before .before .before .before .before .before .before .before .before .before .store-zext .last .0 in
-    gave-shl (v .select .now) (v .v .now) (take (v .n) z) (v .n) (lent (v .st) (v .log .now)) (lent (p .result) (p .last .0)) (v .out .now) (c .before .before .fresh-nets .last .0) (c .before .before .before .before .before .before .before .before .before .before .before .before .before .before .before .before .before .before .pre .0)
-    (zext-stored (v .z .now) z (v .v .now) (v .n) (v .n) (c .before .before .before .before .before .before .before .before .before .before .before .store-zext .ensures) (length-zext (v .v .now) (v .n) (c .before .before .before .before .before .before .before .before .before .before .before .before .before .before .before .before .before .before .pre .0)) (c .before .before .before .before .before .before .before .before .before .before .before .before .before .before .before .before .before .before .pre .3)) (p .ensures) (c .before .before .fresh-nets .ensures) (c .before .before .before .before .before .before .before .before .before .before .before .before .before .before .before .before .before .before .pre .2)
+    gave-shl (v .select .now) (v .v .now) (take (v .n) z) (v .n) (lent (v .st) (v .log .now)) (lent (p .result) (p .last .0)) (v .out .now) (c .before .before .store-run .last .0) (c .before .before .before .before .before .before .before .before .before .before .before .before .before .before .before .before .before .before .pre .0)
+    (zext-stored (v .z .now) z (v .v .now) (v .n) (v .n) (c .before .before .before .before .before .before .before .before .before .before .before .store-zext .ensures) (length-zext (v .v .now) (v .n) (c .before .before .before .before .before .before .before .before .before .before .before .before .before .before .before .before .before .before .pre .0)) (c .before .before .before .before .before .before .before .before .before .before .before .before .before .before .before .before .before .before .pre .3)) (p .ensures) (c .before .before .store-run .ensures) (c .before .before .before .before .before .before .before .before .before .before .before .before .before .before .before .before .before .before .pre .2)
 
 pub shl-into-spec : {M : Type 1} → statement M
 shl-into-spec =
@@ -53,7 +53,7 @@ shl-into-spec =
     slice-reshare-prefix-emit-shl
     slice-aggregate-emit-shl
     emit-shl-requires
-    fresh-nets-requires
+    store-run-requires
     same-length
     same-length-2
     same-length-3

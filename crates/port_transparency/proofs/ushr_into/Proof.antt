@@ -11,8 +11,8 @@ cast-emit-ushr c = search needs
 emit-ushr-requires : tie.Need-emit-ushr-requires
 emit-ushr-requires c κs = search needs
 
-fresh-nets-requires : tie.Need-fresh-nets-requires
-fresh-nets-requires c κs = search needs
+store-run-requires : tie.Need-store-run-requires
+store-run-requires c κs = search needs
 
 same-length : tie.Need-same-length
 same-length c = search needs
@@ -24,7 +24,7 @@ returns : tie.Need-returns
 returns c =
     let v = c .before .before .before .before .before .before .before .before .before .before .before .before .args in
     let p = c .before .before .before .before .before .before .emit-ushr in
-    ushr-fresh (v .n) (v .select .now) (v .v .now) (lent (v .st) (v .log .now)) (lent (p .result) (p .last .0)) (v .out .now) (c .before .before .fresh-nets .last .0) (p .ensures) (c .before .before .fresh-nets .ensures) (c .before .before .before .before .before .before .before .before .before .before .before .before .pre .2)
+    ushr-fresh (v .n) (v .select .now) (v .v .now) (lent (v .st) (v .log .now)) (lent (p .result) (p .last .0)) (v .out .now) (c .before .before .store-run .last .0) (p .ensures) (c .before .before .store-run .ensures) (c .before .before .before .before .before .before .before .before .before .before .before .before .pre .2)
 
 pub ushr-into-spec : {M : Type 1} → statement M
 ushr-into-spec =
@@ -32,7 +32,7 @@ ushr-into-spec =
     (tie.spec
     cast-emit-ushr
     emit-ushr-requires
-    fresh-nets-requires
+    store-run-requires
     same-length
     same-length-2
     returns)

@@ -22,8 +22,8 @@ emit-port-requires c κs = search needs
 output-start-requires : tie.Need-output-start-requires
 output-start-requires c κs = search needs
 
-fresh-nets-requires : tie.Need-fresh-nets-requires
-fresh-nets-requires c κs = search needs
+store-run-requires : tie.Need-store-run-requires
+store-run-requires c κs = search needs
 
 unclock-requires : tie.Need-unclock-requires
 unclock-requires c κs = (omega (arith, c .before .before .before .before .before .before .before .before .before .before .before .before .before .before .before .before .before .before .before .before .before .before .before .before .before .before .before .before .before .before .before .before .before .before .pre .0 .port .there), c .before .before .before .before .before .before .before .before .before .before .before .before .before .before .before .before .before .before .before .before .before .before .before .before .before .before .before .before .before .before .before .before .before .before .pre .1)
@@ -38,7 +38,7 @@ returns-2 : tie.Need-returns-2
 returns-2 c =
     let v = c .before .before .before .before .before .before .before .before .before .before .before .before .before .before .before .before .before .before .before .before .before .before .before .before .before .before .before .before .before .before .before .before .before .before .before .args in
     let u = c .before .before .before .before .before .before .before .before .before .emit-port in
-    (clocked-done (v .m) (v .nets .now) (v .trits .now) (v .i) (v .c) (c .before .before .before .before .before .before .before .before .before .before .before .before .before .before .before .before .before .before .before .before .before .before .before .before .before .before .before .before .before .before .before .before .before .before .before .pre .0) (v .output .now) (v .log .now) (v .st) (c .before .before .before .before .before .before .before .before .before .before .before .before .before .before .before .before .before .before .before .before .before .dry-number .result) (u .result .last) (c .before .before .before .before .before .output-start .result) (c .unclock .result) (u .result .state) (c .before .before .before .fresh-nets .last .0) (u .last .0) (c .before .before .before .before .before .before .before .before .before .before .before .before .before .before .before .before .before .before .before .before .before .dry-number .ensures) (c .before .before .before .before .before .before .before .before .before .before .before .before .before .before .before .before .before .before .before .before .if1 .left) (u .ensures .0) (u .ensures .1) (c .before .before .before .before .before .output-start .ensures .0 (v .nets .now) (v .trits .now)) (c .before .before .before .fresh-nets .ensures) (c .unclock .ensures), struct-done (v .m) (v .st) (v .i) (c .unclock .result) (u .result .state) (c .unclock .ensures))
+    (clocked-done (v .m) (v .nets .now) (v .trits .now) (v .i) (v .c) (c .before .before .before .before .before .before .before .before .before .before .before .before .before .before .before .before .before .before .before .before .before .before .before .before .before .before .before .before .before .before .before .before .before .before .before .pre .0) (v .output .now) (v .log .now) (v .st) (c .before .before .before .before .before .before .before .before .before .before .before .before .before .before .before .before .before .before .before .before .before .dry-number .result) (u .result .last) (c .before .before .before .before .before .output-start .result) (c .unclock .result) (u .result .state) (c .before .before .before .store-run .last .0) (u .last .0) (c .before .before .before .before .before .before .before .before .before .before .before .before .before .before .before .before .before .before .before .before .before .dry-number .ensures) (c .before .before .before .before .before .before .before .before .before .before .before .before .before .before .before .before .before .before .before .before .if1 .left) (u .ensures .0) (u .ensures .1) (c .before .before .before .before .before .output-start .ensures .0 (v .nets .now) (v .trits .now)) (c .before .before .before .store-run .ensures) (c .unclock .ensures), struct-done (v .m) (v .st) (v .i) (c .unclock .result) (u .result .state) (c .unclock .ensures))
 
 pub unmap-clocked-spec : {M : Type 1} → statement M
 unmap-clocked-spec =
@@ -49,7 +49,7 @@ unmap-clocked-spec =
     returns
     emit-port-requires
     output-start-requires
-    fresh-nets-requires
+    store-run-requires
     unclock-requires
     same-length-2
     same-length-3

@@ -22,8 +22,8 @@ emit-port-requires c κs = search needs
 output-start-requires : tie.Need-output-start-requires
 output-start-requires c κs = search needs
 
-fresh-nets-requires : tie.Need-fresh-nets-requires
-fresh-nets-requires c κs = search needs
+store-run-requires : tie.Need-store-run-requires
+store-run-requires c κs = search needs
 
 same-length : tie.Need-same-length
 same-length c = search needs
@@ -35,7 +35,7 @@ returns-2 : tie.Need-returns-2
 returns-2 c =
     let v = c .before .before .before .before .before .before .before .before .before .before .before .before .before .before .before .before .before .before .before .before .before .before .before .before .before .args in
     let u = c .before .before .before .before .before .before .before .before .emit-port in
-    clocked-few (memoryOf (v .m) (v .nets .now) (v .trits .now)) (v .i) (v .output .now) (ownFlipFlop (v .m) (v .trits .now) (v .i) (v .c)) (v .after .now) (v .p .«data_len») (u .result .last) (c .before .before .before .before .output-start .result) (lent (v .st) (v .log .now)) (lent (u .result .state) (u .last .0)) (c .before .before .fresh-nets .last .0) (data-is (v .m) (v .nets .now) (v .trits .now) (v .i) (v .c) (v .p) (c .before .before .before .before .before .before .before .before .before .before .before .before .before .before .before .before .before .before .before .before .before .before .before .before .before .pre .0) (c .before .before .before .before .before .before .before .before .before .before .before .before .before .before .before .before .before .before .before .before .before .before .before .before .before .pre .1)) (omega (arith, c .before .before .before .before .before .before .before .before .before .before .before .before .before .before .before .before .before .before .if1 .left, c .before .before .before .before .before .before .before .before .before .before .before .before .before .before .before .before .before .before .before .usize-of-u32 .ensures .0)) (u .ensures .0) (λ o. u .ensures .1 (omega (arith, c .before .before .before .before .before .before .before .before .before .before .before .before .before .before .before .before .before .before .if1 .left, c .before .before .before .before .before .before .before .before .before .before .before .before .before .before .before .before .before .before .before .usize-of-u32 .ensures .0)) o) (c .before .before .before .before .output-start .ensures .0 (v .nets .now) (v .trits .now)) (c .before .before .fresh-nets .ensures)
+    clocked-few (memoryOf (v .m) (v .nets .now) (v .trits .now)) (v .i) (v .output .now) (ownFlipFlop (v .m) (v .trits .now) (v .i) (v .c)) (v .after .now) (v .p .«data_len») (u .result .last) (c .before .before .before .before .output-start .result) (lent (v .st) (v .log .now)) (lent (u .result .state) (u .last .0)) (c .before .before .store-run .last .0) (data-is (v .m) (v .nets .now) (v .trits .now) (v .i) (v .c) (v .p) (c .before .before .before .before .before .before .before .before .before .before .before .before .before .before .before .before .before .before .before .before .before .before .before .before .before .pre .0) (c .before .before .before .before .before .before .before .before .before .before .before .before .before .before .before .before .before .before .before .before .before .before .before .before .before .pre .1)) (omega (arith, c .before .before .before .before .before .before .before .before .before .before .before .before .before .before .before .before .before .before .if1 .left, c .before .before .before .before .before .before .before .before .before .before .before .before .before .before .before .before .before .before .before .usize-of-u32 .ensures .0)) (u .ensures .0) (λ o. u .ensures .1 (omega (arith, c .before .before .before .before .before .before .before .before .before .before .before .before .before .before .before .before .before .before .if1 .left, c .before .before .before .before .before .before .before .before .before .before .before .before .before .before .before .before .before .before .before .usize-of-u32 .ensures .0)) o) (c .before .before .before .before .output-start .ensures .0 (v .nets .now) (v .trits .now)) (c .before .before .store-run .ensures)
 
 pub emit-clocked-spec : {M : Type 1} → statement M
 emit-clocked-spec =
@@ -45,7 +45,7 @@ emit-clocked-spec =
     returns
     emit-port-requires
     output-start-requires
-    fresh-nets-requires
+    store-run-requires
     same-length
     same-length-2
     returns-2)

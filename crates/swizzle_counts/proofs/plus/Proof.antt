@@ -5,7 +5,6 @@ use Rattle.swizzle_counts.proofs.plus.Statement.{statement}
 use Rattle.swizzle_counts.proofs.plus.Tie as tie
 use Rattle.swizzle_counts.proofs.plus.Reads as reads
 use Rattle.swizzle_counts.proofs.plus.Lts as lts
-use Rattle.swizzle_counts.proofs.larger.Reads as larger-reads
 
 add-t3 : tie.Need-add-t3
 add-t3 c = search needs
