@@ -11,7 +11,9 @@ use mir.Val.{Val}
 use denote.Laws.{Is}
 use denote.Struct.Declared as declared
 use Rattle.image_geometry.specs.declared.Params as spec
+use Rattle.image_geometry.specs.declared.Spot as spot
 use Rattle.image_geometry.proofs.Params
+use Rattle.image_geometry.proofs.Spot
 
 module _ (p : spec.Params) (vs : List Val) (g : Is (declared.row Params.the-type) p vs) where
   pub depth-word : p .depth < 4294967296
@@ -26,3 +28,10 @@ module _ (p : spec.Params) (vs : List Val) (g : Is (declared.row Params.the-type
 
   pub width-word : p .width < 4294967296
   width-word = g .1 .1 .1 .0 .1
+
+module _ (s : spot.Spot) (vs : List Val) (g : Is (declared.row Spot.the-type) s vs) where
+  pub chunk-word : s .chunk < 4294967296
+  chunk-word = g .1 .1 .0 .1
+
+  pub row-word : s .row < 4294967296
+  row-word = g .1 .1 .1 .0 .1

@@ -23,7 +23,7 @@ unfolding under
 onto-step true b w s = λ i. record { chunk = spread (w .chunk) (w .cb) b (s .chunk) i; row = w .row + w .rb * s .row }
 onto-step false b w s = λ i. record { chunk = w .chunk + w .cb * s .chunk; row = spread (w .row) (w .rb) b (s .row) i }
 
-hard-step : (t : Bool) (b : ℕ) (w : Walk) → stepped t b w .hard ≡ hardLeft t (w .hard)
+pub hard-step : (t : Bool) (b : ℕ) (w : Walk) → stepped t b w .hard ≡ hardLeft t (w .hard)
 unfolding hardLeft
 hard-step true b w = refl
 hard-step false b w = refl
@@ -85,7 +85,7 @@ starts mask hard row h = record {
 weight-max : (k n m : ℕ) → k * 2 ^ n ≤ m → k ≤ m
 weight-max k n m h = le-trans (subst (λ (x : ℕ). x ≤ k * 2 ^ n) (mul-one k) (mul-le-mul-left k (pow-pos n))) h
 
-left-pos : (n r : ℕ) → r < 2 ^ n → 0 < r → 0 < n
+pub left-pos : (n r : ℕ) → r < 2 ^ n → 0 < r → 0 < n
 left-pos zero r h l = absurd (omega arith)
 left-pos (suc n) r h l = omega arith
 

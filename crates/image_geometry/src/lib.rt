@@ -3,7 +3,7 @@
 ghost use mathlib.Core.Path.{_≡_};
 ghost use mathlib.Core.Bool.{true};
 ghost use mathlib.Core.List.{List};
-ghost use Prim.Native.Nat.{ℕ, _+_, _*_, _^_, _≤_, _<_};
+ghost use Prim.Native.Nat.{ℕ, _+_, _-_, _*_, _^_, _≤_, _<_};
 ghost use lib.Dec.{ltb};
 ghost use lib.ListN.{length};
 ghost use Rattle.rules.specs.Limits.{addrBits, maxRow};
@@ -13,7 +13,7 @@ ghost use Rattle.rules.specs.Conditions.{badLayoutSizes};
 ghost use Rattle.rules.specs.Beside.Shape.{shapeOf, shapeCall, depthsCall, softMaskNumber, resultNumber};
 ghost use Rattle.rules.specs.Answers.{filledWith};
 ghost use Rattle.image_geometry.specs.View.{viewSpot, layoutBy, shapeBy, measuredOf};
-ghost use Rattle.image_geometry.specs.Steps.{Narrow, memsOf, Roomy, stepped};
+ghost use Rattle.image_geometry.specs.Steps.{Narrow, memsOf, Roomy, stepped, Weighed, takenAway};
 
 // A layout's numbers: the memory's depth and width, and the plan's without its entries.
 #[repr(C)]
@@ -310,5 +310,65 @@ pub fn walk_row(mask: u32, hard: u32, row: u32) -> Spot
     Spot {
         chunk: w.chunk as u32,
         row: w.row as u32,
+    }
+}
+
+// The difference, or 0.
+fn less(a: u64, b: u64) -> u64
+    ensures { λ r. ⌜ r ≡ a - b ⌝ }
+{
+    if a < b {
+        return 0;
+    }
+    a - b
+}
+
+// A number that fits a word, as one.
+fn word(x: u64) -> u32
+    ensures { λ r. ⌜ (x < 4294967296 → r ≡ x) ⌝ }
+{
+    if 0xFFFF_FFFF < x {
+        return 0;
+    }
+    x as u32
+}
+
+// A bit that is 1 becomes 0: its weight is taken away from the chunk or from the row.
+fn pass(w: Walk, mask: u32) -> Walk
+    requires { ⌜ Weighed w ⌝ }
+    ensures { λ r. ⌜ r ≡ takenAway (toChunk mask (w .hard)) w ⌝ }
+{
+    if mask % 2 == 1 {
+        return walked(less(w.chunk, w.cb), 2 * w.cb, w.row, w.rb, w.hard);
+    }
+    if w.hard == 0 {
+        return walked(less(w.chunk, w.cb), 2 * w.cb, w.row, w.rb, 0);
+    }
+    walked(w.chunk, w.cb, less(w.row, w.rb), 2 * w.rb, w.hard - 1)
+}
+
+// The spot of the next row, from that of this one: the bits from 0 on that are 1 become 0, and the first that is 0 becomes 1. Of another spot, and of
+// the last row number, nothing is said.
+pub fn next_row(mask: u32, hard: u32, row: u32, spot: Spot) -> Spot
+    ensures { λ r. ⌜ (row < 4294967295 → viewSpot spot ≡ walk addrBits mask hard row → viewSpot r ≡ walk addrBits mask hard (row + 1)) ⌝ }
+{
+    let mut w = walked(
+        lists::u64_of_u32(spot.chunk),
+        1,
+        lists::u64_of_u32(spot.row),
+        1,
+        hard,
+    );
+    let mut soft = mask;
+    let mut rest = row;
+    while rest % 2 == 1 {
+        w = pass(w, soft);
+        soft /= 2;
+        rest /= 2;
+    }
+    w = step(w, soft, 1);
+    Spot {
+        chunk: word(w.chunk),
+        row: word(w.row),
     }
 }
