@@ -171,7 +171,8 @@ module _ (q : Layout) (s : Small (q .depth) (q .width) (rowLen q) (q .unit) (q .
       let m = memory-max i k in
       record {
         memory-max = omega (arith, mem q row i c h, m);
-        bit-max = omega (arith, bit q row i c h, mod-lt (column q row i) (s .unit-pos), s .unit-max);
+        bit-under = omega (arith, bit q row i c h, mod-lt (column q row i) (s .unit-pos));
+        unit-max = omega (arith, s .unit-max);
         start-max = lt-of-le-of-lt (subst (λ (n : ℕ). n ≤ 2251799813685248 * maxUnit) (sym (start q row i c h)) (start-max _ _ _ _ _ _ (deep-max q s) (part-max q s) (s .unit-max) row-max m)) (omega arith);
         full-max = lt-of-le-of-lt (step-max (fullDepth q) (deep-max q s)) (omega arith);
         part-max = lt-of-le-of-lt (step-max (partDepth q) (part-max q s)) (omega arith);

@@ -1,7 +1,9 @@
 // Rows of an image with a given layout: the place of an entry, the rows laid out, a row patched and a row read back.
 ghost use mathlib.Core.Path.{_≡_};
-ghost use Prim.Native.Nat.{_+_, _*_, _≤_, _<_};
+ghost use mathlib.Core.Bool.{true};
+ghost use Prim.Native.Nat.{_+_, _-_, _*_, _≤_, _<_};
 ghost use lib.ListN.{length};
+ghost use Rattle.rules.specs.Limits.{maxRow};
 ghost use Rattle.rules.specs.Image.{putRow, writeRow, writeRows, indexOf};
 ghost use Rattle.rules.specs.Beside.Shape.{handedOn, placeCall};
 ghost use Rattle.rules.specs.Beside.Layouts.{fillCall, readRowCall, fillRefusalBy, fillRefusal, readRowRefusalBy};
@@ -9,7 +11,7 @@ ghost use Rattle.rules.specs.Answers.{patchCall, filledWith};
 ghost use Rattle.rules.specs.Refusals.{patchRefusalBy};
 ghost use Rattle.image_geometry.specs.View.{layoutBy};
 ghost use Rattle.image_rows.specs.View.{placedOf};
-ghost use Rattle.image_rows.specs.Steps.{stepsBy, Ready, Low, Lows, nextOf, At, indexFrom, takeRow};
+ghost use Rattle.image_rows.specs.Steps.{stepsBy, Ready, OnSpot, Low, Lows, nextOf, lastOf, At, indexFrom, Plain, RunOf, PutRun, takeRow};
 
 pub mod entry;
 
@@ -42,6 +44,41 @@ struct Cursor {
     start: u64,
 }
 
+// A row's number with its spot: the chunk, and the row in it.
+struct Line {
+    number: u32,
+    chunk: u32,
+    row: u32,
+}
+
+fn line_at(p: image_geometry::Params, number: u32) -> Line
+    ensures { λ r. ⌜ (r .number ≡ number) × OnSpot p r ⌝ }
+{
+    let s = image_geometry::walk_row(p.soft_mask, p.hard, number);
+    Line {
+        number,
+        chunk: s.chunk,
+        row: s.row,
+    }
+}
+
+// The next row, without a walk over all bits of its number.
+fn next_line(p: image_geometry::Params, l: Line) -> Line
+    requires { ⌜ (l .number < p .depth) × OnSpot p l ⌝ }
+    ensures { λ r. ⌜ (r .number ≡ l .number + 1) × OnSpot p r ⌝ }
+{
+    let spot = image_geometry::Spot {
+        chunk: l.chunk,
+        row: l.row,
+    };
+    let s = image_geometry::next_row(p.soft_mask, p.hard, l.number, spot);
+    Line {
+        number: l.number + 1,
+        chunk: s.chunk,
+        row: s.row,
+    }
+}
+
 fn steps_of(s: image_geometry::Shape, unit: u32) -> Steps
     requires { ⌜ (s .«full_depth» ≤ 1048576) × (s .«part_depth» ≤ 1048576) ⌝ }
     ensures { λ r. ⌜ r ≡ stepsBy s unit ⌝ }
@@ -55,17 +92,22 @@ fn steps_of(s: image_geometry::Shape, unit: u32) -> Steps
 }
 
 // The cursor at entry number `entry` of a row: the one division of a row's places.
-fn cursor_at(p: image_geometry::Params, g: Steps, entries: &[u32], row: u32, entry: usize) -> Cursor
+fn cursor_at(
+    p: image_geometry::Params,
+    g: Steps,
+    entries: &[u32],
+    line: Line,
+    entry: usize,
+) -> Cursor
     requires { ⌜ Ready p g (now entries) ⌝ }
-    requires { ⌜ (row < p .depth) × (entry ≤ length (now entries)) ⌝ }
-    ensures { λ r. ⌜ At (layoutBy p (now (entries .entry))) row entry r ⌝ }
+    requires { ⌜ (line .number < p .depth) × (entry ≤ length (now entries)) × OnSpot p line ⌝ }
+    ensures { λ r. ⌜ At (layoutBy p (now (entries .entry))) (line .number) entry r ⌝ }
 {
-    let spot = image_geometry::walk_row(p.soft_mask, p.hard, row);
-    let column = lists::u64_of_u32(spot.chunk) * lists::u64_of_usize(entries.len())
+    let column = lists::u64_of_u32(line.chunk) * lists::u64_of_usize(entries.len())
         + lists::u64_of_usize(entry);
     let memory = column / g.unit;
     let bit = column % g.unit;
-    let above = lists::u64_of_u32(spot.row) * g.unit;
+    let above = lists::u64_of_u32(line.row) * g.unit;
     if memory < g.full {
         return Cursor {
             memory,
@@ -107,17 +149,99 @@ fn next_place(c: Cursor, g: Steps) -> Cursor
     }
 }
 
-// Writes the trits of a row to its places, from the first entry's on.
-fn put_entries(image: &mut [u8], first: Cursor, g: Steps, entries: &[u32], trits: &[u8])
+// So many places from the cursor's on follow each other: to the end of the memory's row, or of the entries.
+fn run_length(c: Cursor, g: Steps, left: usize) -> usize
+    requires { ⌜ (c .bit < g .unit) × (0 < left) ⌝ }
+    ensures { λ r. ⌜ (0 < r) × (r ≤ left) × (c .bit + r ≤ g .unit) ⌝ }
+{
+    lists::smaller(lists::usize_of_u64(g.unit - c.bit), left)
+}
+
+// The cursor after a run of `count` places.
+fn after_run(c: Cursor, g: Steps, count: usize) -> Cursor
+    requires { ⌜ Low c g × (0 < count) × (c .bit + count ≤ g .unit) ⌝ }
+    ensures { λ r. ⌜ r ≡ nextOf g (lastOf c count) ⌝ }
+{
+    let last = Cursor {
+        memory: c.memory,
+        bit: c.bit + (lists::u64_of_usize(count) - 1),
+        start: c.start,
+    };
+    next_place(last, g)
+}
+
+// Entry number i is i: a run of such entries is a copy.
+fn is_plain(entries: &[u32]) -> bool
+    ensures { λ r. ⌜ (r ≡ true → Plain (now (entries .entry))) ⌝ }
+{
+    let mut i: usize = 0;
+    while i < entries.len() {
+        if lists::usize_of_u32(entries[i]) != i {
+            return false;
+        }
+        i += 1;
+    }
+    true
+}
+
+// Writes the trits of the entries from number `from` to below `to` to the places from `at` on, one by one.
+fn put_each(image: &mut [u8], at: u64, entries: &[u32], from: usize, to: usize, trits: &[u8])
+    requires { ⌜ RunOf at from to (now entries) ⌝ }
+    ensures { λ _. ⌜ PutRun at (now (entries .entry)) from to (now (trits .entry)) (now (image .entry)) (now (image .exit)) ⌝ }
+{
+    let mut i = from;
+    let mut place = at;
+    while i < to {
+        entry::put_trit(image, place, trits, entries[i]);
+        place += 1;
+        i += 1;
+    }
+}
+
+// The same, where `plain` says what `is_plain` said of the entries.
+fn put_run(
+    image: &mut [u8],
+    at: u64,
+    entries: &[u32],
+    from: usize,
+    to: usize,
+    trits: &[u8],
+    plain: bool,
+)
+    requires { ⌜ RunOf at from to (now entries) ⌝ }
+    requires { ⌜ (plain ≡ true → Plain (now entries)) ⌝ }
+    ensures { λ _. ⌜ PutRun at (now (entries .entry)) from to (now (trits .entry)) (now (image .entry)) (now (image .exit)) ⌝ }
+{
+    if plain {
+        if to <= trits.len() {
+            lists::copy_u8(image, lists::usize_of_u64(at), &trits[from..to]);
+            return;
+        }
+    }
+    put_each(image, at, entries, from, to, trits);
+}
+
+// Writes the trits of a row to its places, from the first entry's on: a run of places that follow each other at a time.
+fn put_entries(
+    image: &mut [u8],
+    first: Cursor,
+    g: Steps,
+    entries: &[u32],
+    trits: &[u8],
+    plain: bool,
+)
     requires { ⌜ Lows first g (length (now entries)) ⌝ }
+    requires { ⌜ (length (now entries) ≤ maxRow) × (plain ≡ true → Plain (now entries)) ⌝ }
     ensures { λ _. ⌜ now (image .exit) ≡ putRow (indexFrom g first) (now (entries .entry)) 0 (now (trits .entry)) (now (image .entry)) ⌝ }
 {
     let mut c = first;
     let mut i: usize = 0;
     while i < entries.len() {
-        entry::put_trit(image, c.start + c.bit, trits, entries[i]);
-        c = next_place(c, g);
-        i += 1;
+        let count = run_length(c, g, entries.len() - i);
+        let to = i + count;
+        put_run(image, c.start + c.bit, entries, i, to, trits, plain);
+        c = after_run(c, g, count);
+        i = to;
     }
 }
 
@@ -141,15 +265,17 @@ fn write_row(
     p: image_geometry::Params,
     g: Steps,
     entries: &[u32],
-    row: u32,
+    line: Line,
     trits: &[u8],
+    plain: bool,
 )
     requires { ⌜ Ready p g (now entries) ⌝ }
-    requires { ⌜ row < p .depth ⌝ }
-    ensures { λ _. ⌜ now (image .exit) ≡ writeRow (layoutBy p (now (entries .entry))) row (now (trits .entry)) (now (image .entry)) ⌝ }
+    requires { ⌜ (line .number < p .depth) × OnSpot p line ⌝ }
+    requires { ⌜ (plain ≡ true → Plain (now entries)) ⌝ }
+    ensures { λ _. ⌜ now (image .exit) ≡ writeRow (layoutBy p (now (entries .entry))) (line .number) (now (trits .entry)) (now (image .entry)) ⌝ }
 {
-    let first = cursor_at(p, g, entries, row, 0);
-    put_entries(image, first, g, entries, trits);
+    let first = cursor_at(p, g, entries, line, 0);
+    put_entries(image, first, g, entries, trits, plain);
 }
 
 // Numbers 4, 15 and 20 of a patch, where the image has `size` trits.
@@ -188,24 +314,33 @@ pub fn patch_row(
     if refused != 0 {
         return refused;
     }
-    write_row(image, p, steps_of(s, p.unit), entries, row, trits);
+    write_row(
+        image,
+        p,
+        steps_of(s, p.unit),
+        entries,
+        line_at(p, row),
+        trits,
+        false,
+    );
     0
 }
 
-// Writes every row, row 0 first.
+// Writes every row, row 0 first, and goes from row to row.
 fn write_rows(image: &mut [u8], p: image_geometry::Params, g: Steps, entries: &[u32], rows: &[u8])
     requires { ⌜ Ready p g (now entries) ⌝ }
     requires { ⌜ length (now rows) ≡ p .depth * p .width ⌝ }
     ensures { λ _. ⌜ now (image .exit) ≡ writeRows (layoutBy p (now (entries .entry))) (now (rows .entry)) (p .depth) (now (image .entry)) ⌝ }
 {
     let width = lists::usize_of_u32(p.width);
+    let plain = is_plain(entries);
     let mut from: usize = 0;
-    let mut row: u32 = 0;
-    while row < p.depth {
+    let mut line = line_at(p, 0);
+    while line.number < p.depth {
         let to = from + width;
-        write_row(image, p, g, entries, row, &rows[from..to]);
+        write_row(image, p, g, entries, line, &rows[from..to], plain);
         from = to;
-        row += 1;
+        line = next_line(p, line);
     }
 }
 
@@ -269,7 +404,7 @@ fn take_row(
     requires { ⌜ row < p .depth ⌝ }
     ensures { λ _. ⌜ now (room .exit) ≡ takeRow (indexOf (layoutBy p (now (entries .entry))) row) (now (entries .entry)) 0 (now (image .entry)) (now (room .entry)) ⌝ }
 {
-    let first = cursor_at(p, g, entries, row, 0);
+    let first = cursor_at(p, g, entries, line_at(p, row), 0);
     take_entries(room, first, g, entries, image);
 }
 
@@ -323,11 +458,11 @@ pub fn place_of(p: image_geometry::Params, entries: &[u32], row: u32, entry: usi
     if entries.len() <= entry {
         return Placed::Refused(15);
     }
-    let c = cursor_at(p, steps_of(s, p.unit), entries, row, entry);
-    let spot = image_geometry::walk_row(p.soft_mask, p.hard, row);
+    let line = line_at(p, row);
+    let c = cursor_at(p, steps_of(s, p.unit), entries, line, entry);
     Placed::Accepted(Place {
         memory: c.memory,
-        row: lists::u64_of_u32(spot.row),
+        row: lists::u64_of_u32(line.row),
         bit: c.bit,
         index: c.start + c.bit,
     })

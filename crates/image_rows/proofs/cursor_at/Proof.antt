@@ -24,75 +24,72 @@ unfolding rowLen
 inside c = c .pre .1 .1
 
 -- the numbers that the code holds
-held : (c : tie.After-u64-of-usize2) → Held (layoutBy (c .before .before .before .before .before .args .p) (c .before .before .before .before .before .args .entries .now)) (c .before .before .before .before .before .args .g) (c .before .before .before .before .before .args .row) (c .before .before .before .before .before .args .entry) (c .before .before .u64-of-u32 .result) (c .before .u64-of-usize .result) (c .u64-of-usize2 .result) (c .before .before .before .walk-row .result .row)
+held : (c : tie.After-u64-of-usize2) → Held (layoutBy (c .before .before .before .before .args .p) (c .before .before .before .before .args .entries .now)) (c .before .before .before .before .args .g) (c .before .before .before .before .args .line .number) (c .before .before .before .before .args .entry) (c .before .before .u64-of-u32 .result) (c .before .u64-of-usize .result) (c .u64-of-usize2 .result) (c .before .before .before .before .args .line .row)
 unfolding spotOf rowLen
 held c = record {
-  steps = c .before .before .before .before .before .pre .0 .steps;
-  chunk-is = c .before .before .u64-of-u32 .ensures ∙ ap (λ (s : Spot). s .chunk) (c .before .before .before .walk-row .ensures);
+  steps = c .before .before .before .before .pre .0 .steps;
+  chunk-is = c .before .before .u64-of-u32 .ensures ∙ ap (λ (s : Spot). s .chunk) (c .before .before .before .before .pre .1 .2);
   len-is = c .before .u64-of-usize .ensures;
   from-is = c .u64-of-usize2 .ensures;
-  to-is = ap (λ (s : Spot). s .row) (c .before .before .before .walk-row .ensures);
+  to-is = ap (λ (s : Spot). s .row) (c .before .before .before .before .pre .1 .2);
 }
 
-held-to : (c : tie.After-u64-of-u322) → Held (layoutBy (c .before .before .before .before .before .before .before .before .args .p) (c .before .before .before .before .before .before .before .before .args .entries .now)) (c .before .before .before .before .before .before .before .before .args .g) (c .before .before .before .before .before .before .before .before .args .row) (c .before .before .before .before .before .before .before .before .args .entry) (c .before .before .before .before .before .u64-of-u32 .result) (c .before .before .before .before .u64-of-usize .result) (c .before .before .before .u64-of-usize2 .result) (c .u64-of-u322 .result)
+held-to : (c : tie.After-u64-of-u322) → Held (layoutBy (c .before .before .before .before .before .before .before .args .p) (c .before .before .before .before .before .before .before .args .entries .now)) (c .before .before .before .before .before .before .before .args .g) (c .before .before .before .before .before .before .before .args .line .number) (c .before .before .before .before .before .before .before .args .entry) (c .before .before .before .before .before .u64-of-u32 .result) (c .before .before .before .before .u64-of-usize .result) (c .before .before .before .u64-of-usize2 .result) (c .u64-of-u322 .result)
 held-to c =
     let h = held (c .before .before .before) in
     record { steps = h .steps; chunk-is = h .chunk-is; len-is = h .len-is; from-is = h .from-is; to-is = c .u64-of-u322 .ensures ∙ h .to-is }
 
-held-first : (c : tie.After-u64-of-usize) → Held (layoutBy (c .before .before .before .before .args .p) (c .before .before .before .before .args .entries .now)) (c .before .before .before .before .args .g) (c .before .before .before .before .args .row) (c .before .before .before .before .args .entry) (c .before .u64-of-u32 .result) (c .u64-of-usize .result) (c .before .before .before .before .args .entry) (c .before .before .walk-row .result .row)
+held-first : (c : tie.After-u64-of-usize) → Held (layoutBy (c .before .before .before .args .p) (c .before .before .before .args .entries .now)) (c .before .before .before .args .g) (c .before .before .before .args .line .number) (c .before .before .before .args .entry) (c .before .u64-of-u32 .result) (c .u64-of-usize .result) (c .before .before .before .args .entry) (c .before .before .before .args .line .row)
 unfolding spotOf rowLen
 held-first c = record {
-  steps = c .before .before .before .before .pre .0 .steps;
-  chunk-is = c .before .u64-of-u32 .ensures ∙ ap (λ (s : Spot). s .chunk) (c .before .before .walk-row .ensures);
+  steps = c .before .before .before .pre .0 .steps;
+  chunk-is = c .before .u64-of-u32 .ensures ∙ ap (λ (s : Spot). s .chunk) (c .before .before .before .pre .1 .2);
   len-is = c .u64-of-usize .ensures;
   from-is = refl;
-  to-is = ap (λ (s : Spot). s .row) (c .before .before .walk-row .ensures);
+  to-is = ap (λ (s : Spot). s .row) (c .before .before .before .pre .1 .2);
 }
 
 mul-column : tie.Need-mul-column
-mul-column c = omega (arith, product-fits _ (small (c .before .before .before .before)) _ _ _ (c .before .before .before .before .pre .1 .0) (inside (c .before .before .before .before)) _ _ _ _ (held-first c))
+mul-column c = omega (arith, product-fits _ (small (c .before .before .before)) _ _ _ (c .before .before .before .pre .1 .0) (inside (c .before .before .before)) _ _ _ _ (held-first c))
 
 add-column : tie.Need-add-column
-add-column c = omega (arith, column-fits _ (small (c .before .before .before .before .before)) _ _ _ (c .before .before .before .before .before .pre .1 .0) (inside (c .before .before .before .before .before)) _ _ _ _ (held c))
+add-column c = omega (arith, column-fits _ (small (c .before .before .before .before)) _ _ _ (c .before .before .before .before .pre .1 .0) (inside (c .before .before .before .before)) _ _ _ _ (held c))
 
 div-memory : tie.Need-div-memory
-div-memory c = unit-pos _ (small (c .before .before .before .before .before .before)) _ _ _ (c .before .before .before .before .before .before .pre .1 .0) (inside (c .before .before .before .before .before .before)) _ _ _ _ (held (c .before))
+div-memory c = unit-pos _ (small (c .before .before .before .before .before)) _ _ _ (c .before .before .before .before .before .pre .1 .0) (inside (c .before .before .before .before .before)) _ _ _ _ (held (c .before))
 
 rem-bit : tie.Need-rem-bit
-rem-bit c = unit-pos _ (small (c .before .before .before .before .before .before .before)) _ _ _ (c .before .before .before .before .before .before .before .pre .1 .0) (inside (c .before .before .before .before .before .before .before)) _ _ _ _ (held (c .before .before))
+rem-bit c = unit-pos _ (small (c .before .before .before .before .before .before)) _ _ _ (c .before .before .before .before .before .before .pre .1 .0) (inside (c .before .before .before .before .before .before)) _ _ _ _ (held (c .before .before))
 
 mul-above : tie.Need-mul-above
-mul-above c = omega (arith, above-fits _ (small (c .before .before .before .before .before .before .before .before .before)) _ _ _ (c .before .before .before .before .before .before .before .before .before .pre .1 .0) (inside (c .before .before .before .before .before .before .before .before .before)) _ _ _ _ (held-to (c .before)))
+mul-above c = omega (arith, above-fits _ (small (c .before .before .before .before .before .before .before .before)) _ _ _ (c .before .before .before .before .before .before .before .before .pre .1 .0) (inside (c .before .before .before .before .before .before .before .before)) _ _ _ _ (held-to (c .before)))
 
-mul-t17 : tie.Need-mul-t17
-mul-t17 c = omega (arith, low-fits _ (small (c .before .before .before .before .before .before .before .before .before .before .before .before)) _ _ _ (c .before .before .before .before .before .before .before .before .before .before .before .before .pre .1 .0) (inside (c .before .before .before .before .before .before .before .before .before .before .before .before)) _ _ _ _ (held-to (c .before .before .before .before)))
+mul-t16 : tie.Need-mul-t16
+mul-t16 c = omega (arith, low-fits _ (small (c .before .before .before .before .before .before .before .before .before .before .before)) _ _ _ (c .before .before .before .before .before .before .before .before .before .before .before .pre .1 .0) (inside (c .before .before .before .before .before .before .before .before .before .before .before)) _ _ _ _ (held-to (c .before .before .before .before)))
+
+add-t17 : tie.Need-add-t17
+add-t17 c =
+    omega (arith, low-fits _ (small (c .before .before .before .before .before .before .before .before .before .before .before)) _ _ _ (c .before .before .before .before .before .before .before .before .before .before .before .pre .1 .0) (inside (c .before .before .before .before .before .before .before .before .before .before .before)) _ _ _ _ (held-to (c .before .before .before .before)), above-fits _ (small (c .before .before .before .before .before .before .before .before .before .before .before)) _ _ _ (c .before .before .before .before .before .before .before .before .before .before .before .pre .1 .0) (inside (c .before .before .before .before .before .before .before .before .before .before .before)) _ _ _ _ (held-to (c .before .before .before .before)))
+
+returns : tie.Need-returns
+returns c = made-low _ (small (c .before .before .before .before .before .before .before .before .before .before .before)) _ _ _ (c .before .before .before .before .before .before .before .before .before .before .before .pre .1 .0) (inside (c .before .before .before .before .before .before .before .before .before .before .before)) _ _ _ _ (held-to (c .before .before .before .before)) (c .before .if1 .taken)
+
+mul-t14 : tie.Need-mul-t14
+mul-t14 c = omega (arith, high-fits _ (small (c .before .before .before .before .before .before .before .before .before .before .before)) _ _ _ (c .before .before .before .before .before .before .before .before .before .before .before .pre .1 .0) (inside (c .before .before .before .before .before .before .before .before .before .before .before)) _ _ _ _ (held-to (c .before .before .before .before)))
+
+mul-t13 : tie.Need-mul-t13
+mul-t13 c = omega (arith, over-fits _ (small (c .before .before .before .before .before .before .before .before .before .before .before .before .before)) _ _ _ (c .before .before .before .before .before .before .before .before .before .before .before .before .before .pre .1 .0) (inside (c .before .before .before .before .before .before .before .before .before .before .before .before .before)) _ _ _ _ (held-to (c .before .before .before .before .before .before)))
+
+add-t10 : tie.Need-add-t10
+add-t10 c =
+    omega (arith, high-fits _ (small (c .before .before .before .before .before .before .before .before .before .before .before .before .before)) _ _ _ (c .before .before .before .before .before .before .before .before .before .before .before .before .before .pre .1 .0) (inside (c .before .before .before .before .before .before .before .before .before .before .before .before .before)) _ _ _ _ (held-to (c .before .before .before .before .before .before)), over-fits _ (small (c .before .before .before .before .before .before .before .before .before .before .before .before .before)) _ _ _ (c .before .before .before .before .before .before .before .before .before .before .before .before .before .pre .1 .0) (inside (c .before .before .before .before .before .before .before .before .before .before .before .before .before)) _ _ _ _ (held-to (c .before .before .before .before .before .before)))
 
 add-t18 : tie.Need-add-t18
 add-t18 c =
-    omega (arith, low-fits _ (small (c .before .before .before .before .before .before .before .before .before .before .before .before)) _ _ _ (c .before .before .before .before .before .before .before .before .before .before .before .before .pre .1 .0) (inside (c .before .before .before .before .before .before .before .before .before .before .before .before)) _ _ _ _ (held-to (c .before .before .before .before)), above-fits _ (small (c .before .before .before .before .before .before .before .before .before .before .before .before)) _ _ _ (c .before .before .before .before .before .before .before .before .before .before .before .before .pre .1 .0) (inside (c .before .before .before .before .before .before .before .before .before .before .before .before)) _ _ _ _ (held-to (c .before .before .before .before)))
-
-returns : tie.Need-returns
-returns c = made-low _ (small (c .before .before .before .before .before .before .before .before .before .before .before .before)) _ _ _ (c .before .before .before .before .before .before .before .before .before .before .before .before .pre .1 .0) (inside (c .before .before .before .before .before .before .before .before .before .before .before .before)) _ _ _ _ (held-to (c .before .before .before .before)) (c .before .if1 .taken)
-
-mul-t15 : tie.Need-mul-t15
-mul-t15 c = omega (arith, high-fits _ (small (c .before .before .before .before .before .before .before .before .before .before .before .before)) _ _ _ (c .before .before .before .before .before .before .before .before .before .before .before .before .pre .1 .0) (inside (c .before .before .before .before .before .before .before .before .before .before .before .before)) _ _ _ _ (held-to (c .before .before .before .before)))
-
-mul-t14 : tie.Need-mul-t14
-mul-t14 c = omega (arith, over-fits _ (small (c .before .before .before .before .before .before .before .before .before .before .before .before .before .before)) _ _ _ (c .before .before .before .before .before .before .before .before .before .before .before .before .before .before .pre .1 .0) (inside (c .before .before .before .before .before .before .before .before .before .before .before .before .before .before)) _ _ _ _ (held-to (c .before .before .before .before .before .before)))
-
-add-t11 : tie.Need-add-t11
-add-t11 c =
-    omega (arith, high-fits _ (small (c .before .before .before .before .before .before .before .before .before .before .before .before .before .before)) _ _ _ (c .before .before .before .before .before .before .before .before .before .before .before .before .before .before .pre .1 .0) (inside (c .before .before .before .before .before .before .before .before .before .before .before .before .before .before)) _ _ _ _ (held-to (c .before .before .before .before .before .before)), over-fits _ (small (c .before .before .before .before .before .before .before .before .before .before .before .before .before .before)) _ _ _ (c .before .before .before .before .before .before .before .before .before .before .before .before .before .before .pre .1 .0) (inside (c .before .before .before .before .before .before .before .before .before .before .before .before .before .before)) _ _ _ _ (held-to (c .before .before .before .before .before .before)))
-
-add-t19 : tie.Need-add-t19
-add-t19 c =
-    omega (arith, high-fits _ (small (c .before .before .before .before .before .before .before .before .before .before .before .before .before .before)) _ _ _ (c .before .before .before .before .before .before .before .before .before .before .before .before .before .before .pre .1 .0) (inside (c .before .before .before .before .before .before .before .before .before .before .before .before .before .before)) _ _ _ _ (held-to (c .before .before .before .before .before .before)), over-fits _ (small (c .before .before .before .before .before .before .before .before .before .before .before .before .before .before)) _ _ _ (c .before .before .before .before .before .before .before .before .before .before .before .before .before .before .pre .1 .0) (inside (c .before .before .before .before .before .before .before .before .before .before .before .before .before .before)) _ _ _ _ (held-to (c .before .before .before .before .before .before)), above-fits _ (small (c .before .before .before .before .before .before .before .before .before .before .before .before .before .before)) _ _ _ (c .before .before .before .before .before .before .before .before .before .before .before .before .before .before .pre .1 .0) (inside (c .before .before .before .before .before .before .before .before .before .before .before .before .before .before)) _ _ _ _ (held-to (c .before .before .before .before .before .before)))
+    omega (arith, high-fits _ (small (c .before .before .before .before .before .before .before .before .before .before .before .before .before)) _ _ _ (c .before .before .before .before .before .before .before .before .before .before .before .before .before .pre .1 .0) (inside (c .before .before .before .before .before .before .before .before .before .before .before .before .before)) _ _ _ _ (held-to (c .before .before .before .before .before .before)), over-fits _ (small (c .before .before .before .before .before .before .before .before .before .before .before .before .before)) _ _ _ (c .before .before .before .before .before .before .before .before .before .before .before .before .before .pre .1 .0) (inside (c .before .before .before .before .before .before .before .before .before .before .before .before .before)) _ _ _ _ (held-to (c .before .before .before .before .before .before)), above-fits _ (small (c .before .before .before .before .before .before .before .before .before .before .before .before .before)) _ _ _ (c .before .before .before .before .before .before .before .before .before .before .before .before .before .pre .1 .0) (inside (c .before .before .before .before .before .before .before .before .before .before .before .before .before)) _ _ _ _ (held-to (c .before .before .before .before .before .before)))
 
 returns-2 : tie.Need-returns-2
-returns-2 c = made-high _ (small (c .before .before .before .before .before .before .before .before .before .before .before .before .before .before)) _ _ _ (c .before .before .before .before .before .before .before .before .before .before .before .before .before .before .pre .1 .0) (inside (c .before .before .before .before .before .before .before .before .before .before .before .before .before .before)) _ _ _ _ (held-to (c .before .before .before .before .before .before)) (c .before .before .before .if1 .left)
-
-walk-row-requires : tie.Need-walk-row-requires
-walk-row-requires c κs = search needs
+returns-2 c = made-high _ (small (c .before .before .before .before .before .before .before .before .before .before .before .before .before)) _ _ _ (c .before .before .before .before .before .before .before .before .before .before .before .before .before .pre .1 .0) (inside (c .before .before .before .before .before .before .before .before .before .before .before .before .before)) _ _ _ _ (held-to (c .before .before .before .before .before .before)) (c .before .before .before .if1 .left)
 
 u64-of-u32-requires : tie.Need-u64-of-u32-requires
 u64-of-u32-requires c κs = search needs
@@ -110,7 +107,6 @@ pub cursor-at-spec : {M : Type 1} → statement M
 cursor-at-spec =
     tie.close
     (tie.spec
-    walk-row-requires
     u64-of-u32-requires
     u64-of-usize-requires
     mul-column
@@ -120,11 +116,11 @@ cursor-at-spec =
     rem-bit
     u64-of-u32-requires-2
     mul-above
-    mul-t17
-    add-t18
+    mul-t16
+    add-t17
     returns
-    mul-t15
     mul-t14
-    add-t11
-    add-t19
+    mul-t13
+    add-t10
+    add-t18
     returns-2)

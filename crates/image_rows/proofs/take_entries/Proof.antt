@@ -36,7 +36,7 @@ shared-slice-read-take-trit : tie.Need-shared-slice-read-take-trit Inv-loop μ-l
 shared-slice-read-take-trit c = omega (arith, c .before .before .loop-test .taken)
 
 add-take-trit : tie.Need-add-take-trit Inv-loop μ-loop
-add-take-trit c = omega (arith, low (c .before .before .before) .start-max, low (c .before .before .before) .bit-max)
+add-take-trit c = omega (arith, low (c .before .before .before) .start-max, low (c .before .before .before) .bit-under, low (c .before .before .before) .unit-max)
 
 take-trit-requires : tie.Need-take-trit-requires Inv-loop μ-loop
 take-trit-requires c κs = tt
