@@ -94,19 +94,6 @@ pub fn top_bits(word: u32) -> u32
     count
 }
 
-fn pow2(k: u32) -> u64
-    requires { ⌜ k ≤ addrBits ⌝ }
-    ensures { λ r. ⌜ r ≡ 2 ^ k ⌝ }
-{
-    let mut power: u64 = 1;
-    let mut i: u32 = 0;
-    while i < k {
-        power *= 2;
-        i += 1;
-    }
-    power
-}
-
 fn ceil_div(a: u64, b: u64) -> u64
     requires { ⌜ (0 < b) × (b < 8589934592) × (a < 4611686018427387904) ⌝ }
     ensures { λ r. ⌜ r ≡ ceilDiv a b ⌝ }
@@ -128,7 +115,7 @@ pub fn chunk_mux_bits(p: Params) -> u32
     if p.depth == 0 {
         return 0;
     }
-    let chunks = ceil_div(lists::u64_of_u32(p.depth), pow2(soft + p.hard));
+    let chunks = ceil_div(lists::u64_of_u32(p.depth), lists::two_to(soft + p.hard));
     top_bits((chunks - 1) as u32)
 }
 
@@ -169,8 +156,8 @@ fn mems_of(p: Params, len: u64) -> Mems
     requires { ⌜ Narrow p len ⌝ }
     ensures { λ r. ⌜ ((es : List ℕ) → length es ≡ len → r ≡ memsOf (layoutBy p es)) ⌝ }
 {
-    let parts = pow2(soft_bits(p.soft_mask));
-    let deep = pow2(p.hard);
+    let parts = lists::two_to(soft_bits(p.soft_mask));
+    let deep = lists::two_to(p.hard);
     let base = lists::u64_of_u32(p.depth) / parts;
     let chunks = base / deep;
     let part = base % deep;
@@ -247,7 +234,7 @@ pub fn depths(out: &mut [u32], p: Params, entries: &[u32]) -> u32
 pub fn soft_mask_number(depth: u32, mask: u32) -> u32
     ensures { λ r. ⌜ r ≡ softMaskNumber depth mask ⌝ }
 {
-    if lists::u64_of_u32(depth) % pow2(top_bits(mask)) != 0 {
+    if lists::u64_of_u32(depth) % lists::two_to(top_bits(mask)) != 0 {
         return 8;
     }
     0

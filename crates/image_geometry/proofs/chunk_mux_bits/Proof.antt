@@ -2,9 +2,9 @@
 use Prim.Native.Nat.{ℕ, _+_, _-_, _^_, _≤_, _<_}
 use mathlib.Core.Path.{_≡_, refl, sym, ap, _∙_, subst}
 use native.Mathlib.Nat.{lt-of-le-of-lt}
+use Rattle.lists.proofs.Powers.{two-to-is}
 use Rattle.rules.specs.Limits.{addrBits}
 use Rattle.rules.specs.Numbers.{ceilDiv, topBits}
-use Rattle.rules.proofs.Walks.{pow-32}
 use Rattle.image_geometry.proofs.Fields.{depth-word}
 use Rattle.image_geometry.proofs.Sizing.{soft-max, power-pos, ceil-self, ceil-pos, no-bits, wide-power, mux-is}
 use borrow.Author.Needs.{needs}
@@ -35,14 +35,14 @@ returns-3 c = λ es. sym (no-bits _ (c .before .before .before .before .before .
 
 ceil-div-requires : tie.Need-ceil-div-requires
 ceil-div-requires c κs = (
-  power-pos _ _ (c .pow2 .ensures),
-  omega (arith, c .pow2 .ensures, pow-32 (c .before .before .before .before .before .before .before .before .before .soft-bits .result + c .before .before .before .before .before .before .before .before .before .before .args .p .hard) (c .before .before .before .before .before .if2 .left)),
+  c .two-to .ensures .1,
+  omega (arith, c .two-to .ensures .2),
   omega (arith, c .before .before .u64-of-u32 .ensures, word (c .before .before .before .before .before .before .before .before .before .before)),
 )
 
 -- the chunks as the rules count them
 chunks-are : (c : tie.After-ceil-div) → c .ceil-div .result ≡ ceilDiv (c .before .before .before .before .before .before .before .before .before .before .before .args .p .depth) (2 ^ (c .before .before .before .before .before .before .before .before .before .before .soft-bits .result + c .before .before .before .before .before .before .before .before .before .before .before .args .p .hard))
-chunks-are c = c .ceil-div .ensures ∙ (λ k. ceilDiv (c .before .before .before .u64-of-u32 .ensures k) (c .before .pow2 .ensures k))
+chunks-are c = c .ceil-div .ensures ∙ (λ k. ceilDiv (c .before .before .before .u64-of-u32 .ensures k) (two-to-is _ _ (c .before .before .before .before .before .before .if2 .left) (c .before .two-to .ensures .0) k))
 
 deep : (c : tie.After-ceil-div) → 0 < c .before .before .before .before .before .before .before .before .before .before .before .args .p .depth
 deep c = omega (arith, c .before .before .before .before .if3 .left)
@@ -68,11 +68,11 @@ soft-bits-requires c κs = search needs
 u64-of-u32-requires : tie.Need-u64-of-u32-requires
 u64-of-u32-requires c κs = search needs
 
-add-pow2 : tie.Need-add-pow2
-add-pow2 c = search needs
+add-two-to : tie.Need-add-two-to
+add-two-to c = search needs
 
-pow2-requires : tie.Need-pow2-requires
-pow2-requires c κs = search needs
+two-to-requires : tie.Need-two-to-requires
+two-to-requires c κs = search needs
 
 top-bits-requires : tie.Need-top-bits-requires
 top-bits-requires c κs = search needs
@@ -87,8 +87,8 @@ chunk-mux-bits-spec =
     returns-2
     returns-3
     u64-of-u32-requires
-    add-pow2
-    pow2-requires
+    add-two-to
+    two-to-requires
     ceil-div-requires
     sub-top-bits
     cast-top-bits

@@ -3,31 +3,32 @@ use Prim.Native.Nat.{ℕ, _+_, _*_, _≤_, _<_}
 use mathlib.Core.Path.{sym, subst}
 use mir.Syntax.{w64}
 use mir.Val.{Fits}
+use Rattle.lists.proofs.Powers.{two-to-is}
 use Rattle.rules.specs.Limits.{maxRow, maxDepth}
-use Rattle.image_geometry.proofs.Sizing.{Held, soft-max, power-pos, row-max, chunks-max, more-max, full-max, unit-small, mems-none, mems-some}
+use Rattle.image_geometry.proofs.Sizing.{Held, soft-max, row-max, chunks-max, more-max, full-max, unit-small, mems-none, mems-some}
 use borrow.Author.Needs.{needs}
 use native.Mathlib.Omega.{arith}
 use Rattle.image_geometry.proofs.mems_of.Statement.{statement}
 use Rattle.image_geometry.proofs.mems_of.Tie as tie
 
-pow2-requires : tie.Need-pow2-requires
-pow2-requires c κs = subst (λ (n : ℕ). n ≤ 32) (sym (c .soft-bits .ensures)) (soft-max _)
+two-to-requires : tie.Need-two-to-requires
+two-to-requires c κs = tt
 
 div-base : tie.Need-div-base
-div-base c = power-pos _ _ (c .before .before .pow2 .ensures)
+div-base c = c .before .before .two-to .ensures .1
 
 div-chunks : tie.Need-div-chunks
-div-chunks c = power-pos _ _ (c .before .pow22 .ensures)
+div-chunks c = c .before .two-to2 .ensures .1
 
 rem-part : tie.Need-rem-part
-rem-part c = power-pos _ _ (c .before .pow22 .ensures)
+rem-part c = c .before .two-to2 .ensures .1
 
 -- what the code holds once it has the unit
-held : (c : tie.After-u64-of-u322) → Held (c .before .before .before .before .before .args .p) (c .before .before .before .before .soft-bits .result) (c .before .before .before .pow2 .result) (c .before .before .pow22 .result) (c .before .u64-of-u32 .result) (c .u64-of-u322 .result)
+held : (c : tie.After-u64-of-u322) → Held (c .before .before .before .before .before .args .p) (c .before .before .before .before .soft-bits .result) (c .before .before .before .two-to .result) (c .before .before .two-to2 .result) (c .before .u64-of-u32 .result) (c .u64-of-u322 .result)
 held c = record {
   bits-is = c .before .before .before .before .soft-bits .ensures;
-  parts-is = c .before .before .before .pow2 .ensures;
-  deep-is = c .before .before .pow22 .ensures;
+  parts-is = two-to-is _ _ (subst (λ (n : ℕ). n ≤ 32) (sym (c .before .before .before .before .soft-bits .ensures)) (soft-max _)) (c .before .before .before .two-to .ensures .0);
+  deep-is = two-to-is _ _ (omega (arith, c .before .before .before .before .before .pre .hard-max)) (c .before .before .two-to2 .ensures .0);
   depth-is = c .before .u64-of-u32 .ensures;
   unit-is = c .u64-of-u322 .ensures;
 }
@@ -75,8 +76,8 @@ returns-2 c = λ es l. mems-some _ _ (c .before .before .before .before .before 
 soft-bits-requires : tie.Need-soft-bits-requires
 soft-bits-requires c κs = search needs
 
-pow2-requires-2 : tie.Need-pow2-requires-2
-pow2-requires-2 c κs = search needs
+two-to-requires-2 : tie.Need-two-to-requires-2
+two-to-requires-2 c κs = search needs
 
 u64-of-u32-requires : tie.Need-u64-of-u32-requires
 u64-of-u32-requires c κs = search needs
@@ -89,8 +90,8 @@ mems-of-spec =
     tie.close
     (tie.spec
     soft-bits-requires
-    pow2-requires
-    pow2-requires-2
+    two-to-requires
+    two-to-requires-2
     u64-of-u32-requires
     div-base
     div-chunks

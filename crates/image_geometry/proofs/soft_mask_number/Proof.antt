@@ -1,24 +1,24 @@
 -- `image_geometry::soft_mask_number` meets its contract.
 use Prim.Native.Nat.{ℕ, _%_, _^_, _≤_}
 use mathlib.Core.Path.{_≡_, sym, ap, _∙_, subst}
+use Rattle.lists.proofs.Powers.{two-to-is}
 use Rattle.rules.specs.Limits.{addrBits}
 use Rattle.rules.specs.Numbers.{topBits}
 use Rattle.rules.proofs.Walks.{tops-le}
 use Rattle.rules.proofs.Shaping.{soft-8, soft-0}
-use Rattle.image_geometry.proofs.Sizing.{power-pos}
 use borrow.Author.Needs.{needs}
 use Rattle.image_geometry.proofs.soft_mask_number.Statement.{statement}
 use Rattle.image_geometry.proofs.soft_mask_number.Tie as tie
 
-pow2-requires : tie.Need-pow2-requires
-pow2-requires c κs = subst (λ (n : ℕ). n ≤ 32) (sym (c .top-bits .ensures)) (tops-le 32 _)
+two-to-requires : tie.Need-two-to-requires
+two-to-requires c κs = tt
 
 rem-if1 : tie.Need-rem-if1
-rem-if1 c = power-pos _ _ (c .pow2 .ensures)
+rem-if1 c = c .two-to .ensures .1
 
 -- the remainder is the rules'
-rest : (c : tie.After-pow2) → c .before .before .u64-of-u32 .result % c .pow2 .result ≡ c .before .before .before .args .depth % 2 ^ topBits addrBits (c .before .before .before .args .mask)
-rest c = (λ k. c .before .before .u64-of-u32 .ensures k % (c .pow2 .ensures ∙ ap (λ (n : ℕ). 2 ^ n) (c .before .top-bits .ensures)) k)
+rest : (c : tie.After-two-to) → c .before .before .u64-of-u32 .result % c .two-to .result ≡ c .before .before .before .args .depth % 2 ^ topBits addrBits (c .before .before .before .args .mask)
+rest c = (λ k. c .before .before .u64-of-u32 .ensures k % (two-to-is _ _ (subst (λ (n : ℕ). n ≤ 32) (sym (c .before .top-bits .ensures)) (tops-le 32 _)) (c .two-to .ensures .0) ∙ ap (λ (n : ℕ). 2 ^ n) (c .before .top-bits .ensures)) k)
 
 returns : tie.Need-returns
 returns c = sym (soft-8 (c .before .before .before .before .args .depth) (c .before .before .before .before .args .mask) (λ e. c .if1 .taken (rest (c .before) ∙ e)))
@@ -34,4 +34,4 @@ top-bits-requires c κs = search needs
 
 pub soft-mask-number-spec : {M : Type 1} → statement M
 soft-mask-number-spec =
-    tie.close (tie.spec u64-of-u32-requires top-bits-requires pow2-requires rem-if1 returns returns-2)
+    tie.close (tie.spec u64-of-u32-requires top-bits-requires two-to-requires rem-if1 returns returns-2)
