@@ -8,8 +8,8 @@ use Rattle.rules.specs.Limits.{addrBits}
 use Rattle.rules.specs.Geometry.{Spot, toChunk, hardLeft, under, walk}
 use Rattle.rules.proofs.Walks.{walk-pos, walk-le, pow-pos-suc}
 use Rattle.image_geometry.specs.declared.Walk.{Walk}
-use Rattle.image_geometry.specs.Steps.{Roomy, Weighed, stepped, takenAway}
-use Rattle.image_geometry.proofs.Walking.{left-pos, hard-step}
+use Rattle.image_geometry.specs.Steps.{Roomy, stepped, takenAway}
+use Rattle.image_geometry.proofs.Walking.{left-pos}
 
 -- a spot at the weights
 abbrev pub scaled : Walk → Spot → Spot
@@ -125,18 +125,14 @@ pub record Small (w : Walk) (rest : ℕ) : Type 0 where
 bit-max : (k r : ℕ) → k * (r + 1) ≤ 4294967296 → k ≤ 4294967296
 bit-max k r h = omega (arith, mul-add k r 1, mul-one k)
 
-pub weighed : (w : Walk) (rest : ℕ) → Small w rest → Weighed w
-weighed w rest h = record {
+pub roomy : (w : Walk) (rest : ℕ) → Small w rest → Roomy w 1
+roomy w rest h = record {
+  bit-max = omega arith;
   chunk-max = omega (arith, h .chunk-small);
   row-max = omega (arith, h .row-small);
   chunk-bit-max = bit-max (w .cb) rest (h .chunk-bit);
   row-bit-max = bit-max (w .rb) rest (h .row-bit);
 }
-
-pub weighed-roomy : (w : Walk) (rest : ℕ) → Small w rest → Roomy w 1
-weighed-roomy w rest h =
-    let v = weighed w rest h in
-    record { bit-max = omega arith; chunk-max = v .chunk-max; row-max = v .row-max; chunk-bit-max = v .chunk-bit-max; row-bit-max = v .row-bit-max }
 
 doubled : (k r : ℕ) → r % 2 ≡ 1 → k * (r + 1) ≤ 4294967296 → 2 * k * (r / 2 + 1) ≤ 4294967296
 doubled k r o h =

@@ -23,7 +23,7 @@ unfolding under
 onto-step true b w s = λ i. record { chunk = spread (w .chunk) (w .cb) b (s .chunk) i; row = w .row + w .rb * s .row }
 onto-step false b w s = λ i. record { chunk = w .chunk + w .cb * s .chunk; row = spread (w .row) (w .rb) b (s .row) i }
 
-pub hard-step : (t : Bool) (b : ℕ) (w : Walk) → stepped t b w .hard ≡ hardLeft t (w .hard)
+hard-step : (t : Bool) (b : ℕ) (w : Walk) → stepped t b w .hard ≡ hardLeft t (w .hard)
 unfolding hardLeft
 hard-step true b w = refl
 hard-step false b w = refl

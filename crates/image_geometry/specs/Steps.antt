@@ -41,13 +41,6 @@ stepped false b w = record {
 }
 
 -- ---- the next row
--- weights and numbers that fit with one weight more
-pub record Weighed (w : Walk) : Type 0 where
-  pub chunk-max : w .chunk ≤ 4294967296
-  pub row-max : w .row ≤ 4294967296
-  pub chunk-bit-max : w .cb ≤ 4294967296
-  pub row-bit-max : w .rb ≤ 4294967296
-
 -- a bit that was 1, of the chunk number or of the row number
 abbrev pub takenAway : Bool → Walk → Walk
 takenAway true w = record { chunk = w .chunk - w .cb; cb = 2 * w .cb; row = w .row; rb = w .rb; hard = w .hard }

@@ -13,7 +13,7 @@ ghost use Rattle.rules.specs.Conditions.{badLayoutSizes};
 ghost use Rattle.rules.specs.Beside.Shape.{shapeOf, shapeCall, depthsCall, softMaskNumber, resultNumber};
 ghost use Rattle.rules.specs.Answers.{filledWith};
 ghost use Rattle.image_geometry.specs.View.{viewSpot, layoutBy, shapeBy, measuredOf};
-ghost use Rattle.image_geometry.specs.Steps.{Narrow, memsOf, Roomy, stepped, Weighed, takenAway};
+ghost use Rattle.image_geometry.specs.Steps.{Narrow, memsOf, Roomy, stepped, takenAway};
 
 // A layout's numbers: the memory's depth and width, and the plan's without its entries.
 #[repr(C)]
@@ -322,7 +322,7 @@ fn word(x: u64) -> u32
 
 // A bit that is 1 becomes 0: its weight is taken away from the chunk or from the row.
 fn pass(w: Walk, mask: u32) -> Walk
-    requires { ⌜ Weighed w ⌝ }
+    requires { ⌜ Roomy w 1 ⌝ }
     ensures { λ r. ⌜ r ≡ takenAway (toChunk mask (w .hard)) w ⌝ }
 {
     if mask % 2 == 1 {

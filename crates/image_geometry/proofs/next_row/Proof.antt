@@ -5,7 +5,7 @@ use native.Mathlib.Omega.{arith}
 use Rattle.rules.specs.Limits.{addrBits}
 use Rattle.rules.specs.Geometry.{toChunk, walk}
 use Rattle.image_geometry.proofs.Fields.{chunk-word, row-word}
-use Rattle.image_geometry.proofs.Carrying.{Small, Carrying, held, whole, told, carry-starts, carry-turn, carry-ends, weighed, weighed-roomy, small-turn, small-starts, words-held, next-words}
+use Rattle.image_geometry.proofs.Carrying.{Small, Carrying, held, whole, told, carry-starts, carry-turn, carry-ends, roomy, small-turn, small-starts, words-held, next-words}
 use Rattle.image_geometry.proofs.next_row.Statement.{statement}
 use Rattle.image_geometry.proofs.next_row.Tie as tie
 
@@ -32,7 +32,7 @@ loop-holds c =
     )
 
 pass-requires : tie.Need-pass-requires Inv-loop μ-loop
-pass-requires c κs = weighed _ _ (c .before .loop .inv .0)
+pass-requires c κs = roomy _ _ (c .before .loop .inv .0)
 
 loop-less : tie.Need-loop-less Inv-loop μ-loop
 loop-less c =
@@ -46,7 +46,7 @@ loop-again c =
     )
 
 step-requires : tie.Need-step-requires Inv-loop μ-loop
-step-requires c κs = weighed-roomy _ _ (c .before .loop .inv .0)
+step-requires c κs = roomy _ _ (c .before .loop .inv .0)
 
 word-requires : tie.Need-word-requires Inv-loop μ-loop
 word-requires c κs = tt
