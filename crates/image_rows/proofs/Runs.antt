@@ -74,7 +74,7 @@ each-turn f ts es at from to i place l l′ g w a b h p e k =
     row-again f ts es i l l′ g (omega arith) (e ∙ ap (λ (x : ℕ). put (eqb (getD es i 0) None) x (getD ts (getD es i 0) 0) l) q) k
 
 -- ---- the entries as a copy
-module _ (f : ℕ → ℕ) (ts es : List ℕ) (at from to : ℕ) (image : List ℕ) (p : Plain es) (w : Follows f from at (to - from))
+module _ (f : ℕ → ℕ) (ts es : List ℕ) (at from to : ℕ) (image : List ℕ) (p : Plain es to) (w : Follows f from at (to - from))
     (a : from ≤ to) (b : to ≤ length es) (s : length es ≤ maxRow) (t : to ≤ length ts) where
   stored : (k : ℕ) → from + k < to → set (sets image at (take k (drop from ts))) (at + k) (getD ts (from + k) 0) ≡ sets image at (take (k + 1) (drop from ts))
   stored k l =
@@ -99,6 +99,6 @@ module _ (f : ℕ → ℕ) (ts es : List ℕ) (at from to : ℕ) (image : List �
       let n : from + (to - from) ≡ to = omega arith in
       ap (λ (m : ℕ). putRow f (drop m es) m ts (sets image at (take (to - from) (drop from ts)))) (sym n) ∙ copied (to - from) (omega arith)
 
-pub put-copy : (ts es : List ℕ) (at from to : ℕ) (image image′ : List ℕ) → Plain es → from ≤ to → to ≤ length es → length es ≤ maxRow → to ≤ length ts
+pub put-copy : (ts es : List ℕ) (at from to n : ℕ) (image image′ : List ℕ) → Plain es n → to ≤ n → from ≤ to → to ≤ length es → length es ≤ maxRow → to ≤ length ts
     → image′ ≡ sets image at (take (to - from) (drop from ts)) → PutRun at es from to ts image image′
-put-copy ts es at from to image image′ p a b s t e f w = ap (putRow f (drop to es) to ts) e ∙ copy-all f ts es at from to image p w a b s t
+put-copy ts es at from to n image image′ p m a b s t e f w = ap (putRow f (drop to es) to ts) e ∙ copy-all f ts es at from to image (λ i l. p i (omega arith)) w a b s t

@@ -71,9 +71,9 @@ pub record Lows (c : Cursor) (g : Steps) (n : ℕ) : Type 0 where
 abbrev pub lastOf : Cursor → ℕ → Cursor
 lastOf c count = record { memory = c .memory; bit = c .bit + (count - 1); start = c .start }
 
--- entry number i is i
-abbrev pub Plain : List ℕ → Type 0
-Plain es = (i : ℕ) → i < length es → getD es i 0 ≡ i
+-- the first n entries are their own numbers
+abbrev pub Plain : List ℕ → ℕ → Type 0
+Plain es n = (i : ℕ) → i < n → getD es i 0 ≡ i
 
 -- a run of entries, and places that fit
 pub record RunOf (at from to : ℕ) (es : List ℕ) : Type 0 where

@@ -1,6 +1,5 @@
 // Rows of an image with a given layout: the place of an entry, the rows laid out, a row patched and a row read back.
 ghost use mathlib.Core.Path.{_≡_};
-ghost use mathlib.Core.Bool.{true};
 ghost use Prim.Native.Nat.{_+_, _-_, _*_, _≤_, _<_};
 ghost use lib.ListN.{length};
 ghost use Rattle.rules.specs.Limits.{maxRow};
@@ -170,18 +169,18 @@ fn after_run(c: Cursor, g: Steps, count: usize) -> Cursor
     next_place(last, g)
 }
 
-// Entry number i is i: a run of such entries is a copy.
-fn is_plain(entries: &[u32]) -> bool
-    ensures { λ r. ⌜ (r ≡ true → Plain (now (entries .entry))) ⌝ }
+// So many entries from the first on are their own numbers: a run of such entries is a copy.
+fn plain_entries(entries: &[u32]) -> usize
+    ensures { λ r. ⌜ Plain (now (entries .entry)) r ⌝ }
 {
     let mut i: usize = 0;
     while i < entries.len() {
         if lists::usize_of_u32(entries[i]) != i {
-            return false;
+            return i;
         }
         i += 1;
     }
-    true
+    i
 }
 
 // Writes the trits of the entries from number `from` to below `to` to the places from `at` on, one by one.
@@ -198,7 +197,7 @@ fn put_each(image: &mut [u8], at: u64, entries: &[u32], from: usize, to: usize, 
     }
 }
 
-// The same, where `plain` says what `is_plain` said of the entries.
+// The same, where the first `plain` entries are plain.
 fn put_run(
     image: &mut [u8],
     at: u64,
@@ -206,13 +205,13 @@ fn put_run(
     from: usize,
     to: usize,
     trits: &[u8],
-    plain: bool,
+    plain: usize,
 )
     requires { ⌜ RunOf at from to (now entries) ⌝ }
-    requires { ⌜ (plain ≡ true → Plain (now entries)) ⌝ }
+    requires { ⌜ Plain (now entries) plain ⌝ }
     ensures { λ _. ⌜ PutRun at (now (entries .entry)) from to (now (trits .entry)) (now (image .entry)) (now (image .exit)) ⌝ }
 {
-    if plain {
+    if to <= plain {
         if to <= trits.len() {
             lists::copy_u8(image, lists::usize_of_u64(at), &trits[from..to]);
             return;
@@ -228,10 +227,10 @@ fn put_entries(
     g: Steps,
     entries: &[u32],
     trits: &[u8],
-    plain: bool,
+    plain: usize,
 )
     requires { ⌜ Lows first g (length (now entries)) ⌝ }
-    requires { ⌜ (length (now entries) ≤ maxRow) × (plain ≡ true → Plain (now entries)) ⌝ }
+    requires { ⌜ (length (now entries) ≤ maxRow) × Plain (now entries) plain ⌝ }
     ensures { λ _. ⌜ now (image .exit) ≡ putRow (indexFrom g first) (now (entries .entry)) 0 (now (trits .entry)) (now (image .entry)) ⌝ }
 {
     let mut c = first;
@@ -267,11 +266,11 @@ fn write_row(
     entries: &[u32],
     line: Line,
     trits: &[u8],
-    plain: bool,
+    plain: usize,
 )
     requires { ⌜ Ready p g (now entries) ⌝ }
     requires { ⌜ (line .number < p .depth) × OnSpot p line ⌝ }
-    requires { ⌜ (plain ≡ true → Plain (now entries)) ⌝ }
+    requires { ⌜ Plain (now entries) plain ⌝ }
     ensures { λ _. ⌜ now (image .exit) ≡ writeRow (layoutBy p (now (entries .entry))) (line .number) (now (trits .entry)) (now (image .entry)) ⌝ }
 {
     let first = cursor_at(p, g, entries, line, 0);
@@ -321,7 +320,7 @@ pub fn patch_row(
         entries,
         line_at(p, row),
         trits,
-        false,
+        0,
     );
     0
 }
@@ -333,7 +332,7 @@ fn write_rows(image: &mut [u8], p: image_geometry::Params, g: Steps, entries: &[
     ensures { λ _. ⌜ now (image .exit) ≡ writeRows (layoutBy p (now (entries .entry))) (now (rows .entry)) (p .depth) (now (image .entry)) ⌝ }
 {
     let width = lists::usize_of_u32(p.width);
-    let plain = is_plain(entries);
+    let plain = plain_entries(entries);
     let mut from: usize = 0;
     let mut line = line_at(p, 0);
     while line.number < p.depth {

@@ -1,7 +1,6 @@
 -- `image_rows::patch_row` meets its contract.
 use Prim.Native.Nat.{ℕ}
 use mathlib.Core.Path.{_≡_, sym, ap, _∙_}
-use mathlib.Core.Bool.{true, false}
 use mathlib.Core.Option.{some}
 use native.Mathlib.Omega.{arith}
 use lib.ListN.{length}
@@ -27,9 +26,6 @@ number c = c .patch-refusal .ensures ∙ number-is (layoutBy (c .before .before 
 -- where the patch is accepted
 accepted : (c : tie.Else1) → patchRefusalOf (layoutBy (c .before .before .before .before .before .before .before .before .before .args .p) (c .before .before .before .before .before .before .before .before .before .args .entries .now)) (record { row = c .before .before .before .before .before .before .before .before .before .args .row; trits = c .before .before .before .before .before .before .before .before .before .args .trits .now; room = length (c .before .before .before .before .before .before .before .before .before .args .image .now) }) ≡ 0
 accepted c = sym (number (c .before)) ∙ c .if1 .left
-
-never : false ≡ true → ⊥
-never e = let z : _≡_ {A = ℕ} 0 1 = cc in omega arith
 
 check-layout-requires : tie.Need-check-layout-requires
 check-layout-requires c κs = search needs
@@ -60,7 +56,7 @@ line-at-requires : tie.Need-line-at-requires
 line-at-requires c κs = search needs
 
 write-row-requires : tie.Need-write-row-requires
-write-row-requires c κs = (ready _ _ _ (told (c .before .before .before .before .before .before)) _ (c .before .steps-of .ensures), ((omega (arith, c .line-at .ensures .0, taken _ _ (accepted (c .before .before .before)) .inside), c .line-at .ensures .1), λ e. absurd (never e)))
+write-row-requires c κs = (ready _ _ _ (told (c .before .before .before .before .before .before)) _ (c .before .steps-of .ensures), ((omega (arith, c .line-at .ensures .0, taken _ _ (accepted (c .before .before .before)) .inside), c .line-at .ensures .1), λ i l. absurd (omega arith)))
 
 same-length : tie.Need-same-length
 same-length c = search needs

@@ -29,7 +29,7 @@ same-length c = search needs
 returns : tie.Need-returns
 returns c =
     let s = c .before .before .before .before .before .before .before .before .before .before .before in
-    put-copy (s .args .trits .now) (s .args .entries .now) (s .args .at) (s .args .from) (s .args .to) (s .args .image .now) _ (s .pre .1 (c .before .before .before .before .before .before .before .if1 .taken)) (s .pre .0 .forward) (s .pre .0 .within) (s .pre .0 .short) (c .before .before .before .before .before .before .if2 .taken)
+    put-copy (s .args .trits .now) (s .args .entries .now) (s .args .at) (s .args .from) (s .args .to) (s .args .plain) (s .args .image .now) _ (s .pre .1) (c .before .before .before .before .before .before .before .if1 .taken) (s .pre .0 .forward) (s .pre .0 .within) (s .pre .0 .short) (c .before .before .before .before .before .before .if2 .taken)
     (c .before .before .copy-u8 .ensures ∙ ap (λ (n : ℕ). sets (s .args .image .now) n (take (s .args .to - s .args .from) (drop (s .args .from) (s .args .trits .now)))) (c .before .before .before .before .usize-of-u64 .ensures))
 
 put-each-requires : tie.Need-put-each-requires

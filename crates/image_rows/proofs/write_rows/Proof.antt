@@ -23,8 +23,8 @@ abbrev μ-loop : tie.MeasureT-loop
 usize-of-u32-requires : tie.Need-usize-of-u32-requires Inv-loop μ-loop
 usize-of-u32-requires c κs = tt
 
-is-plain-requires : tie.Need-is-plain-requires Inv-loop μ-loop
-is-plain-requires c κs = tt
+plain-entries-requires : tie.Need-plain-entries-requires Inv-loop μ-loop
+plain-entries-requires c κs = tt
 
 line-at-requires : tie.Need-line-at-requires Inv-loop μ-loop
 line-at-requires c κs = tt
@@ -52,7 +52,7 @@ part-write-row-end : tie.Need-part-write-row-end Inv-loop μ-loop
 part-write-row-end c = within (c .before)
 
 write-row-requires : tie.Need-write-row-requires Inv-loop μ-loop
-write-row-requires c κs = (c .before .before .before .before .before .before .before .before .before .before .before .before .pre .0, ((c .before .before .if1 .taken, c .before .before .before .before .before .loop .inv .3), c .before .before .before .before .before .before .before .is-plain .ensures))
+write-row-requires c κs = (c .before .before .before .before .before .before .before .before .before .before .before .before .pre .0, ((c .before .before .if1 .taken, c .before .before .before .before .before .loop .inv .3), c .before .before .before .before .before .before .before .plain-entries .ensures))
 
 next-line-requires : tie.Need-next-line-requires Inv-loop μ-loop
 next-line-requires c κs = (c .before .before .before .before .before .if1 .taken, c .before .before .before .before .before .before .before .before .loop .inv .3)
@@ -92,7 +92,7 @@ write-rows-spec =
     Inv-loop
     μ-loop
     usize-of-u32-requires
-    is-plain-requires
+    plain-entries-requires
     line-at-requires
     loop-holds
     add-to

@@ -1,18 +1,15 @@
--- `image_rows::is_plain` meets its contract.
-use Prim.Native.Nat.{ℕ, _-_, _≤_, _<_}
-use mathlib.Core.Path.{_≡_, sym, ap, _∙_}
-use mathlib.Core.Bool.{Bool, true, false}
+-- `image_rows::plain_entries` meets its contract.
+use Prim.Native.Nat.{_-_, _≤_}
+use mathlib.Core.Path.{sym, _∙_}
 use native.Mathlib.Omega.{arith}
 use borrow.Author.Count.{below-more}
-use lib.ListN.{length, getD}
-use Rattle.image_rows.proofs.is_plain.Statement.{statement}
-use Rattle.image_rows.proofs.is_plain.Tie as tie
-
-never : false ≡ true → ⊥
-never e = let z : _≡_ {A = ℕ} 0 1 = cc in omega arith
+use lib.ListN.{length}
+use Rattle.image_rows.specs.Steps.{Plain}
+use Rattle.image_rows.proofs.plain_entries.Statement.{statement}
+use Rattle.image_rows.proofs.plain_entries.Tie as tie
 
 abbrev Inv-loop : tie.InvT-loop
-Inv-loop entries i₀ i = (i ≤ length entries) × ((k : ℕ) → k < i → getD entries k 0 ≡ k)
+Inv-loop entries i₀ i = (i ≤ length entries) × Plain entries i
 
 abbrev μ-loop : tie.MeasureT-loop
 μ-loop entries i₀ i = length entries - i
@@ -30,7 +27,7 @@ usize-of-u32-requires : tie.Need-usize-of-u32-requires Inv-loop μ-loop
 usize-of-u32-requires c κs = tt
 
 returns : tie.Need-returns Inv-loop μ-loop
-returns c = λ e. absurd (never e)
+returns c = c .before .before .before .before .loop .inv .1
 
 add-i : tie.Need-add-i Inv-loop μ-loop
 add-i c = omega arith
@@ -42,10 +39,10 @@ loop-again : tie.Need-loop-again Inv-loop μ-loop
 loop-again c = (omega arith, below-more _ _ (c .before .before .before .before .loop .inv .1) (sym (c .before .usize-of-u32 .ensures .0) ∙ c .if1 .left))
 
 returns-2 : tie.Need-returns-2 Inv-loop μ-loop
-returns-2 c = λ e i l. c .before .loop .inv .1 i (omega arith)
+returns-2 c = c .before .loop .inv .1
 
-pub is-plain-spec : {M : Type 1} → statement M
-is-plain-spec =
+pub plain-entries-spec : {M : Type 1} → statement M
+plain-entries-spec =
     tie.close
     (tie.spec
     Inv-loop
