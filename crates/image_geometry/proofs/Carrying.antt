@@ -1,9 +1,9 @@
 -- The spot of the next row by carrying: what is left of the row number and of the next one, each laid onto the same weights.
-use Prim.Native.Nat.{ℕ, zero, suc, _+_, _-_, _*_, _/_, _%_, _^_, _≤_, _<_}
+use Prim.Native.Nat.{ℕ, _+_, _-_, _*_, _/_, _%_, _^_, _≤_, _<_}
 use mathlib.Core.Path.{_≡_, refl, sym, ap, _∙_, subst}
 use mathlib.Core.Bool.{Bool, true, false}
 use native.Mathlib.Omega.{arith}
-use native.Mathlib.Nat.{mul-add, mul-comm, mul-assoc, mul-left-comm, mul-le-mul-left, mul-one, le-trans}
+use native.Mathlib.Nat.{mul-add, mul-assoc, mul-left-comm, mul-le-mul-left, mul-one, le-trans}
 use Rattle.rules.specs.Limits.{addrBits}
 use Rattle.rules.specs.Geometry.{Spot, toChunk, hardLeft, under, walk}
 use Rattle.rules.proofs.Walks.{walk-pos, walk-le, pow-pos-suc}

@@ -1,11 +1,10 @@
 -- Runs of places that follow each other: the cursor over a run, and its entries written as a copy.
 use Prim.Native.Nat.{ℕ, zero, suc, _+_, _-_, _≤_, _<_}
-use mathlib.Core.Path.{_≡_, refl, sym, ap, _∙_, subst}
-use mathlib.Core.Bool.{Bool, false}
+use mathlib.Core.Path.{_≡_, sym, ap, _∙_, subst}
 use mathlib.Core.List.{List}
 use native.Mathlib.Omega.{arith}
 use native.Mathlib.Numerals.{add-one}
-use native.Mathlib.Nat.{add-zero, add-suc, add-assoc}
+use native.Mathlib.Nat.{add-zero, add-suc}
 use lib.Dec.{eqb}
 use lib.ListN.{length, take, drop, getD, set, length-drop}
 use lib.Seq.{sets, getD-drop}

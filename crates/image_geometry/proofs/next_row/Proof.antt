@@ -1,6 +1,6 @@
 -- `image_geometry::next_row` meets its contract.
-use mathlib.Core.Path.{_≡_, sym, ap, _∙_}
-use Prim.Native.Nat.{ℕ, _<_}
+use mathlib.Core.Path.{_≡_, _∙_}
+use Prim.Native.Nat.{_<_}
 use native.Mathlib.Omega.{arith}
 use Rattle.rules.specs.Limits.{addrBits}
 use Rattle.rules.specs.Geometry.{toChunk, walk}

@@ -1,5 +1,5 @@
 -- `image_rows::put_entries` meets its contract.
-use Prim.Native.Nat.{ℕ, _+_, _-_, _≤_}
+use Prim.Native.Nat.{_-_, _≤_}
 use mathlib.Core.Path.{_≡_, refl, sym, _∙_, subst}
 use native.Mathlib.Omega.{arith}
 use native.Mathlib.Nat.{le-of-lt}
