@@ -14,17 +14,17 @@ use oracle::compare::{Difference, Program, Verdict, compare};
 use oracle::stats::Stats;
 use oracle::stream::{read_block, write_block};
 use oracle::wire::OPS;
-use oracle::{alone, answer, show, stricter};
+use oracle::{answer, show, stricter};
 
 const USAGE: &str = "\
 oracle answer [--damage KIND]    answers the cases of standard input, in order
-oracle alone                     what the Rust alone does with the cases of standard input, refused ones too
 oracle gen SEED COUNT [OP..]     writes COUNT cases: examples first, then random ones
 oracle gen-small                 writes the systematic list of small cases
 oracle sample [short]            prints a sample: a case's words, =, the answer's words; short: no long lines
 oracle show [CASES [ANSWERS]]    prints cases and answers readably; answers by the oracle where no file has them
 oracle stricter                  prints, per op and number, the shortest refused case that the Rust takes
 oracle stats CASES ANSWERS       counts per op and refusal number
+oracle alone                     what the Rust alone does with the cases of standard input, refused ones too
 oracle run [OPTION..] [-- PROGRAM [ARG..]]
                                  compares a program with the oracle; without one, only the oracle answers
     --seed S --count N --ops OP,OP,..  which random cases (1, 10000, all)
@@ -44,7 +44,7 @@ fn main() -> ExitCode {
     let given: Vec<&str> = given.iter().map(String::as_str).collect();
     let done = match &given[..] {
         ["answer"] => answer_all(|case| Some(answer(case))),
-        ["alone"] => answer_all(|case| Some(alone(case))),
+        ["alone"] => answer_all(|case| Some(oracle::alone(case))),
         ["answer", "--damage", kind] => match damage::of(kind) {
             Some(damage) => answer_all(|case| damage(case, answer(case))),
             None => return usage(),
