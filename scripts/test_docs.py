@@ -35,9 +35,8 @@ RIGHT = [
     '`net_logic::const_and`', 'net_logic::const_and(a, b)', '`net_logic::Part`', 'tablegoose_const_and(1)', '`constAnd`', '`net_logic/not_x.edit`', '`docs/CALLING.md`',
     '`net_logic/specs/View.antt#partOf`', '`net_logic/specs/View.antt#Held`', '`net_logic/specs/View.antt#named`', '`tablegoose_..`', '`a and b`', '`crate::name`', '`Cell::validate`',
 ]
-CALLING = 'Ops that exist so far: {}.{}\n### Ops\n\n    1  const_not        in\n    2  const_and        in\n    29 lower_fallback   in\n\nNotes.\n'
-WRONG_OPS = [('1', ' The oracle alone answers 29.'), ('1 to 3', ' The oracle alone answers 29.'), ('1 and 2', ''), ('1 and 2', ' The oracle alone answers 30.'),
-             ('1, 2 and 29', '')]
+CALLING = 'Ops that exist so far: {}.\n### Ops\n\n{}\n    1  const_not        in\n    2  const_and        in\n    29 lower_fallback   in\n\nNotes.\n'
+WRONG_OPS = [('1', docs.ALONE), ('1 to 3', docs.ALONE), ('1 and 2', ''), ('1, 2 and 29', docs.ALONE)]
 
 
 def main():
@@ -45,9 +44,9 @@ def main():
     failed += [f'not found: {text}' for text in WRONG if not list(docs.text_faults(here, 'a', text))]
     failed += [f'found, but right: {text}' for text in RIGHT if list(docs.text_faults(here, 'a', text))]
     failed += [f'not found: {given}' for given in WRONG_OPS if not list(docs.ops_faults(here, CALLING.format(*given)))]
-    if list(docs.ops_faults(here, CALLING.format('1 and 2', ' The oracle alone answers 29.'))):
+    if list(docs.ops_faults(here, CALLING.format('1 and 2', docs.ALONE))):
         failed.append('found, but right: the ops')
-    if not list(docs.ops_faults(here, CALLING.format('1 and 2', ' The oracle alone answers 29.').replace('    2  const_and', '    two'))):
+    if not list(docs.ops_faults(here, CALLING.format('1 and 2', docs.ALONE).replace('    2  const_and', '    two'))):
         failed.append('not found: an op that is not described')
     for fault in failed:
         print('test_docs:', fault)
