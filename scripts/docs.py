@@ -10,7 +10,8 @@ In README.md, CONTRIBUTING.md and docs/*.md (docs/SCOPE.md, which is given, is l
                             a definition, record or theorem of that file
     `someName`              a definition of the crates' specs, where a word has a capital letter inside
     `a/path`                a file or folder of the repository
-and docs/CALLING.md's list of ops is compared with oracle/OPS and with its own section of ops.
+A command `target/bin/NAME < FILE` that is shown with its output: FILE is what crates/NAME is run on, and the output what is stored there.
+docs/CALLING.md's list of ops is compared with oracle/OPS and with its own section of ops.
 """
 import glob
 import os
@@ -43,6 +44,9 @@ class Here:
 
     def exists(self, path):
         return os.path.exists(path)
+
+    def bytes(self, path):
+        return open(path, 'rb').read() if os.path.isfile(path) else path
 
 
 def read(path):
@@ -122,13 +126,22 @@ def ops_faults(here, text):
         yield f'{CALLING}: ops that are not described: {sorted(set(here.ops) - described)}'
 
 
+def shown_faults(here, path, text):
+    """Commands with their output."""
+    for name, given, output in re.findall(r'^    \$ [^\n]*target/bin/(\w+) < (\S+)[^\n]*\n((?:    [^$\n][^\n]*\n)+)', text, re.M):
+        if here.bytes(given) != here.bytes(f'crates/{name}/stdin'):
+            yield f'{path}: {given} is not what crates/{name} is run on'
+        if re.sub('^    ', '', output, flags=re.M).encode() != here.bytes(f'crates/{name}/stdout'):
+            yield f'{path}: the output of {name} is not the stored one'
+
+
 def documents():
     return ['README.md', 'CONTRIBUTING.md', *sorted(set(glob.glob('docs/*.md')) - {'docs/SCOPE.md'})]
 
 
 def main():
     here = Here()
-    faults = [fault for path in documents() for fault in text_faults(here, path, read(path))]
+    faults = [fault for path in documents() for find in (text_faults, shown_faults) for fault in find(here, path, read(path))]
     faults += ops_faults(here, read(CALLING))
     for fault in dict.fromkeys(faults):
         print('docs:', fault)

@@ -17,6 +17,7 @@ class Small:
         'crates/net_logic/specs/View.antt': 'unfoldable pub partOf : Part\npub record Held (a : Part) : Type 0 where\n  pub at : Part\nnamed : Part\n',
         'crates/net_logic/must-fail/not_x.edit': '',
         'docs/CALLING.md': '',
+        'a.record': 'in', 'crates/lister/stdin': 'in', 'crates/lister/stdout': 'one\ntwo\n',
     }
 
     def text(self, path):
@@ -24,6 +25,9 @@ class Small:
 
     def exists(self, path):
         return path in self.files
+
+    def bytes(self, path):
+        return self.files[path].encode() if path in self.files else path
 
 
 WRONG = [
@@ -38,6 +42,9 @@ RIGHT = [
 CALLING = 'Ops that exist so far: {}.\n### Ops\n\n{}\n    1  const_not        in\n    2  const_and        in\n    29 lower_fallback   in\n\nNotes.\n'
 WRONG_OPS = [('1', docs.ALONE), ('1 to 3', docs.ALONE), ('1 and 2', ''), ('1, 2 and 29', docs.ALONE)]
 
+SHOWN = '    $ target/bin/lister < {}   # words\n    {}\n    two\n\ntext\n'
+WRONG_SHOWN = [('b.record', 'one'), ('a.record', 'on'), ('crates/lister/stdout', 'one')]
+
 
 def main():
     here, failed = Small(), []
@@ -48,6 +55,9 @@ def main():
         failed.append('found, but right: the ops')
     if not list(docs.ops_faults(here, CALLING.format('1 and 2', docs.ALONE).replace('    2  const_and', '    two'))):
         failed.append('not found: an op that is not described')
+    failed += [f'not found: {given}' for given in WRONG_SHOWN if not list(docs.shown_faults(here, 'a', SHOWN.format(*given)))]
+    if list(docs.shown_faults(here, 'a', SHOWN.format('a.record', 'one'))):
+        failed.append('found, but right: the output')
     for fault in failed:
         print('test_docs:', fault)
     return 1 if failed else 0
