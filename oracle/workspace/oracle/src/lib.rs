@@ -1,5 +1,6 @@
 //! The oracle: the unchanged Rust over a recording design, asked in the format of docs/CALLING.md.
 
+mod alone;
 mod answer;
 pub mod cases;
 pub mod check;
@@ -20,4 +21,5 @@ pub mod stream;
 pub mod stricter;
 pub mod wire;
 
+pub use alone::{ENDLESS, NO_CALL, PANICS, alone};
 pub use answer::{FINDING, NO_CASE, Outcome, Stop, answer, outcome};

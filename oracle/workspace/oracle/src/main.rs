@@ -24,6 +24,7 @@ oracle sample [short]            prints a sample: a case's words, =, the answer'
 oracle show [CASES [ANSWERS]]    prints cases and answers readably; answers by the oracle where no file has them
 oracle stricter                  prints, per op and number, the shortest refused case that the Rust takes
 oracle stats CASES ANSWERS       counts per op and refusal number
+oracle alone                     what the Rust alone does with the cases of standard input, refused ones too
 oracle run [OPTION..] [-- PROGRAM [ARG..]]
                                  compares a program with the oracle; without one, only the oracle answers
     --seed S --count N --ops OP,OP,..  which random cases (1, 10000, all)
@@ -42,9 +43,10 @@ fn main() -> ExitCode {
     let given: Vec<String> = std::env::args().skip(1).collect();
     let given: Vec<&str> = given.iter().map(String::as_str).collect();
     let done = match &given[..] {
-        ["answer"] => answer_all(|_, answer| Some(answer)),
+        ["answer"] => answer_all(|case| Some(answer(case))),
+        ["alone"] => answer_all(|case| Some(oracle::alone(case))),
         ["answer", "--damage", kind] => match damage::of(kind) {
-            Some(damage) => answer_all(damage),
+            Some(damage) => answer_all(|case| damage(case, answer(case))),
             None => return usage(),
         },
         ["gen", seed, count, ops @ ..] => match (seed.parse(), count.parse(), numbers(ops)) {
@@ -79,12 +81,12 @@ fn usage() -> ExitCode {
     ExitCode::from(WRONG_CALL)
 }
 
-/// Answers the cases of standard input. The change says what becomes of an answer; nothing ends the program.
-fn answer_all(change: impl Fn(&[u32], Vec<u32>) -> Option<Vec<u32>>) -> io::Result<u8> {
+/// Answers the cases of standard input, each by the function; where it gives nothing, the program ends.
+fn answer_all(by: impl Fn(&[u32]) -> Option<Vec<u32>>) -> io::Result<u8> {
     let mut input = BufReader::new(io::stdin().lock());
     let mut output = BufWriter::new(io::stdout().lock());
     while let Some(case) = read_block(&mut input)? {
-        let Some(answered) = change(&case, answer(&case)) else { break };
+        let Some(answered) = by(&case) else { break };
         write_block(&mut output, &answered)?;
     }
     output.flush()?;

@@ -40,7 +40,7 @@ fn taken(call: &Call) -> bool {
 }
 
 /// Calls that the Rust would work on without end, or with memory without bounds.
-fn endless(call: &Call) -> bool {
+pub(crate) fn endless(call: &Call) -> bool {
     const LARGE: u32 = 50_000;
     let large = call.memory().is_some_and(|memory| {
         memory.depth > LARGE || memory.width > LARGE || memory.read_ports.iter().any(|port| port.data_len > LARGE)
