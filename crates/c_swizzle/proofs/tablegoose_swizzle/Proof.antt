@@ -35,8 +35,10 @@ returns c =
     let g = c .before .before .before .before .before .before .before .before .before .before .before .before .before .before .before .before .before .memory-of in
     let r = c .swizzled-struct in (
       told-call (v .m) (g .result) (g .ensures) (v .nets .now) (v .trits .now) (v .output .now) (v .s) (v .entries .now) (v .writes .now) (v .reads .now) (v .st) (v .log .now) (v .image .now) (v .nets-to .now) (v .trits-to .now) (v .scratch .now) (d .last .0) (d .last .1 .1 .0) (d .last .1 .1 .1 .0) (d .last .1 .1 .1 .1 .0) (d .last .1 .1 .1 .1 .1 .0) (d .result) (r .result) (r .ensures) (d .ensures .0),
-      (told-fields (v .m) (g .result) (g .ensures) (v .nets .now) (v .trits .now) (v .output .now) (v .s) (v .entries .now) (v .writes .now) (v .reads .now) (v .st) (v .log .now) (v .image .now) (v .nets-to .now) (v .trits-to .now) (v .scratch .now) (d .last .0) (d .last .1 .1 .0) (d .last .1 .1 .1 .0) (d .last .1 .1 .1 .1 .0) (d .last .1 .1 .1 .1 .1 .0) (d .result) (r .result) (r .ensures) (d .ensures .0) (d .ensures .1),
-      told-struct (v .m) (g .result) (g .ensures) (v .nets .now) (v .trits .now) (v .output .now) (v .s) (v .entries .now) (v .writes .now) (v .reads .now) (v .st) (v .log .now) (v .image .now) (v .nets-to .now) (v .trits-to .now) (v .scratch .now) (d .last .0) (d .last .1 .1 .0) (d .last .1 .1 .1 .0) (d .last .1 .1 .1 .1 .0) (d .last .1 .1 .1 .1 .1 .0) (d .result) (r .result) (r .ensures) (d .ensures .0)),
+      (
+        told-fields (v .m) (g .result) (g .ensures) (v .nets .now) (v .trits .now) (v .output .now) (v .s) (v .entries .now) (v .writes .now) (v .reads .now) (v .st) (v .log .now) (v .image .now) (v .nets-to .now) (v .trits-to .now) (v .scratch .now) (d .last .0) (d .last .1 .1 .0) (d .last .1 .1 .1 .0) (d .last .1 .1 .1 .1 .0) (d .last .1 .1 .1 .1 .1 .0) (d .result) (r .result) (r .ensures) (d .ensures .0) (d .ensures .1),
+        told-struct (v .m) (g .result) (g .ensures) (v .nets .now) (v .trits .now) (v .output .now) (v .s) (v .entries .now) (v .writes .now) (v .reads .now) (v .st) (v .log .now) (v .image .now) (v .nets-to .now) (v .trits-to .now) (v .scratch .now) (d .last .0) (d .last .1 .1 .0) (d .last .1 .1 .1 .0) (d .last .1 .1 .1 .1 .0) (d .last .1 .1 .1 .1 .1 .0) (d .result) (r .result) (r .ensures) (d .ensures .0),
+      ),
     )
 
 pub tablegoose-swizzle-spec : {M : Type 1} → statement M
