@@ -4,7 +4,9 @@
 mod calls;
 mod layouts;
 mod lent;
+mod needs;
 mod ports;
+mod swizzles;
 mod wire;
 
 use tablegoose::Lowered;
