@@ -619,21 +619,12 @@ typedef struct {
     uint32_t patches;
 } tablegoose_swizzled_patches;
 
-/* Words and new nets of the log; elements of image, nets_to, trits_to and scratch. */
-typedef struct {
-    uint32_t number;
-    uint64_t words;
-    uint64_t new_nets;
-    size_t image;
-    size_t nets;
-    size_t trits;
-    size_t scratch;
-} tablegoose_needs;
-
 /* A memory split by a plan: output has a net for each output bit. An accepted call writes the log, the image and the first nets_used and trits_used elements
  * of nets_to and trits_to; of scratch, as many elements as it needs have any values after it. Width 0 gives no memories and logs nothing; depth 0 gives none
  * either, takes the flip-flops out of the memory and replaces the outputs by X. Numbers 1, 2 (also output_len), 3, 4 (also output), 7, 8, 9, 10 (not for
- * width 0), 14 (depth 0: a transparent pair's narrower address is too short), 20 (log, image, nets_to, trits_to or scratch), 21. */
+ * width 0), 14 (depth 0: a transparent pair's narrower address is too short), 20 (log, image, nets_to, trits_to or scratch), 21.
+ * Rooms, with C for unit x all_mems of tablegoose_measure and n for a port's new wide log: image image_size; nets_to hard - n + 2 C 2^n for each write port
+ * and hard - n for each read port; trits_to 3 C 2^n for each clocked read port; of scratch C 2^n of the read port with the largest n are enough. */
 tablegoose_swizzled tablegoose_swizzle(uint32_t *log, size_t log_len, tablegoose_log_state st, uint8_t *image, size_t image_len, uint32_t *nets_to,
                                        size_t nets_to_len, uint8_t *trits_to, size_t trits_to_len, uint32_t *scratch, size_t scratch_len,
                                        tablegoose_memory m, const uint32_t *nets, size_t nets_len, const uint8_t *trits, size_t trits_len,
@@ -648,12 +639,6 @@ tablegoose_swizzled_patches tablegoose_swizzle_and_patch(
     size_t nets_len, const uint8_t *trits, size_t trits_len, const uint32_t *output, size_t output_len, tablegoose_memory_swizzle s,
     const uint32_t *entries, size_t entries_len, const uint32_t *writes, size_t writes_len, const uint32_t *reads, size_t reads_len,
     const uint32_t *calls, size_t calls_len, const uint8_t *rows, size_t rows_len);
-
-/* What such a swizzle gives to the log, and the rooms that it needs. Numbers 1 to 14 of tablegoose_swizzle. */
-tablegoose_needs tablegoose_swizzle_needs(tablegoose_log_state st, tablegoose_memory m, const uint32_t *nets, size_t nets_len, const uint8_t *trits,
-                                          size_t trits_len, const uint32_t *output, size_t output_len, tablegoose_memory_swizzle s,
-                                          const uint32_t *entries, size_t entries_len, const uint32_t *writes, size_t writes_len,
-                                          const uint32_t *reads, size_t reads_len);
 
 /* Memory n's depth; 0 where there is no such memory. No numbers. */
 uint32_t tablegoose_swizzled_depth(tablegoose_wide_memory g, size_t n);

@@ -81,7 +81,7 @@ pub fn port(call: Call) -> Job {
             let (request, (mut words, st)) = (c.request.clone(), log(c.request.log));
             let (p, output) = (request.plan, request.output);
             let s = ffi::MemorySwizzle { soft_addr_bits_mask: p.soft_mask, hard_addr_bits: p.hard, data_width_unit: p.unit };
-            let needs = ffi::swizzle_needs(st, numbers, &nets, &trits, &output, s, &p.entries, &p.write_logs, &p.read_logs);
+            let needs = tablegoose::SwizzleRooms::of(&numbers, s, &p.entries, &p.write_logs, &p.read_logs);
             let (mut image, mut nets_to, mut trits_to) = (vec![0; needs.image], vec![0; needs.nets], vec![0; needs.trits]);
             let mut scratch = vec![0; needs.scratch];
             job(move || {

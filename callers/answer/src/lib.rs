@@ -4,7 +4,6 @@
 mod calls;
 mod layouts;
 mod lent;
-mod needs;
 mod ports;
 mod swizzles;
 mod wire;

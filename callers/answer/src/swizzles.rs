@@ -1,16 +1,13 @@
 //! Ops 27 and 30: a swizzle with patches, and histories. Log and image have the rooms of the case, the other rooms are exactly as large as needed; each of
 //! these is also tried one short. Op 27 runs by single patches and at once, and both must agree.
 
+use tablegoose::SwizzleRooms;
 use tablegoose::ffi::{self, LogState, WideMemory};
 
 use crate::calls::{IMAGE_ROOM, Outcome, logged};
 use crate::layouts::{patch_lent, patches};
 use crate::lent::Lent;
-use crate::needs::Needs;
 use crate::wire::{Memory, Plan, Words, put_control, put_list};
-
-/// The next free net never passes this.
-const MAX_NETS: u64 = 16_777_216;
 
 /// What a swizzle asks for.
 struct Asked {
@@ -48,7 +45,13 @@ impl Asked {
         Some(Asked { image_room, log_room, st, m, output: words.words("output")?, plan: words.plan()? })
     }
 
-    fn rooms(&self, needs: Needs) -> Rooms {
+    /// What the call needs beside the log; the image has the room of the case.
+    fn needs(&self) -> SwizzleRooms {
+        let p = &self.plan;
+        SwizzleRooms::of(&self.m.numbers, p.numbers, p.entries.get(), p.writes.get(), p.reads.get())
+    }
+
+    fn rooms(&self, needs: SwizzleRooms) -> Rooms {
         Rooms {
             log: Lent::room("log", self.log_room),
             image: Lent::room("image", self.image_room),
@@ -101,37 +104,8 @@ impl Asked {
         )
     }
 
-    /// What the library says that the call needs, held to the closed form.
-    fn needs(&self, own: Needs) -> ffi::SwizzleNeeds {
-        let (m, p) = (&self.m, &self.plan);
-        let (entries, writes, reads) = (p.entries.get(), p.writes.get(), p.reads.get());
-        let needs = ffi::swizzle_needs(self.st, m.numbers, m.nets.get(), m.trits.get(), self.output.get(), p.numbers, entries, writes, reads);
-        let alike = match needs.number {
-            0 => (needs.nets, needs.trits, needs.scratch, needs.image) == (own.nets, own.trits, own.scratch, self.image_len()),
-            number => needs == ffi::SwizzleNeeds { number, ..Default::default() },
-        };
-        assert!(alike, "finding: swizzle_needs gives {needs:?}, the closed form {own:?}");
-        needs
-    }
-
-    /// The number that these needs and the rooms of the case bring.
-    fn number_by(&self, needs: &ffi::SwizzleNeeds) -> u32 {
-        let (used, next) = (self.st.used as u64, self.st.next as u64);
-        match needs.number {
-            0 if self.image_room < needs.image || used + needs.words > self.log_room as u64 => 20,
-            0 if next < 2 || next + needs.new_nets > MAX_NETS => 21,
-            number => number,
-        }
-    }
-
-    /// The trits of the image, where the layout has one.
-    fn image_len(&self) -> usize {
-        let params = self.plan.params(self.m.numbers.depth, self.m.numbers.width);
-        ffi::measure(params, self.plan.entries.get()).shape.image_size as usize
-    }
-
     /// What a call wrote, or its number; a refused one gives back the state and no memories.
-    fn ran(&self, own: Needs, mut rooms: Rooms, answer: ffi::Swizzled) -> Result<Ran, u32> {
+    fn ran(&self, needs: SwizzleRooms, mut rooms: Rooms, answer: ffi::Swizzled) -> Result<Ran, u32> {
         if logged(answer.number, self.st, answer.state) != 0 {
             let none = ffi::Swizzled {
                 number: answer.number,
@@ -149,47 +123,52 @@ impl Asked {
         assert!(answer.laid == ffi::laid_out(params, self.plan.entries.get()), "finding: another state than the layout's");
         let head = ffi::sizes_of(answer.laid);
         assert!(head.number == 0 && answer.sizes == head.sizes, "finding: other sizes than the layout's");
-        assert!((answer.nets_used, answer.trits_used) == (own.nets, own.trits), "finding: other counts of nets and trits");
-        rooms.scratch.wrote(0..own.scratch);
+        assert!((answer.nets_used, answer.trits_used) == (needs.nets, needs.trits), "finding: other counts of nets and trits");
+        rooms.scratch.wrote(0..needs.scratch);
         Ok(Ran {
             log: rooms.log.wrote(self.st.used..answer.state.used).to_vec(),
-            image: rooms.image.wrote(0..self.image_len()).to_vec(),
-            nets: rooms.nets.wrote(0..own.nets).to_vec(),
-            trits: rooms.trits.wrote(0..own.trits).to_vec(),
+            image: rooms.image.wrote(0..needs.image).to_vec(),
+            nets: rooms.nets.wrote(0..needs.nets).to_vec(),
+            trits: rooms.trits.wrote(0..needs.trits).to_vec(),
             answer,
         })
     }
 
-    /// The swizzle by itself, after it was tried with each of its own rooms one short.
+    /// The swizzle by itself, and with each of its own rooms one short.
     fn run(&self) -> Result<Ran, u32> {
-        let own = Needs::of(&self.m.numbers, &self.plan);
-        let needs = self.needs(own);
-        for short in own.one_short() {
+        let needs = self.needs();
+        let mut rooms = self.rooms(needs);
+        let answer = self.call(&mut rooms);
+        // The numbers of the input stand before that of the rooms.
+        let number = if matches!(answer.number, 0 | 20 | 21) { 20 } else { answer.number };
+        for short in one_short(needs) {
             let mut rooms = self.rooms(short);
             let answer = self.call(&mut rooms);
-            let number = if needs.number == 0 { 20 } else { needs.number };
-            assert!(answer.number == number, "finding: {} and not {number} with a room one short: {short:?} of {own:?}", answer.number);
-            assert!(self.ran(own, rooms, answer).is_err());
+            let refused = self.ran(needs, rooms, answer).err();
+            assert!(refused == Some(number), "finding: {refused:?} and not {number} with a room one short: {short:?} of {needs:?}");
         }
-        let mut rooms = self.rooms(own);
-        let answer = self.call(&mut rooms);
-        let number = self.number_by(&needs);
-        assert!(answer.number == number, "finding: {} and not {number}, which its needs say: {needs:?}", answer.number);
-        let given = (answer.state.used - self.st.used) as u64;
-        let counted = answer.number != 0 || (given, (answer.state.next - self.st.next) as u64) == (needs.words, needs.new_nets);
-        assert!(counted, "finding: other words or nets than it needs: {needs:?}");
-        self.ran(own, rooms, answer)
+        self.ran(needs, rooms, answer)
     }
 
     /// The swizzle and its patches at once: what it gave and wrote, and the number of each patch.
     fn run_and_patch(&self, calls: &Lent<u32>, rows: &Lent<u8>) -> Result<(Ran, Vec<u32>), u32> {
-        let (own, count) = (Needs::of(&self.m.numbers, &self.plan), calls.get().len() / 4);
-        let (mut rooms, mut numbers) = (self.rooms(own), Lent::room("numbers", count));
+        let (needs, count) = (self.needs(), calls.get().len() / 4);
+        let (mut rooms, mut numbers) = (self.rooms(needs), Lent::room("numbers", count));
         let both = self.call_and_patch(&mut rooms, numbers.get_mut(), calls.get(), rows.get());
         assert!(both.patches == both.swizzled.number, "finding: the list's number is {}", both.patches);
-        let ran = self.ran(own, rooms, both.swizzled)?;
+        let ran = self.ran(needs, rooms, both.swizzled)?;
         Ok((ran, numbers.wrote(0..count).to_vec()))
     }
+}
+
+/// The same needs with one room short by one, for each room that is not empty.
+fn one_short(needs: SwizzleRooms) -> impl Iterator<Item = SwizzleRooms> {
+    let short = [
+        needs.nets.checked_sub(1).map(|nets| SwizzleRooms { nets, ..needs }),
+        needs.trits.checked_sub(1).map(|trits| SwizzleRooms { trits, ..needs }),
+        needs.scratch.checked_sub(1).map(|scratch| SwizzleRooms { scratch, ..needs }),
+    ];
+    short.into_iter().flatten()
 }
 
 /// One patch by the state that a swizzle handed on, and the row read back where it is accepted.

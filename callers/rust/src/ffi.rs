@@ -193,11 +193,6 @@ c_struct! {
     /// What a swizzle gives, and the number of the list of patches after it.
     SwizzledPatches { swizzled: Swizzled, patches: u32 }
 }
-c_struct! {
-    /// The refusal number or 0; what a swizzle gives to the log, and the rooms that it needs.
-    #[derive(Default)]
-    SwizzleNeeds { number: u32, words: u64, new_nets: u64, image: usize, nets: usize, trits: usize, scratch: usize }
-}
 
 /// Read ports, write ports, and the length of a list of ports.
 pub const MAX_PORTS: usize = 8;
@@ -339,10 +334,6 @@ exported! {
         m: Memory, nets: &[u32], trits: &[u8], output: &[u32],
         s: MemorySwizzle, entries: &[u32], writes: &[u32], reads: &[u32], calls: &[u32], rows: &[u8]
     ) -> SwizzledPatches;
-    swizzle_needs(
-        st: LogState, m: Memory, nets: &[u32], trits: &[u8], output: &[u32],
-        s: MemorySwizzle, entries: &[u32], writes: &[u32], reads: &[u32]
-    ) -> SwizzleNeeds;
     swizzled_depth(g: WideMemory, n: usize) -> u32;
     swizzled_image(g: WideMemory, n: usize) -> Part;
     swizzled_write_addr(g: WideMemory, n: usize, j: usize) -> Part;

@@ -125,10 +125,6 @@ impl Log {
         Refusal::check(swizzled.number).map(|()| swizzled)
     }
 
-    pub(crate) fn state(&self) -> ffi::LogState {
-        self.state
-    }
-
     /// So many new nets.
     pub fn add_void(&mut self, width: u32) -> Result<Vec<Net>, Refusal> {
         self.made(width as usize, |log, st| ffi::add_void(log, st, width))

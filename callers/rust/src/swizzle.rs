@@ -34,15 +34,7 @@ use crate::memory::{Lowered, Memory, ReadPort, Swizzle, WritePort, entry_words, 
 use crate::net::{Control, Net, Trit, nets_of, numbers, trits_of};
 use crate::record::{Record, Sizes};
 use crate::refusal::Refusal;
-
-/// What a swizzle gives to the log.
-#[derive(Clone, Copy, Debug, PartialEq, Eq)]
-pub struct Needs {
-    /// The words that it appends.
-    pub words: u64,
-    /// The new nets.
-    pub nets: u64,
-}
+use crate::rooms::SwizzleRooms;
 
 /// What a swizzle gives: memories that share their ports, and their image, of which patches exchange rows.
 #[derive(Clone, Debug, PartialEq, Eq)]
@@ -78,37 +70,24 @@ impl Given {
 }
 
 impl Memory {
-    fn needs(&self, log: &Log, output: &[u32], plan: &Swizzle) -> Result<ffi::SwizzleNeeds, Refusal> {
-        let (l, entries) = (self.lowered(), entry_words(&plan.data_swizzle));
-        let (writes, reads) = (&plan.write_wide_log2, &plan.read_wide_log2);
-        let needs = ffi::swizzle_needs(log.state(), l.memory, &l.nets, &l.trits, output, plan.lowered(), &entries, writes, reads);
-        Refusal::check(needs.number).map(|()| needs)
-    }
-
-    fn given(&self, log: &Log, output: &[Net], plan: &Swizzle) -> Result<Given, Refusal> {
-        let output = numbers(output);
-        let needs = self.needs(log, &output, plan)?;
-        Ok(Given {
-            memory: self.lowered(),
-            output,
-            entries: entry_words(&plan.data_swizzle),
-            image: vec![Trit::X.code(); needs.image],
-            nets: vec![0; needs.nets],
-            trits: vec![Trit::X.code(); needs.trits],
-            scratch: vec![0; needs.scratch],
-        })
-    }
-
-    /// What [`Memory::swizzle`] would give to a log. Numbers 1 to 14 of it.
-    pub fn swizzle_needs(&self, log: &Log, output: &[Net], plan: &Swizzle) -> Result<Needs, Refusal> {
-        let needs = self.needs(log, &numbers(output), plan)?;
-        Ok(Needs { words: needs.words, nets: needs.new_nets })
+    fn given(&self, output: &[Net], plan: &Swizzle) -> Given {
+        let (memory, entries) = (self.lowered(), entry_words(&plan.data_swizzle));
+        let rooms = SwizzleRooms::of(&memory.memory, plan.lowered(), &entries, &plan.write_wide_log2, &plan.read_wide_log2);
+        Given {
+            memory,
+            output: numbers(output),
+            entries,
+            image: vec![Trit::X.code(); rooms.image],
+            nets: vec![0; rooms.nets],
+            trits: vec![Trit::X.code(); rooms.trits],
+            scratch: vec![0; rooms.scratch],
+        }
     }
 
     /// The memory split by a plan; `output` has a net for each output bit, and an entry of the log replaces each. The cells that the memories need stand in
     /// the log. Width 0 gives no memories, depth 0 neither. Numbers 1 to 4, 7 to 10, 14, 20 (the log) and 21.
     pub fn swizzle(&self, log: &mut Log, output: &[Net], plan: &Swizzle) -> Result<Swizzled, Refusal> {
-        let mut g = self.given(log, output, plan)?;
+        let mut g = self.given(output, plan);
         let (l, s, entries) = (&g.memory, plan.lowered(), &g.entries);
         let (writes, reads) = (&plan.write_wide_log2, &plan.read_wide_log2);
         let answer = log.swizzled(|words, st| {
@@ -120,7 +99,7 @@ impl Memory {
 
     /// The same, and a list of patches of its image: the number of each patch, 0 where it was accepted.
     pub fn swizzle_and_patch(&self, log: &mut Log, output: &[Net], plan: &Swizzle, patches: &[Patch]) -> Result<(Swizzled, Vec<u32>), Refusal> {
-        let mut g = self.given(log, output, plan)?;
+        let mut g = self.given(output, plan);
         let (l, s, entries) = (&g.memory, plan.lowered(), &g.entries);
         let (writes, reads) = (&plan.write_wide_log2, &plan.read_wide_log2);
         let ((calls, rows), mut each) = (calls_of(patches), vec![0; patches.len()]);

@@ -214,10 +214,9 @@ fn swizzles() {
         }
     };
     sweep(case("swizzle", swizzle_rooms(), swizzle(&[0]), 7, swizzle(&[1])));
-    let needs = ffi::swizzle_needs(state(), memory(), &NETS, &TRITS, &[80], plan(), &[0], &[0], &[0]);
-    assert_eq!(needs, ffi::SwizzleNeeds { number: 0, words: 60, new_nets: 8, image: 2, nets: 4, trits: 6, scratch: 2 });
-    let needs = ffi::swizzle_needs(state(), memory(), &NETS, &TRITS, &[80], plan(), &[0], &[0], &[]);
-    assert_eq!(needs, ffi::SwizzleNeeds { number: 9, ..Default::default() });
+    let rooms = tablegoose::SwizzleRooms::of(&memory(), plan(), &[0], &[0], &[0]);
+    assert_eq!(rooms, tablegoose::SwizzleRooms { image: 2, nets: 4, trits: 6, scratch: 2 });
+    assert_eq!(tablegoose::SwizzleRooms::of(&memory(), plan(), &[0], &[0], &[]), tablegoose::SwizzleRooms::default());
 }
 
 /// Row 1 becomes X, and row 2 is not there.
