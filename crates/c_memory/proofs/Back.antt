@@ -12,7 +12,7 @@ use Rattle.net_memory.specs.declared.MemoryReadFlipFlop.the-variants.{None, Som
 use Rattle.net_memory.specs.declared.MemoryReadPort.{MemoryReadPort}
 use Rattle.net_memory.specs.declared.Memory.{Memory as MachineMemory}
 use Rattle.c_net.specs.View.{flagCode, givenControl}
-use Rattle.c_memory.specs.View.{netOf, givenNet, noControl, givenWrite, givenClock, givenReset, givenFlipFlop, givenRead, givenMemory, netStruct, writeStruct, flipFlopStruct, readWith, readStruct, memoryStruct}
+use Rattle.c_memory.specs.View.{netOf, givenNet, noControl, givenWrite, givenClock, givenReset, givenFlipFlop, givenRead, givenMemory, netStruct, writeStruct, flipFlopStruct, readStruct, memoryStruct}
 use Rattle.c_memory.proofs.Each.{undone}
 
 -- a control by its view
@@ -20,7 +20,7 @@ pub by-view : (c : ControlNet) → netOf (controlOf c) ≡ c
 by-view (Pos n) = refl
 by-view (Neg n) = refl
 
-net-back : (c : ControlNet) → givenNet (netStruct c) ≡ c
+pub net-back : (c : ControlNet) → givenNet (netStruct c) ≡ c
 unfolding givenControl
 net-back (Pos n) = refl
 net-back (Neg n) = refl
@@ -37,10 +37,10 @@ reset-back : (b : Bool) (c : ControlNet) → if ltb 1 (flagCode b) then noContro
 reset-back true c = net-back c
 reset-back false c = net-back c
 
-flip-flop-back : (p : MemoryReadPort) (f : MemoryReadFlipFlop) → givenFlipFlop (readWith p (flipFlopStruct f)) ≡ f
+pub flip-flop-back : (f : MemoryReadFlipFlop) → givenFlipFlop (flipFlopStruct f) ≡ f
 unfolding givenFlipFlop givenClock givenReset
-flip-flop-back p None = refl
-flip-flop-back p (Some f) = λ i. Some (record {
+flip-flop-back None = refl
+flip-flop-back (Some f) = λ i. Some (record {
   clock = net-back (f .clock) i;
   clear = net-back (f .clear) i;
   reset = reset-back (f .«reset_over_enable») (f .reset) i;
@@ -57,7 +57,7 @@ read-back p = λ i. record {
   «init_len» = p .«init_len»;
   «relations_len» = p .«relations_len»;
   relations = p .relations;
-  «flip_flop» = flip-flop-back p (p .«flip_flop») i;
+  «flip_flop» = flip-flop-back (p .«flip_flop») i;
 }
 
 pub memory-back : (m : MachineMemory) → givenMemory (memoryStruct m) ≡ m

@@ -38,14 +38,14 @@ abbrev pub givenWrite : WritePort → MemoryWritePort
 givenWrite p = record { «addr_len» = p .«addr_len»; «data_len» = p .«data_len»; «mask_len» = p .«mask_len»; clock = givenNet (p .clock) }
 
 -- the clock of a clocked port: no control where the flag `clocked` is above 1
-unfoldable pub givenClock : ReadPort → ControlNet
+unfoldable pub givenClock : FlipFlop → ControlNet
 givenClock p = if eqb (p .clocked) 1 then givenNet (p .clock) else noControl
 
 -- its reset: no control where the flag `reset_over_enable` is above 1
-unfoldable pub givenReset : ReadPort → ControlNet
+unfoldable pub givenReset : FlipFlop → ControlNet
 givenReset p = if ltb 1 (p .«reset_over_enable») then noControl else givenNet (p .reset)
 
-abbrev pub givenControls : ReadPort → Controls
+abbrev pub givenControls : FlipFlop → Controls
 givenControls p = record {
   clock = givenClock p;
   clear = givenNet (p .clear);
@@ -54,8 +54,11 @@ givenControls p = record {
   «reset_over_enable» = eqb (p .«reset_over_enable») 1;
 }
 
-unfoldable pub givenFlipFlop : ReadPort → MemoryReadFlipFlop
+unfoldable pub givenFlipFlop : FlipFlop → MemoryReadFlipFlop
 givenFlipFlop p = if eqb (p .clocked) 0 then None else Some (givenControls p)
+
+abbrev pub fieldsOf : ReadPort → FlipFlop
+fieldsOf p = record { clocked = p .clocked; clock = p .clock; clear = p .clear; reset = p .reset; enable = p .enable; «reset_over_enable» = p .«reset_over_enable» }
 
 abbrev pub givenRead : ReadPort → MemoryReadPort
 givenRead p = record {
@@ -66,7 +69,7 @@ givenRead p = record {
   «init_len» = p .«init_len»;
   «relations_len» = p .«relations_len»;
   relations = p .relations;
-  «flip_flop» = givenFlipFlop p;
+  «flip_flop» = givenFlipFlop (fieldsOf p);
 }
 
 unfoldable pub givenMemory : Memory → MachineMemory

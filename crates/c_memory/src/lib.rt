@@ -16,7 +16,7 @@ use port_outputs::CanLower;
 use port_outputs::OutputLen;
 use port_outputs::OutputSlice;
 
-mod ports;
+pub mod ports;
 
 #[repr(C)]
 pub struct WritePort {
@@ -56,13 +56,13 @@ pub struct Memory {
 }
 
 // The fields of a read port that say its flip-flop.
-struct FlipFlop {
-    clocked: u32,
-    clock: Control,
-    clear: Control,
-    reset: Control,
-    enable: Control,
-    reset_over_enable: u32,
+pub struct FlipFlop {
+    pub clocked: u32,
+    pub clock: Control,
+    pub clear: Control,
+    pub reset: Control,
+    pub enable: Control,
+    pub reset_over_enable: u32,
 }
 
 // A refusal's number and zeros, or 0 and a part's start and size, or a memory.

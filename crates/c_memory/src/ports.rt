@@ -1,7 +1,7 @@
 // A caller's ports as the library's, and back.
 ghost use mathlib.Core.Path.{_≡_};
 ghost use mathlib.Core.List.{map};
-ghost use Rattle.c_memory.specs.View.{givenNet, givenWrite, givenClock, givenReset, givenControls, givenFlipFlop, givenRead, netStruct, writeStruct, clockedStruct, noFlipFlop, flipFlopStruct, readWith, readStruct, zeroControl, zeroWrite, zeroRead};
+ghost use Rattle.c_memory.specs.View.{givenNet, givenWrite, givenClock, givenReset, givenControls, givenFlipFlop, fieldsOf, givenRead, netStruct, writeStruct, clockedStruct, noFlipFlop, flipFlopStruct, readWith, readStruct, zeroControl, zeroWrite, zeroRead};
 use crate::FlipFlop;
 use crate::ReadPort;
 use crate::WritePort;
@@ -15,7 +15,7 @@ use net_value::Net;
 
 // ---- from a caller's struct
 
-fn net_of(c: Control) -> ControlNet
+pub fn net_of(c: Control) -> ControlNet
     ensures { λ r. ⌜ r ≡ givenNet c ⌝ }
 {
     c_net::control_net(c)
@@ -34,7 +34,7 @@ fn write_of(p: WritePort) -> MemoryWritePort
 }
 
 // The clock of a clocked port. A flag above 1 gives Neg(0), which is no control: calls refuse it by 4.
-fn clock_of(p: ReadPort) -> ControlNet
+fn clock_of(p: FlipFlop) -> ControlNet
     ensures { λ r. ⌜ r ≡ givenClock p ⌝ }
 {
     if p.clocked == 1 {
@@ -45,7 +45,7 @@ fn clock_of(p: ReadPort) -> ControlNet
 }
 
 // Its reset: Neg(0) too where the flag `reset_over_enable` is above 1.
-fn reset_of(p: ReadPort) -> ControlNet
+fn reset_of(p: FlipFlop) -> ControlNet
     ensures { λ r. ⌜ r ≡ givenReset p ⌝ }
 {
     if 1 < p.reset_over_enable {
@@ -55,7 +55,7 @@ fn reset_of(p: ReadPort) -> ControlNet
     net_of(reset)
 }
 
-fn controls_of(p: ReadPort) -> Controls
+fn controls_of(p: FlipFlop) -> Controls
     ensures { λ r. ⌜ r ≡ givenControls p ⌝ }
 {
     let clear = p.clear;
@@ -69,13 +69,30 @@ fn controls_of(p: ReadPort) -> Controls
     }
 }
 
-fn flip_flop_of(p: ReadPort) -> MemoryReadFlipFlop
+pub fn flip_flop_of(p: FlipFlop) -> MemoryReadFlipFlop
     ensures { λ r. ⌜ r ≡ givenFlipFlop p ⌝ }
 {
     if p.clocked == 0 {
         return MemoryReadFlipFlop::None;
     }
     MemoryReadFlipFlop::Some(controls_of(p))
+}
+
+fn fields_of(r: ReadPort) -> FlipFlop
+    ensures { λ f. ⌜ f ≡ fieldsOf r ⌝ }
+{
+    let clock = r.clock;
+    let clear = r.clear;
+    let reset = r.reset;
+    let enable = r.enable;
+    FlipFlop {
+        clocked: r.clocked,
+        clock: clock,
+        clear: clear,
+        reset: reset,
+        enable: enable,
+        reset_over_enable: r.reset_over_enable,
+    }
 }
 
 fn read_of(p: ReadPort) -> MemoryReadPort
@@ -90,7 +107,7 @@ fn read_of(p: ReadPort) -> MemoryReadPort
         init_len: p.init_len,
         relations_len: p.relations_len,
         relations: relations,
-        flip_flop: flip_flop_of(p),
+        flip_flop: flip_flop_of(fields_of(p)),
     }
 }
 
@@ -137,7 +154,7 @@ fn write_struct(p: MemoryWritePort) -> WritePort
     }
 }
 
-fn zero_control() -> Control
+pub fn zero_control() -> Control
     ensures { λ r. ⌜ r ≡ zeroControl ⌝ }
 {
     Control {
@@ -177,7 +194,7 @@ fn clocked_struct(c: Controls) -> FlipFlop
     }
 }
 
-fn flip_flop_struct(f: MemoryReadFlipFlop) -> FlipFlop
+pub fn flip_flop_struct(f: MemoryReadFlipFlop) -> FlipFlop
     ensures { λ r. ⌜ r ≡ flipFlopStruct f ⌝ }
 {
     match f {

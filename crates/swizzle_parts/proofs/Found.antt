@@ -14,7 +14,7 @@ use borrow.Author.Tests.{leb-true, ltb-true, ltb-false, le-leb, lt-leb}
 use Rattle.lists.specs.Choice.{if_then_else_}
 use Rattle.lists.specs.Lists.{sumBy, part, all, upFrom, concatMap}
 use Rattle.lists.specs.Views.{views}
-use Rattle.lists.proofs.Choice.{and-true, and-false, if-true, if-false}
+use Rattle.lists.proofs.Choice.{and-true, and-false, if-true}
 use Rattle.lists.proofs.UpFrom.{length-up, getD-up}
 use Rattle.lists.proofs.Views.{length-views}
 use Rattle.rules.specs.Limits.{maxPorts, maxWide, maxUnit, maxColumns, maxNets}
@@ -29,7 +29,7 @@ use Rattle.net_flip_flop.specs.declared.Controls.{Controls}
 use Rattle.net_memory.specs.declared.MemoryReadFlipFlop.{MemoryReadFlipFlop}
 use Rattle.net_memory.specs.declared.MemoryReadFlipFlop.the-variants.{None, Some}
 use Rattle.swizzle_result.specs.View.{own, whole, flipFlopBy, writePorts, readPorts, writeSize, addrSize, tritSize, noTrits, writeBy, readBy, readsStart, resultOf, resultsOf}
-use Rattle.swizzle_parts.specs.Parts.{noWrite, noRead, noMemory, writePort, readPort, smallWrite, smallRead, isSmall, Small, isThere, There, hasWrite, hasRead, memoryAt, clearAt, resetAt, initAt, writeStart, readStart, tritStart, writeNets, readNets, readTrits}
+use Rattle.swizzle_parts.specs.Parts.{noWrite, noRead, noMemory, writePort, readPort, smallWrite, smallRead, isSmall, Small, isThere, There, hasWrite, hasRead, memoryAt, clearAt, resetAt, initAt, writeNets, readNets, readTrits}
 
 -- ---- lists
 all-at : {A : Type 0} (f : A → Bool) (d : A) (l : List A) → all f l ≡ true → f d ≡ true → (i : ℕ) → f (getD l i d) ≡ true
@@ -219,7 +219,7 @@ module _ (g : WideMemory) (n j : ℕ) where
   unfolding hasWrite
   write-there e = and-true (isThere g n) _ e .0
 
-  read-there : hasRead g n j ≡ true → isThere g n ≡ true
+  pub read-there : hasRead g n j ≡ true → isThere g n ≡ true
   unfolding hasRead
   read-there e = and-true (isThere g n) _ e .0
 

@@ -3,3 +3,5 @@ pub mod Sized
 pub mod Powers
 pub mod Found
 pub mod Depths
+pub mod Outs
+pub mod Cuts

@@ -14,6 +14,7 @@ use Rattle.net_memory.specs.declared.MemoryReadFlipFlop.the-variants.{None}
 use Rattle.swizzle_result.specs.declared.WideWritePort.{WideWritePort}
 use Rattle.swizzle_result.specs.declared.WideReadPort.{WideReadPort}
 use Rattle.swizzle_result.specs.declared.WideMemory.{WideMemory}
+use Rattle.swizzle_parts.specs.declared.Part.{Part}
 use Rattle.swizzle_result.specs.View.{writePorts, readPorts, writeSize, addrSize, tritSize, readsStart, resultsOf}
 
 -- what stands past the last port, and past the last memory
@@ -25,6 +26,9 @@ noRead = record { «addr_len» = 0; wide = 0; first = 0; «relations_len» = 0; 
 
 abbrev pub noMemory : Driving
 noMemory = record { memory = record { depth = 0; width = 0; init = []; writes = []; reads = [] }; output = [] }
+
+abbrev pub noPart : Part
+noPart = record { start = 0; size = 0 }
 
 abbrev pub writePort : WideMemory → ℕ → WideWritePort
 writePort g j = getD (g .«write_ports») j noWrite

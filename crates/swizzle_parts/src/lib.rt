@@ -1,19 +1,26 @@
-// What a swizzle gives, memory by memory: small functions that find a memory's part of the ports, trits, outputs and image in the lent arrays.
+// What a swizzle gives, memory by memory: small functions that find a memory's part of the ports, trits and image in the lent arrays, and its output nets.
 //
 // A struct whose numbers pass the limits of a swizzle, which no swizzle gives, holds no memory.
 ghost use mathlib.Core.Path.{_≡_};
 ghost use mathlib.Core.List.{List};
-ghost use Prim.Native.Nat.{ℕ, _+_, _*_, _^_, _<_, _≤_, min};
-ghost use lib.Seq.{sets};
+ghost use Prim.Native.Nat.{ℕ, _+_, _*_, _<_, _≤_, min};
+ghost use lib.ListN.{getD};
 ghost use Rattle.lists.specs.Lists.{all, part};
-ghost use Rattle.rules.specs.Limits.{maxPorts, maxWide, maxUnit, maxColumns};
-ghost use Rattle.rules.specs.Cell.{writeAt, readAt};
-ghost use Rattle.swizzle_result.specs.View.{own, whole, writePorts, readPorts, writeSize, tritSize, startBy};
-ghost use Rattle.swizzle_parts.specs.Parts.{smallWrite, smallRead, isSmall, Small, isThere, There, hasWrite, hasRead, memoryAt, writePort, readPort, writeStart, readStart, tritStart, writeNets, readNets, readTrits, clearAt, resetAt, initAt};
+ghost use Rattle.rules.specs.Limits.{maxPorts, maxWide, maxUnit, maxColumns, maxNets};
+ghost use Rattle.rules.specs.Cell.{writeAt, readAt, outputSlice};
+ghost use Rattle.swizzle_result.specs.View.{own, whole, writePorts, readPorts, writeSize, tritSize, startBy, outputBy};
+ghost use Rattle.swizzle_parts.specs.Parts.{smallWrite, smallRead, isSmall, Small, isThere, There, hasWrite, hasRead, memoryAt, readPort, writeStart, readStart, tritStart, clearAt, resetAt, initAt, noPart};
 use net_memory::MemoryReadFlipFlop;
 use swizzle_result::WideMemory;
 use swizzle_result::WideReadPort;
 use swizzle_result::WideWritePort;
+
+// A part of a lent array; 0, 0 where there is none.
+#[repr(C)]
+pub struct Part {
+    pub start: usize,
+    pub size: usize,
+}
 
 // The numbers of the write ports in use are small.
 fn writes_small(g: WideMemory) -> bool
@@ -83,27 +90,13 @@ fn is_there(g: WideMemory, n: usize) -> bool
     n < lists::usize_of_u32(g.mems)
 }
 
-// The rows of a port with this wide log.
-fn rows_of(wide: u32) -> usize
-    requires { ⌜ wide ≤ maxWide ⌝ }
-    ensures { λ r. ⌜ (r ≡ 2 ^ wide) × (r ≤ 16) ⌝ }
-{
-    let mut rows: usize = 1;
-    let mut k: u32 = 0;
-    while k < wide {
-        rows *= 2;
-        k += 1;
-    }
-    rows
-}
-
-// A memory's bits of such a port.
+// A memory's bits of a port with this wide log.
 fn own(g: WideMemory, wide: u32) -> usize
     requires { ⌜ Small g × (wide ≤ maxWide) ⌝ }
     ensures { λ r. ⌜ (r ≡ own g wide) × (r ≤ 4096) ⌝ }
 {
-    let rows = rows_of(wide);
-    rows * lists::usize_of_u32(g.unit)
+    let rows = lists::two_to(wide);
+    lists::usize_of_u64(rows) * lists::usize_of_u32(g.unit)
 }
 
 // Those of all memories.
@@ -182,24 +175,6 @@ fn trit_start(g: WideMemory, i: usize) -> usize
     at
 }
 
-// The nets of write port j, of all memories.
-fn write_nets(g: WideMemory, nets: &[u32], j: usize) -> &[u32]
-    requires { ⌜ Small g × (j < min maxPorts (g .«write_count»)) ⌝ }
-    ensures { λ r. ⌜ now r ≡ writeNets g (now (nets .entry)) j ⌝ }
-{
-    let p = g.write_ports[j];
-    lists::part_u32(nets, write_start(g, j), write_size(g, p))
-}
-
-// The trits of read port i, of all memories.
-fn read_trits(g: WideMemory, trits: &[u8], i: usize) -> &[u8]
-    requires { ⌜ Small g × (i < min maxPorts (g .«read_count»)) ⌝ }
-    ensures { λ r. ⌜ now r ≡ readTrits g (now (trits .entry)) i ⌝ }
-{
-    let p = g.read_ports[i];
-    lists::part_u8(trits, trit_start(g, i), trit_size(g, p))
-}
-
 // Whether there is a memory n with a write port j.
 fn has_write(g: WideMemory, n: usize, j: usize) -> bool
     ensures { λ r. ⌜ r ≡ hasWrite g n j ⌝ }
@@ -233,108 +208,127 @@ pub fn depth_of(g: WideMemory, n: usize) -> u32
     g.part_depth
 }
 
-// The address of write port j, which all memories share.
-pub fn write_addr(g: WideMemory, nets: &[u32], n: usize, j: usize) -> &[u32]
-    ensures { λ r. ⌜ ((trits image : List ℕ) → now r ≡ writeAt (memoryAt g (now (nets .entry)) trits image n .memory) j .addr) ⌝ }
+// ---- where the parts stand
+
+fn no_part() -> Part
+    ensures { λ r. ⌜ r ≡ noPart ⌝ }
 {
-    if !has_write(g, n, j) {
-        return &nets[..0];
-    }
-    let p = g.write_ports[j];
-    lists::part_u32(write_nets(g, nets, j), 0, lists::usize_of_u32(p.addr_len))
+    Part { start: 0, size: 0 }
 }
 
-// Memory n's data of write port j.
-pub fn write_data(g: WideMemory, nets: &[u32], n: usize, j: usize) -> &[u32]
-    ensures { λ r. ⌜ ((trits image : List ℕ) → now r ≡ writeAt (memoryAt g (now (nets .entry)) trits image n .memory) j .bits) ⌝ }
+// The address of write port j in the nets, which all memories share.
+pub fn write_addr_part(g: WideMemory, n: usize, j: usize) -> Part
+    ensures { λ r. ⌜ ((nets trits image : List ℕ) → part (r .start) (r .size) nets ≡ writeAt (memoryAt g nets trits image n .memory) j .addr) ⌝ }
 {
     if !has_write(g, n, j) {
-        return &nets[..0];
+        return no_part();
+    }
+    let p = g.write_ports[j];
+    let start = write_start(g, j);
+    Part {
+        start,
+        size: lists::usize_of_u32(p.addr_len),
+    }
+}
+
+// Memory n's data of write port j in the nets.
+pub fn write_data_part(g: WideMemory, n: usize, j: usize) -> Part
+    ensures { λ r. ⌜ ((nets trits image : List ℕ) → part (r .start) (r .size) nets ≡ writeAt (memoryAt g nets trits image n .memory) j .bits) ⌝ }
+{
+    if !has_write(g, n, j) {
+        return no_part();
     }
     let p = g.write_ports[j];
     let size = own(g, p.wide);
-    let start = lists::usize_of_u32(p.addr_len) + n * size;
-    lists::part_u32(write_nets(g, nets, j), start, size)
+    let before = lists::usize_of_u32(p.addr_len) + n * size;
+    let start = write_start(g, j) + before;
+    Part { start, size }
 }
 
-// Memory n's mask of write port j.
-pub fn write_mask(g: WideMemory, nets: &[u32], n: usize, j: usize) -> &[u32]
-    ensures { λ r. ⌜ ((trits image : List ℕ) → now r ≡ writeAt (memoryAt g (now (nets .entry)) trits image n .memory) j .mask) ⌝ }
+// Its mask.
+pub fn write_mask_part(g: WideMemory, n: usize, j: usize) -> Part
+    ensures { λ r. ⌜ ((nets trits image : List ℕ) → part (r .start) (r .size) nets ≡ writeAt (memoryAt g nets trits image n .memory) j .mask) ⌝ }
 {
     if !has_write(g, n, j) {
-        return &nets[..0];
+        return no_part();
     }
     let p = g.write_ports[j];
     let size = own(g, p.wide);
-    let start = lists::usize_of_u32(p.addr_len) + whole(g, p.wide) + n * size;
-    lists::part_u32(write_nets(g, nets, j), start, size)
+    let before = lists::usize_of_u32(p.addr_len) + whole(g, p.wide) + n * size;
+    let start = write_start(g, j) + before;
+    Part { start, size }
 }
 
-// The address of read port i, which all memories share.
-pub fn read_addr(g: WideMemory, nets: &[u32], n: usize, i: usize) -> &[u32]
-    ensures { λ r. ⌜ ((trits image : List ℕ) → now r ≡ readAt (memoryAt g (now (nets .entry)) trits image n .memory) i .addr) ⌝ }
+// The address of read port i in the nets, which all memories share.
+pub fn read_addr_part(g: WideMemory, n: usize, i: usize) -> Part
+    ensures { λ r. ⌜ ((nets trits image : List ℕ) → part (r .start) (r .size) nets ≡ readAt (memoryAt g nets trits image n .memory) i .addr) ⌝ }
 {
     if !has_read(g, n, i) {
-        return &nets[..0];
+        return no_part();
     }
     let p = g.read_ports[i];
-    lists::part_u32(nets, read_start(g, i), lists::usize_of_u32(p.addr_len))
+    let start = read_start(g, i);
+    Part {
+        start,
+        size: lists::usize_of_u32(p.addr_len),
+    }
 }
 
-// Memory n's trits of read port i that start after so many of its own.
-fn own_trits(g: WideMemory, trits: &[u8], n: usize, i: usize, before: usize) -> &[u8]
+// Memory n's trits of read port i that start after so many of the port's.
+fn own_part(g: WideMemory, n: usize, i: usize, before: usize) -> Part
     requires { ⌜ There g n × (i < min maxPorts (g .«read_count»)) × (before ≤ 0x100000000) ⌝ }
-    ensures { λ r. ⌜ now r ≡ part (before + n * own g (readPort g i .wide)) (own g (readPort g i .wide)) (readTrits g (now (trits .entry)) i) ⌝ }
+    ensures { λ r. ⌜ (r .start ≡ tritStart g i + (before + n * own g (readPort g i .wide))) × (r .size ≡ own g (readPort g i .wide)) ⌝ }
 {
     let p = g.read_ports[i];
     let size = own(g, p.wide);
-    lists::part_u8(read_trits(g, trits, i), before + n * size, size)
+    let start = trit_start(g, i) + (before + n * size);
+    Part { start, size }
 }
 
-// Memory n's clear trits of read port i; none where it has no flip-flop.
-pub fn clear_of(g: WideMemory, trits: &[u8], n: usize, i: usize) -> &[u8]
-    ensures { λ r. ⌜ ((nets image : List ℕ) → now r ≡ clearAt (memoryAt g nets (now (trits .entry)) image n .memory) i) ⌝ }
+// Memory n's clear trits of read port i in the trits; none where it has no flip-flop.
+pub fn clear_part(g: WideMemory, n: usize, i: usize) -> Part
+    ensures { λ r. ⌜ ((nets trits image : List ℕ) → part (r .start) (r .size) trits ≡ clearAt (memoryAt g nets trits image n .memory) i) ⌝ }
 {
     if !has_read(g, n, i) {
-        return &trits[..0];
+        return no_part();
     }
     let p = g.read_ports[i];
     let f = p.flip_flop;
     match f {
-        MemoryReadFlipFlop::None => &trits[..0],
-        MemoryReadFlipFlop::Some(_) => own_trits(g, trits, n, i, 0),
+        MemoryReadFlipFlop::None => no_part(),
+        MemoryReadFlipFlop::Some(_) => own_part(g, n, i, 0),
     }
 }
 
 // Its reset trits.
-pub fn reset_of(g: WideMemory, trits: &[u8], n: usize, i: usize) -> &[u8]
-    ensures { λ r. ⌜ ((nets image : List ℕ) → now r ≡ resetAt (memoryAt g nets (now (trits .entry)) image n .memory) i) ⌝ }
+pub fn reset_part(g: WideMemory, n: usize, i: usize) -> Part
+    ensures { λ r. ⌜ ((nets trits image : List ℕ) → part (r .start) (r .size) trits ≡ resetAt (memoryAt g nets trits image n .memory) i) ⌝ }
 {
     if !has_read(g, n, i) {
-        return &trits[..0];
+        return no_part();
     }
     let p = g.read_ports[i];
     let f = p.flip_flop;
     let all = whole(g, p.wide);
     match f {
-        MemoryReadFlipFlop::None => &trits[..0],
-        MemoryReadFlipFlop::Some(_) => own_trits(g, trits, n, i, all),
+        MemoryReadFlipFlop::None => no_part(),
+        MemoryReadFlipFlop::Some(_) => own_part(g, n, i, all),
     }
 }
 
 // Its init trits.
-pub fn init_of(g: WideMemory, trits: &[u8], n: usize, i: usize) -> &[u8]
-    ensures { λ r. ⌜ ((nets image : List ℕ) → now r ≡ initAt (memoryAt g nets (now (trits .entry)) image n .memory) i) ⌝ }
+pub fn init_part(g: WideMemory, n: usize, i: usize) -> Part
+    ensures { λ r. ⌜ ((nets trits image : List ℕ) → part (r .start) (r .size) trits ≡ initAt (memoryAt g nets trits image n .memory) i) ⌝ }
 {
     if !has_read(g, n, i) {
-        return &trits[..0];
+        return no_part();
     }
     let p = g.read_ports[i];
     let f = p.flip_flop;
     let all = whole(g, p.wide);
     match f {
-        MemoryReadFlipFlop::None => &trits[..0],
-        MemoryReadFlipFlop::Some(_) => own_trits(g, trits, n, i, all + all),
+        MemoryReadFlipFlop::None => no_part(),
+        MemoryReadFlipFlop::Some(_) => own_part(g, n, i, all + all),
     }
 }
 
@@ -351,13 +345,102 @@ fn image_start(g: WideMemory, n: usize) -> usize
 }
 
 // Memory n's part of the image.
-pub fn image_of(g: WideMemory, image: &[u8], n: usize) -> &[u8]
-    ensures { λ r. ⌜ ((nets trits : List ℕ) → now r ≡ memoryAt g nets trits (now (image .entry)) n .memory .init) ⌝ }
+pub fn image_part(g: WideMemory, n: usize) -> Part
+    ensures { λ r. ⌜ ((nets trits image : List ℕ) → part (r .start) (r .size) image ≡ memoryAt g nets trits image n .memory .init) ⌝ }
 {
     if !is_there(g, n) {
-        return &image[..0];
+        return no_part();
     }
     let start = image_start(g, n);
     let end = image_start(g, n + 1);
-    lists::part_u8(image, start, end - start)
+    Part {
+        start,
+        size: end - start,
+    }
+}
+
+// ---- the parts themselves
+
+pub fn write_addr(g: WideMemory, nets: &[u32], n: usize, j: usize) -> &[u32]
+    ensures { λ r. ⌜ ((trits image : List ℕ) → now r ≡ writeAt (memoryAt g (now (nets .entry)) trits image n .memory) j .addr) ⌝ }
+{
+    let p = write_addr_part(g, n, j);
+    lists::part_u32(nets, p.start, p.size)
+}
+
+pub fn write_data(g: WideMemory, nets: &[u32], n: usize, j: usize) -> &[u32]
+    ensures { λ r. ⌜ ((trits image : List ℕ) → now r ≡ writeAt (memoryAt g (now (nets .entry)) trits image n .memory) j .bits) ⌝ }
+{
+    let p = write_data_part(g, n, j);
+    lists::part_u32(nets, p.start, p.size)
+}
+
+pub fn write_mask(g: WideMemory, nets: &[u32], n: usize, j: usize) -> &[u32]
+    ensures { λ r. ⌜ ((trits image : List ℕ) → now r ≡ writeAt (memoryAt g (now (nets .entry)) trits image n .memory) j .mask) ⌝ }
+{
+    let p = write_mask_part(g, n, j);
+    lists::part_u32(nets, p.start, p.size)
+}
+
+pub fn read_addr(g: WideMemory, nets: &[u32], n: usize, i: usize) -> &[u32]
+    ensures { λ r. ⌜ ((trits image : List ℕ) → now r ≡ readAt (memoryAt g (now (nets .entry)) trits image n .memory) i .addr) ⌝ }
+{
+    let p = read_addr_part(g, n, i);
+    lists::part_u32(nets, p.start, p.size)
+}
+
+pub fn clear_of(g: WideMemory, trits: &[u8], n: usize, i: usize) -> &[u8]
+    ensures { λ r. ⌜ ((nets image : List ℕ) → now r ≡ clearAt (memoryAt g nets (now (trits .entry)) image n .memory) i) ⌝ }
+{
+    let p = clear_part(g, n, i);
+    lists::part_u8(trits, p.start, p.size)
+}
+
+pub fn reset_of(g: WideMemory, trits: &[u8], n: usize, i: usize) -> &[u8]
+    ensures { λ r. ⌜ ((nets image : List ℕ) → now r ≡ resetAt (memoryAt g nets (now (trits .entry)) image n .memory) i) ⌝ }
+{
+    let p = reset_part(g, n, i);
+    lists::part_u8(trits, p.start, p.size)
+}
+
+pub fn init_of(g: WideMemory, trits: &[u8], n: usize, i: usize) -> &[u8]
+    ensures { λ r. ⌜ ((nets image : List ℕ) → now r ≡ initAt (memoryAt g nets (now (trits .entry)) image n .memory) i) ⌝ }
+{
+    let p = init_part(g, n, i);
+    lists::part_u8(trits, p.start, p.size)
+}
+
+pub fn image_of(g: WideMemory, image: &[u8], n: usize) -> &[u8]
+    ensures { λ r. ⌜ ((nets trits : List ℕ) → now r ≡ memoryAt g nets trits (now (image .entry)) n .memory .init) ⌝ }
+{
+    let p = image_part(g, n);
+    lists::part_u8(image, p.start, p.size)
+}
+
+// ---- the outputs
+
+// The net of a bit of memory n's outputs of this port: they stand row after row, all memories' columns in each row.
+fn net_of(g: WideMemory, p: WideReadPort, n: usize, bit: usize) -> u32
+    requires { ⌜ There g n × (p .wide ≤ maxWide) × (p .first ≤ maxNets) × (bit < own g (p .wide)) ⌝ }
+    ensures { λ r. ⌜ r ≡ getD (outputBy g n p) bit 0 ⌝ }
+{
+    let unit = lists::usize_of_u32(g.unit);
+    let columns = lists::usize_of_u32(g.mems) * unit;
+    let row = bit / unit;
+    let at = row * columns + n * unit;
+    p.first + (at + bit % unit) as u32
+}
+
+// The output net of a bit of memory n's read port i; 0 where there is none.
+pub fn output_of(g: WideMemory, n: usize, i: usize, bit: usize) -> u32
+    ensures { λ r. ⌜ ((nets trits image : List ℕ) → r ≡ getD (outputSlice (memoryAt g nets trits image n .memory) i (memoryAt g nets trits image n .output)) bit 0) ⌝ }
+{
+    if !has_read(g, n, i) {
+        return 0;
+    }
+    let p = g.read_ports[i];
+    if own(g, p.wide) <= bit {
+        return 0;
+    }
+    net_of(g, p, n, bit)
 }

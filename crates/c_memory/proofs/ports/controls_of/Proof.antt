@@ -1,6 +1,6 @@
 -- `c_memory::ports::controls_of` meets its contract.
 use lib.Dec.{eqb}
-use Rattle.c_memory.specs.declared.ReadPort.{ReadPort}
+use Rattle.c_memory.specs.declared.FlipFlop.{FlipFlop}
 use borrow.Author.Needs.{needs}
 use Rattle.c_memory.proofs.ports.controls_of.Statement.{statement}
 use Rattle.c_memory.proofs.ports.controls_of.Tie as tie
@@ -19,7 +19,7 @@ net-of-requires-2 c κs = search needs
 
 returns : tie.Need-returns
 returns c =
-    let p : ReadPort = c .before .before .before .before .before .before .before .args .p in
+    let p : FlipFlop = c .before .before .before .before .before .before .before .args .p in
     let b = c .before in
     λ i. record {
       clock = b .before .before .before .clock-of .ensures i;
