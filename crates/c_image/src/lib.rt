@@ -73,7 +73,7 @@ fn placed_result(a: Placed) -> PlacedResult
     }
 }
 
-fn sizes_result(a: Sized) -> Head
+pub fn sizes_result(a: Sized) -> Head
     ensures { λ r. ⌜ r ≡ headStruct (sizedOf a) ⌝ }
 {
     match a {

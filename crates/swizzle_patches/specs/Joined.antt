@@ -16,6 +16,8 @@ use Rattle.image_state.specs.View.{laidOf}
 use Rattle.image_patches.specs.Calls.{patchedTo}
 use Rattle.swizzle_call.specs.declared.Swizzled.{Swizzled}
 use Rattle.swizzle_call.specs.Answer.{swizzledOf}
+use Rattle.swizzle_call.specs.Whole.{Unchanged}
+use Rattle.log_entries.specs.declared.LogState.{LogState}
 use Rattle.swizzle_patches.specs.declared.SwizzledPatches.{SwizzledPatches}
 
 -- the swizzle's whole answer, with the image that it leaves; log, nets, trits and scratch are those after the calls too. Where it is refused no call is
@@ -26,3 +28,8 @@ pub record Joined (l : SwizzleLent) (log : List ℕ) (s : rules.LogState) (g : G
   pub refused : x .swizzled .refusal ≢ 0 → (x .patches ≡ x .swizzled .refusal) × (numbers′ ≡ numbers) × (image′ ≡ left)
   pub patched : x .swizzled .refusal ≡ 0 → patchedTo (x .patches) numbers′ image′ ≡ patchesCall numbers (laidOf (x .swizzled .laid)) cs left
   pub demanded : x .swizzled .refusal ≡ 0 → x .patches ≡ 0 → Demand (layoutOf (g .mem) p) (g .mem .init) (l .image) cs image′
+
+-- where the swizzle is refused: the struct itself, with the state, and every lent word as it was
+abbrev pub Kept : LogState → List ℕ → List ℕ → List ℕ → List ℕ → List ℕ → SwizzledPatches → List ℕ → List ℕ → List ℕ → List ℕ → List ℕ → Type 0
+Kept st log image nets trits scratch x log′ image′ nets′ trits′ scratch′ =
+    x .swizzled .refusal ≢ 0 → Unchanged st log image nets trits scratch (x .swizzled) log′ image′ nets′ trits′ scratch′

@@ -3,7 +3,7 @@ ghost use Rattle.log_entries.specs.View.{stateOf};
 ghost use Rattle.net_memory.specs.Given.{givenOf};
 ghost use Rattle.swizzle_plan.specs.Calls.{planOf};
 ghost use Rattle.image_patches.specs.Calls.{callsOf};
-ghost use Rattle.swizzle_patches.specs.Joined.{Joined};
+ghost use Rattle.swizzle_patches.specs.Joined.{Joined, Kept};
 use log_entries::LogState;
 use net_memory::Memory;
 use swizzle_call::Swizzled;
@@ -36,6 +36,7 @@ pub fn swizzle_and_patch<'a>(
     rows: &[u8],
 ) -> SwizzledPatches
     ensures { λ x. ⌜ Joined (record { image = now (image .entry); nets = now («nets_to» .entry); trits = now («trits_to» .entry); scratch = now (scratch .entry) }) (now (log .entry)) (stateOf st) (givenOf m (now (nets .entry)) (now (trits .entry))) (now (output .entry)) (planOf s (now (entries .entry)) (now (writes .entry)) (now (reads .entry))) (now (numbers .entry)) (callsOf (now (calls .entry)) (now (rows .entry))) x (now (log .exit)) (now (image .exit)) (now («nets_to» .exit)) (now («trits_to» .exit)) (now (scratch .exit)) (now (numbers .exit)) ⌝ }
+    ensures { λ x. ⌜ Kept st (now (log .entry)) (now (image .entry)) (now («nets_to» .entry)) (now («trits_to» .entry)) (now (scratch .entry)) x (now (log .exit)) (now (image .exit)) (now («nets_to» .exit)) (now («trits_to» .exit)) (now (scratch .exit)) ⌝ }
 {
     let swizzled = swizzle_call::swizzle(
         log,

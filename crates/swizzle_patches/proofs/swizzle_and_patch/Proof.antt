@@ -24,13 +24,16 @@ same-length-5 : tie.Need-same-length-5
 same-length-5 c = search needs
 
 returns : tie.Need-returns
-returns c = record {
-  left = c .before .before .before .before .before .before .before .before .before .before .before .swizzle .last .1 .1 .0;
-  swizzled = c .before .before .before .before .before .before .before .before .before .before .before .swizzle .ensures .0;
-  refused = λ h. (refl, refl, refl);
-  patched = λ z. absurd (c .if1 .taken z);
-  demanded = λ z k. absurd (c .if1 .taken z);
-}
+returns c = (
+  record {
+    left = c .before .before .before .before .before .before .before .before .before .before .before .swizzle .last .1 .1 .0;
+    swizzled = c .before .before .before .before .before .before .before .before .before .before .before .swizzle .ensures .0;
+    refused = λ h. (refl, refl, refl);
+    patched = λ z. absurd (c .if1 .taken z);
+    demanded = λ z k. absurd (c .if1 .taken z);
+  },
+  c .before .before .before .before .before .before .before .before .before .before .before .swizzle .ensures .1 .refused,
+)
 
 patch-all-requires : tie.Need-patch-all-requires
 patch-all-requires c κs = search needs
@@ -54,13 +57,16 @@ same-length-11 : tie.Need-same-length-11
 same-length-11 c = search needs
 
 returns-2 : tie.Need-returns-2
-returns-2 c = record {
-  left = c .before .before .before .before .before .before .before .before .before .before .before .before .before .before .before .before .before .before .before .swizzle .last .1 .1 .0;
-  swizzled = c .before .before .before .before .before .before .before .before .before .before .before .before .before .before .before .before .before .before .before .swizzle .ensures .0;
-  refused = λ h. absurd (h (c .before .before .before .before .before .before .before .before .if1 .left));
-  patched = λ z. c .before .before .before .before .patch-all .ensures;
-  demanded = λ z k. demand _ _ _ _ _ _ (c .before .before .before .before .before .before .before .before .before .before .before .before .before .before .before .before .before .before .before .swizzle .result) _ _ _ _ _ (c .before .before .before .before .before .before .before .before .before .before .before .before .before .before .before .before .before .before .before .swizzle .ensures .0) z _ _ _ _ _ (c .before .before .before .before .patch-all .ensures) k;
-}
+returns-2 c = (
+  record {
+    left = c .before .before .before .before .before .before .before .before .before .before .before .before .before .before .before .before .before .before .before .swizzle .last .1 .1 .0;
+    swizzled = c .before .before .before .before .before .before .before .before .before .before .before .before .before .before .before .before .before .before .before .swizzle .ensures .0;
+    refused = λ h. absurd (h (c .before .before .before .before .before .before .before .before .if1 .left));
+    patched = λ z. c .before .before .before .before .patch-all .ensures;
+    demanded = λ z k. demand _ _ _ _ _ _ (c .before .before .before .before .before .before .before .before .before .before .before .before .before .before .before .before .before .before .before .swizzle .result) _ _ _ _ _ (c .before .before .before .before .before .before .before .before .before .before .before .before .before .before .before .before .before .before .before .swizzle .ensures .0) z _ _ _ _ _ (c .before .before .before .before .patch-all .ensures) k;
+  },
+  λ h. absurd (h (c .before .before .before .before .before .before .before .before .if1 .left)),
+)
 
 pub swizzle-and-patch-spec : {M : Type 1} → statement M
 swizzle-and-patch-spec =
