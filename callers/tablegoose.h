@@ -551,6 +551,115 @@ uint32_t tablegoose_fill_and_patch(uint8_t *buffer, size_t buffer_len, uint32_t 
 /* The sizes of a record of its images. Number 23. */
 tablegoose_head tablegoose_sizes_of(tablegoose_laid laid);
 
+/* ---- the swizzle: a memory split by a plan
+ *
+ * The resulting memories share their ports. A write port has one address and one clock, a read port one address and one flip-flop; data, mask and trits are
+ * those of all memories. They go to lent arrays, and the functions tablegoose_swizzled_.. say which part of an array a memory has:
+ *   nets_to:  for each write port its address, then the data of all memories, memory after memory, then their masks; then for each read port its address.
+ *   trits_to: for each clocked read port the clear trits of all memories, memory after memory, then their reset trits, then their init trits.
+ *   image:    the trits of all memories, memory after memory, row 0 and bit 0 first: their initial trits.
+ * A memory is unit bits wide. Its data of a port are unit x 2^wide bits, row after row. Its outputs are new nets: tablegoose_swizzled_output.
+ * The given memory, its arrays and the output nets stay as they are: each old output net is replaced by an entry of the log. */
+
+/* A part of a lent array: where it starts, and how many elements it has. */
+typedef struct {
+    size_t start;
+    size_t size;
+} tablegoose_part;
+
+typedef struct {
+    uint32_t addr_len;
+    uint32_t wide;
+    tablegoose_control clock;
+} tablegoose_wide_write_port;
+
+/* first: the first of its output nets. clocked 0: there is no flip-flop, and the relations and the controls play no part. */
+typedef struct {
+    uint32_t addr_len;
+    uint32_t wide;
+    uint32_t first;
+    uint32_t relations_len;
+    uint8_t relations[TABLEGOOSE_MAX_PORTS];
+    uint32_t clocked;
+    tablegoose_control clock;
+    tablegoose_control clear;
+    tablegoose_control reset;
+    tablegoose_control enable;
+    uint32_t reset_over_enable;
+} tablegoose_wide_read_port;
+
+/* Full memories and all; the depth of a full one and of the others; the width of each. */
+typedef struct {
+    uint32_t full;
+    uint32_t mems;
+    uint32_t full_depth;
+    uint32_t part_depth;
+    uint32_t unit;
+    uint32_t write_count;
+    uint32_t read_count;
+    tablegoose_wide_write_port write_ports[TABLEGOOSE_MAX_PORTS];
+    tablegoose_wide_read_port read_ports[TABLEGOOSE_MAX_PORTS];
+} tablegoose_wide_memory;
+
+/* The memories; how many nets and trits of the arrays are theirs; the state for patches of the image; the sizes of its record. In a refused answer the
+ * log state is the one that was given, and laid is that of no swizzle. */
+typedef struct {
+    uint32_t number;
+    tablegoose_log_state state;
+    tablegoose_wide_memory memory;
+    size_t nets_used;
+    size_t trits_used;
+    tablegoose_laid laid;
+    tablegoose_sizes sizes;
+} tablegoose_swizzled;
+
+/* patches: the number of the list of patches; that of the swizzle where it is refused. */
+typedef struct {
+    tablegoose_swizzled swizzled;
+    uint32_t patches;
+} tablegoose_swizzled_patches;
+
+/* A memory split by a plan: output has a net for each output bit. An accepted call writes the log, the image and the first nets_used and trits_used elements
+ * of nets_to and trits_to; of scratch, as many elements as it needs have any values after it. Width 0 gives no memories and logs nothing; depth 0 gives none
+ * either, takes the flip-flops out of the memory and replaces the outputs by X. Numbers 1, 2 (also output_len), 3, 4 (also output), 7, 8, 9, 10 (not for
+ * width 0), 14 (depth 0: a transparent pair's narrower address is too short), 20 (log, image, nets_to, trits_to or scratch), 21.
+ * Rooms, with C for unit x all_mems of tablegoose_measure and n for a port's new wide log: image image_size; nets_to hard - n + 2 C 2^n for each write port
+ * and hard - n for each read port; trits_to 3 C 2^n for each clocked read port; of scratch C 2^n of the read port with the largest n are enough. */
+tablegoose_swizzled tablegoose_swizzle(uint32_t *log, size_t log_len, tablegoose_log_state st, uint8_t *image, size_t image_len, uint32_t *nets_to,
+                                       size_t nets_to_len, uint8_t *trits_to, size_t trits_to_len, uint32_t *scratch, size_t scratch_len,
+                                       tablegoose_memory m, const uint32_t *nets, size_t nets_len, const uint8_t *trits, size_t trits_len,
+                                       const uint32_t *output, size_t output_len, tablegoose_memory_swizzle s, const uint32_t *entries,
+                                       size_t entries_len, const uint32_t *writes, size_t writes_len, const uint32_t *reads, size_t reads_len);
+
+/* tablegoose_swizzle, then tablegoose_patch_all on its image: calls and rows are those of a list of patches, and each call's number goes to numbers. The list's
+ * own number is patches: 20 where numbers is too short, and then no patch is made. */
+tablegoose_swizzled_patches tablegoose_swizzle_and_patch(
+    uint32_t *log, size_t log_len, tablegoose_log_state st, uint8_t *image, size_t image_len, uint32_t *nets_to, size_t nets_to_len, uint8_t *trits_to,
+    size_t trits_to_len, uint32_t *scratch, size_t scratch_len, uint32_t *numbers, size_t numbers_len, tablegoose_memory m, const uint32_t *nets,
+    size_t nets_len, const uint8_t *trits, size_t trits_len, const uint32_t *output, size_t output_len, tablegoose_memory_swizzle s,
+    const uint32_t *entries, size_t entries_len, const uint32_t *writes, size_t writes_len, const uint32_t *reads, size_t reads_len,
+    const uint32_t *calls, size_t calls_len, const uint8_t *rows, size_t rows_len);
+
+/* Memory n's depth; 0 where there is no such memory. No numbers. */
+uint32_t tablegoose_swizzled_depth(tablegoose_wide_memory g, size_t n);
+
+/* Memory n's part of the image. Here and below: a part of size 0 where there is no such memory or port, and for the trits where the port is not clocked. */
+tablegoose_part tablegoose_swizzled_image(tablegoose_wide_memory g, size_t n);
+
+/* Of nets_to: address, data and mask of write port j of memory n, and the address of its read port i. All memories have the same addresses. */
+tablegoose_part tablegoose_swizzled_write_addr(tablegoose_wide_memory g, size_t n, size_t j);
+tablegoose_part tablegoose_swizzled_write_data(tablegoose_wide_memory g, size_t n, size_t j);
+tablegoose_part tablegoose_swizzled_write_mask(tablegoose_wide_memory g, size_t n, size_t j);
+tablegoose_part tablegoose_swizzled_read_addr(tablegoose_wide_memory g, size_t n, size_t i);
+
+/* Of trits_to: clear, reset and init trits of read port i of memory n. */
+tablegoose_part tablegoose_swizzled_clear(tablegoose_wide_memory g, size_t n, size_t i);
+tablegoose_part tablegoose_swizzled_reset(tablegoose_wide_memory g, size_t n, size_t i);
+tablegoose_part tablegoose_swizzled_init(tablegoose_wide_memory g, size_t n, size_t i);
+
+/* The output net of a bit of read port i of memory n; 0 where there is none. */
+uint32_t tablegoose_swizzled_output(tablegoose_wide_memory g, size_t n, size_t i, size_t bit);
+
 /* ---- records of images */
 
 /* index, depth, known trits and ones of a memory. */

@@ -2,10 +2,13 @@
 """Writes cases at the borders of document 01's limits to a file, in the format of docs/CALLING.md.
 
     python3 scripts/borders.py target/borders
+    python3 scripts/borders.py --large target/large
 
 Of each border the last size that is taken and the first that is not, for the calls over a memory that change nothing: extract_read_ports (20),
 make_data_swizzle (24), swizzle_depths (25), swizzle_mux_bits (26), can_lower_fallback (28); for the calls on its ports: transparency_mux (13),
-unmap_read_dff (21), unmap_read_init_reset_transparency (22), emulate_read_before_write (23); and the layout alone (40). `oracle/compare` runs them.
+unmap_read_dff (21), unmap_read_init_reset_transparency (22), emulate_read_before_write (23); the swizzle (27), by itself and as the second step of a
+history (30); and the layout alone (40). `oracle/compare` runs them. With --large it writes swizzles that are long: up to 2,048 chunks and 32,768 pieces, and
+eight ports of each kind and of k 4.
 """
 import array
 import sys
@@ -16,6 +19,8 @@ IMAGE_ROOM = 131112
 X = 0xFFFFFFFF
 # A log for the calls on ports: room, used words, and a next free net above all nets of a case.
 LOG = [200000, 3, 400000]
+# One for the large swizzles.
+LARGE_LOG = [7999999, 3, 400000]
 
 
 def listed(words):
@@ -84,6 +89,10 @@ def over(memory, ports=None, granularities=None, **fields):
     rows = (0, max(memory.depth, 1) - 1, memory.depth)
     patches = [word for row in rows for word in (IMAGE_ROOM, row, *listed([2, 1, 0] * (memory.width // 3) + [1] * (memory.width % 3)))]
     yield case(40, [IMAGE_ROOM] + memory.rows() + p + [len(rows)] + patches)
+    swizzle = [IMAGE_ROOM] + LOG + m + output + p
+    yield case(27, swizzle + [len(rows)] + patches)
+    first = Memory(3, 2)
+    yield case(30, [3, 1, IMAGE_ROOM] + LOG + first.words() + [0] + plan(first, hard=1) + [1] + swizzle + [3, IMAGE_ROOM, 2, 2, 1, 0])
 
 
 def on_ports(memory):
@@ -168,6 +177,25 @@ def rooms():
         yield case(25, [room] + small.words() + plan(small, hard=1))
 
 
+def large():
+    """Deep memories in many chunks and pieces, and wide ports; one case each without patches and with two."""
+    def swizzled(memory, **fields):
+        row = listed([1] * memory.width)
+        head = [IMAGE_ROOM] + LARGE_LOG + memory.words() + nets(300000, memory.outputs()) + plan(memory, **fields)
+        yield case(27, head + [0])
+        yield case(27, head + [2, IMAGE_ROOM, memory.depth - 1, *row, IMAGE_ROOM, memory.depth // 2, *row])
+
+    for depth, hard in [(32768, 4), (32768, 5), (32767, 4), (16384, 3), (8191, 2)]:
+        yield from swizzled(Memory(depth, 1, writes=[(15, 0)], reads=[(15, 0, [1])]), hard=hard)
+        yield from swizzled(Memory(depth, 1, reads=[(15, 0), (14, 0, [])]), hard=hard, unit=8)
+    for depth, mask in [(2048, 0x7FF), (1024, 0x3FF), (2048, 0x555), (2048, 0x2AA), (4096, 0xF00)]:
+        yield from swizzled(Memory(depth, 1, writes=[(15, 0)], reads=[(15, 0, [0])]), mask=mask, hard=4, writes=[4], reads=[4])
+        yield from swizzled(Memory(depth, 1, writes=[(11, 2)], reads=[(9, 4)]), mask=mask, hard=4, unit=3, writes=[3], reads=[4])
+    for hard, unit in [(9, 32), (5, 32), (5, 17), (6, 256)]:
+        yield from swizzled(Memory(512, 32, writes=[(5, 4)] * 8, reads=[(5, 4, [2] * 8)] * 8), hard=hard, unit=unit)
+    yield from swizzled(Memory(256, 128, writes=[(4, 4)] * 8, reads=[(8, 0, [2] * 8)] * 8), hard=5, unit=128, writes=[4] * 8, reads=[0] * 8)
+
+
 def all_cases():
     for memory in memories():
         yield from over(memory, hard=4)
@@ -180,11 +208,12 @@ def all_cases():
 
 
 def main():
-    if len(sys.argv) != 2:
-        sys.exit('usage: borders.py FILE')
+    made = large if sys.argv[1:2] == ['--large'] else all_cases
+    if len(sys.argv) != (3 if made is large else 2):
+        sys.exit('usage: borders.py [--large] FILE')
     count = 0
-    with open(sys.argv[1], 'wb') as out:
-        for words in all_cases():
+    with open(sys.argv[-1], 'wb') as out:
+        for words in made():
             data = array.array('I', words)
             if sys.byteorder == 'big':
                 data.byteswap()

@@ -4,8 +4,9 @@
     oracle/build && python3 scripts/stored.py target/oracle/build/release/oracle
 
 `callers/run` gives the cases to the driver and compares every byte of its output with the answers. The cases are those of `oracle gen-small`,
-short ones of `scripts/borders.py`, and random ones from a fixed seed; of each call and refusal number only so many are kept, evenly spread. Calls that the port
-does not answer yet are left out: oracle/OPS is the list to extend.
+short ones of `scripts/borders.py`, and random ones from a fixed seed; of each call and refusal number only so many are kept, evenly spread. After them stand
+the swizzles of `scripts/stored_cases.txt`. Calls that the port does not answer yet are left out, and histories with a fallback among their steps as long as
+call 29 is: oracle/OPS is the list to extend.
 """
 import array
 import subprocess
@@ -18,11 +19,17 @@ LOGS = [6, 10, 11, 12, 13, 21, 22, 23, 29]
 MAX_LOG_ROOM = 200000
 SEED = 7
 RANDOM = 60000
-# layouts and the calls on ports are drawn apart, so that the other random cases stay as they are
+# layouts, the calls on ports, and swizzles with histories are drawn apart, so that the other random cases stay as they are
 LAYOUT = 40
 RANDOM_LAYOUTS = 6000
 ON_PORTS = [13, 21, 22, 23]
 RANDOM_ON_PORTS = 12000
+SWIZZLES = [27, 30]
+RANDOM_SWIZZLES = 9000
+# of the accepted ones: from the systematic list and from the random ones; and the most words of a random case with its answer
+KEEP_SWIZZLES = (360, 240)
+MAX_SWIZZLE = 900
+ADDED = 'scripts/stored_cases.txt'
 # of each call and number: from the systematic list, from the random ones, from those at borders, and the most words of a random case
 KEEP_SMALL = 160
 KEEP_RANDOM = 60
@@ -75,11 +82,30 @@ def fits(case):
     return len(case) <= MAX_CASE and (case[0] not in LOGS or case[2] <= MAX_LOG_ROOM)
 
 
-def kept(pairs, most):
+def short(case, answer):
+    if case[0] in SWIZZLES:
+        return len(case) + len(answer) <= MAX_SWIZZLE
+    return len(case) <= MAX_RANDOM and fits(case)
+
+
+def kept(pairs, most, swizzles=0):
     groups = {}
     for case, answer in pairs:
         groups.setdefault((case[0], answer[0]), []).append((case, answer))
-    return [pair for key in sorted(groups) for pair in spread(groups[key], most // 4 if key[0] in MEMORIES else most)]
+    count = lambda op, number: swizzles if op in SWIZZLES and number == 0 and swizzles else most // 4 if op in MEMORIES else most
+    return [pair for key in sorted(groups) for pair in spread(groups[key], count(*key))]
+
+
+def added(program):
+    """The cases of the text, whose answers must be the oracle's."""
+    lines = [line.split(' = ') for line in open(ADDED) if ' = ' in line]
+    times = lambda word: [int(word.split('*')[0])] * int((word + '*1').split('*')[1])
+    words = lambda text: array.array('I', [n for word in text.split() for n in times(word)])
+    pairs = [(words(case), words(answer)) for case, answer in lines]
+    stream = b''.join(case.tobytes() for case, _ in pairs)
+    if sys.byteorder == 'little' and answered(program, stream) != pairs:
+        sys.exit(f"stored: {ADDED} has an answer that is not the oracle's")
+    return pairs
 
 
 def borders():
@@ -93,15 +119,20 @@ def main():
     if len(sys.argv) != 2:
         sys.exit('usage: stored.py ORACLE')
     program = sys.argv[1]
-    ops = [str(op) for op in OPS if op not in (LAYOUT, *ON_PORTS)]
+    ops = [str(op) for op in OPS if op not in (LAYOUT, *ON_PORTS, *SWIZZLES)]
     on_ports = [str(op) for op in OPS if op in ON_PORTS]
-    systematic = [p for p in answered(program, run(program, ['gen-small'])) if p[0][0] in OPS and fits(p[0])]
+    swizzles = [str(op) for op in OPS if op in SWIZZLES]
+    systematic = [p for p in answered(program, run(program, ['gen-small', *map(str, OPS)])) if p[0][0] in OPS and fits(p[0])]
     drawn = run(program, ['gen', str(SEED), str(RANDOM), *ops]) + run(program, ['gen', str(SEED), str(RANDOM_LAYOUTS), str(LAYOUT)])
     if on_ports:
         drawn += run(program, ['gen', str(SEED), str(RANDOM_ON_PORTS), *on_ports])
-    random = [p for p in answered(program, drawn) if len(p[0]) <= MAX_RANDOM and fits(p[0])]
+    if swizzles:
+        drawn += run(program, ['gen', str(SEED), str(RANDOM_SWIZZLES), *swizzles, *(['29'] if 29 in OPS else [])])
+    random = [p for p in answered(program, drawn) if p[0][0] in OPS and short(*p)]
     border = [p for p in answered(program, borders()) if p[0][0] in OPS and len(p[0]) <= MAX_BORDER]
-    chosen = kept(systematic, KEEP_SMALL) + kept(border, KEEP_BORDER) + kept(random, KEEP_RANDOM)
+    small, drawn = KEEP_SWIZZLES
+    chosen = kept(systematic, KEEP_SMALL, small) + kept(border, KEEP_BORDER) + kept(random, KEEP_RANDOM, drawn)
+    chosen += added(program) if swizzles else []
     for name, part in (('cases', 0), ('answers', 1)):
         with open(f'callers/stored/{name}', 'wb') as out:
             for pair in chosen:

@@ -218,6 +218,59 @@ fn layouts(out: &mut Vec<Input>) {
     layout(out, ["1 × 32,768 in rows of 4 trits", "1 × 32,768 in rows of 4 trits, beside a copy"], &deep, wide);
 }
 
+/// A swizzle of a memory by a plan; a log that is long enough for all lines.
+fn swizzle(out: &mut Vec<Input>, what: &'static str, memory: Memory, plan: Plan) {
+    let (output, log) = (outputs(&memory), Log { room: 1_500_000, ..LOG });
+    let request = SwizzleRequest { image_room: 131_112, log, memory, output, plan };
+    out.push(given(what, Call::Swizzle(Swizzle { request, patches: vec![] })));
+}
+
+/// A table of rows of 32 bits with a write port and a read port.
+fn rows_of_32(out: &mut Vec<Input>, what: &'static str, depth: u32, hard: u32) {
+    let table = memory(depth, 32, depth.ilog2() as usize, 1, 1);
+    let plan = plan(&table, hard, 32);
+    swizzle(out, what, table, plan);
+}
+
+/// Rows of one bit, cut every 16 rows.
+fn rows_of_1(out: &mut Vec<Input>, what: &'static str, depth: u32, ports: usize) {
+    let table = memory(depth, 1, depth.ilog2() as usize, ports, ports);
+    let plan = plan(&table, 4, 1);
+    swizzle(out, what, table, plan);
+}
+
+/// 512 rows of 32 bits, so many ports of both kinds that name 16 rows at once, cut every 32 rows.
+fn ports_of_k_4(out: &mut Vec<Input>, what: &'static str, ports: u32) {
+    let table = memory(512, 32, 5, 0, 0);
+    let table = Memory {
+        write_ports: (0..ports).map(|i| write_port(1_000 + 10_000 * i, 5, 512)).collect(),
+        read_ports: (0..ports).map(|i| read_port(700 + 10_000 * i, 5, 512, ports as usize)).collect(),
+        ..table
+    };
+    let plan = Plan { write_logs: vec![4; ports as usize], read_logs: vec![4; ports as usize], ..plan(&table, 5, 32) };
+    swizzle(out, what, table, plan);
+}
+
+fn swizzles(out: &mut Vec<Input>) {
+    rows_of_32(out, "512 × 32, 1 + 1 ports, 1 chunk", 512, 9);
+    rows_of_32(out, "512 × 32, 1 + 1 ports, 16 chunks", 512, 5);
+    rows_of_32(out, "256 × 32, 1 + 1 ports, 8 chunks", 256, 5);
+    rows_of_32(out, "1,024 × 32, 1 + 1 ports, 32 chunks", 1_024, 5);
+    let slots = memory(1_024, 3, 10, 1, 1);
+    let soft = Plan { entries: vec![0, 1, NONE, 2], soft_mask: 4, ..plan(&slots, 8, 4) };
+    swizzle(out, "1,024 × 3, 1 + 1 ports, mask 4, hard 8", slots, soft);
+    let wide = memory(256, 128, 8, 0, 0);
+    let by_16 = plan(&wide, 8, 16);
+    swizzle(out, "256 × 128, no ports", wide, by_16);
+    rows_of_1(out, "32,768 × 1, no ports, 2,048 chunks", 32_768, 0);
+    rows_of_1(out, "16,384 × 1, no ports, 1,024 chunks", 16_384, 0);
+    rows_of_1(out, "32,768 × 1, 1 + 1 ports, 2,048 chunks", 32_768, 1);
+    rows_of_1(out, "16,384 × 1, 1 + 1 ports, 1,024 chunks", 16_384, 1);
+    rows_of_1(out, "8,192 × 1, 1 + 1 ports, 512 chunks", 8_192, 1);
+    ports_of_k_4(out, "512 × 32, 8 + 8 ports of k 4, 16 chunks", 8);
+    ports_of_k_4(out, "512 × 32, 4 + 4 ports of k 4, 16 chunks", 4);
+}
+
 pub fn all() -> Vec<Input> {
     let mut out = vec![];
     constants(&mut out);
@@ -228,5 +281,6 @@ pub fn all() -> Vec<Input> {
     on_ports(&mut out);
     records(&mut out);
     layouts(&mut out);
+    swizzles(&mut out);
     out
 }

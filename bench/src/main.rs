@@ -5,6 +5,8 @@ mod jobs;
 mod ports;
 mod time;
 
+use std::time::Instant;
+
 use inputs::{Input, Plain};
 
 /// As many bytes copied as the call moves: the least that any program must do.
@@ -43,10 +45,25 @@ fn row(input: &Input) {
     println!("| {} | {} | {} | {:.2} |", name(input), time::shown(other), time::shown(ours), ours / other);
 }
 
+/// The port's call alone, again and again for a second: for a profiler.
+fn port_alone(input: &Input) {
+    let (mut port, start) = (jobs::port(&input.call), Instant::now());
+    while start.elapsed().as_secs_f64() < 1.0 {
+        port();
+    }
+}
+
 fn main() {
-    let word = std::env::args().nth(1).unwrap_or_default();
+    let mut given = std::env::args().skip(1).peekable();
+    let alone = given.next_if(|word| word == "--port").is_some();
+    let word = given.next().unwrap_or_default();
+    let inputs = inputs::all();
+    let chosen = inputs.iter().filter(|input| name(input).contains(&word));
+    if alone {
+        return chosen.for_each(port_alone);
+    }
     println!("| call | input | the Rust, or a plain copy | the port | port / other |\n|---|---|---|---|---|");
-    inputs::all().iter().filter(|input| name(input).contains(&word)).for_each(row);
+    chosen.for_each(row);
 }
 
 /// Without a clock: every line can be measured.

@@ -1,4 +1,4 @@
-//! The calls that change a memory's ports. What a call changes is made anew for each run, on both sides: the memory is cloned, or its arrays are copied.
+//! The calls that change a memory's ports, and the swizzle. What a call changes is made anew for each run, on both sides: the memory is cloned, or its arrays are copied.
 
 use oracle::convert::*;
 use oracle::wire::{Call, Wire};
@@ -38,6 +38,10 @@ pub fn rust(call: Call) -> Job {
             memory.emulate_read_before_write(design);
             memory
         }),
+        Call::Swizzle(c) => {
+            let (output, plan) = (to_value(&c.request.output), to_swizzle(&c.request.plan));
+            on_log(c.request.log, move |design| memory.clone().swizzle(design, &output, &plan))
+        }
         _ => unreachable!("a call on ports"),
     }
 }
@@ -71,6 +75,19 @@ pub fn port(call: Call) -> Job {
                 output.copy_from_slice(&c.output);
                 after.copy_from_slice(&trits);
                 ffi::unmap_read_init_reset_transparency(&mut words, st, &mut output, &mut after, numbers, &nets, port, include)
+            })
+        }
+        Call::Swizzle(c) => {
+            let (request, (mut words, st)) = (c.request.clone(), log(c.request.log));
+            let (p, output) = (request.plan, request.output);
+            let s = ffi::MemorySwizzle { soft_addr_bits_mask: p.soft_mask, hard_addr_bits: p.hard, data_width_unit: p.unit };
+            let needs = tablegoose::SwizzleRooms::of(&numbers, s, &p.entries, &p.write_logs, &p.read_logs);
+            let (mut image, mut nets_to, mut trits_to) = (vec![0; needs.image], vec![0; needs.nets], vec![0; needs.trits]);
+            let mut scratch = vec![0; needs.scratch];
+            job(move || {
+                let (image, nets_to, trits_to, scratch) = (&mut image, &mut nets_to, &mut trits_to, &mut scratch);
+                let (entries, writes, reads) = (&p.entries, &p.write_logs, &p.read_logs);
+                ffi::swizzle(&mut words, st, image, nets_to, trits_to, scratch, numbers, &nets, &trits, &output, s, entries, writes, reads)
             })
         }
         Call::EmulateReadBeforeWrite(c) => {

@@ -5,6 +5,7 @@ use tablegoose::ffi::{self, LogState};
 use crate::layouts;
 use crate::lent::Lent;
 use crate::ports;
+use crate::swizzles;
 use crate::wire::{Words, put_control, put_list, put_memory};
 
 /// The payload of an accepted call, or a refusal number.
@@ -30,7 +31,9 @@ pub fn outcome(op: u32, words: &mut Words) -> Option<Outcome> {
         24 => make_data_swizzle(words),
         25 => swizzle_depths(words),
         26 => swizzle_mux_bits(words),
+        27 => swizzles::swizzle(words),
         28 => can_lower_fallback(words),
+        30 => swizzles::history(words),
         31 => write_record(words),
         32 => read_record(words),
         33 => lister(words),

@@ -43,8 +43,8 @@ pub fn layout(words: &mut Words) -> Option<Outcome> {
     }))
 }
 
-/// A number of patches, each: lent room, row, trits.
-fn patches(words: &mut Words) -> Option<(Vec<u32>, Vec<u8>)> {
+/// A number of patches, each: lent room, row, trits. Four words of a call for each, and the trits of all.
+pub fn patches(words: &mut Words) -> Option<(Vec<u32>, Vec<u8>)> {
     let (mut calls, mut trits) = (vec![], vec![]);
     for _ in 0..words.word()? {
         let (room, row, list) = (words.word()?, words.word()?, words.list()?);
@@ -52,6 +52,18 @@ fn patches(words: &mut Words) -> Option<(Vec<u32>, Vec<u8>)> {
         trits.extend(list.iter().map(|&word| word.min(255) as u8));
     }
     Some((calls, trits))
+}
+
+/// A patch of an image, of which so many trits are lent; what is lent past the image holds a pattern.
+pub fn patch_lent(image: &mut Vec<u8>, room: u32, patch: impl FnOnce(&mut [u8]) -> u32) -> u32 {
+    let mut lent = image.clone();
+    lent.resize((room as usize).min(IMAGE_ROOM), 0xA5);
+    let mut lent = Lent::of("image", lent);
+    let number = patch(lent.get_mut());
+    if number == 0 {
+        *image = lent.wrote(0..image.len()).to_vec();
+    }
+    number
 }
 
 impl Asked {
@@ -83,15 +95,11 @@ impl Asked {
         for (place, call) in self.calls.get().chunks_exact(4).enumerate() {
             let &[row, start, count, room] = call else { unreachable!("four words") };
             let given = &self.trits.get()[start as usize..(start + count) as usize];
-            let mut lent = trits.clone();
-            lent.resize((room as usize).min(IMAGE_ROOM), 0xA5);
-            let mut lent = Lent::of("image", lent);
-            let number = match place % 2 {
-                0 => ffi::patch_row(lent.get_mut(), self.params, self.entries.get(), row, given),
-                _ => ffi::patch(lent.get_mut(), laid, row, given),
-            };
+            let number = patch_lent(&mut trits, room, |lent| match place % 2 {
+                0 => ffi::patch_row(lent, self.params, self.entries.get(), row, given),
+                _ => ffi::patch(lent, laid, row, given),
+            });
             if number == 0 {
-                trits = lent.wrote(0..trits.len()).to_vec();
                 self.read_back(&trits, row, given);
             }
             numbers.push(number);

@@ -5,6 +5,7 @@ mod calls;
 mod layouts;
 mod lent;
 mod ports;
+mod swizzles;
 mod wire;
 
 use tablegoose::Lowered;

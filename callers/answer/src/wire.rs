@@ -40,7 +40,12 @@ impl<'a> Words<'a> {
 
     /// Trit codes or bytes. A word above 255 is outside the format, and read as 255.
     pub fn codes(&mut self, name: &'static str) -> Option<Lent<u8>> {
-        Some(Lent::of(name, codes(self.list()?)))
+        Some(Lent::of(name, self.bytes()?))
+    }
+
+    /// The same, not lent.
+    pub fn bytes(&mut self) -> Option<Vec<u8>> {
+        Some(codes(self.list()?))
     }
 
     pub fn control(&mut self) -> Option<Control> {
@@ -59,9 +64,14 @@ impl<'a> Words<'a> {
 
     /// A log with its room, whose words are the driver's own, and its state.
     pub fn log(&mut self) -> Option<(Lent<u32>, LogState)> {
+        let (room, state) = self.log_room()?;
+        Some((Lent::room("log", room), state))
+    }
+
+    /// A log's room and its state.
+    pub fn log_room(&mut self) -> Option<(usize, LogState)> {
         let room = self.word().filter(|&room| room < LOG_ROOM)?;
-        let state = LogState { used: self.word()? as usize, next: self.word()? };
-        Some((Lent::room("log", room as usize), state))
+        Some((room as usize, LogState { used: self.word()? as usize, next: self.word()? }))
     }
 
     pub fn sizes(&mut self) -> Option<Sizes> {

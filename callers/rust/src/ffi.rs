@@ -158,6 +158,41 @@ c_struct! {
     /// The refusal number or 0, and a summary.
     Summarized { number: u32, summary: Summary }
 }
+c_struct! {
+    /// A part of a lent array.
+    Part { start: usize, size: usize }
+}
+c_struct! {
+    /// A write port of all memories that a swizzle gives: the length of their address, and the wide log.
+    #[derive(Default)]
+    WideWritePort { addr_len: u32, wide: u32, clock: Control }
+}
+c_struct! {
+    /// A read port of all memories, with the first of its output nets, and its flip-flop where `clocked` is 1.
+    #[derive(Default)]
+    WideReadPort {
+        addr_len: u32, wide: u32, first: u32, relations_len: u32,
+        relations: [u8; MAX_PORTS],
+        clocked: u32, clock: Control, clear: Control, reset: Control, enable: Control, reset_over_enable: u32,
+    }
+}
+c_struct! {
+    /// The memories that a swizzle gives; their nets, trits and images stand in three lent arrays.
+    #[derive(Default)]
+    WideMemory {
+        full: u32, mems: u32, full_depth: u32, part_depth: u32, unit: u32, write_count: u32, read_count: u32,
+        write_ports: [WideWritePort; MAX_PORTS],
+        read_ports: [WideReadPort; MAX_PORTS],
+    }
+}
+c_struct! {
+    /// The refusal number or 0; the log's state after a swizzle, its memories and what they have of the arrays; the state for patches and the record's sizes.
+    Swizzled { number: u32, state: LogState, memory: WideMemory, nets_used: usize, trits_used: usize, laid: Laid, sizes: Sizes }
+}
+c_struct! {
+    /// What a swizzle gives, and the number of the list of patches after it.
+    SwizzledPatches { swizzled: Swizzled, patches: u32 }
+}
 
 /// Read ports, write ports, and the length of a list of ports.
 pub const MAX_PORTS: usize = 8;
@@ -286,6 +321,29 @@ exported! {
     patch_all(buffer: &mut [u8], numbers: &mut [u32], laid: Laid, calls: &[u32], trits: &[u8]) -> u32;
     fill_and_patch(buffer: &mut [u8], numbers: &mut [u32], laid: Laid, rows: &[u8], calls: &[u32], trits: &[u8]) -> u32;
     sizes_of(laid: Laid) -> Head;
+}
+
+exported! {
+    swizzle(
+        log: &mut [u32], st: LogState, image: &mut [u8], nets_to: &mut [u32], trits_to: &mut [u8], scratch: &mut [u32],
+        m: Memory, nets: &[u32], trits: &[u8], output: &[u32],
+        s: MemorySwizzle, entries: &[u32], writes: &[u32], reads: &[u32]
+    ) -> Swizzled;
+    swizzle_and_patch(
+        log: &mut [u32], st: LogState, image: &mut [u8], nets_to: &mut [u32], trits_to: &mut [u8], scratch: &mut [u32], numbers: &mut [u32],
+        m: Memory, nets: &[u32], trits: &[u8], output: &[u32],
+        s: MemorySwizzle, entries: &[u32], writes: &[u32], reads: &[u32], calls: &[u32], rows: &[u8]
+    ) -> SwizzledPatches;
+    swizzled_depth(g: WideMemory, n: usize) -> u32;
+    swizzled_image(g: WideMemory, n: usize) -> Part;
+    swizzled_write_addr(g: WideMemory, n: usize, j: usize) -> Part;
+    swizzled_write_data(g: WideMemory, n: usize, j: usize) -> Part;
+    swizzled_write_mask(g: WideMemory, n: usize, j: usize) -> Part;
+    swizzled_read_addr(g: WideMemory, n: usize, i: usize) -> Part;
+    swizzled_clear(g: WideMemory, n: usize, i: usize) -> Part;
+    swizzled_reset(g: WideMemory, n: usize, i: usize) -> Part;
+    swizzled_init(g: WideMemory, n: usize, i: usize) -> Part;
+    swizzled_output(g: WideMemory, n: usize, i: usize, bit: usize) -> u32;
 }
 
 exported! {

@@ -91,7 +91,7 @@ pub struct Patch {
 }
 
 /// Four words for each patch: row, where its trits start, how many, and how much of the buffer it is lent; then the trits of all.
-fn calls_of(patches: &[Patch]) -> (Vec<u32>, Vec<u8>) {
+pub(crate) fn calls_of(patches: &[Patch]) -> (Vec<u32>, Vec<u8>) {
     let (mut calls, mut trits) = (vec![], vec![]);
     for patch in patches {
         calls.extend([patch.row, trits.len() as u32, patch.trits.len() as u32, u32::MAX]);
@@ -108,6 +108,16 @@ pub struct Image {
 }
 
 impl Image {
+    /// The image that a swizzle laid out.
+    pub(crate) fn laid_out(laid: &Laid, trits: Vec<u8>) -> Image {
+        Image { layout: laid.layout(), trits }
+    }
+
+    /// The codes of its trits.
+    pub(crate) fn codes(&self) -> &[u8] {
+        &self.trits
+    }
+
     /// Its layout.
     pub fn layout(&self) -> &Layout {
         &self.layout
@@ -154,6 +164,10 @@ impl Image {
 pub struct Laid(ffi::Laid);
 
 impl Laid {
+    pub(crate) fn of(laid: ffi::Laid) -> Laid {
+        Laid(laid)
+    }
+
     /// The state before any swizzle.
     pub fn unset() -> Laid {
         Laid(ffi::unset())

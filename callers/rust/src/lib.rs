@@ -24,6 +24,8 @@ mod net;
 mod ports;
 mod record;
 mod refusal;
+mod rooms;
+mod swizzle;
 
 pub use image::{Image, Laid, Layout, Patch, Place, Shape};
 pub use log::{Cell, Controls, Entries, Entry, FlipFlop, Log};
@@ -32,6 +34,8 @@ pub use net::{Control, Driver, Net, Trit, const_and, const_not, const_or, is_und
 pub use ports::Overlay;
 pub use record::{HEAD_BYTES, Record, Sizes, Summary, header, list_input, memory_summary};
 pub use refusal::Refusal;
+pub use rooms::SwizzleRooms;
+pub use swizzle::{Swizzled, SwizzledMemory};
 
 /// A result's columns, rounded up to the unit.
 pub const MAX_COLUMNS: u64 = 32_768;

@@ -118,6 +118,13 @@ impl Log {
         Refusal::check(driven.number).map(|()| driven.memory)
     }
 
+    /// A swizzle: stores the state after it.
+    pub(crate) fn swizzled(&mut self, call: impl FnOnce(&mut [u32], ffi::LogState) -> ffi::Swizzled) -> Result<ffi::Swizzled, Refusal> {
+        let swizzled = call(&mut self.words, self.state);
+        self.state = swizzled.state;
+        Refusal::check(swizzled.number).map(|()| swizzled)
+    }
+
     /// So many new nets.
     pub fn add_void(&mut self, width: u32) -> Result<Vec<Net>, Refusal> {
         self.made(width as usize, |log, st| ffi::add_void(log, st, width))

@@ -194,12 +194,16 @@ fn lifted_flip_flop(p: &ffi::ReadPort, trits: &mut Parts<u8>) -> Option<FlipFlop
 }
 
 fn lifted_relations(p: &ffi::ReadPort) -> Vec<Relation> {
+    relations_of(&p.relations[..p.relations_len as usize])
+}
+
+pub(crate) fn relations_of(codes: &[u8]) -> Vec<Relation> {
     let relation = |&code: &u8| match code {
         0 => Relation::Undefined,
         1 => Relation::ReadBeforeWrite,
         _ => Relation::Transparent,
     };
-    p.relations[..p.relations_len as usize].iter().map(relation).collect()
+    codes.iter().map(relation).collect()
 }
 
 impl Memory {

@@ -347,6 +347,89 @@ fn read_before_write_is_emulated() {
     assert_eq!(number(mixed.emulate_read_before_write(&mut log)), 13);
 }
 
+/// Each row of a memory with three ports in a memory of its own.
+fn row_by_row() -> Swizzle {
+    Swizzle { write_wide_log2: vec![0], read_wide_log2: vec![0, 0], ..split(&[0], 1, 0, 1) }
+}
+
+#[test]
+fn memories_are_split() {
+    let (memory, mut log, plan) = (ported(), Log::new(1_000, Net(100)), row_by_row());
+    let split = memory.swizzle(&mut log, &Net(80).run(3), &plan).expect("memories");
+    let made: Vec<Net> = log.entries().flat_map(|entry| entry.made).collect();
+    assert_eq!(made, Net(100).run((log.next().0 - 100) as usize));
+    assert_eq!((split.len(), split.is_empty(), split.memories().len()), (2, false, 2));
+    let mut outputs = vec![];
+    for part in split.memories() {
+        assert_eq!((part.depth(), part.width(), part.image()), (1, 1, vec![Trit::Zero]));
+        let write: Vec<WritePort> = part.write_ports().collect();
+        assert_eq!((&write[0].addr[..], &write[0].data, write[0].clock), (&[][..], &Net(20).run(1), Control::Pos(Net(5))));
+        assert!(made.contains(&write[0].mask[0]));
+        let read: Vec<ReadPort> = part.read_ports().collect();
+        let first = memory.read_ports[0].clone();
+        assert_eq!(read[0], ReadPort { addr: vec![], ..first });
+        assert_eq!((&read[1].addr[..], read[1].data_len, &read[1].flip_flop), (&[][..], 1, &None));
+        outputs.extend(part.outputs());
+        let alone = part.to_memory();
+        assert_eq!((alone.check(), alone.output_len(), alone == Memory::from(part)), (Ok(()), Ok(2), true));
+        assert_eq!((alone.init_value, alone.write_ports, alone.read_ports), (part.image(), write, read));
+    }
+    assert_eq!((outputs.len(), split.memory(2).is_none()), (4, true));
+    let voids: Vec<Net> = log.entries().filter(|entry| entry.cell == Cell::Void).flat_map(|entry| entry.made).collect();
+    assert!(outputs.iter().all(|net| voids.contains(net)) && voids.len() == 4);
+    let replaced: Vec<Vec<Net>> = log
+        .entries()
+        .filter_map(|entry| match entry.cell {
+            Cell::Replace { from, .. } => Some(from),
+            _ => None,
+        })
+        .collect();
+    assert_eq!(replaced, [Net(80).run(1), Net(81).run(2)]);
+}
+
+#[test]
+fn split_memories_are_patched() {
+    let (memory, plan, output) = (ported(), row_by_row(), Net(80).run(3));
+    let mut log = Log::new(1_000, Net(100));
+    let mut split = memory.swizzle(&mut log, &output, &plan).expect("memories");
+    let one = |row| Patch { row, trits: vec![Trit::One] };
+    let patches = [one(1), one(2), Patch { row: 0, trits: vec![] }];
+    let (other, numbers) = memory.swizzle_and_patch(&mut Log::new(1_000, Net(100)), &output, &plan, &patches).expect("memories");
+    assert_eq!(split.patch_each(&patches), Ok(numbers));
+    assert_eq!(split, other);
+    assert_eq!((split.row(1), split.memory(1).map(|part| part.image())), (Ok(vec![Trit::One]), Some(vec![Trit::One])));
+    assert_eq!((split.patch(0, &[Trit::X]), number(split.patch(2, &[Trit::X]))), (Ok(()), 15));
+    let (layout, rows) = (Layout::of(&memory, &plan), [Trit::X, Trit::One]);
+    assert_eq!((split.image(), split.record()), (&layout.fill(&rows).expect("an image"), layout.fill(&rows).expect("an image").record()));
+    assert_eq!((split.laid(), Ok(split.sizes())), (&layout.laid_out(), layout.sizes()));
+}
+
+#[test]
+fn refused_swizzles_change_nothing() {
+    let (memory, plan, output) = (ported(), row_by_row(), Net(80).run(3));
+    let tried = |memory: &Memory, room: usize, next: u32, output: &[Net], plan: &Swizzle| {
+        let mut log = Log::new(room, Net(next));
+        let number = number(memory.swizzle(&mut log, output, plan));
+        assert!(number == 0 || log == Log::new(room, Net(next)));
+        number
+    };
+    assert_eq!(tried(&memory, 20, 100, &output, &plan), 20);
+    assert_eq!(tried(&memory, 1_000, 16_777_216, &output, &plan), 21);
+    assert_eq!(tried(&memory, 1_000, 100, &output[..2], &plan), 2);
+    assert_eq!(tried(&memory, 1_000, 81, &output, &plan), 4);
+    assert_eq!(tried(&memory, 1_000, 100, &output, &split(&[1], 1, 0, 1)), 7);
+    assert_eq!(tried(&memory, 1_000, 100, &output, &Swizzle { soft_addr_bits_mask: 2, ..plan.clone() }), 8);
+    assert_eq!(tried(&memory, 1_000, 100, &output, &Swizzle { soft_addr_bits_mask: 0, ..plan.clone() }), 9);
+    // Without bits there is nothing to give; without rows the flip-flop is unmapped.
+    let none = Memory { width: 0, ..bare(2, 0) };
+    let mut log = Log::new(0, Net(2));
+    assert!(none.swizzle(&mut log, &[], &split(&[-1], 0, 0, 1)).is_ok_and(|split| split.is_empty()));
+    let empty = Memory { depth: 0, init_value: vec![], ..memory };
+    let mut log = Log::new(1_000, Net(100));
+    assert!(empty.swizzle(&mut log, &output, &plan).is_ok_and(|split| split.is_empty()));
+    assert!(log.entries().last().is_some_and(|entry| matches!(entry.cell, Cell::Replace { to, .. } if to == [Net::X; 3])));
+}
+
 /// Codes that the safe types do not have: 4, and every field of the answer 0.
 #[test]
 fn flags_and_polarities() {

@@ -197,6 +197,55 @@ fn overlays() {
     sweep(case("transparency_mux with a mask", vec![words(33), words(1), words(1)], mux(0, true), 15, mux(1, true)));
 }
 
+/// The small memory's two rows in a memory each: log, image, nets, trits and scratch.
+fn swizzle_rooms() -> Vec<Room> {
+    vec![words(60), bytes(2), words(4), bytes(6), words(2)]
+}
+
+#[test]
+fn swizzles() {
+    let swizzle = |entries: &'static [u32]| {
+        move |r: &mut [Room]| {
+            let [log, image, nets, trits, scratch] = r else { panic!("five rooms") };
+            let (log, image, nets, trits, scratch) = (log.words(), image.bytes(), nets.words(), trits.bytes(), scratch.words());
+            let s = ffi::swizzle(log, state(), image, nets, trits, scratch, memory(), &NETS, &TRITS, &[80], plan(), entries, &[0], &[0]);
+            assert_eq!((s.state == state(), s.laid == ffi::unset(), s.memory.mems == 0), (s.number != 0, s.number != 0, s.number != 0));
+            s.number
+        }
+    };
+    sweep(case("swizzle", swizzle_rooms(), swizzle(&[0]), 7, swizzle(&[1])));
+    let rooms = tablegoose::SwizzleRooms::of(&memory(), plan(), &[0], &[0], &[0]);
+    assert_eq!(rooms, tablegoose::SwizzleRooms { image: 2, nets: 4, trits: 6, scratch: 2 });
+    assert_eq!(tablegoose::SwizzleRooms::of(&memory(), plan(), &[0], &[0], &[]), tablegoose::SwizzleRooms::default());
+}
+
+/// Row 1 becomes X, and row 2 is not there.
+const ROW_CALLS: [u32; 8] = [1, 0, 1, 2, 2, 0, 1, 2];
+
+#[test]
+fn swizzles_and_patches() {
+    let swizzle = |output: &'static [u32]| {
+        move |r: &mut [Room]| {
+            let [log, image, nets, trits, scratch] = r else { panic!("five rooms") };
+            let (log, image, nets, trits, scratch) = (log.words(), image.bytes(), nets.words(), trits.bytes(), scratch.words());
+            let (mut numbers, m, p, e, o) = ([9; 3], memory(), plan(), &[0], output);
+            let (calls, rows) = (&ROW_CALLS, &[2]);
+            let both =
+                ffi::swizzle_and_patch(log, state(), image, nets, trits, scratch, &mut numbers, m, &NETS, &TRITS, o, p, e, &[0], &[0], calls, rows);
+            assert_eq!(numbers, if both.swizzled.number == 0 { [0, 15, 9] } else { [9; 3] });
+            assert_eq!(both.patches, both.swizzled.number);
+            both.swizzled.number
+        }
+    };
+    sweep(case("swizzle_and_patch", swizzle_rooms(), swizzle(&[80]), 2, swizzle(&[])));
+    // The room for the numbers alone is short: the swizzle is made, and no patch.
+    let (mut log, mut image, mut nets, mut trits, mut scratch) = ([0; 60], [9; 2], [0; 4], [9; 6], [0; 2]);
+    let (log, image, nets, trits, scratch) = (&mut log, &mut image, &mut nets, &mut trits, &mut scratch);
+    let (m, p, e, o) = (memory(), plan(), &[0], &[80]);
+    let both = ffi::swizzle_and_patch(log, state(), image, nets, trits, scratch, &mut [9], m, &NETS, &TRITS, o, p, e, &[0], &[0], &ROW_CALLS, &[2]);
+    assert_eq!((both.swizzled.number, both.patches, *image), (0, 20, [1, 0]));
+}
+
 fn laid() -> Laid {
     ffi::laid_out(first(), &FIRST_ENTRIES)
 }

@@ -14,12 +14,13 @@ mod rooms;
 pub mod sample;
 pub mod small;
 mod spoil;
+mod swizzles;
 
 use pieces::Maker;
 use rng::Rng;
 
 use crate::answer::outcome;
-use crate::wire::{Call, OPS};
+use crate::wire::{Call, OPS, Step};
 
 /// What docs/CALLING.md allows: words of a case's payload and of an answer's.
 const CASE_WORDS: usize = 400_000;
@@ -79,6 +80,21 @@ impl Iterator for Calls {
             }
         }
     }
+}
+
+/// Whether a case is asked for where these ops are, or all where there are none. A case of no known op always is. A history with a fallback among its steps
+/// is asked for together with op 29 only.
+pub fn asked(case: &[u32], ops: &[u32]) -> bool {
+    let op = case[0];
+    ops.is_empty() || !OPS.contains(&op) || (ops.contains(&op) && (ops.contains(&29) || !has_fallback(case)))
+}
+
+fn has_fallback(case: &[u32]) -> bool {
+    let steps = match Call::from_case(case) {
+        Some(Call::History(history)) => history.steps,
+        _ => return false,
+    };
+    steps.iter().any(|step| matches!(step, Step::Fallback(_)))
 }
 
 /// Whether case and answer keep docs/CALLING.md's limits. Only a large case can have a large answer.

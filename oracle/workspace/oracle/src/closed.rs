@@ -105,6 +105,11 @@ fn split(layout: &Layout, length: usize, old: u32, new: u32) -> Split {
     Split { pieces, mux_len: bits_for(pieces).max(soft + taken + chunk_bits) }
 }
 
+/// The pieces of an accepted port with a new wide log.
+pub fn pieces(layout: &Layout, data_len: usize, addr_len: usize, new: u32) -> u64 {
+    split(layout, addr_len, old_log(layout.width, data_len), new).pieces
+}
+
 /// The different nets of a row's mask; a None repeats the net before it, the very first is X.
 fn mask_nets(layout: &Layout, port: &WritePort) -> u64 {
     let mut before = X;

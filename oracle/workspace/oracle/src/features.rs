@@ -1,5 +1,6 @@
 //! What accepted calls show, so that a run can say what it met.
 
+use crate::closed;
 use crate::image::Layout;
 use crate::limits::NONE;
 use crate::refuse::wide_log;
@@ -34,6 +35,37 @@ pub fn of_ports(call: &Call) -> Vec<String> {
     found.sort();
     found.dedup();
     found
+}
+
+/// The same of an accepted swizzle, also as a step of a history: its chunks, and each port's k, new wide log and pieces.
+pub fn of_swizzle(request: &SwizzleRequest) -> Vec<String> {
+    let (memory, plan) = (&request.memory, &request.plan);
+    if memory.width == 0 || memory.depth == 0 {
+        return vec!["swizzle without rows or bits".into()];
+    }
+    let layout = Layout::of(memory, plan);
+    let mut found = vec![format!("swizzle of {} chunks", grade(layout.chunks()))];
+    let writes = memory.write_ports.iter().map(|port| (port.data.len(), port.addr.len())).zip(&plan.write_logs);
+    let reads = memory.read_ports.iter().map(|port| (port.data_len as usize, port.addr.len())).zip(&plan.read_logs);
+    for ((data, addr), &new) in writes.chain(reads) {
+        found.push(format!("swizzled port, k {}, new wide log {new}", wide_log(memory.width, data).unwrap_or(0)));
+        found.push(format!("swizzled port of {} pieces", grade(closed::pieces(&layout, data, addr, new))));
+    }
+    let full = memory.write_ports.len() == crate::limits::PORTS && memory.read_ports.len() == crate::limits::PORTS;
+    note(&mut found, full, "swizzle of eight write and eight read ports");
+    found.sort();
+    found.dedup();
+    found
+}
+
+/// Small counts one by one, others by their size.
+fn grade(count: u64) -> String {
+    match count {
+        0..6 => count.to_string(),
+        6..32 => "6 to 31".into(),
+        32..1_024 => "32 to 1,023".into(),
+        _ => "1,024 and more".into(),
+    }
 }
 
 fn note_ports(call: &Call, memory: &Memory, log: &Log, found: &mut Vec<String>) {

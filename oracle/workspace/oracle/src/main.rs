@@ -9,17 +9,16 @@ use std::process::ExitCode;
 
 use arguments::{Run, Source, numbers, word};
 use oracle::cases::damaged::damaged;
-use oracle::cases::{Calls, sample, small};
+use oracle::cases::{Calls, asked, sample, small};
 use oracle::compare::{Difference, Program, Verdict, compare};
 use oracle::stats::Stats;
 use oracle::stream::{read_block, write_block};
-use oracle::wire::OPS;
 use oracle::{answer, show, stricter};
 
 const USAGE: &str = "\
 oracle answer [--damage KIND]    answers the cases of standard input, in order
 oracle gen SEED COUNT [OP..]     writes COUNT cases: examples first, then random ones
-oracle gen-small                 writes the systematic list of small cases
+oracle gen-small [OP..]          writes the systematic list of small cases
 oracle sample [short]            prints a sample: a case's words, =, the answer's words; short: no long lines
 oracle show [CASES [ANSWERS]]    prints cases and answers readably; answers by the oracle where no file has them
 oracle stricter                  prints, per op and number, the shortest refused case that the Rust takes
@@ -50,10 +49,13 @@ fn main() -> ExitCode {
             None => return usage(),
         },
         ["gen", seed, count, ops @ ..] => match (seed.parse(), count.parse(), numbers(ops)) {
-            (Ok(seed), Ok(count), Some(ops)) => write_all(Calls::new(seed, &ops).take(count).map(|call| call.case())),
+            (Ok(seed), Ok(count), Some(ops)) => write_all(random(seed, &ops).take(count)),
             _ => return usage(),
         },
-        ["gen-small"] => write_all(small::all().into_iter().map(|call| call.case())),
+        ["gen-small", ops @ ..] => match numbers(ops) {
+            Some(ops) => write_all(systematic().filter(|case| asked(case, &ops))),
+            None => return usage(),
+        },
         ["sample"] => print_sample(false),
         ["sample", "short"] => print_sample(true),
         ["stricter"] => print_stricter(),
@@ -157,15 +159,24 @@ fn count_all(cases: &str, answers: &str) -> io::Result<u8> {
     Ok(EQUAL)
 }
 
+/// Random cases of these ops.
+fn random(seed: u64, ops: &[u32]) -> impl Iterator<Item = Vec<u32>> {
+    Calls::new(seed, ops).map(|call| call.case()).filter(|case| asked(case, ops))
+}
+
+fn systematic() -> impl Iterator<Item = Vec<u32>> {
+    small::all().into_iter().map(|call| call.case())
+}
+
 fn run_all(run: &Run) -> io::Result<u8> {
     let cases: Box<dyn Iterator<Item = Vec<u32>>> = match &run.source {
-        Source::Random => Box::new(Calls::new(run.seed, &run.ops).take(run.count).map(|call| call.case())),
-        Source::Small => Box::new(small::all().into_iter().map(|call| call.case())),
-        Source::Damaged => Box::new(damaged(run.seed, &run.ops).take(run.count)),
+        Source::Random => Box::new(random(run.seed, &run.ops).take(run.count)),
+        Source::Small => Box::new(systematic()),
+        Source::Damaged => Box::new(damaged(run.seed, &run.ops).filter(|case| asked(case, &run.ops)).take(run.count)),
         Source::File(file) => Box::new(blocks(file)?),
     };
     let cases = cases
-        .filter(|case| run.ops.is_empty() || run.ops.contains(&case[0]) || !OPS.contains(&case[0]))
+        .filter(|case| asked(case, &run.ops))
         .filter(|case| case.len() <= run.max_case)
         .filter(|case| run.max_answer == usize::MAX || answer(case).len() <= run.max_answer);
     let program = Program(&run.program);

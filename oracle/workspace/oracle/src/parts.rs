@@ -103,3 +103,23 @@ part! {
         SwizzleDepths: room,
     }
 }
+
+impl Call {
+    /// The logs of a call, or of the steps of a history.
+    pub fn logs(&self) -> Vec<&Log> {
+        match self {
+            Call::History(history) => history.steps.iter().filter_map(Step::log).collect(),
+            _ => self.log().into_iter().collect(),
+        }
+    }
+}
+
+impl Step {
+    fn log(&self) -> Option<&Log> {
+        match self {
+            Step::Swizzle(request) => Some(&request.log),
+            Step::Fallback(request) => Some(&request.log),
+            Step::Patch(_) => None,
+        }
+    }
+}

@@ -5,7 +5,8 @@ use std::fmt;
 
 use crate::answer::NO_CASE;
 use crate::features;
-use crate::wire::{Call, Memory, Value, Wire, Words, name};
+use crate::image::Layout;
+use crate::wire::{Call, Memory, Step, Swizzle, Value, Wire, Words, name};
 
 #[derive(Default)]
 pub struct Stats {
@@ -15,6 +16,8 @@ pub struct Stats {
     parts: BTreeMap<u32, BTreeMap<u32, u64>>,
     /// Accepted calls by what they show.
     features: BTreeMap<String, u64>,
+    /// Swizzles refused by 20 for the image's room, and for the log's.
+    no_room: [u64; 2],
 }
 
 impl Stats {
@@ -22,13 +25,18 @@ impl Stats {
         let (op, number) = (case[0], answer.first().copied().unwrap_or(u32::MAX));
         *self.cases.entry(op).or_default().entry(number).or_default() += 1;
         if number == 0 {
-            for part in parts(op, &answer[2..]).unwrap_or_default() {
+            let parts = parts(op, &answer[2..]).unwrap_or_default();
+            for &part in &parts {
                 *self.parts.entry(op).or_default().entry(part).or_default() += 1;
             }
-            let shown = |call: Call| [features::of(&call), features::of_ports(&call)].concat();
+            let shown = |call: Call| [features::of(&call), features::of_ports(&call), swizzles(&call, &parts)].concat();
             for feature in Call::from_case(case).map(shown).unwrap_or_default() {
                 *self.features.entry(feature).or_default() += 1;
             }
+        }
+        if let (27, 20, Some(Call::Swizzle(Swizzle { request, .. }))) = (op, number, Call::from_case(case)) {
+            let trits = Layout::of(&request.memory, &request.plan).image_trits();
+            self.no_room[(trits <= request.image_room as u64) as usize] += 1;
         }
     }
 
@@ -44,6 +52,19 @@ impl Stats {
 
     pub fn total(&self) -> u64 {
         self.cases.values().flat_map(|numbers| numbers.values()).sum()
+    }
+}
+
+/// What the accepted swizzles of a call show: of a history the steps with number 0.
+fn swizzles(call: &Call, numbers: &[u32]) -> Vec<String> {
+    let accepted = |(step, &number): (&Step, &u32)| match step {
+        Step::Swizzle(request) if number == 0 => features::of_swizzle(request),
+        _ => vec![],
+    };
+    match call {
+        Call::Swizzle(swizzle) => features::of_swizzle(&swizzle.request),
+        Call::History(history) => history.steps.iter().zip(numbers).flat_map(accepted).collect(),
+        _ => vec![],
     }
 }
 
@@ -94,6 +115,10 @@ impl fmt::Display for Stats {
             }
         }
         writeln!(f, "{} cases; of the accepted calls over a memory so many have", self.total())?;
-        self.features.iter().try_for_each(|(feature, count)| writeln!(f, "   {feature:<48} {count:>8}"))
+        self.features.iter().try_for_each(|(feature, count)| writeln!(f, "   {feature:<48} {count:>8}"))?;
+        match self.no_room {
+            [0, 0] => Ok(()),
+            [image, log] => writeln!(f, "swizzles without room (20): {image} for the image, {log} for the log"),
+        }
     }
 }

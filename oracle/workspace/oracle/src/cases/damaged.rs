@@ -3,7 +3,7 @@
 use super::Calls;
 use super::rng::Rng;
 use super::rooms::LOG_ROOM;
-use crate::wire::OPS;
+use crate::wire::{Call, OPS};
 
 /// The ops whose payload starts with a log.
 const LOGS: &[u32] = &[6, 10, 11, 12, 13, 21, 22, 23, 29];
@@ -51,4 +51,6 @@ fn outside(case: &[u32], ops: &[u32]) -> bool {
     (OPS.contains(&op) && !ops.is_empty() && !ops.contains(&op))
         || (LOGS.contains(&op) && payload.first().is_some_and(|&room| room > LOG_ROOM))
         || payload.iter().skip(before).any(|&byte| byte > 255)
+        || (matches!(op, 27 | 30)
+            && Call::from_case(case).is_some_and(|call| call.logs().iter().any(|log| log.room > LOG_ROOM)))
 }

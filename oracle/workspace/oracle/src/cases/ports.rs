@@ -54,7 +54,7 @@ fn differences() -> Vec<Call> {
 }
 
 /// Gives a clocked port an initial value, a reset and a clear.
-fn with_start(memory: &mut Memory, port: usize) {
+pub fn with_start(memory: &mut Memory, port: usize) {
     if let Some(flip_flop) = memory.read_ports[port].flip_flop.as_mut() {
         flip_flop.init_value = pattern(flip_flop.init_value.len() as u32);
         flip_flop.reset_value = pattern(flip_flop.reset_value.len() as u32);
@@ -64,7 +64,7 @@ fn with_start(memory: &mut Memory, port: usize) {
 }
 
 /// So many ports of both kinds, each k among them, every relation the same.
-fn full_memory(count: usize, relation: u32) -> Memory {
+pub fn full_memory(count: usize, relation: u32) -> Memory {
     let mut full = memory(16, 1);
     for place in 0..count as u32 {
         full = full.with_write(4, (place + 4) % (WIDE + 1));
@@ -99,7 +99,7 @@ fn unclocked() -> Vec<Call> {
 }
 
 /// An accepted call with a log room and a next free net that just suffice, or just do not; used words up to the room, and past it.
-fn at_rooms(call: &Call) -> Vec<Call> {
+pub fn at_rooms(call: &Call) -> Vec<Call> {
     let Ok(answer) = outcome(call) else { return vec![] };
     let (words, nets) = (answer[0], answer[1] - log().next);
     let reached = NETS - nets;

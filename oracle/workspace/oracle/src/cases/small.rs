@@ -1,14 +1,14 @@
 //! A systematic list of small calls: for each op the combinations of a few small choices.
 
 use super::build::*;
-use super::{examples, numbers, ports};
+use super::{examples, numbers, ports, swizzles as borders};
 use crate::limits::{NETS, X};
 use crate::record;
 use crate::wire::*;
 
-/// Every small call, and the calls on ports at their borders.
+/// Every small call, and the calls on ports, swizzles and histories at their borders.
 pub fn all() -> Vec<Call> {
-    [plain(), ports::all()].concat()
+    [plain(), ports::all(), borders::all()].concat()
 }
 
 /// Without the borders; each number that an op can give is among their answers. The sample is chosen from these.
@@ -47,7 +47,7 @@ fn lists(words: &[u32], length: usize) -> Vec<Vec<u32>> {
 }
 
 /// All lists up to a length.
-fn lists_to(words: &[u32], length: usize) -> Vec<Vec<u32>> {
+pub fn lists_to(words: &[u32], length: usize) -> Vec<Vec<u32>> {
     (0..=length).flat_map(|length| lists(words, length)).collect()
 }
 
