@@ -749,8 +749,20 @@ tablegoose_count tablegoose_list_input(uint8_t *out, size_t out_len, const uint8
  *     512 tablegoose_replace_value
  *    1664 tablegoose_sizes_of
  *     128 tablegoose_slice_refusal
+ *  386688 tablegoose_swizzle
+ *  386944 tablegoose_swizzle_and_patch
  *    3840 tablegoose_swizzle_depths
  *    6272 tablegoose_swizzle_mux_bits
+ *    2560 tablegoose_swizzled_clear
+ *    1152 tablegoose_swizzled_depth
+ *    1152 tablegoose_swizzled_image
+ *    2560 tablegoose_swizzled_init
+ *    1280 tablegoose_swizzled_output
+ *    2560 tablegoose_swizzled_read_addr
+ *    2560 tablegoose_swizzled_reset
+ *    1280 tablegoose_swizzled_write_addr
+ *    1920 tablegoose_swizzled_write_data
+ *    1920 tablegoose_swizzled_write_mask
  *  158848 tablegoose_transparency_mux
  *     128 tablegoose_trit_and
  *     128 tablegoose_trit_not

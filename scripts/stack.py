@@ -4,7 +4,8 @@
 Without an option the header's list is checked: each function's number must be enough. With --write the list is made anew, rounded up to ROUND bytes.
 
 A function's own frame is its pushes and the most that it takes off the stack pointer, and eight bytes for the return address; to it comes the largest of
-what it calls. The C library's memset, memcpy and memmove are counted as EXTERNAL bytes. Code that calls by pointer, or itself, is an error.
+what it calls. The C library's memset, memcpy and memmove are counted as EXTERNAL bytes. Code that calls by pointer is an error, and so is code that calls
+itself, but for the functions in LEVELS, which do so at most so many times deep.
 """
 import re
 import subprocess
@@ -16,6 +17,8 @@ EXTERNAL = 64
 ROUND = 128
 LIST = re.compile(r'(/\* ---- stack:.*?\n)(.*?)( \*/\n)', re.S)
 KNOWN = ('memset', 'memcpy', 'memmove', 'memcmp', 'bcmp')
+# the tree of a read port: a level for each bit of its mux address, for which swizzle_read has MUX_ROOM (64) places, and the last one
+LEVELS = {'swizzle_tree::tree': 65}
 
 
 def functions(text):
@@ -53,18 +56,21 @@ def depth(found, name, on_way=()):
     if name in on_way:
         sys.exit(f'stack: {name} calls itself')
     function = found[name]
+    levels = LEVELS.get(name.split(':', 1)[1], 1) if ':' in name else 1
     most = 0
     for call in function['calls']:
         if call == '*':
             sys.exit(f'stack: {name} calls by pointer')
         inner = next((n for n in (call, f'{function["unit"]}:{call}', f'{function["unit"]}:{call.removeprefix(".text.")}') if n in found), None)
+        if inner == name and levels > 1:
+            continue
         if inner:
             most = max(most, depth(found, inner, (*on_way, name)))
         elif call in KNOWN:
             most = max(most, EXTERNAL)
         elif not call.startswith('.'):
             sys.exit(f'stack: {name} calls {call}, which is not known')
-    return 8 + function['pushed'] + function['taken'] + most
+    return levels * (8 + function['pushed'] + function['taken']) + most
 
 
 def measured(archive):
