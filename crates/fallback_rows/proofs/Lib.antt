@@ -1,0 +1,3 @@
+-- Laws of the rows as registers.
+pub mod Chained
+pub mod Rows
