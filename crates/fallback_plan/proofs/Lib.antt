@@ -1,0 +1,2 @@
+-- Laws of the plan of a fallback.
+pub mod Logs
