@@ -1,2 +1,3 @@
 -- Laws of the plan of a fallback.
 pub mod Logs
+pub mod Numbers
