@@ -34,7 +34,7 @@ abbrev noPort : ReadPort
 noPort = record { addr = []; dataLen = 0; flipFlop = none }
 
 -- ---- a mask of k ones
-half-ones : (k p : ℕ) → 2 ^ suc k - 1 ≡ p → (p % 2 ≡ 1) × (p / 2 ≡ 2 ^ k - 1) × (0 < p)
+pub half-ones : (k p : ℕ) → 2 ^ suc k - 1 ≡ p → (p % 2 ≡ 1) × (p / 2 ≡ 2 ^ k - 1) × (0 < p)
 half-ones k p e = omega (arith, e, pow-succ' 2 k, pow-pos k)
 
 pub ones-tops : (n k : ℕ) → k ≤ n → topBits n (2 ^ k - 1) ≡ k
