@@ -1,0 +1,2 @@
+-- Laws of a memory without flip-flops.
+pub mod Bare

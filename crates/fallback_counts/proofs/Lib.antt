@@ -1,0 +1,3 @@
+-- Laws of the counts of a fallback's rows.
+pub mod Merged
+pub mod Rows

@@ -1,0 +1,4 @@
+-- Laws of the plan of a fallback.
+pub mod Logs
+pub mod Numbers
+pub mod Spots

@@ -1,0 +1,1 @@
+-- The contracts of fallback_plan cite definitions of other crates alone.

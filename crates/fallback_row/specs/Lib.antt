@@ -1,0 +1,2 @@
+-- The definitions that the contracts of fallback_row cite.
+pub mod Row
