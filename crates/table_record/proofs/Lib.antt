@@ -1,0 +1,2 @@
+-- Laws of the record of a table's text.
+pub mod Records
