@@ -112,11 +112,12 @@ fn entries_of(words: &[u32], count: u32, width: u32) -> Entries
         };
     }
     let n = lists::minus(count, 5);
-    lists::copy_u32(&mut room, 0, lists::part_u32(words, 2, lists::usize_of_u32(n)));
-    Entries {
-        len: n,
-        list: room,
-    }
+    lists::copy_u32(
+        &mut room,
+        0,
+        lists::part_u32(words, 2, lists::usize_of_u32(n)),
+    );
+    Entries { len: n, list: room }
 }
 
 // ---- the table
