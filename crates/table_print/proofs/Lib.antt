@@ -2,3 +2,4 @@
 pub mod Back
 pub mod Numbers
 pub mod RoundTrip
+pub mod Putting

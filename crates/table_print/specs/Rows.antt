@@ -2,9 +2,9 @@
 use Prim.Native.Nat.{ℕ, zero, suc, _+_, _*_}
 use mathlib.Core.List.{List, [], _∷_}
 use lib.ListN.{getD}
-use lib.Dec.{eqb}
+use lib.Dec.{eqb, ltb}
 use Rattle.lists.specs.Choice.{if_then_else_}
-use Rattle.rules.specs.Limits.{tritX}
+use Rattle.rules.specs.Limits.{tritX, maxDepth, maxWidth}
 
 -- 0, 1 or x
 unfoldable pub charOf : ℕ → ℕ
@@ -23,3 +23,7 @@ rowsFrom width rows r (suc n) after = bitsText rows (r * width) width (10 ∷ ro
 -- all rows of a table
 unfoldable pub rowsText : ℕ → ℕ → List ℕ → List ℕ
 rowsText depth width rows = rowsFrom width rows 0 depth []
+
+-- the text of rows within the limits of a memory, and none of others
+unfoldable pub rowsShown : ℕ → ℕ → List ℕ → List ℕ
+rowsShown depth width rows = if ltb maxDepth depth then [] else if ltb maxWidth width then [] else rowsText depth width rows
