@@ -1,2 +1,3 @@
 -- Laws of the record of a table's text.
 pub mod Records
+pub mod Swizzled
