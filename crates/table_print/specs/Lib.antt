@@ -1,0 +1,3 @@
+-- The rows of a table as text.
+pub mod Rows
+pub mod Header

@@ -1,0 +1,3 @@
+-- Laws of the table of a text.
+pub mod Tables
+pub mod Fields

@@ -1,0 +1,3 @@
+-- The table of a text.
+pub mod Table
+pub mod View

@@ -1,0 +1,3 @@
+-- A table's rows as the record of a swizzle's image.
+pub mod Split
+pub mod View

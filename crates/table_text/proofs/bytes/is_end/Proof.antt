@@ -1,0 +1,21 @@
+-- `table_text::bytes::is_end` meets its contract.
+use Rattle.table_text.specs.Bytes.{isEnd}
+use borrow.Author.Needs.{needs}
+use Rattle.table_text.proofs.bytes.is_end.Statement.{statement}
+use Rattle.table_text.proofs.bytes.is_end.Tie as tie
+
+is-blank-requires : tie.Need-is-blank-requires
+is-blank-requires c κs = search needs
+
+either-requires : tie.Need-either-requires
+either-requires c κs = search needs
+
+either-requires-2 : tie.Need-either-requires-2
+either-requires-2 c κs = search needs
+
+returns : tie.Need-returns
+unfolding isEnd
+returns c = cc
+
+pub is-end-spec : {M : Type 1} → statement M
+is-end-spec = tie.close (tie.spec is-blank-requires either-requires either-requires-2 returns)

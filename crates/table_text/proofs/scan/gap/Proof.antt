@@ -1,0 +1,39 @@
+-- `table_text::scan::gap` meets its contract.
+use Rattle.table_text.specs.Scan.{between}
+use borrow.Author.Needs.{needs}
+use Rattle.table_text.proofs.scan.gap.Statement.{statement}
+use Rattle.table_text.proofs.scan.gap.Tie as tie
+
+turned-requires : tie.Need-turned-requires
+turned-requires c κs = search needs
+
+pick-scan-requires : tie.Need-pick-scan-requires
+pick-scan-requires c κs = search needs
+
+bumped-requires : tie.Need-bumped-requires
+bumped-requires c κs = search needs
+
+made-requires : tie.Need-made-requires
+made-requires c κs = search needs
+
+pick-scan-requires-2 : tie.Need-pick-scan-requires-2
+pick-scan-requires-2 c κs = search needs
+
+pick-scan-requires-3 : tie.Need-pick-scan-requires-3
+pick-scan-requires-3 c κs = search needs
+
+returns : tie.Need-returns
+unfolding between
+returns c = cc
+
+pub gap-spec : {M : Type 1} → statement M
+gap-spec =
+    tie.close
+    (tie.spec
+    turned-requires
+    pick-scan-requires
+    bumped-requires
+    made-requires
+    pick-scan-requires-2
+    pick-scan-requires-3
+    returns)

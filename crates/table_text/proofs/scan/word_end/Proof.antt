@@ -1,0 +1,25 @@
+-- `table_text::scan::word_end` meets its contract.
+use Rattle.table_text.specs.Scan.{wordEnd}
+use borrow.Author.Needs.{needs}
+use Rattle.table_text.proofs.scan.word_end.Statement.{statement}
+use Rattle.table_text.proofs.scan.word_end.Tie as tie
+
+bumped-requires : tie.Need-bumped-requires
+bumped-requires c κs = search needs
+
+made-requires : tie.Need-made-requires
+made-requires c κs = search needs
+
+turned-requires : tie.Need-turned-requires
+turned-requires c κs = search needs
+
+pick-scan-requires : tie.Need-pick-scan-requires
+pick-scan-requires c κs = search needs
+
+returns : tie.Need-returns
+unfolding wordEnd
+returns c = cc
+
+pub word-end-spec : {M : Type 1} → statement M
+word-end-spec =
+    tie.close (tie.spec bumped-requires made-requires turned-requires pick-scan-requires returns)
