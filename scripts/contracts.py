@@ -24,6 +24,9 @@ OPEN = {
     'crates/port_masked/src/lib.rt emit_masked_pairs': ('bits', 'mask', 'sel', 'spare') + KEYS,
     'crates/port_overlay/src/lib.rt emit_unmap': ('under', 'bits', 'mask', 'sel', 'spare') + KEYS,
     'crates/port_unmap_all/src/lib.rt emit_unmap_all': ('under', 'bits', 'mask', 'sel', 'spare') + KEYS,
+    'crates/fallback_row/src/lib.rt emit_over': ('spare',) + KEYS,
+    'crates/fallback_row/src/lib.rt emit_held': ('spare',),
+    'crates/fallback_row/src/lib.rt emit_drive': ('spare',),
     'crates/port_reset_emit/src/lib.rt emit_reset': ('under', 'over', 'bits', 'mask', 'sel', 'spare', 'ones', 'starts') + TRITS + KEYS,
 }
 
