@@ -2,3 +2,4 @@
 pub mod Logs
 pub mod Numbers
 pub mod Spots
+pub mod Pieces
