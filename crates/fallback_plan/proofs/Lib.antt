@@ -3,3 +3,4 @@ pub mod Logs
 pub mod Numbers
 pub mod Spots
 pub mod Pieces
+pub mod Needs
