@@ -2,3 +2,5 @@
 pub mod Logs
 pub mod Numbers
 pub mod Spots
+pub mod Pieces
+pub mod Needs

@@ -108,7 +108,7 @@ module _ (m : Mem) where
   unfolding maxWideLog2
   writes-low = omega arith
 
-  reads-low : largest (map (readWideLog2 m) (m .reads)) ≤ K
+  pub reads-low : largest (map (readWideLog2 m) (m .reads)) ≤ K
   unfolding maxWideLog2
   reads-low = omega arith
 
@@ -211,11 +211,11 @@ module _ (m : Mem) where
     unfolding fullChunks
     chunks-full = ap (λ (d : ℕ). q .depth / 2 ^ soft q / d) depth-one ∙ div-one _ ∙ (λ i. depth-is i / 2 ^ soft-is i)
 
-    chunks-all : allChunks q ≡ m .depth / 2 ^ K
+    pub chunks-all : allChunks q ≡ m .depth / 2 ^ K
     unfolding allChunks
     chunks-all = if-true (eqb (partDepth q) 0) (fullChunks q) (fullChunks q + 1) (eq-eqb (partDepth q) 0 part-none) ∙ chunks-full
 
-    whole-depth : 2 ^ K * (m .depth / 2 ^ K) ≡ m .depth
+    pub whole-depth : 2 ^ K * (m .depth / 2 ^ K) ≡ m .depth
     whole-depth = mul-comm (2 ^ K) (m .depth / 2 ^ K) ∙ omega (arith, div-add-mod' (m .depth) (2 ^ K), depth-divides e)
 
     entries-all : (c : ℕ) → c ≡ m .depth / 2 ^ K → rowLen q * 2 ^ soft q * c ≡ m .depth * m .width

@@ -51,12 +51,12 @@ unfolding isChunk
 chosen true = refl
 chosen false = refl
 
-wide-none : (b : Bool) → wideAfter (if b then Soft else High) 0 ≡ 0
+pub wide-none : (b : Bool) → wideAfter (if b then Soft else High) 0 ≡ 0
 unfolding wideAfter
 wide-none true = refl
 wide-none false = refl
 
-rows-none : (b : Bool) → rowsAfter (if b then Soft else High) 0 ≡ 0
+pub rows-none : (b : Bool) → rowsAfter (if b then Soft else High) 0 ≡ 0
 unfolding rowsAfter
 rows-none true = refl
 rows-none false = refl
