@@ -1,0 +1,99 @@
+//! A table as text and as an image record, both ways:
+//!
+//!     table split TABLE > RECORD                the rows laid out over the memories
+//!     table misplace TABLE > RECORD             the same with chunk bits taken as soft bits first, then the high bits: a mistake, to be told apart
+//!     table list RECORD                         what stands in each memory
+//!     table patch TABLE RECORD PATCHES > RECORD   rows exchanged; patches are rows as in a table, each after its `@`
+//!     table readback TABLE RECORD               the rows of a record, as a table with the same first line
+
+#[path = "shared/text.rs"]
+mod text;
+
+use std::error::Error;
+use std::fs;
+use std::io::Write;
+
+use tablegoose::{Image, Patch, Record, Trit};
+use text::Header;
+
+type Result<T> = std::result::Result<T, Box<dyn Error>>;
+
+/// All rows of a table; those that it does not name are X.
+fn all_rows(header: &Header, text: &str) -> Result<Vec<Trit>> {
+    let mut all = vec![vec![Trit::X; header.width as usize]; header.depth as usize];
+    for (row, trits) in text::rows(text.lines().skip(1))? {
+        *all.get_mut(row as usize).ok_or(format!("row {row} is past the depth"))? = trits;
+    }
+    Ok(all.concat())
+}
+
+/// Chunk and row of a row number by the wrong order.
+fn misplaced(header: &Header, row: u32) -> (u32, u32) {
+    let soft = |bit: &u32| (header.plan.soft_addr_bits_mask >> bit) & 1 == 1;
+    let others = || (0..32).filter(|bit| !soft(bit));
+    let low = others().take(header.plan.hard_addr_bits as usize);
+    let high = (0..32).filter(soft).chain(others().skip(header.plan.hard_addr_bits as usize));
+    let gathered = |bits: &mut dyn Iterator<Item = u32>| bits.enumerate().fold(0, |sum, (at, bit)| sum | ((row >> bit) & 1).checked_shl(at as u32).unwrap_or(0));
+    (gathered(&mut high.into_iter()), gathered(&mut low.into_iter()))
+}
+
+/// The image by the wrong order. Memory and bit are as they should be; only the chunk is another.
+fn misplace(header: &Header, rows: &[Trit]) -> Result<Image> {
+    let (layout, plan, width) = (header.layout(), &header.plan, header.width as usize);
+    let mut trits = vec![Trit::X; layout.shape()?.image_size as usize];
+    for (number, row) in rows.chunks(width).enumerate() {
+        let (chunk, at) = misplaced(header, number as u32);
+        for (entry, bit) in plan.data_swizzle.iter().enumerate() {
+            let column = chunk as usize * plan.data_swizzle.len() + entry;
+            let unit = plan.data_width_unit as usize;
+            let place = ((column / unit << plan.hard_addr_bits) + at as usize) * unit + column % unit;
+            if let Some(bit) = bit {
+                *trits.get_mut(place).ok_or("this table has a partial chunk")? = row[*bit as usize];
+            }
+        }
+    }
+    Ok(layout.image(&trits)?)
+}
+
+fn patched(header: &Header, record: Record, patches: &str) -> Result<Image> {
+    let mut image = header.layout().image(&record.read()?.1)?;
+    let patches: Vec<Patch> = text::rows(patches.lines())?.into_iter().map(|(row, trits)| Patch { row, trits }).collect();
+    for (patch, number) in patches.iter().zip(image.patch_each(&patches)?) {
+        if let Err(refusal) = tablegoose::Refusal::check(number) {
+            return Err(format!("row {}: {refusal}", patch.row).into());
+        }
+    }
+    Ok(image)
+}
+
+fn readback(header: &Header, first: &str, record: Record) -> Result<()> {
+    let image = header.layout().image(&record.read()?.1)?;
+    println!("{first}");
+    for row in 0..header.depth {
+        println!("{}", text::word(&image.row(row)?));
+    }
+    Ok(())
+}
+
+fn main() -> Result<()> {
+    let arguments: Vec<String> = std::env::args().skip(1).collect();
+    let words: Vec<&str> = arguments.iter().map(String::as_str).collect();
+    let table = |name: &str| -> Result<(Header, String)> {
+        let text = fs::read_to_string(name)?;
+        Ok((Header::read(&text)?, text))
+    };
+    let record = |name: &str| -> Result<Record> { Ok(Record(fs::read(name)?)) };
+    let image = match words[..] {
+        ["split", name] => table(name).and_then(|(header, text)| Ok(header.layout().fill(&all_rows(&header, &text)?)?))?,
+        ["misplace", name] => table(name).and_then(|(header, text)| misplace(&header, &all_rows(&header, &text)?))?,
+        ["patch", name, from, patches] => patched(&table(name)?.0, record(from)?, &fs::read_to_string(patches)?)?,
+        ["list", from] => return record(from).map(|record| print!("{}", record.list())),
+        ["readback", name, from] => {
+            let (header, text) = table(name)?;
+            return readback(&header, text.lines().next().unwrap_or_default(), record(from)?);
+        }
+        _ => return Err("table split | misplace | list | patch | readback: see the head of its source".into()),
+    };
+    std::io::stdout().write_all(&image.record()?.0)?;
+    Ok(())
+}
