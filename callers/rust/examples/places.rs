@@ -6,7 +6,6 @@ mod text;
 
 use std::collections::BTreeMap;
 use std::error::Error;
-use std::fmt::Write;
 use std::io::Read;
 
 use tablegoose::{Shape, Trit};
@@ -47,10 +46,9 @@ fn runs(rows: &[u32]) -> Vec<(u32, u32, u32)> {
     let mut runs: Vec<(u32, u32, u32)> = vec![];
     for &row in rows {
         match runs.last_mut() {
-            Some((first, last, step)) if row > *last && (*step == 0 || row - *last == *step) => {
+            Some((_, last, step)) if row > *last && (*step == 0 || row - *last == *step) => {
                 *step = row - *last;
                 *last = row;
-                debug_assert!(*first < row);
             }
             _ => runs.push((row, row, 0)),
         }
@@ -62,6 +60,7 @@ fn run_text(&(first, last, step): &(u32, u32, u32)) -> String {
     match step {
         0 => format!("{first}"),
         1 => format!("{first} to {last}"),
+        _ if first + step == last => format!("{first}, {last}"),
         _ => format!("{first}, {} .. {last}", first + step),
     }
 }
@@ -90,53 +89,94 @@ struct Picture {
 
 impl Picture {
     fn text(&mut self, x: u32, y: u32, class: &str, text: &str) {
-        let _ = writeln!(self.body, "<text x=\"{x}\" y=\"{y}\" class=\"{class}\">{text}</text>");
+        self.body += &format!("<text x=\"{x}\" y=\"{y}\" class=\"{class}\">{text}</text>\n");
     }
 
     fn block(&mut self, x: u32, y: u32, width: u32, height: u32, fill: &str, title: &str) {
-        let _ = writeln!(
-            self.body,
-            "<rect x=\"{x}\" y=\"{y}\" width=\"{width}\" height=\"{height}\" fill=\"{fill}\" stroke=\"#333\"><title>{title}</title></rect>"
-        );
+        let place = format!("x=\"{x}\" y=\"{y}\" width=\"{width}\" height=\"{height}\"");
+        self.body += &format!("<rect {place} fill=\"{fill}\" stroke=\"#333\"><title>{title}</title></rect>\n");
     }
 
     /// A line of text upright in the middle of a block.
     fn upright(&mut self, x: u32, y: u32, text: &str) {
-        let _ = writeln!(self.body, "<text transform=\"translate({x} {y}) rotate(-90)\" class=\"in\">{text}</text>");
+        self.body += &format!("<text transform=\"translate({x} {y}) rotate(-90)\" class=\"in\">{text}</text>\n");
     }
 
-    fn memory(&mut self, header: &Header, number: u32, depth: u32, tall: u32, columns: &BTreeMap<(u32, u32), Column>) {
-        let (unit, plan) = (header.plan.data_width_unit, &header.plan);
-        let (x, y) = (self.x, self.y + 34);
+    /// The next memory to the right, or below where there is no room.
+    fn memory(&mut self, drawing: &Drawing, number: u32) {
+        let (unit, depth, tall) = (drawing.header.plan.data_width_unit, drawing.depth(number), drawing.tall(number));
+        if self.x > MARGIN + 16 && self.x + unit * COLUMN > ACROSS {
+            self.x = MARGIN + 16;
+            self.y += drawing.tallest() + 70;
+        }
+        let (x, y) = (self.x, self.y + 48);
         self.text(x, self.y + 12, "name", &format!("memory {number}"));
         self.text(x, self.y + 27, "small", &format!("{depth} × {unit}"));
-        self.text(x.saturating_sub(4), y + 10, "row", "0");
+        self.text(x - 4, y + 11, "row", "0");
         if depth > 1 {
-            self.text(x.saturating_sub(4), y + tall, "row", &format!("{}", depth - 1));
+            self.text(x - 4, y + tall - 3, "row", &format!("{}", depth - 1));
         }
         for bit in 0..unit {
-            let left = x + bit * COLUMN;
-            let Some(column) = columns.get(&(number, bit)) else {
-                self.block(left, y, COLUMN, tall, "#fff", &format!("bit {bit}: X, no entry reaches it"));
-                continue;
-            };
-            let rows: Vec<u32> = column.rows.values().copied().collect();
-            // A partial chunk in a memory of full depth fills its first rows only.
-            let filled = (tall * rows.len() as u32 / depth).max(1);
-            let what = plan.data_swizzle[column.entry].map_or("no bit, X".into(), |bit| format!("bit {bit}"));
-            let title = format!("memory {number}, bit {bit}: chunk {}, {what}, rows {}", column.chunk, runs(&rows).iter().map(run_text).collect::<Vec<_>>().join("; "));
-            self.block(left, y, COLUMN, tall, "#fff", "X, no row reaches it");
-            let fill = if plan.data_swizzle[column.entry].is_some() { colour(column.chunk) } else { "url(#none)".into() };
-            self.block(left, y, COLUMN, filled, &fill, &title);
-            if filled >= 10 * LINE && what != "no bit, X" {
-                self.upright(left + COLUMN / 2 - 3, y + filled / 2, &what);
-                self.upright(left + COLUMN / 2 + 12, y + filled / 2, &format!("rows {}", rows_text(&rows)));
-            } else if filled >= LINE {
-                self.text(left + 4, y + 12, "in left", if what == "no bit, X" { "X" } else { &what });
-            }
+            self.column(drawing, number, bit, x + bit * COLUMN, y);
         }
         self.x += unit * COLUMN + GAP;
         self.widest = self.widest.max(self.x);
+    }
+
+    /// A column: white where nothing reaches it, hatched where its entry holds no bit, else in the chunk's colour.
+    fn column(&mut self, drawing: &Drawing, number: u32, bit: u32, x: u32, y: u32) {
+        let tall = drawing.tall(number);
+        self.block(x, y, COLUMN, tall, "#fff", "X: nothing reaches it");
+        let Some(column) = drawing.columns.get(&(number, bit)) else { return };
+        let rows: Vec<u32> = column.rows.values().copied().collect();
+        let filled = (tall * rows.len() as u32 / drawing.depth(number)).max(1);
+        let held = drawing.header.plan.data_swizzle[column.entry].map(|bit| format!("bit {bit}"));
+        let all: Vec<String> = runs(&rows).iter().map(run_text).collect();
+        let title = format!("chunk {}, {}, rows {}", column.chunk, held.as_deref().unwrap_or("no bit: X"), all.join("; "));
+        let fill = if held.is_some() { colour(column.chunk) } else { "url(#none)".into() };
+        self.block(x, y, COLUMN, filled, &fill, &title);
+        let middle = x + COLUMN / 2;
+        self.text(middle, y - 4, "in", held.as_deref().unwrap_or("X"));
+        if held.is_none() {
+            return;
+        }
+        if !drawing.by_row() {
+            self.upright(middle + 4, y + filled / 2, &format!("rows {}", rows_text(&rows)));
+            return;
+        }
+        for (&at, row) in &column.rows {
+            self.text(middle, y + at * LINE + 11, "in", &format!("{row}"));
+        }
+    }
+}
+
+/// What is drawn: where a memory is not deep each row has its line.
+struct Drawing<'a> {
+    header: &'a Header,
+    shape: Shape,
+    columns: BTreeMap<(u32, u32), Column>,
+}
+
+impl Drawing<'_> {
+    fn depth(&self, number: u32) -> u32 {
+        let full = u64::from(number) < self.shape.full_mems;
+        (if full { self.shape.full_depth } else { self.shape.part_depth }) as u32
+    }
+
+    fn deepest(&self) -> u32 {
+        self.depth(0)
+    }
+
+    fn by_row(&self) -> bool {
+        self.deepest() * LINE <= TALLEST
+    }
+
+    fn tall(&self, number: u32) -> u32 {
+        if self.by_row() { self.depth(number) * LINE } else { (self.depth(number) * TALLEST / self.deepest()).max(LINE) }
+    }
+
+    fn tallest(&self) -> u32 {
+        self.tall(0)
     }
 }
 
@@ -156,36 +196,27 @@ fn legend(picture: &mut Picture, columns: &BTreeMap<(u32, u32), Column>) {
     }
 }
 
-fn draw(header: &Header, shape: &Shape) -> Result<String, Box<dyn Error>> {
-    let columns = columns(header)?;
+const STYLE: &str = "text{font-family:sans-serif;font-size:12px}.title{font-size:15px}.name{font-weight:bold}\
+    .row{text-anchor:end;font-size:10px}.in{text-anchor:middle}";
+const HATCHED: &str =
+    "<pattern id=\"none\" width=\"6\" height=\"6\" patternUnits=\"userSpaceOnUse\"><path d=\"M0 6L6 0\" stroke=\"#bbb\"/></pattern>";
+
+fn draw(drawing: &Drawing) -> String {
     let mut picture = Picture { body: String::new(), x: MARGIN + 16, y: MARGIN, widest: 600 };
-    let plan = &header.plan;
+    let (header, plan, memories) = (drawing.header, &drawing.header.plan, drawing.shape.all_mems);
     let title = format!(
-        "{} rows of {} bits: soft mask {:#x}, {} hard bits, unit {}, {} memories",
-        header.depth, header.width, plan.soft_addr_bits_mask, plan.hard_addr_bits, plan.data_width_unit, shape.all_mems
+        "{} rows of {} bits; soft mask {:#x}, hard bits {}, unit {}: {memories} memories",
+        header.depth, header.width, plan.soft_addr_bits_mask, plan.hard_addr_bits, plan.data_width_unit
     );
     picture.text(MARGIN, MARGIN, "title", &title);
     picture.y += 20;
-    legend(&mut picture, &columns);
+    legend(&mut picture, &drawing.columns);
     picture.y += 10;
-    let depths = |number: u32| if u64::from(number) < shape.full_mems as u64 { shape.full_depth as u32 } else { shape.part_depth as u32 };
-    let deepest = (0..shape.all_mems as u32).map(depths).max().unwrap_or(1);
-    let tall = |depth: u32| if deepest * LINE <= TALLEST { depth * LINE } else { (depth * TALLEST / deepest).max(LINE) };
-    for number in 0..shape.all_mems as u32 {
-        if picture.x > MARGIN + 16 && picture.x + plan.data_width_unit * COLUMN > ACROSS {
-            picture.x = MARGIN + 16;
-            picture.y += tall(deepest) + 60;
-        }
-        picture.memory(header, number, depths(number), tall(depths(number)), &columns);
-    }
-    let height = picture.y + tall(deepest) + 34 + MARGIN;
-    let style = "text{font-family:sans-serif;font-size:12px}.title{font-size:15px}.name{font-weight:bold}.row{text-anchor:end;font-size:10px}.in{text-anchor:middle}.left{text-anchor:start}";
-    let none = "<defs><pattern id=\"none\" width=\"6\" height=\"6\" patternUnits=\"userSpaceOnUse\"><path d=\"M0 6L6 0\" stroke=\"#bbb\"/></pattern></defs>";
-    Ok(format!(
-        "<svg xmlns=\"http://www.w3.org/2000/svg\" width=\"{w}\" height=\"{height}\" viewBox=\"0 0 {w} {height}\">\n<style>{style}</style>\n{none}\n<rect width=\"100%\" height=\"100%\" fill=\"#fff\"/>\n{}</svg>\n",
-        picture.body,
-        w = picture.widest
-    ))
+    (0..memories as u32).for_each(|number| picture.memory(drawing, number));
+    let (width, height) = (picture.widest, picture.y + drawing.tallest() + 48 + MARGIN);
+    let head = format!("<svg xmlns=\"http://www.w3.org/2000/svg\" width=\"{width}\" height=\"{height}\" viewBox=\"0 0 {width} {height}\">");
+    let paper = "<rect width=\"100%\" height=\"100%\" fill=\"#fff\"/>";
+    format!("{head}\n<style>{STYLE}</style>\n<defs>{HATCHED}</defs>\n{paper}\n{}</svg>\n", picture.body)
 }
 
 fn main() -> Result<(), Box<dyn Error>> {
@@ -195,6 +226,6 @@ fn main() -> Result<(), Box<dyn Error>> {
     // A layout that no swizzle has is refused here.
     let layout = header.layout();
     layout.fill(&vec![Trit::X; (header.depth * header.width) as usize])?;
-    print!("{}", draw(&header, &layout.shape()?)?);
+    print!("{}", draw(&Drawing { header: &header, shape: layout.shape()?, columns: columns(&header)? }));
     Ok(())
 }

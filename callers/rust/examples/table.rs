@@ -5,6 +5,7 @@
 //!     table list RECORD                         what stands in each memory
 //!     table patch TABLE RECORD PATCHES > RECORD   rows exchanged; patches are rows as in a table, each after its `@`
 //!     table readback TABLE RECORD               the rows of a record, as a table with the same first line
+//!     table differ TABLE TABLE                  the rows in which two tables differ; status 1 where there are some
 
 #[path = "shared/text.rs"]
 mod text;
@@ -21,7 +22,7 @@ type Result<T> = std::result::Result<T, Box<dyn Error>>;
 /// All rows of a table; those that it does not name are X.
 fn all_rows(header: &Header, text: &str) -> Result<Vec<Trit>> {
     let mut all = vec![vec![Trit::X; header.width as usize]; header.depth as usize];
-    for (row, trits) in text::rows(text.lines().skip(1))? {
+    for Patch { row, trits } in text::rows(text.lines().skip(1))? {
         *all.get_mut(row as usize).ok_or(format!("row {row} is past the depth"))? = trits;
     }
     Ok(all.concat())
@@ -33,20 +34,21 @@ fn misplaced(header: &Header, row: u32) -> (u32, u32) {
     let others = || (0..32).filter(|bit| !soft(bit));
     let low = others().take(header.plan.hard_addr_bits as usize);
     let high = (0..32).filter(soft).chain(others().skip(header.plan.hard_addr_bits as usize));
-    let gathered = |bits: &mut dyn Iterator<Item = u32>| bits.enumerate().fold(0, |sum, (at, bit)| sum | ((row >> bit) & 1).checked_shl(at as u32).unwrap_or(0));
+    let gathered =
+        |bits: &mut dyn Iterator<Item = u32>| bits.enumerate().fold(0, |sum, (at, bit)| sum | ((row >> bit) & 1).checked_shl(at as u32).unwrap_or(0));
     (gathered(&mut high.into_iter()), gathered(&mut low.into_iter()))
 }
 
 /// The image by the wrong order. Memory and bit are as they should be; only the chunk is another.
 fn misplace(header: &Header, rows: &[Trit]) -> Result<Image> {
-    let (layout, plan, width) = (header.layout(), &header.plan, header.width as usize);
+    let (layout, plan, width, unit) = (header.layout(), &header.plan, header.width as usize, header.plan.data_width_unit as usize);
     let mut trits = vec![Trit::X; layout.shape()?.image_size as usize];
     for (number, row) in rows.chunks(width).enumerate() {
         let (chunk, at) = misplaced(header, number as u32);
         for (entry, bit) in plan.data_swizzle.iter().enumerate() {
             let column = chunk as usize * plan.data_swizzle.len() + entry;
-            let unit = plan.data_width_unit as usize;
-            let place = ((column / unit << plan.hard_addr_bits) + at as usize) * unit + column % unit;
+            let (memory, at_bit) = (column / unit, column % unit);
+            let place = ((memory << plan.hard_addr_bits) + at as usize) * unit + at_bit;
             if let Some(bit) = bit {
                 *trits.get_mut(place).ok_or("this table has a partial chunk")? = row[*bit as usize];
             }
@@ -57,7 +59,7 @@ fn misplace(header: &Header, rows: &[Trit]) -> Result<Image> {
 
 fn patched(header: &Header, record: Record, patches: &str) -> Result<Image> {
     let mut image = header.layout().image(&record.read()?.1)?;
-    let patches: Vec<Patch> = text::rows(patches.lines())?.into_iter().map(|(row, trits)| Patch { row, trits }).collect();
+    let patches = text::rows(patches.lines())?;
     for (patch, number) in patches.iter().zip(image.patch_each(&patches)?) {
         if let Err(refusal) = tablegoose::Refusal::check(number) {
             return Err(format!("row {}: {refusal}", patch.row).into());
@@ -73,6 +75,24 @@ fn readback(header: &Header, first: &str, record: Record) -> Result<()> {
         println!("{}", text::word(&image.row(row)?));
     }
     Ok(())
+}
+
+/// The rows that differ, neighbours in one line, and how many there are.
+fn differ(one: &(Header, String), other: &(Header, String)) -> Result<()> {
+    let width = one.0.width as usize;
+    let (a, b) = (all_rows(&one.0, &one.1)?, all_rows(&other.0, &other.1)?);
+    if (a.len(), one.0.width) != (b.len(), other.0.width) {
+        return Err("the tables have not the same sizes".into());
+    }
+    let rows: Vec<usize> = (0..one.0.depth as usize).filter(|row| a[row * width..(row + 1) * width] != b[row * width..(row + 1) * width]).collect();
+    let show = |all: &[Trit], row: usize| text::word(&all[row * width..(row + 1) * width]);
+    for run in rows.chunk_by(|before, after| before + 1 == *after) {
+        let shown: Vec<String> = run.iter().map(|&row| format!("{} {}", show(&a, row), show(&b, row))).collect();
+        let last = if run.len() > 1 { format!(" to {}", run[run.len() - 1]) } else { String::new() };
+        println!("{}{last}: {}{}", run[0], shown[..run.len().min(4)].join(", "), if run.len() > 4 { ", .." } else { "" });
+    }
+    println!("{} of {} rows differ", rows.len(), one.0.depth);
+    std::process::exit(i32::from(!rows.is_empty()))
 }
 
 fn main() -> Result<()> {
@@ -92,7 +112,8 @@ fn main() -> Result<()> {
             let (header, text) = table(name)?;
             return readback(&header, text.lines().next().unwrap_or_default(), record(from)?);
         }
-        _ => return Err("table split | misplace | list | patch | readback: see the head of its source".into()),
+        ["differ", one, other] => return differ(&table(one)?, &table(other)?),
+        _ => return Err("table split | misplace | list | patch | readback | differ: see the head of its source".into()),
     };
     std::io::stdout().write_all(&image.record()?.0)?;
     Ok(())

@@ -3,7 +3,9 @@
 
 use std::error::Error;
 
-use tablegoose::{Layout, Swizzle, Trit};
+use tablegoose::{Layout, Patch, Swizzle, Trit};
+
+type Result<T> = std::result::Result<T, Box<dyn Error>>;
 
 /// The first line.
 pub struct Header {
@@ -13,12 +15,13 @@ pub struct Header {
 }
 
 impl Header {
-    pub fn read(text: &str) -> Result<Header, Box<dyn Error>> {
+    pub fn read(text: &str) -> Result<Header> {
         let words: Vec<&str> = text.lines().next().unwrap_or_default().split_whitespace().collect();
         let [depth, width, entries, mask, hard, unit] = words[..] else { return Err("the first line has not six words".into()) };
         let width = width.parse()?;
         let entry = |word: &str| if word == "-" { Ok(None) } else { word.parse().map(Some) };
-        let data_swizzle = if entries == "plain" { (0..width).map(Some).collect() } else { entries.split(',').map(entry).collect::<Result<_, _>>()? };
+        let data_swizzle =
+            if entries == "plain" { (0..width).map(Some).collect() } else { entries.split(',').map(entry).collect::<std::result::Result<_, _>>()? };
         let (soft_addr_bits_mask, hard_addr_bits, data_width_unit) = (mask.parse()?, hard.parse()?, unit.parse()?);
         let plan = Swizzle { data_swizzle, soft_addr_bits_mask, hard_addr_bits, data_width_unit, ..Swizzle::default() };
         Ok(Header { depth: depth.parse()?, width, plan })
@@ -31,20 +34,20 @@ impl Header {
 
 /// The rows that lines of words name, in order: numbered from 0, or from the last `@`.
 #[allow(dead_code)]
-pub fn rows<'a>(lines: impl Iterator<Item = &'a str>) -> Result<Vec<(u32, Vec<Trit>)>, Box<dyn Error>> {
+pub fn rows<'a>(lines: impl Iterator<Item = &'a str>) -> Result<Vec<Patch>> {
     let (mut rows, mut next) = (vec![], 0);
     for word in lines.flat_map(|line| line.split("//").next().unwrap_or_default().split_whitespace()) {
         if let Some(number) = word.strip_prefix('@') {
             next = u32::from_str_radix(number, 16)?;
             continue;
         }
-        rows.push((next, trits(word)?));
+        rows.push(Patch { row: next, trits: trits(word)? });
         next += 1;
     }
     Ok(rows)
 }
 
-fn trits(word: &str) -> Result<Vec<Trit>, Box<dyn Error>> {
+fn trits(word: &str) -> Result<Vec<Trit>> {
     let trit = |letter| match letter {
         '0' => Ok(Trit::Zero),
         '1' => Ok(Trit::One),

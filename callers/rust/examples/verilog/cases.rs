@@ -115,7 +115,7 @@ impl Draw<'_> {
     fn case(mut self) -> Case {
         let tiny = self.tiny();
         let width = self.random.between(1, if tiny { 2 } else { 4 });
-        let widest = if tiny { self.random.below(2) } else { self.random.below(3) };
+        let widest = self.random.below(if tiny { 2 } else { 3 });
         let soft_addr_bits_mask = self.soft_mask();
         let least = (1 << widest).max(if soft_addr_bits_mask == 0 { 1 } else { 2 << soft_addr_bits_mask.ilog2() });
         let most = if tiny { 8 } else { 40 };
@@ -253,16 +253,17 @@ impl Draw<'_> {
 
     fn plan(&mut self, memory: &Memory, mask: u32) -> Swizzle {
         let data_swizzle = self.entries(memory);
-        let write_wide_log2 = memory.write_ports.iter().map(|port| self.wide_log(memory, mask, port.data.len())).collect();
-        let read_wide_log2 = memory.read_ports.iter().map(|port| self.wide_log(memory, mask, port.data_len)).collect();
-        let hard_addr_bits = self.random.below(if self.tiny() { 3 } else { 5 });
+        let write_wide_log2: Vec<u32> = memory.write_ports.iter().map(|port| self.wide_log(memory, mask, port.data.len())).collect();
+        let read_wide_log2: Vec<u32> = memory.read_ports.iter().map(|port| self.wide_log(memory, mask, port.data_len)).collect();
+        let widest = write_wide_log2.iter().chain(&read_wide_log2).copied().max().unwrap_or(0);
+        let hard_addr_bits = widest + self.random.below(if self.tiny() { 2 } else { 4 });
         let data_width_unit = self.random.between(1, if self.tiny() { 3 } else { 8 });
         Swizzle { data_swizzle, soft_addr_bits_mask: mask, write_wide_log2, read_wide_log2, hard_addr_bits, data_width_unit }
     }
 
-    /// Half of the cases have none. Writes are delayed by half a cycle only where no other edge comes between, and not where the proofs have one edge only.
+    /// A third of the cases have none. Writes are delayed by half a cycle only where no other edge comes between, and not where the proofs have one edge only.
     fn steps(&mut self, memory: &Memory) -> Vec<Step> {
-        if self.random.once_in(2) {
+        if self.random.once_in(3) {
             return vec![];
         }
         let mut steps: Vec<Step> = vec![];

@@ -7,13 +7,14 @@ mod cases;
 mod emit;
 mod random;
 
+use std::collections::BTreeMap;
 use std::error::Error;
 use std::fs;
 use std::path::Path;
 
-use tablegoose::{Memory, Net, Relation, Trit};
+use tablegoose::{Cell, Memory, Net, ReadPort, Relation, Swizzle, Trit, wide_log2};
 
-use cases::{Answer, Case, Size};
+use cases::{Answer, Case, Size, Step};
 
 /// The head of a module, with wires for the inputs and the outputs.
 fn head(case: &Case, name: &str, known: bool) -> Vec<String> {
@@ -97,36 +98,113 @@ fn images(folder: &Path, case: &Case, answer: &Answer) -> std::io::Result<bool> 
     };
     write(folder, &|n| n)?;
     let Some((a, b)) = unlike(&memories) else { return Ok(false) };
-    write(&folder.join("wrong"), &|n| if n == a { b } else if n == b { a } else { n })?;
+    write(&folder.join("wrong"), &|n| {
+        if n == a {
+            b
+        } else if n == b {
+            a
+        } else {
+            n
+        }
+    })?;
     Ok(true)
+}
+
+/// How many of each kind the cases have.
+#[derive(Default)]
+struct Counts(BTreeMap<&'static str, usize>);
+
+impl Counts {
+    fn add(&mut self, what: &'static str, count: usize) {
+        *self.0.entry(what).or_default() += count;
+    }
+
+    fn case(&mut self, case: &Case, answer: &Answer) {
+        let (m, plan) = (&case.memory, &case.plan);
+        let relation = |wanted: Relation| m.read_ports.iter().flat_map(|port| &port.relations).filter(|&&relation| relation == wanted).count();
+        let control = |wanted: fn(&tablegoose::Controls) -> bool| {
+            m.read_ports.iter().filter(|port| port.flip_flop.as_ref().is_some_and(|f| wanted(&f.controls))).count()
+        };
+        let clocked = |port: &&ReadPort| port.flip_flop.is_some();
+        self.add("memories given", 1);
+        self.add("memories made", answer.split.len());
+        self.add("without rows", usize::from(m.depth == 0));
+        self.add("soft bits", usize::from(plan.soft_addr_bits_mask != 0));
+        self.add("a soft bit above a chunk bit that is not", usize::from(soft_above(plan, m.depth)));
+        self.add("partial chunk", usize::from(partial_depth(case) != 0));
+        self.add("write ports", m.write_ports.len());
+        self.add("read ports clocked", m.read_ports.iter().filter(clocked).count());
+        self.add("read ports unclocked", m.read_ports.iter().filter(|port| !clocked(port)).count());
+        self.add("with enable", control(|c| c.enable != tablegoose::Control::ONE));
+        self.add("with reset", control(|c| c.reset != tablegoose::Control::ZERO));
+        self.add("with clear", control(|c| c.clear != tablegoose::Control::ZERO));
+        self.add("transparent", relation(Relation::Transparent));
+        self.add("read before write", relation(Relation::ReadBeforeWrite));
+        self.ports(m);
+        self.cells(answer);
+        case.steps.iter().for_each(|step| self.add(step_name(step), 1));
+    }
+
+    fn ports(&mut self, m: &Memory) {
+        let lengths = m.write_ports.iter().map(|port| port.data.len()).chain(m.read_ports.iter().map(|port| port.data_len));
+        for k in lengths.filter_map(|length| wide_log2(m.width, length).ok()) {
+            self.add(["k 0", "k 1", "k 2"][k as usize], 1);
+        }
+    }
+
+    fn cells(&mut self, answer: &Answer) {
+        for entry in answer.log.entries() {
+            let name = match entry.cell {
+                Cell::Void => "cell void",
+                Cell::Not(_) => "cell not",
+                Cell::And(..) => "cell and",
+                Cell::Or(..) => "cell or",
+                Cell::Mux { .. } => "cell mux",
+                Cell::Eq(..) => "cell eq",
+                Cell::Shl { .. } => "cell shl",
+                Cell::Ushr { .. } => "cell ushr",
+                Cell::FlipFlop { .. } => "cell flip-flop",
+                Cell::Replace { .. } => "cell replace",
+            };
+            self.add(name, 1);
+        }
+    }
+}
+
+fn step_name(step: &Step) -> &'static str {
+    match step {
+        Step::Remap(_) => "step reset over enable",
+        Step::UnmapDff(_) => "step unmap flip-flop",
+        Step::UnmapReset(_, false) => "step unmap reset",
+        Step::UnmapReset(_, true) => "step unmap reset and transparency",
+        Step::Emulate => "step emulate read before write",
+    }
+}
+
+fn partial_depth(case: &Case) -> u32 {
+    (case.memory.depth >> case.plan.soft_addr_bits_mask.count_ones()) % (1 << case.plan.hard_addr_bits)
+}
+
+/// Whether some soft bit stands above a bit that selects among memories and is not soft.
+fn soft_above(plan: &Swizzle, depth: u32) -> bool {
+    let soft = |bit: &u32| (plan.soft_addr_bits_mask >> bit) & 1 == 1;
+    let used = 0..u32::BITS - depth.saturating_sub(1).leading_zeros();
+    let high = used.filter(|bit| !soft(bit)).nth(plan.hard_addr_bits as usize);
+    high.is_some_and(|high| plan.soft_addr_bits_mask >> high != 0)
 }
 
 fn summary(case: &Case, answer: &Answer, wrong: bool) -> String {
     let (m, plan) = (&case.memory, &case.plan);
-    let reads = |wanted: fn(&tablegoose::ReadPort) -> bool| m.read_ports.iter().filter(|port| wanted(port)).count();
-    let relation = |wanted: Relation| m.read_ports.iter().flat_map(|port| &port.relations).filter(|&&relation| relation == wanted).count();
-    let partial = (m.depth >> plan.soft_addr_bits_mask.count_ones()) % (1 << plan.hard_addr_bits);
+    let (writes, reads, made) = (m.write_ports.len(), m.read_ports.len(), answer.split.len());
+    let (mask, hard, unit, partial) = (plan.soft_addr_bits_mask, plan.hard_addr_bits, plan.data_width_unit, partial_depth(case));
+    let exchanged = if wrong { "" } else { ", no two images to exchange" };
     format!(
-        "depth {} width {} writes {} reads {} clocked {} transparent {} before {} soft {:b} hard {} unit {} partial {} memories {} entries {} steps {:?}{}",
-        m.depth,
-        m.width,
-        m.write_ports.len(),
-        m.read_ports.len(),
-        reads(|port| port.flip_flop.is_some()),
-        relation(Relation::Transparent),
-        relation(Relation::ReadBeforeWrite),
-        plan.soft_addr_bits_mask,
-        plan.hard_addr_bits,
-        plan.data_width_unit,
-        partial,
-        answer.split.len(),
-        answer.log.entries().count(),
-        case.steps,
-        if wrong { "" } else { " no two images to exchange" },
+        "depth {} width {} writes {writes} reads {reads}, soft {mask:b} hard {hard} unit {unit}, partial {partial}, memories {made}, steps {:?}{exchanged}\n",
+        m.depth, m.width, case.steps
     )
 }
 
-fn write_case(folder: &Path, seed: u64, size: Size) -> Result<(), Box<dyn Error>> {
+fn write_case(folder: &Path, seed: u64, size: Size, counts: &mut Counts) -> Result<(), Box<dyn Error>> {
     let (case, answer) = Case::of_seed(seed, size);
     assert!(case.inputs <= 128 && case.outputs().first() == Some(&Net(2 + case.inputs)), "too many inputs");
     let wrong = images(folder, &case, &answer)?;
@@ -134,7 +212,8 @@ fn write_case(folder: &Path, seed: u64, size: Size) -> Result<(), Box<dyn Error>
     let design = [emit::MACROS, &original(&case), &split(&case, &answer)?, &bench::miter(&case, outputs, rows)].concat();
     fs::write(folder.join("design.v"), design)?;
     fs::write(folder.join("bench.v"), bench::bench(&case, outputs, rows, seed))?;
-    fs::write(folder.join("about"), summary(&case, &answer, wrong) + "\n")?;
+    fs::write(folder.join("about"), summary(&case, &answer, wrong))?;
+    counts.case(&case, &answer);
     Ok(())
 }
 
@@ -142,11 +221,14 @@ fn main() -> Result<(), Box<dyn Error>> {
     let arguments: Vec<String> = std::env::args().skip(1).collect();
     let [folder, small, tiny, seed] = &arguments[..] else { return Err("verilog FOLDER SMALL TINY SEED".into()) };
     let (small, tiny, seed): (u64, u64, u64) = (small.parse()?, tiny.parse()?, seed.parse()?);
+    let mut counts = Counts::default();
     for n in 0..small {
-        write_case(&Path::new(folder).join(format!("small_{n:02}")), seed + n, Size::Small)?;
+        write_case(&Path::new(folder).join(format!("small_{n:02}")), seed + n, Size::Small, &mut counts)?;
     }
     for n in 0..tiny {
-        write_case(&Path::new(folder).join(format!("tiny_{n:02}")), seed + n, Size::Tiny)?;
+        write_case(&Path::new(folder).join(format!("tiny_{n:02}")), seed + n, Size::Tiny, &mut counts)?;
     }
+    let counts: Vec<String> = counts.0.iter().map(|(what, count)| format!("{what} {count}")).collect();
+    println!("{}", counts.join(", "));
     Ok(())
 }
