@@ -1,8 +1,8 @@
 //! A table as text and as an image record, both ways:
 //!
-//!     table split TABLE > RECORD                the rows laid out over the memories
-//!     table misplace TABLE > RECORD             the same with chunk bits taken as soft bits first, then the high bits: a mistake, to be told apart
-//!     table list RECORD                         what stands in each memory
+//!     table split < TABLE > RECORD              the rows laid out over the memories
+//!     table misplace < TABLE > RECORD           the same with chunk bits taken as soft bits first, then the high bits: a mistake, to be told apart
+//!     table list < RECORD                       what stands in each memory
 //!     table patch TABLE RECORD PATCHES > RECORD   rows exchanged; patches are rows as in a table, each after its `@`
 //!     table readback TABLE RECORD               the rows of a record, as a table with the same first line
 //!     table differ TABLE TABLE                  the rows in which two tables differ; status 1 where there are some
@@ -12,7 +12,7 @@ mod text;
 
 use std::error::Error;
 use std::fs;
-use std::io::Write;
+use std::io::{Read, Write};
 
 use tablegoose::{Image, Patch, Record, Trit};
 use text::Header;
@@ -95,19 +95,25 @@ fn differ(one: &(Header, String), other: &(Header, String)) -> Result<()> {
     std::process::exit(i32::from(!rows.is_empty()))
 }
 
+fn read_table(text: &str) -> Result<(Header, String)> {
+    Ok((Header::read(text)?, text.into()))
+}
+
 fn main() -> Result<()> {
     let arguments: Vec<String> = std::env::args().skip(1).collect();
     let words: Vec<&str> = arguments.iter().map(String::as_str).collect();
-    let table = |name: &str| -> Result<(Header, String)> {
-        let text = fs::read_to_string(name)?;
-        Ok((Header::read(&text)?, text))
-    };
-    let record = |name: &str| -> Result<Record> { Ok(Record(fs::read(name)?)) };
+    let (table, record) = (|name: &str| read_table(&fs::read_to_string(name)?), |name: &str| -> Result<Record> { Ok(Record(fs::read(name)?)) });
+    let given = || std::io::read_to_string(std::io::stdin()).map_err(Box::from).and_then(|text| read_table(&text));
     let image = match words[..] {
-        ["split", name] => table(name).and_then(|(header, text)| Ok(header.layout().fill(&all_rows(&header, &text)?)?))?,
-        ["misplace", name] => table(name).and_then(|(header, text)| misplace(&header, &all_rows(&header, &text)?))?,
+        ["split"] => given().and_then(|(header, text)| Ok(header.layout().fill(&all_rows(&header, &text)?)?))?,
+        ["misplace"] => given().and_then(|(header, text)| misplace(&header, &all_rows(&header, &text)?))?,
         ["patch", name, from, patches] => patched(&table(name)?.0, record(from)?, &fs::read_to_string(patches)?)?,
-        ["list", from] => return record(from).map(|record| print!("{}", record.list())),
+        ["list"] => {
+            let mut bytes = vec![];
+            std::io::stdin().read_to_end(&mut bytes)?;
+            print!("{}", Record(bytes).list());
+            return Ok(());
+        }
         ["readback", name, from] => {
             let (header, text) = table(name)?;
             return readback(&header, text.lines().next().unwrap_or_default(), record(from)?);

@@ -20,7 +20,7 @@ pub struct Case {
     pub plan: Swizzle,
     /// Input nets, the clocks included.
     pub inputs: u32,
-    /// Inputs that are resets and clears, which are active in one step of eight.
+    /// Inputs that are resets and clears, which are active in one step of four.
     pub rare: Vec<Control>,
     pub steps: Vec<Step>,
 }

@@ -98,15 +98,12 @@ fn images(folder: &Path, case: &Case, answer: &Answer) -> std::io::Result<bool> 
     };
     write(folder, &|n| n)?;
     let Some((a, b)) = unlike(&memories) else { return Ok(false) };
-    write(&folder.join("wrong"), &|n| {
-        if n == a {
-            b
-        } else if n == b {
-            a
-        } else {
-            n
-        }
-    })?;
+    let exchanged = |n: usize| match n {
+        _ if n == a => b,
+        _ if n == b => a,
+        _ => n,
+    };
+    write(&folder.join("wrong"), &exchanged)?;
     Ok(true)
 }
 
@@ -209,9 +206,10 @@ fn write_case(folder: &Path, seed: u64, size: Size, counts: &mut Counts) -> Resu
     assert!(case.inputs <= 128 && case.outputs().first() == Some(&Net(2 + case.inputs)), "too many inputs");
     let wrong = images(folder, &case, &answer)?;
     let (outputs, rows) = (case.outputs().len(), row_bits(&case));
-    let design = [emit::MACROS, &original(&case), &split(&case, &answer)?, &bench::miter(&case, outputs, rows)].concat();
-    fs::write(folder.join("design.v"), design)?;
-    fs::write(folder.join("bench.v"), bench::bench(&case, outputs, rows, seed))?;
+    let macros = bench::macros(&case, outputs, rows, seed);
+    fs::write(folder.join("design.v"), [emit::MACROS, &original(&case), &split(&case, &answer)?].concat())?;
+    fs::write(folder.join("bench.v"), [&macros, bench::BENCH].concat())?;
+    fs::write(folder.join("miter.v"), [&macros, bench::MITER].concat())?;
     fs::write(folder.join("about"), summary(&case, &answer, wrong))?;
     counts.case(&case, &answer);
     Ok(())
