@@ -8,7 +8,7 @@ use std::collections::BTreeMap;
 use std::error::Error;
 use std::io::Read;
 
-use tablegoose::{Shape, Trit};
+use tablegoose::Shape;
 use text::Header;
 
 const COLUMN: u32 = 44;
@@ -223,9 +223,6 @@ fn main() -> Result<(), Box<dyn Error>> {
     let mut text = String::new();
     std::io::stdin().read_to_string(&mut text)?;
     let header = Header::read(&text)?;
-    // A layout that no swizzle has is refused here.
-    let layout = header.layout();
-    layout.fill(&vec![Trit::X; (header.depth * header.width) as usize])?;
-    print!("{}", draw(&Drawing { header: &header, shape: layout.shape()?, columns: columns(&header)? }));
+    print!("{}", draw(&Drawing { header: &header, shape: header.layout().shape()?, columns: columns(&header)? }));
     Ok(())
 }

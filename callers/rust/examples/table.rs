@@ -23,6 +23,9 @@ type Result<T> = std::result::Result<T, Box<dyn Error>>;
 fn all_rows(header: &Header, text: &str) -> Result<Vec<Trit>> {
     let mut all = vec![vec![Trit::X; header.width as usize]; header.depth as usize];
     for Patch { row, trits } in text::rows(text.lines().skip(1))? {
+        if trits.len() != header.width as usize {
+            return Err(format!("row {row} has not {} bits", header.width).into());
+        }
         *all.get_mut(row as usize).ok_or(format!("row {row} is past the depth"))? = trits;
     }
     Ok(all.concat())
@@ -39,7 +42,7 @@ fn misplaced(header: &Header, row: u32) -> (u32, u32) {
     (gathered(&mut high.into_iter()), gathered(&mut low.into_iter()))
 }
 
-/// The image by the wrong order. Memory and bit are as they should be; only the chunk is another.
+/// The image by the wrong order: columns go to memories as they should, but a row's chunk is another.
 fn misplace(header: &Header, rows: &[Trit]) -> Result<Image> {
     let (layout, plan, width, unit) = (header.layout(), &header.plan, header.width as usize, header.plan.data_width_unit as usize);
     let mut trits = vec![Trit::X; layout.shape()?.image_size as usize];

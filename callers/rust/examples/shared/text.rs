@@ -24,7 +24,10 @@ impl Header {
             if entries == "plain" { (0..width).map(Some).collect() } else { entries.split(',').map(entry).collect::<std::result::Result<_, _>>()? };
         let (soft_addr_bits_mask, hard_addr_bits, data_width_unit) = (mask.parse()?, hard.parse()?, unit.parse()?);
         let plan = Swizzle { data_swizzle, soft_addr_bits_mask, hard_addr_bits, data_width_unit, ..Swizzle::default() };
-        Ok(Header { depth: depth.parse()?, width, plan })
+        let header = Header { depth: depth.parse()?, width, plan };
+        // A layout that no accepted swizzle has is refused.
+        header.layout().sizes()?;
+        Ok(header)
     }
 
     pub fn layout(&self) -> Layout {
