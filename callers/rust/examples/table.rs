@@ -3,6 +3,7 @@
 //!     table split < TABLE > RECORD              the rows laid out over the memories
 //!     table misplace < TABLE > RECORD           the same with chunk bits taken as soft bits first, then the high bits: a mistake, to be told apart
 //!     table list < RECORD                       what stands in each memory
+//!     table memories FOLDER < RECORD            a `$readmemb` file for each memory: memory_0.mem, memory_1.mem and so on
 //!     table patch TABLE RECORD PATCHES > RECORD   rows exchanged; patches are rows as in a table, each after its `@`
 //!     table readback TABLE RECORD               the rows of a record, as a table with the same first line
 //!     table differ TABLE TABLE                  the rows in which two tables differ; status 1 where there are some
@@ -80,6 +81,20 @@ fn readback(header: &Header, first: &str, record: Record) -> Result<()> {
     Ok(())
 }
 
+/// A `$readmemb` file for each memory of a record.
+fn memories(folder: &str, record: &Record) -> Result<()> {
+    let (sizes, trits) = record.read()?;
+    let (mut rest, unit) = (&trits[..], sizes.unit as usize);
+    for number in 0..sizes.full + sizes.partial {
+        let depth = if number < sizes.full { sizes.full_depth } else { sizes.partial_depth };
+        let (memory, others) = rest.split_at(depth as usize * unit);
+        let text: String = memory.chunks(unit).map(|row| text::word(row) + "\n").collect();
+        fs::write(format!("{folder}/memory_{number}.mem"), text)?;
+        rest = others;
+    }
+    Ok(())
+}
+
 /// The rows that differ, neighbours in one line, and how many there are.
 fn differ(one: &(Header, String), other: &(Header, String)) -> Result<()> {
     let width = one.0.width as usize;
@@ -102,6 +117,12 @@ fn read_table(text: &str) -> Result<(Header, String)> {
     Ok((Header::read(text)?, text.into()))
 }
 
+fn given_record() -> Result<Record> {
+    let mut bytes = vec![];
+    std::io::stdin().read_to_end(&mut bytes)?;
+    Ok(Record(bytes))
+}
+
 fn main() -> Result<()> {
     let arguments: Vec<String> = std::env::args().skip(1).collect();
     let words: Vec<&str> = arguments.iter().map(String::as_str).collect();
@@ -112,17 +133,16 @@ fn main() -> Result<()> {
         ["misplace"] => given().and_then(|(header, text)| misplace(&header, &all_rows(&header, &text)?))?,
         ["patch", name, from, patches] => patched(&table(name)?.0, record(from)?, &fs::read_to_string(patches)?)?,
         ["list"] => {
-            let mut bytes = vec![];
-            std::io::stdin().read_to_end(&mut bytes)?;
-            print!("{}", Record(bytes).list());
+            print!("{}", given_record()?.list());
             return Ok(());
         }
+        ["memories", folder] => return memories(folder, &given_record()?),
         ["readback", name, from] => {
             let (header, text) = table(name)?;
             return readback(&header, text.lines().next().unwrap_or_default(), record(from)?);
         }
         ["differ", one, other] => return differ(&table(one)?, &table(other)?),
-        _ => return Err("table split | misplace | list | patch | readback | differ: see the head of its source".into()),
+        _ => return Err("table split | misplace | list | memories | patch | readback | differ: see the head of its source".into()),
     };
     std::io::stdout().write_all(&image.record()?.0)?;
     Ok(())
