@@ -719,9 +719,9 @@ tablegoose_count tablegoose_list_input(uint8_t *out, size_t out_len, const uint8
  *  143104 tablegoose_emulate_read_before_write
  *    6144 tablegoose_extract_read_ports
  *    1920 tablegoose_fill
- *    2176 tablegoose_fill_and_patch
- *     768 tablegoose_fill_rows
- *    1024 tablegoose_fill_then_patch
+ *    2304 tablegoose_fill_and_patch
+ *     896 tablegoose_fill_rows
+ *    1152 tablegoose_fill_then_patch
  *     512 tablegoose_into_pos
  *    1152 tablegoose_laid_out
  *     512 tablegoose_list_input
@@ -743,14 +743,14 @@ tablegoose_count tablegoose_list_input(uint8_t *out, size_t out_len, const uint8
  *    1792 tablegoose_read_laid_row
  *    3584 tablegoose_read_port_output_slice
  *     384 tablegoose_read_record
- *     768 tablegoose_read_row
+ *     640 tablegoose_read_row
  *     256 tablegoose_record_header
  *     768 tablegoose_remap_reset_over_enable
  *     512 tablegoose_replace_value
  *    1664 tablegoose_sizes_of
  *     128 tablegoose_slice_refusal
  *  386688 tablegoose_swizzle
- *  386944 tablegoose_swizzle_and_patch
+ *  387072 tablegoose_swizzle_and_patch
  *    3840 tablegoose_swizzle_depths
  *    6272 tablegoose_swizzle_mux_bits
  *    2560 tablegoose_swizzled_clear
