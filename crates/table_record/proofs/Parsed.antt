@@ -116,7 +116,7 @@ unfolding parseTable
 good-table text t e = good-head (headRun headStart (replicate maxWords 0) (text ++ (10 ∷ []))) t (from-if (ltb maxText (length text)) _ 1 8 t e .1)
 
 -- ---- the record of a text is that of its rows laid out
-abbrev asSplit : Listed → SplitEnd
+abbrev pub asSplit : Listed → SplitEnd
 asSplit l = record { answer = IsSplit (l .answer); out = l .out }
 
 by-table : (out : List ℕ) (t : Table) → splitBy out (IsTable t) ≡ asSplit (rowsRecord out (t .layout) (t .rows))

@@ -4,24 +4,33 @@ use mathlib.Core.Bool.{Bool, true, false, not}
 use Prim.Native.Nat.{ℕ, zero, suc, _+_, _*_, _≤_}
 use native.Mathlib.Omega.{arith}
 use mathlib.Core.List.{List, [], _∷_, _++_}
-use lib.ListN.{length, take, drop, getD, set, replicate}
-use lib.Seq.{take-at}
+use lib.ListN.{length, take, drop, getD, set, replicate, length-append}
+use lib.Seq.{take-at, sets}
 use lib.Dec.{eqb, leb}
 use borrow.Author.Tests.{le-leb, leb-true}
 use Rattle.lists.specs.Lists.{all, part}
-use Rattle.lists.proofs.Choice.{and-true, not-is-false}
+use Rattle.lists.proofs.Choice.{and-true, not-is-false, leaves-accepted}
 use Rattle.lists.proofs.All.{all-take, all-drop}
 use Rattle.rules.specs.Limits.{tritX, None}
 use Rattle.rules.specs.Logic.{undef, areTrits}
 use Rattle.rules.specs.Geometry.{Layout}
 use Rattle.rules.specs.Image.{imageSize, indexOf, put, putRow, writeRow, rowOf, writeRows, layout}
-use Rattle.rules.specs.Record.{sizeTrits, sizesOf, recordImage}
+use Rattle.rules.specs.Numbers.{ceilDiv}
+use Rattle.rules.specs.Record.{Sizes, sizeTrits, sizesOf, recordImage, arrayBytes, recordBytes, encodeRecord}
+use Rattle.rules.specs.Refusals.{writeRecordRefusal}
+use Rattle.rules.specs.Answers.{Accepted, answerOf, filled, writeRecordCall}
+use Rattle.rules.proofs.Answers.{accepted}
+use Rattle.lists.specs.Choice.{leaves}
 use Rattle.rules.specs.Conditions.{badTrits, badLayout}
 use Rattle.rules.specs.Patch.{laidOut}
 use Rattle.rules.proofs.Demand.{length-layout}
-use Rattle.rules.proofs.GoodLayouts.{good-small}
-use Rattle.rules.proofs.SwizzleSizes.{layout-trits}
-use Rattle.table_record.proofs.Parsed.{all-set, all-x}
+use Rattle.rules.proofs.GoodLayouts.{good, good-small}
+use Rattle.rules.proofs.SwizzleSizes.{layout-trits, layout-sizes}
+use Rattle.record_codec.proofs.Writing.{write-0}
+use Rattle.table_read.specs.Table.{Table, IsTable, parseTable}
+use Rattle.table_record.specs.Split.{recordCall, IsSplit, splitCall}
+use Rattle.table_record.proofs.Swizzled.{image-fits}
+use Rattle.table_record.proofs.Parsed.{all-set, all-x, asSplit, good-table, split-is}
 
 abbrev isTrit : ℕ → Bool
 isTrit t = leb t tritX
@@ -62,3 +71,42 @@ image-is q rows buffer g =
 pub image-trits : (q : Layout) (rows buffer : List ℕ) → badLayout q ≡ false → areTrits rows ≡ true → badTrits (recordImage (sizesOf q) (laidOut q rows buffer)) ≡ false
 unfolding badTrits
 image-trits q rows buffer g t = not-is-false (areTrits (recordImage (sizesOf q) (laidOut q rows buffer))) (ap areTrits (image-is q rows buffer g) ∙ layout-is-trits q rows t)
+
+-- ---- no number refuses the record in room for the longest
+bytes-fit : (z : Sizes) → sizeTrits z ≤ 131072 → recordBytes z ≤ 32780
+unfolding recordBytes arrayBytes ceilDiv
+bytes-fit z h = omega arith
+
+module _ (q : Layout) (rows buffer out : List ℕ) (g : badLayout q ≡ false) (t : areTrits rows ≡ true) (room : 32780 ≤ length out) where
+  abbrev z : Sizes
+  z = sizesOf q
+
+  abbrev image : List ℕ
+  image = laidOut q rows buffer
+
+  size-is : sizeTrits z ≡ imageSize q
+  size-is = let s = good-small q g in layout-trits q (s .unit-pos) (s .unit-max) (s .hard-max)
+
+  image-long : sizeTrits z ≤ length image
+  unfolding laidOut
+  image-long = omega (arith, size-is, length-layout q rows, length-append (layout q rows) (drop (imageSize q) buffer))
+
+  no-number : writeRecordRefusal (length out) z image ≡ 0
+  no-number =
+      let s = good-small q g in
+      sym (write-0 (length out) z image (image-trits q rows buffer g t) (layout-sizes q (s .unit-pos) (s .unit-max) (s .hard-max) (good q g .result)) image-long (omega (arith, bytes-fit z (omega (arith, size-is, image-fits q g)))))
+
+  -- the record is written: its bytes are those of the rows' layout
+  pub written : recordCall out (Accepted z) image ≡ record { answer = Accepted (recordBytes z); out = sets out 0 (encodeRecord z (layout q rows)) }
+  unfolding recordCall writeRecordCall filled
+  written =
+      let a : answerOf (writeRecordRefusal (length out) z image) (recordBytes z) ≡ Accepted (recordBytes z) = sym (accepted _ (recordBytes z) (recordBytes z) no-number refl) in
+      let b : leaves (writeRecordRefusal (length out) z image) out (sets out 0 (encodeRecord z (recordImage z image))) ≡ sets out 0 (encodeRecord z (layout q rows)) = leaves-accepted _ out _ no-number ∙ ap (λ (l : List ℕ). sets out 0 (encodeRecord z l)) (image-is q rows buffer g) in
+      λ i. record { answer = a i; out = b i }
+
+-- the record of a text that gives a table
+pub split-written : (out text : List ℕ) (t : Table) → parseTable text ≡ IsTable t → 32780 ≤ length out
+    → splitCall out text ≡ record { answer = IsSplit (Accepted (recordBytes (sizesOf (t .layout)))); out = sets out 0 (encodeRecord (sizesOf (t .layout)) (layout (t .layout) (t .rows))) }
+split-written out text t e h =
+    let g = good-table text t e in
+    split-is out text t e ∙ ap asSplit (written (t .layout) (t .rows) (replicate 131072 0) out (g .good) (g .trits) h)
