@@ -2,3 +2,4 @@
 pub mod Records
 pub mod Swizzled
 pub mod Parsed
+pub mod Written

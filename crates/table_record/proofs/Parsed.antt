@@ -30,7 +30,7 @@ use Rattle.table_record.specs.Split.{recordCall, rowsRecord, SplitEnd, I
 use Rattle.table_record.proofs.Swizzled.{record-is}
 
 -- ---- the rows stay trits, and as many
-all-set : (f : ℕ → Bool) (l : List ℕ) (i v : ℕ) → all f l ≡ true → f v ≡ true → all f (set l i v) ≡ true
+pub all-set : (f : ℕ → Bool) (l : List ℕ) (i v : ℕ) → all f l ≡ true → f v ≡ true → all f (set l i v) ≡ true
 all-set f [] i v e g = refl
 all-set f (x ∷ l) zero v e g = rw g (and-true (f x) (all f l) e .1)
 all-set f (x ∷ l) (suc i) v e g = rw (and-true (f x) (all f l) e .0) (all-set f l i v (and-true (f x) (all f l) e .1) g)
@@ -61,7 +61,7 @@ unfolding scanRun
 run-long d w s rows [] = refl
 run-long d w s rows (b ∷ text) = run-long d w (scanStep d w s b) (scanStored d w s b rows) text ∙ length-scan-stored d w s b rows
 
-all-x : (n : ℕ) → areTrits (replicate n tritX) ≡ true
+pub all-x : (n : ℕ) → areTrits (replicate n tritX) ≡ true
 unfolding areTrits
 all-x zero = refl
 all-x (suc n) = all-x n
@@ -116,7 +116,7 @@ unfolding parseTable
 good-table text t e = good-head (headRun headStart (replicate maxWords 0) (text ++ (10 ∷ []))) t (from-if (ltb maxText (length text)) _ 1 8 t e .1)
 
 -- ---- the record of a text is that of its rows laid out
-abbrev asSplit : Listed → SplitEnd
+abbrev pub asSplit : Listed → SplitEnd
 asSplit l = record { answer = IsSplit (l .answer); out = l .out }
 
 by-table : (out : List ℕ) (t : Table) → splitBy out (IsTable t) ≡ asSplit (rowsRecord out (t .layout) (t .rows))

@@ -35,7 +35,7 @@ fits-by : (w : Bool) (a n : ℕ) → (not w && (ltb maxColumns a || ltb maxImage
 fits-by true a n e = omega arith
 fits-by false a n e = ltb-false maxImage n (or-false (ltb maxColumns a) (ltb maxImage n) e .1)
 
-image-fits : (q : Layout) → badLayout q ≡ false → imageSize q ≤ 131072
+pub image-fits : (q : Layout) → badLayout q ≡ false → imageSize q ≤ 131072
 unfolding imageSize imageTooLarge resultTooLarge
 image-fits q e = fits-by (eqb (q .width) 0) (columns q) (trits q) (good q e .result)
 
