@@ -23,7 +23,7 @@ def section(log):
         sys.exit('times: this is not the output of a whole run of .ci/run')
     slow = sorted(proved, key=lambda pair: (-pair[1], pair[0]))
     rows = ', '.join(f'{crate} {seconds}' for crate, seconds in slow)
-    return (f'{HEADING}\n\nOne run of `.ci/run` on two cores, nothing else running: {whole.group(1)}. The proofs of {len(proved)} crates took '
+    return (f'{HEADING}\n\nOne run of `.ci/run` on two cores: {whole.group(1)}. The proofs of {len(proved)} crates took '
             f'{sum(s for _, s in proved)} s together, {len(edits)} must-fail edits {sum(edits)} s, two at a time.\n'
             f'`scripts/times.py` writes this from the output of the run.\n\nSeconds of each crate: {rows}.\n')
 
