@@ -121,7 +121,7 @@ pub fn same_control(a: ControlNet, b: ControlNet) -> bool
 }
 
 // Every write port has the first one's clock.
-fn clocks_same(m: Memory) -> bool
+pub fn clocks_same(m: Memory) -> bool
     ensures { λ r. ⌜ ((nets trits : List ℕ) → r ≡ canLowerFallback (memoryOf m nets trits)) ⌝ }
 {
     let count = net_memory::ports_used(m.write_count);

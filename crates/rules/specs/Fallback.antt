@@ -1,12 +1,12 @@
 -- `can_lower_fallback` and `lower_fallback`: each row a memory of depth 1.
-use Prim.Native.Nat.{ℕ, _+_, _-_, _*_, _^_, max}
+use Prim.Native.Nat.{ℕ, _-_, _*_, _^_, max}
 use mathlib.Core.Bool.{Bool}
 use mathlib.Core.List.{List, [], _∷_, map}
 use lib.ListN.{length, take, drop}
 use Rattle.lists.specs.Lists.{all, upFrom}
 use Rattle.rules.specs.Numbers.{largest}
 use Rattle.rules.specs.Value.{Value, ofConst, sameControl}
-use Rattle.rules.specs.Cell.{WritePort, ReadPort, Mem, Plan, newFlipFlop, withInit, writeWideLog2, readWideLog2, writeAt, outputLen}
+use Rattle.rules.specs.Cell.{WritePort, ReadPort, Mem, Plan, newFlipFlop, withInit, writeWideLog2, readWideLog2, writeAt}
 use Rattle.rules.specs.Log.{Trace, _>>=_, _>>_, done, addVoid, addDff, replaceValue}
 use Rattle.rules.specs.Merge.{addBitwiseMux}
 use Rattle.rules.specs.Ports.{Driving, unmapAll}
@@ -71,6 +71,6 @@ lowerFallback m output = do
   ds ← swizzle (x .memory) (x .output) (fallbackPlan (x .memory))
   lowerRows ds
 
--- the nets of scratch that a call is lent: the outputs, the data and the mask of each write port for all rows, and the pieces of one read port
+-- the nets of scratch that a call is lent: the data and the mask of each write port for all rows
 unfoldable pub fallbackScratch : Mem → ℕ
-fallbackScratch m = outputLen m + (2 * length (m .writes) + 1) * (m .depth * m .width)
+fallbackScratch m = 2 * length (m .writes) * (m .depth * m .width)
