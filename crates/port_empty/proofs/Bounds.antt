@@ -11,7 +11,7 @@ use borrow.Author.Tests.{ltb-false}
 use Rattle.lists.specs.Choice.{if_then_else_}
 use Rattle.lists.specs.Lists.{upFrom}
 use Rattle.lists.proofs.UpFrom.{length-up}
-use Rattle.rules.specs.Limits.{X, maxMerge, maxPorts}
+use Rattle.rules.specs.Limits.{X, maxMerge, maxPorts, maxOutputs}
 use Rattle.rules.specs.Value.{Value, Control, Pos, zext}
 use Rattle.rules.specs.Cell.{FlipFlop, WritePort, ReadPort, ReadFlipFlop, Mem, readWideLog2, readAt, isTransparent, flipFlopOf}
 use Rattle.rules.specs.Log.{Trace, _>>=_, _>>_, done, request, addShl, addUshr, addEq, addVoid, addDff, replaceValue, LogState, startNet}
@@ -23,7 +23,7 @@ use Rattle.port_transparency.proofs.Covered.{zext-length, fits}
 use Rattle.port_overlay.specs.Laid.{laidBy, laidAs, laidFrom, behind}
 use Rattle.port_overlay.proofs.Bounds.{most-dedup-mux, most-bitwise, bitwise-few}
 use Rattle.port_unmap_all.specs.All.{related, unmappedTo, unmappedOf, unmappedAt, unmappedEach, unmappedAll}
-use Rattle.port_empty.specs.Empty.{maxOutputs, emptied, emptiedIf}
+use Rattle.port_empty.specs.Empty.{emptied, emptiedIf}
 
 -- ---- what a port sees of a write port that fits it
 record Few (w : WritePort) (n : ℕ) : Type 0 where

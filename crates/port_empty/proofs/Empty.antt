@@ -12,7 +12,7 @@ use Rattle.lists.specs.Choice.{if_then_else_}
 use Rattle.lists.specs.Lists.{any, sumBy}
 use Rattle.lists.proofs.Choice.{or-false}
 use Rattle.lists.proofs.Parts.{part-replicate}
-use Rattle.rules.specs.Limits.{X}
+use Rattle.rules.specs.Limits.{X, maxOutputs}
 use Rattle.rules.specs.Value.{Value, xNets}
 use Rattle.rules.specs.Cell.{ReadPort, Mem, outputLen}
 use Rattle.rules.specs.Conditions.{badReadShape, badOutputLen}
@@ -30,7 +30,7 @@ use Rattle.port_unmap_all.specs.All.{unmappedAll, allBare, AllReady}
 use Rattle.port_unmap_all.proofs.Fold.{Like}
 use Rattle.port_unmap_all.proofs.Walk.{chains-unmapped}
 use Rattle.port_unmap_all.proofs.Rules.{size-few, room-gave, rules-like}
-use Rattle.port_empty.specs.Empty.{maxOutputs, emptied, emptiedIf}
+use Rattle.port_empty.specs.Empty.{emptied, emptiedIf}
 
 -- ---- the X nets
 pub unknown-is : (n s : ℕ) → n ≤ s → take n (replicate s X) ≡ xNets n

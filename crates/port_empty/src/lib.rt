@@ -2,25 +2,23 @@
 ghost use mathlib.Core.Path.{_≡_};
 ghost use Prim.Native.Nat.{_≤_};
 ghost use lib.ListN.{length, take};
+ghost use Rattle.rules.specs.Limits.{maxOutputs};
 ghost use Rattle.rules.specs.Value.{xNets};
 ghost use Rattle.rules.specs.Log.{replaceValue};
 ghost use Rattle.rules.specs.Refusals.{logRefusal};
 ghost use Rattle.log_entries.specs.Emission.{run};
 ghost use Rattle.log_entries.specs.View.{stateOf, lent};
 ghost use Rattle.net_memory.specs.View.{memoryOf};
-ghost use Rattle.port_empty.specs.Empty.{maxOutputs, emptiedIf};
+ghost use Rattle.port_empty.specs.Empty.{emptiedIf};
 use log_entries::LogState;
 use net_memory::Memory;
-
-// As many outputs as rules::MAX_PORTS read ports have, each of at most rules::MAX_WIDTH × 2^rules::MAX_WIDE bits.
-const MAX_OUTPUTS: usize = 16384;
 
 // The first n nets of `after` replaced by X.
 fn emit_unknown(log: &mut [u32], st: LogState, after: &[u32], n: usize) -> LogState
     requires { ⌜ (n ≤ length (now after)) × (n ≤ maxOutputs) ⌝ }
     ensures { λ r. ⌜ lent r (now (log .exit)) ≡ run (replaceValue (take n (now (after .entry))) (xNets n)) (lent st (now (log .entry))) ⌝ }
 {
-    let unknown = [rules::NET_X; MAX_OUTPUTS];
+    let unknown = [rules::NET_X; rules::MAX_OUTPUTS];
     log_entries::emit_replace(log, st, &after[..n], &unknown[..n])
 }
 
@@ -28,7 +26,7 @@ fn emit_unknown(log: &mut [u32], st: LogState, after: &[u32], n: usize) -> LogSt
 fn emit_emptied(
     log: &mut [u32],
     st: LogState,
-    after: &mut [u32; MAX_OUTPUTS],
+    after: &mut [u32; rules::MAX_OUTPUTS],
     under: &mut [u32; rules::MAX_MERGE],
     bits: &mut [u32; rules::MAX_MERGE],
     mask: &mut [u32; rules::MAX_MERGE],
@@ -45,7 +43,7 @@ fn emit_emptied(
     ensures { λ r. ⌜ lent r (now (log .exit)) ≡ run (emptiedIf (memoryOf m (now (nets .entry)) (now (trits .entry))) (now (output .entry))) (lent st (now (log .entry))) ⌝ }
 {
     let n = output.len();
-    if MAX_OUTPUTS < n {
+    if rules::MAX_OUTPUTS < n {
         return st;
     }
     let state = port_unmap_all::emit_unmap_all(
@@ -79,7 +77,7 @@ pub fn emit_empty(
 ) -> LogState
     ensures { λ r. ⌜ lent r (now (log .exit)) ≡ run (emptiedIf (memoryOf m (now (nets .entry)) (now (trits .entry))) (now (output .entry))) (lent st (now (log .entry))) ⌝ }
 {
-    let mut after = [0u32; MAX_OUTPUTS];
+    let mut after = [0u32; rules::MAX_OUTPUTS];
     let mut under = [0u32; rules::MAX_MERGE];
     let mut bits = [0u32; rules::MAX_MERGE];
     let mut mask = [0u32; rules::MAX_MERGE];

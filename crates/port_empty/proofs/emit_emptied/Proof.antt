@@ -3,7 +3,7 @@ use mathlib.Core.Path.{_≡_, refl}
 use lib.ListN.{length}
 use Rattle.log_entries.specs.View.{lent}
 use Rattle.net_memory.specs.View.{memoryOf}
-use Rattle.port_empty.specs.Empty.{maxOutputs}
+use Rattle.rules.specs.Limits.{maxOutputs}
 use Rattle.port_empty.proofs.Empty.{empty-many, empty-ran}
 use borrow.Author.Needs.{needs}
 use Rattle.port_empty.proofs.emit_emptied.Statement.{statement}

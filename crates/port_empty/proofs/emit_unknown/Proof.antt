@@ -6,7 +6,7 @@ use Rattle.rules.specs.Value.{Value}
 use Rattle.rules.specs.Log.{replaceValue}
 use Rattle.log_entries.specs.Emission.{run}
 use Rattle.log_entries.specs.View.{lent}
-use Rattle.port_empty.specs.Empty.{maxOutputs}
+use Rattle.rules.specs.Limits.{maxOutputs}
 use Rattle.port_empty.proofs.Empty.{unknown-is, unknown-long}
 use borrow.Author.Needs.{needs}
 use Rattle.port_empty.proofs.emit_unknown.Statement.{statement}
