@@ -1,5 +1,6 @@
 -- What a swizzle that no number refuses leaves, by its trace.
 use mathlib.Core.Path.{_≡_}
+use mathlib.Core.Logic.{_≢_}
 use Prim.Native.Nat.{ℕ}
 use mathlib.Core.List.{List}
 use lib.ListN.{length}
@@ -19,13 +20,21 @@ use Rattle.net_memory.specs.declared.Memory.{Memory}
 use Rattle.net_memory.specs.Given.{givenOf}
 use Rattle.swizzle_plan.specs.declared.MemorySwizzle.{MemorySwizzle}
 use Rattle.swizzle_plan.specs.Calls.{planOf}
+use Rattle.swizzle_result.specs.declared.WideMemory.{WideMemory}
 use Rattle.swizzle_result.specs.View.{resultsOf}
+use Rattle.swizzle_result.specs.Held.{HeldWrite, HeldRead, Holds}
 use Rattle.swizzle_reads.specs.Going.{Going}
 
 -- no number refuses it, with these rooms and an image room of some length
 pub record Passed (m : Memory) (nets trits output : List ℕ) (s : MemorySwizzle) (es ws rs : List ℕ) (st : LogState) (log to kinds scratch : List ℕ) : Type 0 where
   pub image : ℕ
   pub zero : swizzleRefusal (record { image = image; nets = length to; trits = length kinds; scratch = length scratch }) (length log) (stateOf st) (givenOf m nets trits) output (planOf s es ws rs) ≡ 0
+
+-- a struct and its arrays hold these ports
+pub record PortsHeld (q : Layout) (g : WideMemory) (nets trits : List ℕ) : Type 0 where
+  pub writes : List (HeldWrite q)
+  pub reads : List (HeldRead q)
+  pub holds : Holds g q writes reads nets trits
 
 -- the log, the rooms and how much of them is used, and the memories that the struct and the rooms hold
 pub record Acted (m : Mem) (q : Layout) (t : Trace (List Driving)) (l : Lent) (to kinds : List ℕ) (g : Going) : Type 0 where
@@ -35,3 +44,5 @@ pub record Acted (m : Mem) (q : Layout) (t : Trace (List Driving)) (l : Lent) (t
   pub nets-end : g .netsAt ≡ length (sharedNets m (t (l .state .next) .value))
   pub trits-end : g .tritsAt ≡ length (sharedTrits m (t (l .state .next) .value))
   pub results-are : resultsOf (g .memory) (sharedNets m (t (l .state .next) .value)) (sharedTrits m (t (l .state .next) .value)) (layout q (m .init)) ≡ t (l .state .next) .value
+  -- the struct's own numbers, where there are rows
+  pub ports-held : m .width ≢ 0 → m .depth ≢ 0 → PortsHeld q (g .memory) (sharedNets m (t (l .state .next) .value)) (sharedTrits m (t (l .state .next) .value))

@@ -228,6 +228,9 @@ module _ (r : SwizzleRooms) (room : ℕ) (s : LogState) (mem : Memory) (nets tri
         trits-are = shares.trits-shared M output p lf ew er (s .next) ∙ sym (done .kinds-held);
       }
 
+      pub memory-held : after .memory ≡ withReadPorts wide 0 structs
+      memory-held = done .memory-is
+
       results : resultsOf (after .memory) (sharedNets M rows) (sharedTrits M rows) (layout q (M .init)) ≡ rows
       results =
           ap (λ (x : WideMemory). resultsOf x (sharedNets M rows) (sharedTrits M rows) (layout q (M .init))) (done .memory-is)
