@@ -39,7 +39,7 @@ use Rattle.swizzle_plan.specs.Calls.{planOf, paramsBy}
 use Rattle.swizzle_counts.proofs.Refusing.{no-nets, no-trits}
 use Rattle.swizzle_result.specs.declared.WideMemory.{WideMemory}
 use Rattle.swizzle_result.specs.View.{resultsOf}
-use Rattle.swizzle_result.specs.Held.{Holds}
+use Rattle.swizzle_result.specs.Held.{HeldWrite, HeldRead, Holds}
 use Rattle.swizzle_reads.specs.declared.Reads.{Reads}
 use Rattle.swizzle_reads.specs.Going.{Going, goingOf, inPorts, hasRows, readsIf, mostNeed, AllKept}
 use Rattle.swizzle_reads.proofs.Layouts.{good-has}
@@ -49,7 +49,7 @@ use Rattle.swizzle_ready.proofs.Planned.{layout-planned}
 use Rattle.swizzle_ready.proofs.Scratch.{scratch-is}
 use Rattle.swizzle_ready.proofs.Joined as joined
 use Rattle.swizzle_ready.proofs.Joined.{RowsDone, Begun, rows-done}
-use Rattle.swizzle_call.specs.Acted.{Passed, PortsHeld, Acted}
+use Rattle.swizzle_call.specs.Acted.{Passed, Acted, PortsHeld}
 
 -- what is lent, by its lengths
 abbrev pub roomsOf : ℕ → List ℕ → List ℕ → List ℕ → rules.SwizzleRooms
@@ -67,16 +67,15 @@ results-none : (nets trits image : List ℕ) → resultsOf emptyMemory nets trit
 unfolding resultsOf
 results-none nets trits image = refl
 
-pub none-acted : (m : Mem) (q : Layout) (t : Trace (List Driving)) (l : Lent) → (m .width ≢ 0 → m .depth ≢ 0 → ⊥) → t (l .state .next) .value ≡ [] → (st : LogState) (log to kinds : List ℕ) → lent st log ≡ run t l
+pub none-acted : (m : Mem) (q : Layout) (t : Trace (List Driving)) (l : Lent) → t (l .state .next) .value ≡ [] → (st : LogState) (log to kinds : List ℕ) → lent st log ≡ run t l
     → Acted m q t l to kinds (goingOf (noneYet st) log to kinds)
-none-acted m q t l h v st log to kinds e = record {
+none-acted m q t l v st log to kinds e = record {
   log-is = e;
   nets-are = sym (ap (λ (ds : List Driving). sets to 0 (sharedNets m ds)) v ∙ ap (sets to 0) (none-of (sharedNets m []) (no-nets m)));
   trits-are = sym (ap (λ (ds : List Driving). sets kinds 0 (sharedTrits m ds)) v ∙ ap (sets kinds 0) (none-of (sharedTrits m []) (no-trits m)));
   nets-end = sym (ap (λ (ds : List Driving). length (sharedNets m ds)) v ∙ no-nets m);
   trits-end = sym (ap (λ (ds : List Driving). length (sharedTrits m ds)) v ∙ no-trits m);
   results-are = results-none _ _ _ ∙ sym v;
-  ports-held = λ w d. absurd (h w d);
 }
 
 -- ---- width 0
@@ -92,7 +91,7 @@ pub flat-acted : (m : Mem) (output : Value) (p : Plan) (q : Layout) → m .width
     → Acted m q (swizzle m output p) (lent st log) to kinds (goingOf (noneYet st) log to kinds)
 flat-acted m output p q w st log to kinds =
     let e = flat-trace m output p w in
-    none-acted m q (swizzle m output p) (lent st log) (λ w′ d. w′ w) (ap (λ (t : Trace (List Driving)). t (st .next) .value) e ∙ done-none (st .next)) st log to kinds
+    none-acted m q (swizzle m output p) (lent st log) (ap (λ (t : Trace (List Driving)). t (st .next) .value) e ∙ done-none (st .next)) st log to kinds
     (sym (ap (λ (t : Trace (List Driving)). run t (lent st log)) e ∙ run-done [] (lent st log)))
 
 -- ---- depth 0
@@ -140,7 +139,7 @@ module _ (r : rules.SwizzleRooms) (room : ℕ) (st : LogState) (m : Memory) (net
   empty-acted q w d st′ log log′ to kinds e =
       let t = empty-trace M output p w d in
       let h = long d in
-      none-acted M q (swizzle M output p) (lent st log) (λ w′ d′. d′ d) (ap (λ (u : Trace (List Driving)). u (st .next) .value) t ∙ empty-value M output (st .next)) st′ log′ to kinds
+      none-acted M q (swizzle M output p) (lent st log) (ap (λ (u : Trace (List Driving)). u (st .next) .value) t ∙ empty-value M output (st .next)) st′ log′ to kinds
       (e ∙ rules-run M (all-ready (planTooLarge p) (st .next) m nets trits output driving h) output outputs (lent st log) ∙ ap (λ (u : Trace (List Driving)). run u (lent st log)) (sym t))
 
 -- ---- rows
@@ -148,10 +147,8 @@ pub same-layout : (m : Memory) (nets trits : List ℕ) (s : MemorySwizzle) (es w
 unfolding layoutOf memoryOf
 same-layout m nets trits s es ws rs = refl
 
-from-rows : (m : Mem) (output : Value) (p : Plan) (l : Lent) (to kinds : List ℕ) (g : Going) → RowsDone m output p l to kinds g
-    → PortsHeld (layoutOf m p) (g .memory) (sharedNets m (swizzleRows m output p (l .state .next) .value)) (sharedTrits m (swizzleRows m output p (l .state .next) .value))
-    → Acted m (layoutOf m p) (swizzleRows m output p) l to kinds g
-from-rows m output p l to kinds g d h = record { log-is = d .log-is; nets-are = d .nets-are; trits-are = d .trits-are; nets-end = d .nets-end; trits-end = d .trits-end; results-are = d .results-are; ports-held = λ w e. h }
+from-rows : (m : Mem) (output : Value) (p : Plan) (l : Lent) (to kinds : List ℕ) (g : Going) → RowsDone m output p l to kinds g → Acted m (layoutOf m p) (swizzleRows m output p) l to kinds g
+from-rows m output p l to kinds g d = record { log-is = d .log-is; nets-are = d .nets-are; trits-are = d .trits-are; nets-end = d .nets-end; trits-end = d .trits-end; results-are = d .results-are }
 
 module _ (r : rules.SwizzleRooms) (room : ℕ) (st : LogState) (m : Memory) (nets trits output : List ℕ) (p : Plan) (z : swizzleRefusal r room (stateOf st) (givenOf m nets trits) output p ≡ 0)
     (w : memoryOf m nets trits .width ≢ 0) (d : memoryOf m nets trits .depth ≢ 0) (wl : length (writesOf m nets) ≡ min maxPorts (m .«write_count»)) (rl : length (readsOf m nets trits) ≡ min maxPorts (m .«read_count»)) where
@@ -187,27 +184,39 @@ module _ (r : rules.SwizzleRooms) (room : ℕ) (st : LogState) (m : Memory) (net
     after-is : after ≡ readsIf q (r .scratch) (inPorts m nets trits) (p .readWide) output (startGoing q m (b .mid) (b .filled) kinds)
     after-is = b .reads-are ∙ ap (λ (k : ℕ). readsIf q k (inPorts m nets trits) (p .readWide) output (startGoing q m (b .mid) (b .filled) kinds)) es
 
-    abbrev rows : List Driving
-    rows = swizzleRows N output p (st .next) .value
-
-    held-rows : PortsHeld q (readsIf q (r .scratch) (inPorts m nets trits) (p .readWide) output (startGoing q m (b .mid) (b .filled) kinds) .memory) (sharedNets N rows) (sharedTrits N rows)
-    held-rows =
-        let g = startGoing q m (b .mid) (b .filled) kinds .memory in
-        record {
-          writes = joined.hw r room (stateOf st) m nets trits output p z w d log to kinds en et (b .mid) (b .filled) (b .gave) g begun;
-          reads = joined.hr r room (stateOf st) m nets trits output p z w d log to kinds en et (b .mid) (b .filled) (b .gave) g begun;
-          holds = subst (λ (x : WideMemory). Holds x q (joined.hw r room (stateOf st) m nets trits output p z w d log to kinds en et (b .mid) (b .filled) (b .gave) g begun) (joined.hr r room (stateOf st) m nets trits output p z w d log to kinds en et (b .mid) (b .filled) (b .gave) g begun) (sharedNets N rows) (sharedTrits N rows))
-              (sym (joined.memory-held r room (stateOf st) m nets trits output p z w d log to kinds en et (b .mid) (b .filled) (b .gave) g begun))
-              (joined.rows-hold r room (stateOf st) m nets trits output p z w d log to kinds en et (b .mid) (b .filled) (b .gave) g begun);
-        }
-
     acted : Acted N q (swizzleRows N output p) (lent st log) to kinds after
-    acted =
-        from-rows N output p (lent st log) to kinds after (subst (RowsDone N output p (lent st log) to kinds) (sym after-is) done-rows)
-        (subst (λ (x : Going). PortsHeld q (x .memory) (sharedNets N rows) (sharedTrits N rows)) (sym after-is) held-rows)
+    acted = from-rows N output p (lent st log) to kinds after (subst (RowsDone N output p (lent st log) to kinds) (sym after-is) done-rows)
 
     pub rows-acted : Acted N q (swizzle N output p) (lent st log) to kinds after
     rows-acted = subst (λ (t : Trace (List Driving)). Acted N q t (lent st log) to kinds after) (sym (rows-trace r room (stateOf st) (givenOf m nets trits) output p z w d)) acted
+
+    -- the ports that the struct stands for
+    abbrev first : WideMemory
+    first = startGoing q m (b .mid) (b .filled) kinds .memory
+
+    abbrev hw : List (HeldWrite q)
+    hw = joined.hw r room (stateOf st) m nets trits output p z w d log to kinds en et (b .mid) (b .filled) (b .gave) first begun
+
+    abbrev hr : List (HeldRead q)
+    hr = joined.hr r room (stateOf st) m nets trits output p z w d log to kinds en et (b .mid) (b .filled) (b .gave) first begun
+
+    abbrev Held : WideMemory → List Driving → Type 0
+    Held g ds = Holds g q hw hr (sharedNets N ds) (sharedTrits N ds)
+
+    held-rows : Held (after .memory) (swizzleRows N output p (st .next) .value)
+    held-rows =
+        subst (λ (g : WideMemory). Held g (swizzleRows N output p (st .next) .value))
+        (sym (ap (λ (x : Going). x .memory) after-is ∙ joined.memory-held r room (stateOf st) m nets trits output p z w d log to kinds en et (b .mid) (b .filled) (b .gave) first begun))
+        (joined.rows-hold r room (stateOf st) m nets trits output p z w d log to kinds en et (b .mid) (b .filled) (b .gave) first begun)
+
+    pub rows-ports : PortsHeld N output p (st .next) (after .memory)
+    rows-ports = record {
+      writes = hw;
+      reads = hr;
+      writes-are = joined.ports-held r room (stateOf st) m nets trits output p z w d log to kinds en et (b .mid) (b .filled) (b .gave) first begun;
+      reads-are = joined.reads-held r room (stateOf st) m nets trits output p z w d log to kinds en et (b .mid) (b .filled) (b .gave) first begun;
+      holds = subst (λ (t : Trace (List Driving)). Held (after .memory) (t (st .next) .value)) (sym (rows-trace r room (stateOf st) (givenOf m nets trits) output p z w d)) held-rows;
+    }
 
   pub has-rows : hasRows q ≡ true
   has-rows =
@@ -218,6 +227,12 @@ module _ (r : rules.SwizzleRooms) (room : ℕ) (st : LogState) (m : Memory) (net
       → RowsRan x m nets trits (p .writeWide) (p .readWide) output scratch st log to kinds after → Acted N q (swizzle N output p) (lent st log) to kinds after
   ran-acted log to kinds en et scratch es after x e b =
       rows-acted log to kinds en et scratch es after
+      (subst (λ (y : Layout). RowsRan y m nets trits (p .writeWide) (p .readWide) output scratch st log to kinds after) e b .by-rows has-rows)
+
+  pub ran-ports : (log to kinds : List ℕ) → length to ≡ r .nets → length kinds ≡ r .trits → (scratch : ℕ) → scratch ≡ r .scratch → (after : Going) (x : Layout) → x ≡ q
+      → RowsRan x m nets trits (p .writeWide) (p .readWide) output scratch st log to kinds after → PortsHeld N output p (st .next) (after .memory)
+  ran-ports log to kinds en et scratch es after x e b =
+      rows-ports log to kinds en et scratch es after
       (subst (λ (y : Layout). RowsRan y m nets trits (p .writeWide) (p .readWide) output scratch st log to kinds after) e b .by-rows has-rows)
 
   pub scratch-kept : (x : Layout) → x ≡ q → (before after : List ℕ) → AllKept x (inPorts m nets trits) (p .readWide) before after → drop (swizzleScratch N p) after ≡ drop (swizzleScratch N p) before

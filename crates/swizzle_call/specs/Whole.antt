@@ -26,7 +26,7 @@ use Rattle.swizzle_result.specs.View.{resultsOf}
 use Rattle.swizzle_reads.specs.Going.{goingOf}
 use Rattle.swizzle_rows.specs.Rows.{noneYet}
 use Rattle.swizzle_call.specs.declared.Swizzled.{Swizzled}
-use Rattle.swizzle_call.specs.Acted.{Acted}
+use Rattle.swizzle_call.specs.Acted.{Acted, HoldsPorts}
 
 -- refused: every lent word as it was, no memories, and no state for patches
 pub record Unchanged (st : LogState) (log image to kinds scratch : List ℕ) (x : Swizzled) (log′ image′ to′ kinds′ scratch′ : List ℕ) : Type 0 where
@@ -44,6 +44,7 @@ pub record Changed (m : Mem) (output : List ℕ) (p : Plan) (st : LogState) (log
   pub image-is : image′ ≡ laidOut (layoutOf m p) (m .init) image
   -- the memories, as struct and arrays hold them
   pub results-held : resultsOf (x .made .memory) (take (x .made .«nets_at») to′) (take (x .made .«trits_at») kinds′) (take (imageSize (layoutOf m p)) image′) ≡ swizzle m output p (st .next) .value
+  pub ports-held : HoldsPorts m output p (st .next) (x .made .memory)
   pub scratch-kept : drop (swizzleScratch m p) scratch′ ≡ drop (swizzleScratch m p) scratch
   pub laid-is : laidOf (x .laid) ≡ some (layoutOf m p)
   pub sizes-are : sizedOf (x .sizes) ≡ Accepted (sizesOf (layoutOf m p))

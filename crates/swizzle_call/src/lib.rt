@@ -14,7 +14,7 @@ ghost use Rattle.rules.specs.Beside.Shape.{handedOn};
 ghost use Rattle.rules.specs.Beside.Layouts.{fillCall};
 ghost use Rattle.image_geometry.specs.View.{layoutBy};
 ghost use Rattle.image_state.specs.View.{laidOf};
-ghost use Rattle.swizzle_call.specs.Acted.{Passed, Acted};
+ghost use Rattle.swizzle_call.specs.Acted.{Passed, Acted, HoldsPorts};
 ghost use Rattle.swizzle_call.specs.Whole.{Swizzles};
 ghost use Rattle.swizzle_call.specs.Answer.{swizzledOf};
 use image_geometry::Params;
@@ -46,6 +46,7 @@ fn act<'a>(
     requires { ⌜ Passed m (now nets) (now trits) (now output) s (now entries) (now writes) (now reads) st (now log) (now «nets_to») (now «trits_to») (now scratch) ⌝ }
     ensures { λ x. ⌜ Acted (memoryOf m (now (nets .entry)) (now (trits .entry))) (layoutOf (memoryOf m (now (nets .entry)) (now (trits .entry))) (planOf s (now (entries .entry)) (now (writes .entry)) (now (reads .entry)))) (swizzle (memoryOf m (now (nets .entry)) (now (trits .entry))) (now (output .entry)) (planOf s (now (entries .entry)) (now (writes .entry)) (now (reads .entry)))) (lent st (now (log .entry))) (now («nets_to» .entry)) (now («trits_to» .entry)) (goingOf x (now (log .exit)) (now («nets_to» .exit)) (now («trits_to» .exit))) ⌝ }
     ensures { λ x. ⌜ drop (swizzleScratch (memoryOf m (now (nets .entry)) (now (trits .entry))) (planOf s (now (entries .entry)) (now (writes .entry)) (now (reads .entry)))) (now (scratch .exit)) ≡ drop (swizzleScratch (memoryOf m (now (nets .entry)) (now (trits .entry))) (planOf s (now (entries .entry)) (now (writes .entry)) (now (reads .entry)))) (now (scratch .entry)) ⌝ }
+    ensures { λ x. ⌜ HoldsPorts (memoryOf m (now (nets .entry)) (now (trits .entry))) (now (output .entry)) (planOf s (now (entries .entry)) (now (writes .entry)) (now (reads .entry))) (st .next) (x .memory) ⌝ }
 {
     if m.width == 0 {
         return swizzle_rows::none_yet(st);

@@ -183,10 +183,10 @@ module _ (r : SwizzleRooms) (room : ℕ) (s : LogState) (mem : Memory) (nets tri
       structs = map (λ (k : HeldRead q). k .struct) hr
 
       -- the ports of the rules
-      reads-held : map (λ (k : HeldRead q). k .port) hr ≡ tr (tw (s .next) .next) .value
+      pub reads-held : map (λ (k : HeldRead q). k .port) hr ≡ tr (tw (s .next) .next) .value
       reads-held = done .ports-held ∙ ap (λ (k : ℕ). tr k .value) reads-next
 
-      ports-held : map (λ (k : HeldWrite q). k .port) hw ≡ tw (s .next) .value
+      pub ports-held : map (λ (k : HeldWrite q). k .port) hw ≡ tw (s .next) .value
       ports-held = held.writes-held mem nets trits q (M .writes) (p .writeWide) 0 (s .next) refl
 
       reads-count : length structs ≡ length (M .reads)

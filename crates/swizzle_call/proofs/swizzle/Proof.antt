@@ -92,7 +92,8 @@ returns-2 c =
         state-is = after .1;
         image-is = laid-image;
         results-held = results-read (roomsOf (length (v .image .now)) (v .nets-to .now) (v .trits-to .now) (v .scratch .now)) (length (v .log .now)) (v .st) (v .m) (v .nets .now) (v .trits .now) (v .output .now) (planOf (v .s) (v .entries .now) (v .writes .now) (v .reads .now)) z (v .log .now) (v .nets-to .now) (v .trits-to .now) (v .image .now) (l .last .0) (goingOf (a .result) (a .last .0) (a .last .1 .1 .0) (a .last .1 .1 .1 .0)) refl refl (a .ensures .0) laid-image;
-        scratch-kept = a .ensures .1;
+        ports-held = a .ensures .1 .1;
+        scratch-kept = a .ensures .1 .0;
         laid-is = told;
         sizes-are = c .sizes-of .ensures .0 ∙ ap sizesCall told ∙ sizes-told (roomsOf (length (v .image .now)) (v .nets-to .now) (v .trits-to .now) (v .scratch .now)) (length (v .log .now)) (v .st) (v .m) (v .nets .now) (v .trits .now) (v .output .now) (planOf (v .s) (v .entries .now) (v .writes .now) (v .reads .now)) z;
       };
