@@ -1,0 +1,4 @@
+-- Laws of the rows of a fallback: what each of them is, and how many words and nets they give.
+pub mod Bare
+pub mod Wide
+pub mod Rows

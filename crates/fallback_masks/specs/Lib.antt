@@ -1,0 +1,1 @@
+-- The counts of a fallback's rows, by the masks of its memory.
