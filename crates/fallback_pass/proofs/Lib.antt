@@ -3,3 +3,5 @@ pub mod Growth
 pub mod Shapes
 pub mod Lens
 pub mod Number
+pub mod Rooms
+pub mod Refusal
