@@ -1,0 +1,1 @@
+-- Laws of the split of a fallback's memory.
