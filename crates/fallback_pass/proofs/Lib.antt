@@ -5,3 +5,5 @@ pub mod Lens
 pub mod Number
 pub mod Rooms
 pub mod Refusal
+pub mod Kept
+pub mod Unmapped
