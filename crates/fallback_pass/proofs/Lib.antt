@@ -7,3 +7,4 @@ pub mod Rooms
 pub mod Refusal
 pub mod Kept
 pub mod Unmapped
+pub mod Counts
