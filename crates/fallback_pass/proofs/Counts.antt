@@ -1,16 +1,14 @@
 -- The words and nets of the split of a memory without flip-flops by the plan of a fallback.
 use mathlib.Core.Path.{_≡_, refl, sym, ap, _∙_, subst}
 use mathlib.Core.Logic.{_≢_, ⊎-elim}
-use Prim.Native.Nat.{ℕ, zero, suc, _+_, _*_, _≤_}
+use Prim.Native.Nat.{ℕ, zero, suc, _+_, _*_}
 use native.Mathlib.Nat.{le-refl, eq-zero-or-pos}
 use native.Mathlib.Omega.{arith}
-use mathlib.Core.Bool.{Bool, true, false}
 use mathlib.Core.Option.{Option, none}
 use mathlib.Core.List.{List, [], _∷_, map}
-use lib.ListN.{length, getD, replicate, length-replicate}
+use lib.ListN.{length, getD, length-replicate}
 use lib.Dec.{eqb}
 use borrow.Author.Tests.{eq-eqb, ne-eqb}
-use Rattle.lists.specs.Choice.{if_then_else_}
 use Rattle.lists.specs.Lists.{sumBy, upFrom}
 use Rattle.lists.proofs.Choice.{if-true, if-false}
 use Rattle.rules.specs.Limits.{X}
@@ -23,14 +21,13 @@ use Rattle.rules.specs.Swizzle.{swizzle, swizzleEmpty, swizzleRows}
 use Rattle.rules.specs.Refusals.{lowerFallbackNumber}
 use Rattle.rules.specs.Fallback.{fallbackPlan}
 use Rattle.rules.specs.Beside.Counts.{Count, plus, swizzleCount}
-use Rattle.rules.proofs.Counted.{Counted, counted-done, counted-same, counted-replace}
+use Rattle.rules.proofs.Counted.{Counted, counted-same, counted-replace}
 use Rattle.net_memory.specs.declared.Memory.{Memory}
 use Rattle.net_memory.specs.View.{memoryOf}
 use Rattle.net_memory.specs.Given.{givenOf}
 use Rattle.port_unmap_all.specs.All.{bare, allBare}
 use Rattle.swizzle_laws.proofs.ReadsCounts.{readsCount, Readables, counted-reads}
 use Rattle.swizzle_laws.proofs.WritesCounts.{writesCount, counted-rows}
-use Rattle.swizzle_facts.specs.Passed.{LayoutPassed, ReadPassed, EachPair}
 use Rattle.swizzle_facts.proofs.Counting.{readables}
 use Rattle.fallback_bare.specs.Bare.{bareOf}
 use Rattle.fallback_pass.specs.Split.{splitRows, splitWords, splitNets}
@@ -90,19 +87,19 @@ module _ (m : Mem) (h : (i : ℕ) → readAt m i .flipFlop ≡ none) (outs : Val
       subst (λ (t : Trace (List Driving)). Counted t (4 + 2 * n) 0) (sym empty-is) (subst (λ (k : ℕ). Counted cleared k 0) w cleared-counted)
 
 -- ---- the counts of the rules
-count-words : (m : Mem) (p : Plan) → swizzleCount m p .words ≡ writesCount m (layoutOf m p) (m .writes) (p .writeWide) .words + readsCount m (layoutOf m p) (m .reads) (p .readWide) .words
+pub count-words : (m : Mem) (p : Plan) → swizzleCount m p .words ≡ writesCount m (layoutOf m p) (m .writes) (p .writeWide) .words + readsCount m (layoutOf m p) (m .reads) (p .readWide) .words
 unfolding swizzleCount plus
 count-words m p = refl
 
-count-nets : (m : Mem) (p : Plan) → swizzleCount m p .nets ≡ writesCount m (layoutOf m p) (m .writes) (p .writeWide) .nets + readsCount m (layoutOf m p) (m .reads) (p .readWide) .nets
+pub count-nets : (m : Mem) (p : Plan) → swizzleCount m p .nets ≡ writesCount m (layoutOf m p) (m .writes) (p .writeWide) .nets + readsCount m (layoutOf m p) (m .reads) (p .readWide) .nets
 unfolding swizzleCount plus
 count-nets m p = refl
 
-rows-of : (m : Mem) → m .depth ≢ 0 → (splitWords m ≡ splitRows m .words) × (splitNets m ≡ splitRows m .nets)
+pub rows-of : (m : Mem) → m .depth ≢ 0 → (splitWords m ≡ splitRows m .words) × (splitNets m ≡ splitRows m .nets)
 unfolding splitWords splitNets
 rows-of m d = (if-false (eqb (m .depth) 0) _ _ (ne-eqb (m .depth) 0 d), if-false (eqb (m .depth) 0) _ _ (ne-eqb (m .depth) 0 d))
 
-empty-of : (m : Mem) → m .depth ≡ 0 → (splitWords m ≡ 4 + 2 * outputLen m) × (splitNets m ≡ 0)
+pub empty-of : (m : Mem) → m .depth ≡ 0 → (splitWords m ≡ 4 + 2 * outputLen m) × (splitNets m ≡ 0)
 unfolding splitWords splitNets
 empty-of m d = (if-true (eqb (m .depth) 0) _ _ (eq-eqb (m .depth) 0 d), if-true (eqb (m .depth) 0) _ _ (eq-eqb (m .depth) 0 d))
 
@@ -119,7 +116,7 @@ module _ (next : ℕ) (m : Memory) (nets trits output : List ℕ) (z : lowerFall
   abbrev q : Layout
   q = layoutOf B P
 
-  depth-same : B .depth ≡ M .depth
+  pub depth-same : B .depth ≡ M .depth
   depth-same = bare-depth next m nets trits output z ∙ sym (mem-depth next m nets trits output z)
 
   pub count-is : swizzleCount B P ≡ splitRows M

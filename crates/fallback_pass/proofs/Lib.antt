@@ -8,3 +8,5 @@ pub mod Refusal
 pub mod Kept
 pub mod Unmapped
 pub mod Counts
+pub mod Most
+pub mod Few
