@@ -1,12 +1,11 @@
 -- Nets and controls that are good stay good when the next free net grows.
 use mathlib.Core.Path.{_≡_, refl, ap}
-use Prim.Native.Nat.{ℕ, _<_, _≤_}
+use Prim.Native.Nat.{ℕ, _≤_}
 use native.Mathlib.Omega.{arith}
 use mathlib.Core.Bool.{Bool, true, false, not, _&&_, _||_}
-use mathlib.Core.List.{List, [], _∷_}
+use mathlib.Core.List.{[], _∷_}
 use lib.Dec.{eqb, ltb, leb}
 use borrow.Author.Tests.{ltb-true, lt-ltb, not-false}
-use Rattle.lists.specs.Lists.{all}
 use Rattle.lists.proofs.Choice.{and-true, or-false, or-both}
 use Rattle.rules.specs.Limits.{X}
 use Rattle.rules.specs.Value.{Value, firstCell, isCellNet, goodNet, goodValue, Control, Pos, Neg, goodControl}

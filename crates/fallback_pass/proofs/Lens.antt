@@ -1,7 +1,7 @@
 -- A struct without flip-flops: as many ports as before, in arrays of the same lengths.
 use mathlib.Core.Path.{_≡_, refl, ap, _∙_}
 use Prim.Native.Nat.{ℕ, zero, suc, _+_, min}
-use mathlib.Core.Bool.{Bool, false, not, _||_}
+use mathlib.Core.Bool.{false, not}
 use mathlib.Core.List.{List, [], _∷_, map}
 use lib.ListN.{take}
 use lib.Dec.{eqb}
@@ -10,7 +10,7 @@ use Rattle.lists.proofs.Choice.{or-false, or-both}
 use Rattle.rules.specs.Limits.{maxPorts}
 use Rattle.net_memory.specs.declared.MemoryReadPort.{MemoryReadPort}
 use Rattle.net_memory.specs.declared.Memory.{Memory}
-use Rattle.net_memory.specs.View.{addrSize, tritSize, readPorts, readsStart, netsTotal, tritsTotal}
+use Rattle.net_memory.specs.View.{addrSize, tritSize, readsStart, netsTotal, tritsTotal}
 use Rattle.net_memory.specs.Given.{tooManyPorts, longRelations, badLens}
 use Rattle.port_unmap.specs.Call.{without}
 use Rattle.fallback_bare.specs.Bare.{bareOf}

@@ -5,3 +5,8 @@ pub mod Lens
 pub mod Number
 pub mod Rooms
 pub mod Refusal
+pub mod Kept
+pub mod Unmapped
+pub mod Counts
+pub mod Most
+pub mod Few

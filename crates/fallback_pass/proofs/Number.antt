@@ -1,7 +1,7 @@
 -- No number refuses the split of a memory without flip-flops by the plan of a fallback, where none refused the fallback.
 use mathlib.Core.Path.{_≡_, refl, sym, ap, _∙_}
 use mathlib.Core.Logic.{_≢_}
-use Prim.Native.Nat.{ℕ, zero, _+_, _-_, _*_, _^_, _≤_}
+use Prim.Native.Nat.{ℕ, zero, _-_, _*_, _^_, _≤_}
 use native.Mathlib.Nat.{pow-le-pow-right}
 use native.Mathlib.Omega.{arith}
 use mathlib.Core.Bool.{Bool, true, false, not, _&&_, _||_}
@@ -9,13 +9,13 @@ use mathlib.Core.List.{List, [], _∷_, map}
 use lib.ListN.{length}
 use lib.Dec.{eqb, ltb}
 use borrow.Author.Tests.{eq-eqb, ne-eqb, le-ltb}
-use Rattle.lists.specs.Choice.{if_then_else_, _orElse_}
+use Rattle.lists.specs.Choice.{if_then_else_}
 use Rattle.lists.specs.Lists.{any, upFrom}
 use Rattle.lists.proofs.Choice.{or-both, else-rest, else-zero, refused-not}
 use Rattle.lists.proofs.UpFrom.{length-up}
-use Rattle.rules.specs.Limits.{maxRow, maxUnit, maxHard, maxWide, maxMask}
+use Rattle.rules.specs.Limits.{maxRow, maxUnit, maxWide, maxMask}
 use Rattle.rules.specs.Value.{Value, goodValue}
-use Rattle.rules.specs.Cell.{Mem, Given, Plan, outputLen}
+use Rattle.rules.specs.Cell.{Mem, Given, outputLen}
 use Rattle.rules.specs.Conditions.{tooLarge, planTooLarge, badShape, badOutputLen, badDepth, badValue, badNets, writeClocksDiffer, shortPorts}
 use Rattle.rules.specs.Refusals.{memNumber, drivingNumber, wholePlan, swizzlePlanNumber, swizzleNumber, lowerFallbackNumber}
 use Rattle.rules.specs.Fallback.{maxWideLog2, fallbackPlan}

@@ -1,27 +1,27 @@
 -- Only the log refuses the split of a memory without flip-flops by the plan of a fallback: the numbers pass, and the rooms are enough.
 use mathlib.Core.Path.{_≡_, refl, sym, ap, _∙_}
 use mathlib.Core.Logic.{_≢_, ⊎-elim}
-use Prim.Native.Nat.{ℕ, _+_, _*_, _≤_, _<_}
+use Prim.Native.Nat.{ℕ, _*_, _≤_}
 use native.Mathlib.Nat.{eq-zero-or-pos}
 use native.Mathlib.Omega.{arith}
-use mathlib.Core.Bool.{Bool, true, false, not, _||_}
-use mathlib.Core.List.{List, [], _∷_, map}
+use mathlib.Core.Bool.{Bool, true, false, not}
+use mathlib.Core.List.{List, [], map}
 use lib.ListN.{length}
 use lib.Dec.{eqb}
 use borrow.Author.Tests.{eq-eqb, ne-eqb}
-use Rattle.lists.specs.Choice.{if_then_else_, _orElse_}
+use Rattle.lists.specs.Choice.{if_then_else_}
 use Rattle.lists.specs.Lists.{any, sumBy, pairs}
 use Rattle.lists.proofs.Choice.{or-false, or-both, else-rest}
 use Rattle.rules.specs.Numbers.{largest}
 use Rattle.rules.specs.Value.{Value, goodValue}
-use Rattle.rules.specs.Cell.{WritePort, ReadPort, Mem, Given, Plan, outputLen, withReads}
+use Rattle.rules.specs.Cell.{ReadPort, Mem, Plan, outputLen, withReads}
 use Rattle.rules.specs.Log.{Trace, _>>=_, _>>_, done, LogState, startNet}
 use Rattle.rules.specs.Ports.{Driving}
 use Rattle.rules.specs.Geometry.{Layout, layoutOf, columns}
 use Rattle.rules.specs.Image as image
 use Rattle.rules.specs.Image.{imageSize}
 use Rattle.rules.specs.Swizzle.{swizzle, swizzleEmpty, swizzleRows, sharedNets, sharedTrits, pieceNets, swizzleScratch}
-use Rattle.rules.specs.Conditions.{badReadShape, badWriteShape, badShape, noRoom}
+use Rattle.rules.specs.Conditions.{badReadShape, badWriteShape, badShape}
 use Rattle.rules.specs.Refusals.{SwizzleRooms, logRefusal, lentRefusal, imageRefusal, resultsRefusal, swizzleNumber, swizzleRefusal, lowerFallbackNumber}
 use Rattle.rules.specs.Fallback.{fallbackPlan, fallbackScratch}
 use Rattle.net_memory.specs.declared.Memory.{Memory}
@@ -40,7 +40,7 @@ use Rattle.fallback_bare.specs.Bare.{bareOf}
 use Rattle.fallback_pass.proofs.Number.{bare-is, bare-width, bare-depth, mem-width, mem-depth, shape-not, depth-not, logs-low, bare-some, bare-number}
 use Rattle.fallback_pass.proofs.Rooms.{room-enough, lent-enough, trits-bare, nets-are, image-is}
 
-bare-reads : (m : Mem) → allBare m .reads ≡ map bare (m .reads)
+pub bare-reads : (m : Mem) → allBare m .reads ≡ map bare (m .reads)
 unfolding allBare withReads
 bare-reads m = refl
 
@@ -101,20 +101,24 @@ module _ (next : ℕ) (m : Memory) (nets trits output : List ℕ) (z : lowerFall
       by-bare : sumBy (tritRoom q) (pairs (allBare M .reads) (P .readWide)) ≡ 0
       by-bare = ap (λ (rs : List ReadPort). sumBy (tritRoom q) (pairs rs (P .readWide))) (bare-reads M) ∙ trits-bare q (M .reads) (P .readWide)
 
+  pub pieces-low : largest (map (pieceNets B P) (pairs (B .reads) (P .readWide))) ≤ M .depth * M .width
+  pieces-low = omega (arith, scratch-fits B (omega (arith, logs-low next m nets trits output z)) (depth-not next m nets trits output z) reads-shaped, same-bits)
+
   pub scratch-low : swizzleScratch B P ≤ M .depth * M .width
-  scratch-low =
-      scratch-most B P (M .depth * M .width)
-      (omega (arith, scratch-fits B (omega (arith, logs-low next m nets trits output z)) (depth-not next m nets trits output z) reads-shaped, same-bits))
+  scratch-low = scratch-most B P (M .depth * M .width) pieces-low
 
   module _ (w : M .width ≢ 0) where
     w′ : B .width ≢ 0
     w′ = bare-some next m nets trits output z w
 
-    columns-all : columns q ≡ B .depth * B .width
-    columns-all = columns-are B (omega (arith, logs-low next m nets trits output z)) (depth-not next m nets trits output z) w′
+    columns-bare : columns q ≡ B .depth * B .width
+    columns-bare = columns-are B (omega (arith, logs-low next m nets trits output z)) (depth-not next m nets trits output z) w′
 
     trits-all : image.trits q ≡ B .depth * B .width
     trits-all = trits-are B (omega (arith, logs-low next m nets trits output z)) (depth-not next m nets trits output z) w′
+
+    pub columns-all : columns q ≡ M .depth * M .width
+    columns-all = columns-bare ∙ same-bits
 
     image-low : imageSize q ≤ M .depth * M .width
     image-low = omega (arith, image-is B w′, trits-all, same-bits)
@@ -137,7 +141,7 @@ module _ (next : ℕ) (m : Memory) (nets trits output : List ℕ) (z : lowerFall
       read-pairs = reads-passed k (givenOf (bareOf m) nets trits) outs P number-0
 
       nets-rows : B .depth ≢ 0 → (n : ℕ) → length (sharedNets B (swizzleRows B outs P n .value)) ≡ fallbackScratch M
-      nets-rows d n = nets-need B outs P (layout-facts d) write-pairs read-pairs n ∙ nets-are B (B .depth * B .width) columns-all ∙ same-scratch
+      nets-rows d n = nets-need B outs P (layout-facts d) write-pairs read-pairs n ∙ nets-are B (B .depth * B .width) columns-bare ∙ same-scratch
 
       trits-rows : B .depth ≢ 0 → (n : ℕ) → length (sharedTrits B (swizzleRows B outs P n .value)) ≡ 0
       trits-rows d n = trits-need B outs P (layout-facts d) write-pairs read-pairs n ∙ no-trits-bare

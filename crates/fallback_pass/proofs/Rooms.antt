@@ -1,25 +1,25 @@
 -- The rooms that the split of a memory without flip-flops asks for, by the plan of a fallback.
 use mathlib.Core.Path.{_≡_, refl, sym, ap, _∙_}
 use mathlib.Core.Logic.{_≢_}
-use Prim.Native.Nat.{ℕ, zero, suc, _+_, _-_, _*_, _^_, _≤_}
+use Prim.Native.Nat.{ℕ, zero, _+_, _*_, _≤_}
 use native.Mathlib.Nat.{suc-mul, zero-mul, zero-add, mul-comm, mul-assoc}
 use native.Mathlib.Omega.{arith}
-use mathlib.Core.Bool.{Bool, true, false, _||_}
+use mathlib.Core.Bool.{Bool, false}
 use mathlib.Core.List.{List, [], _∷_, map}
 use lib.ListN.{length}
 use lib.Dec.{eqb}
-use borrow.Author.Tests.{eq-eqb, ne-eqb, le-ltb}
+use borrow.Author.Tests.{ne-eqb, le-ltb}
 use Rattle.lists.specs.Choice.{if_then_else_}
 use Rattle.lists.specs.Lists.{sumBy, pairs}
-use Rattle.lists.proofs.Choice.{if-false, or-both}
-use Rattle.rules.specs.Cell.{WritePort, ReadPort, Mem, Plan, withReads}
+use Rattle.lists.proofs.Choice.{if-false}
+use Rattle.rules.specs.Cell.{ReadPort, Mem}
 use Rattle.rules.specs.Geometry.{Layout, layoutOf, columns}
 use Rattle.rules.specs.Image.{trits, imageSize}
 use Rattle.rules.specs.Conditions.{noRoom}
 use Rattle.rules.specs.Refusals.{lentRefusal}
-use Rattle.rules.specs.Fallback.{fallbackPlan, fallbackScratch}
-use Rattle.port_unmap_all.specs.All.{bare, allBare}
-use Rattle.swizzle_counts.specs.Rooms.{wideOf, writeRoom, readRoom, tritsBy, tritRoom}
+use Rattle.rules.specs.Fallback.{fallbackPlan}
+use Rattle.port_unmap_all.specs.All.{bare}
+use Rattle.swizzle_counts.specs.Rooms.{writeRoom, readRoom, tritRoom}
 
 -- ---- lent room that is enough
 pub room-enough : (room need : ℕ) → need ≤ room → noRoom room need ≡ false
