@@ -1,1 +1,3 @@
--- Laws of the split of a fallback's memory.
+-- Laws of the fallback.
+pub mod Plans
+pub mod Made

@@ -8,7 +8,7 @@ use lib.ListN.{length, take}
 use lib.Seq.{sets}
 use Rattle.rules.specs.Limits.{maxBits, maxPorts}
 use Rattle.rules.specs.Value.{Value, goodValue}
-use Rattle.rules.specs.Cell.{Mem, outputLen}
+use Rattle.rules.specs.Cell.{Mem, Plan, outputLen}
 use Rattle.rules.specs.Geometry.{layoutOf}
 use Rattle.rules.specs.Image.{imageSize}
 use Rattle.rules.specs.Swizzle.{swizzle, sharedNets}
@@ -43,11 +43,11 @@ Passes b nets trits outs st log tables =
     swizzleRefusal (rooms tables) (length log) (stateOf st) (givenOf b nets trits) outs (fallbackPlan (memoryOf b nets trits)) ≡ 0
 
 -- the log, the tables, and the memories that struct, tables and image hold
-pub record SplitDone (b : Mem) (outs : Value) (st : LogState) (log tables : List ℕ) (x : Swizzled) (log′ tables′ image′ : List ℕ) : Type 0 where
-  pub log-is : lent (x .made .state) log′ ≡ run (swizzle b outs (fallbackPlan b)) (lent st log)
-  pub tables-are : tables′ ≡ sets tables 0 (sharedNets b (swizzle b outs (fallbackPlan b) (st .next) .value))
-  pub results-are : resultsOf (x .made .memory) (take (x .made .«nets_at») tables′) [] (take (imageSize (layoutOf b (fallbackPlan b))) image′) ≡ swizzle b outs (fallbackPlan b) (st .next) .value
-  pub ports-held : HoldsPorts b outs (fallbackPlan b) (st .next) (x .made .memory)
+pub record SplitDone (b : Mem) (outs : Value) (p : Plan) (st : LogState) (log tables : List ℕ) (x : Swizzled) (log′ tables′ image′ : List ℕ) : Type 0 where
+  pub log-is : lent (x .made .state) log′ ≡ run (swizzle b outs p) (lent st log)
+  pub tables-are : tables′ ≡ sets tables 0 (sharedNets b (swizzle b outs p (st .next) .value))
+  pub results-are : resultsOf (x .made .memory) (take (x .made .«nets_at») tables′) [] (take (imageSize (layoutOf b p)) image′) ≡ swizzle b outs p (st .next) .value
+  pub ports-held : HoldsPorts b outs p (st .next) (x .made .memory)
 
 -- a struct without memories, or of memories with one row each
 pub data Prepared (g : WideMemory) (nets image : List ℕ) : Type 0 where

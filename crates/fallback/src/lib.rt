@@ -3,8 +3,8 @@ ghost use mathlib.Core.Path.{_≡_};
 ghost use lib.ListN.{length, drop};
 ghost use Prim.Native.Nat.{_≤_};
 ghost use mathlib.Core.List.{[]};
-ghost use Rattle.rules.specs.Limits.{maxRow};
-ghost use Rattle.rules.specs.Fallback.{lowerRows, fallbackScratch};
+ghost use Rattle.rules.specs.Limits.{maxBits, maxRow};
+ghost use Rattle.rules.specs.Fallback.{fallbackPlan, lowerRows, fallbackScratch};
 ghost use Rattle.log_entries.specs.Emission.{run};
 ghost use Rattle.log_entries.specs.View.{lent};
 ghost use Rattle.net_memory.specs.View.{memoryOf};
@@ -20,15 +20,15 @@ use swizzle_result::WideMemory;
 fn split_rows(
     log: &mut [u32],
     st: LogState,
-    image: &mut [u8; rules::BITS_ROOM],
+    image: &mut [u8],
     tables: &mut [u32],
     b: Memory,
     nets: &[u32],
     trits: &[u8],
     outs: &[u32],
 ) -> Swizzled
-    requires { ⌜ Passes b (now nets) (now trits) (now outs) st (now log) (now tables) × (b .width ≤ maxRow) ⌝ }
-    ensures { λ x. ⌜ SplitDone (memoryOf b (now (nets .entry)) (now (trits .entry))) (now (outs .entry)) st (now (log .entry)) (now (tables .entry)) x (now (log .exit)) (now (tables .exit)) (now (image .exit)) ⌝ }
+    requires { ⌜ Passes b (now nets) (now trits) (now outs) st (now log) (now tables) × (b .width ≤ maxRow) × (length (now image) ≡ maxBits) ⌝ }
+    ensures { λ x. ⌜ SplitDone (memoryOf b (now (nets .entry)) (now (trits .entry))) (now (outs .entry)) (fallbackPlan (memoryOf b (now (nets .entry)) (now (trits .entry)))) st (now (log .entry)) (now (tables .entry)) x (now (log .exit)) (now (tables .exit)) (now (image .exit)) ⌝ }
 {
     let s = fallback_plan::fallback_swizzle(b, nets);
     let mut entries = [0u32; rules::MAX_ROW];

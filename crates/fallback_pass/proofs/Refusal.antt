@@ -146,6 +146,17 @@ module _ (next : ℕ) (m : Memory) (nets trits output : List ℕ) (z : lowerFall
       trits-rows : B .depth ≢ 0 → (n : ℕ) → length (sharedTrits B (swizzleRows B outs P n .value)) ≡ 0
       trits-rows d n = trits-need B outs P (layout-facts d) write-pairs read-pairs n ∙ no-trits-bare
 
+      -- the tables of the resulting memories fit the scratch of a fallback
+      pub shared-low : (n : ℕ) → length (sharedNets B (swizzle B outs P n .value)) ≤ fallbackScratch M
+      shared-low n =
+          ⊎-elim
+          (λ d. omega (arith, ap (λ (t : Trace (List Driving)). length (sharedNets B (t n .value))) (empty-trace B outs P w′ d), ap (λ (ds : List Driving). length (sharedNets B ds)) (empty-value B outs n), no-nets B))
+          (λ p. rows-low (λ d. omega (arith, p, d)))
+          (eq-zero-or-pos (B .depth))
+        where
+          rows-low : B .depth ≢ 0 → length (sharedNets B (swizzle B outs P n .value)) ≤ fallbackScratch M
+          rows-low d = omega (arith, ap (λ (t : Trace (List Driving)). length (sharedNets B (t n .value))) (rows-trace B outs P w′ d), nets-rows d n)
+
       module _ (r : SwizzleRooms) (enough : fallbackScratch M ≤ r .nets) (n : ℕ) where
         results-rows : B .depth ≢ 0 → resultsRefusal r B (swizzle B outs P n .value) ≡ 0
         results-rows d =

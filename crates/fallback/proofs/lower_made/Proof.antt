@@ -1,21 +1,25 @@
+-- `fallback::lower_made` meets its contract.
+use mathlib.Core.Path.{ap, _∙_}
+use Rattle.rules.specs.Log.{Trace}
+use Rattle.log_entries.specs.Emission.{run}
+use Rattle.log_entries.specs.View.{lent}
+use Rattle.swizzle_parts.proofs.Sized.{write-ports-8, read-ports-8}
+use Rattle.fallback.proofs.Made.{made-lowered}
 use borrow.Author.Needs.{needs}
 use Rattle.fallback.proofs.lower_made.Statement.{statement}
 use Rattle.fallback.proofs.lower_made.Tie as tie
-use Rattle.fallback.proofs.lower_made.Reads as reads
-use Rattle.fallback.proofs.lower_made.Lts as lts
-use Rattle.fallback_rows.proofs.emit_lowered.Reads as emit-lowered-reads
 
--- src/lib.rt:64:5
 emit-lowered-requires : tie.Need-emit-lowered-requires
 emit-lowered-requires c κs = search needs
 
--- src/lib.rt:60:1
 same-length : tie.Need-same-length
 same-length c = search needs
 
--- src/lib.rt:60:1
 returns : tie.Need-returns
-returns c = ?
+returns c =
+    let v = c .before .before .before .before .before .before .before .args in
+    c .before .before .emit-lowered .ensures
+    ∙ ap (λ (t : Trace Unit). run t (lent (v .st) (v .log .now))) (made-lowered (v .g) (v .nets .now) (v .image .now) (c .before .before .before .before .before .before .before .pre) (write-ports-8 (v .g) _ (c .before .before .before .before .before .before .before .good .1 .1 .0)) (read-ports-8 (v .g) _ (c .before .before .before .before .before .before .before .good .1 .1 .0)))
 
 pub lower-made-spec : {M : Type 1} → statement M
 lower-made-spec = tie.close (tie.spec emit-lowered-requires same-length returns)

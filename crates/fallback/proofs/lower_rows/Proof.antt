@@ -1,60 +1,58 @@
+-- `fallback::lower_rows` meets its contract.
+use mathlib.Core.Path.{refl}
+use Rattle.log_entries.specs.View.{lent}
+use Rattle.fallback.proofs.Made.{given-passes, given-thin, part-made, split-ran, tables-kept}
 use borrow.Author.Needs.{needs}
 use Rattle.fallback.proofs.lower_rows.Statement.{statement}
 use Rattle.fallback.proofs.lower_rows.Tie as tie
-use Rattle.fallback.proofs.lower_rows.Reads as reads
-use Rattle.fallback.proofs.lower_rows.Lts as lts
-use Rattle.fallback.proofs.lower_made.Reads as lower-made-reads
-use Rattle.fallback.proofs.split_rows.Reads as split-rows-reads
-use Rattle.fallback_bare.proofs.bare_memory.Reads as bare-memory-reads
-use Rattle.lists.proofs.part_u32.Reads as part-u32-reads
-use Rattle.lists.proofs.part_u8.Reads as part-u8-reads
-use Rattle.net_memory.proofs.init_size.Reads as init-size-reads
 
--- src/lib.rt:81:9
 bare-memory-requires : tie.Need-bare-memory-requires
 bare-memory-requires c κs = search needs
 
--- src/lib.rt:83:9
-split-rows-requires : tie.Need-split-rows-requires
-split-rows-requires c κs = ?
+slice-aggregate-split-rows : tie.Need-slice-aggregate-split-rows
+slice-aggregate-split-rows c = search needs
 
--- src/lib.rt:85:9
+split-rows-requires : tie.Need-split-rows-requires
+split-rows-requires c κs =
+    let v = c .before .before .before .before .before .before .before .before .before .args in
+    (given-passes (v .m) (v .nets .now) (v .trits .now) (v .outs .now) (v .st) (v .log .now) (v .tables .now) (c .before .before .before .before .before .before .before .before .before .pre) (c .before .before .before .bare-memory .result) (c .before .before .before .bare-memory .ensures .1), given-thin (v .m) (v .nets .now) (v .trits .now) (v .outs .now) (v .st) (v .log .now) (v .tables .now) (c .before .before .before .before .before .before .before .before .before .pre) (c .before .before .before .bare-memory .result) (c .before .before .before .bare-memory .ensures .1), refl)
+
 init-size-requires : tie.Need-init-size-requires
 init-size-requires c κs = search needs
 
--- src/lib.rt:90:9
 part-u32-requires : tie.Need-part-u32-requires
 part-u32-requires c κs = search needs
 
--- src/lib.rt:91:24
 slice-aggregate-part-u8 : tie.Need-slice-aggregate-part-u8
-slice-aggregate-part-u8 c = ?
+slice-aggregate-part-u8 c = search needs
 
--- src/lib.rt:91:9
 part-u8-requires : tie.Need-part-u8-requires
 part-u8-requires c κs = search needs
 
--- src/lib.rt:86:5
 lower-made-requires : tie.Need-lower-made-requires
-lower-made-requires c κs = ?
+lower-made-requires c κs =
+    let v = c .before .before .before .before .before .before .before .before .before .before .before .before .before .before .before .before .before .before .before .before .before .before .args in
+    let s = c .before .before .before .before .before .before .before .before .before .before .before .before .split-rows in
+    part-made (v .m) (v .nets .now) (v .trits .now) (v .outs .now) (v .st) (v .log .now) (v .tables .now) (c .before .before .before .before .before .before .before .before .before .before .before .before .before .before .before .before .before .before .before .before .before .before .pre) (c .before .before .before .before .before .before .before .before .before .before .before .before .before .before .before .before .bare-memory .result) (c .before .before .before .before .before .before .before .before .before .before .before .before .before .before .before .before .bare-memory .ensures .1) (s .result) (s .last .0) (s .last .1 .1 .1 .0) (s .last .1 .1 .0) (s .ensures) (c .before .before .before .before .before .init-size .result) (c .before .before .before .before .before .init-size .ensures .0) (c .before .before .part-u32 .result .now) (c .part-u8 .result .now) (c .before .before .part-u32 .ensures .0) (c .part-u8 .ensures .0)
 
--- src/lib.rt:68:1
 same-length : tie.Need-same-length
 same-length c = search needs
 
--- src/lib.rt:68:1
 same-length-2 : tie.Need-same-length-2
 same-length-2 c = search needs
 
--- src/lib.rt:68:1
 returns : tie.Need-returns
-returns c = ?
+returns c =
+    let v = c .before .before .before .before .before .before .before .before .before .before .before .before .before .before .before .before .before .before .before .before .before .before .before .before .before .args in
+    let s = c .before .before .before .before .before .before .before .before .before .before .before .before .before .before .before .split-rows in
+    (split-ran (v .m) (v .nets .now) (v .trits .now) (v .outs .now) (v .st) (v .log .now) (v .tables .now) (c .before .before .before .before .before .before .before .before .before .before .before .before .before .before .before .before .before .before .before .before .before .before .before .before .before .pre) (c .before .before .before .before .before .before .before .before .before .before .before .before .before .before .before .before .before .before .before .bare-memory .result) (c .before .before .before .before .before .before .before .before .before .before .before .before .before .before .before .before .before .before .before .bare-memory .ensures .1) (s .result) (s .last .0) (s .last .1 .1 .1 .0) (s .last .1 .1 .0) (s .ensures) (c .before .before .before .before .before .before .before .before .init-size .result) (c .before .before .before .before .before .before .before .before .init-size .ensures .0) (c .before .before .before .before .before .part-u32 .result .now) (c .before .before .before .part-u8 .result .now) (c .before .before .before .before .before .part-u32 .ensures .0) (c .before .before .before .part-u8 .ensures .0) (lent (c .before .before .lower-made .result) (c .before .before .lower-made .last .0)) (c .before .before .lower-made .ensures), tables-kept (v .m) (v .nets .now) (v .trits .now) (v .outs .now) (v .st) (v .log .now) (v .tables .now) (c .before .before .before .before .before .before .before .before .before .before .before .before .before .before .before .before .before .before .before .before .before .before .before .before .before .pre) (c .before .before .before .before .before .before .before .before .before .before .before .before .before .before .before .before .before .before .before .bare-memory .result) (c .before .before .before .before .before .before .before .before .before .before .before .before .before .before .before .before .before .before .before .bare-memory .ensures .1) (s .result) (s .last .0) (s .last .1 .1 .1 .0) (s .last .1 .1 .0) (s .ensures))
 
 pub lower-rows-spec : {M : Type 1} → statement M
 lower-rows-spec =
     tie.close
     (tie.spec
     bare-memory-requires
+    slice-aggregate-split-rows
     split-rows-requires
     init-size-requires
     part-u32-requires
