@@ -1,1 +1,2 @@
 -- The counts of a fallback's rows, by the masks of its memory.
+pub mod Sizes
