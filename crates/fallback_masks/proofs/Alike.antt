@@ -5,7 +5,7 @@ use native.Mathlib.Nat.{zero-mul, suc-mul}
 use native.Mathlib.Omega.{arith}
 use mathlib.Core.Bool.{Bool, true, false, _&&_}
 use mathlib.Core.List.{List, [], _∷_, _++_, map}
-use lib.ListN.{length, getD, take, drop, replicate, length-map, length-take, length-drop, length-replicate}
+use lib.ListN.{length, getD, take, drop, replicate, length-map, length-take, length-drop}
 use lib.Seq.{take-append-le, drop-append-le}
 use lib.Dec.{eqb}
 use borrow.Author.Tests.{eq-eqb, ne-eqb, eqb-true, eqb-false}
@@ -18,8 +18,8 @@ use Rattle.lists.proofs.DistinctOrder.{kept-stays}
 use Rattle.lists.proofs.Parts.{none-front, part-replicate}
 use Rattle.lists.proofs.UpFrom.{up-at}
 use Rattle.rules.specs.Limits.{X}
-use Rattle.rules.specs.Value.{Value, Control, Pos, fromUint}
-use Rattle.rules.specs.Log.{Trace, _>>=_, done, addEq, addMux}
+use Rattle.rules.specs.Value.{Value, Pos, fromUint}
+use Rattle.rules.specs.Log.{_>>=_, done, addEq, addMux}
 use Rattle.rules.specs.Merge.{Key2, same2, spread, addDedupMux, longer, runs}
 use Rattle.rules.specs.Ports.{isEmpty}
 use Rattle.rules.specs.Swizzle.{Split, pieceMask}

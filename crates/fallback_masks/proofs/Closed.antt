@@ -1,24 +1,22 @@
 -- The words and nets of a fallback's rows, of a memory that no number refuses.
 use mathlib.Core.Path.{_≡_, refl, sym, ap, _∙_, subst}
 use mathlib.Core.Logic.{_≢_, ⊎-elim}
-use Prim.Native.Nat.{ℕ, zero, _+_, _-_, _*_, _/_, _^_, _≤_, min}
+use Prim.Native.Nat.{ℕ, _+_, _-_, _*_, _/_, _^_, _≤_, min}
 use native.Mathlib.Nat.{eq-zero-or-pos}
 use native.Mathlib.Omega.{arith}
-use mathlib.Core.Bool.{Bool, false, not, _||_}
+use mathlib.Core.Bool.{false, not, _||_}
 use mathlib.Core.List.{List, [], _∷_}
 use lib.ListN.{length, length-map}
-use lib.Dec.{eqb, ltb}
-use borrow.Author.Tests.{eq-eqb, le-ltb}
+use lib.Dec.{eqb}
 use Rattle.lists.specs.Choice.{if_then_else_}
 use Rattle.lists.specs.Lists.{any, sumBy}
-use Rattle.lists.proofs.Choice.{or-false, or-both, if-true, if-false}
-use Rattle.rules.specs.Limits.{maxDepth, maxWidth, maxBits}
+use Rattle.lists.proofs.Choice.{or-false, if-false}
+use Rattle.rules.specs.Limits.{maxDepth, maxWidth}
 use Rattle.rules.specs.Value.{Value}
 use Rattle.rules.specs.Cell.{WritePort, Mem, writeWideLog2, withReads}
-use Rattle.rules.specs.Conditions.{badShape, badWriteShape, badReadShape}
-use Rattle.rules.specs.Log.{done}
+use Rattle.rules.specs.Conditions.{badShape, badWriteShape}
 use Rattle.rules.specs.Ports.{Driving}
-use Rattle.rules.specs.Fallback.{maxWideLog2, fallbackPlan, lowerRows}
+use Rattle.rules.specs.Fallback.{fallbackPlan, lowerRows}
 use Rattle.rules.specs.Swizzle.{swizzle}
 use Rattle.rules.specs.Refusals.{lowerFallbackNumber}
 use Rattle.rules.proofs.Counted.{Counted, counted-done}
@@ -30,6 +28,7 @@ use Rattle.port_unmap_all.specs.All.{bare, allBare}
 use Rattle.fallback_masks.specs.Sizes.{maskRuns, portPieces, portRuns, registerWords, registerNets, rowsWords, rowsNets, wideSizes, sizeWords, sizeNets}
 use Rattle.fallback_masks.proofs.Bare.{bare-width, bare-depth, bare-writes, bare-reads, write-log, bare-most}
 use Rattle.fallback_masks.proofs.Sums.{sum-same}
+use Rattle.fallback_masks.proofs.Numbers.{in-limits, flat-words, flat-nets}
 use Rattle.fallback_masks.proofs.Rows.{good, most, divided, row-none}
 use Rattle.fallback_masks.proofs.Counts.{rows-closed}
 
@@ -71,14 +70,6 @@ module _ (m : Mem) where
   unfolding rowsNets
   bare-all-nets = λ i. if eqb (bare-width m i) 0 then 0 else bare-nets i
 
-  pub flat-words : m .width ≡ 0 → rowsWords m ≡ 0
-  unfolding rowsWords
-  flat-words e = if-true (eqb (m .width) 0) 0 _ (eq-eqb (m .width) 0 e)
-
-  pub flat-nets : m .width ≡ 0 → rowsNets m ≡ 0
-  unfolding rowsNets
-  flat-nets e = if-true (eqb (m .width) 0) 0 _ (eq-eqb (m .width) 0 e)
-
   bare-shape : (p : WritePort) → badWriteShape B p ≡ badWriteShape m p
   unfolding badWriteShape writeWideLog2 allBare withReads
   bare-shape p = refl
@@ -95,17 +86,13 @@ module _ (m : Mem) where
   shapes e = or-false (any (badWriteShape m) (m .writes)) _ (or-false (not (eqb (length (m .init)) (m .depth * m .width))) _ e .1) .0
 
   -- sizes inside the limits
-  narrow : m .depth ≤ maxDepth → m .width ≤ maxWidth → m .depth * m .width ≤ maxBits → wideSizes m ≡ false
-  unfolding wideSizes
-  narrow a b c = λ i. le-ltb maxDepth (m .depth) a i || (le-ltb maxWidth (m .width) b i || le-ltb maxBits (m .depth * m .width) c i)
-
-  pub words-kept : m .depth ≤ maxDepth → m .width ≤ maxWidth → m .depth * m .width ≤ maxBits → sizeWords m ≡ rowsWords m
+  pub words-kept : m .depth ≤ maxDepth → m .width ≤ maxWidth → sizeWords m ≡ rowsWords m
   unfolding sizeWords
-  words-kept a b c = if-false (wideSizes m) 0 (rowsWords m) (narrow a b c)
+  words-kept a b = if-false (wideSizes m) 0 (rowsWords m) (in-limits m a b)
 
-  pub nets-kept : m .depth ≤ maxDepth → m .width ≤ maxWidth → m .depth * m .width ≤ maxBits → sizeNets m ≡ rowsNets m
+  pub nets-kept : m .depth ≤ maxDepth → m .width ≤ maxWidth → sizeNets m ≡ rowsNets m
   unfolding sizeNets
-  nets-kept a b c = if-false (wideSizes m) 0 (rowsNets m) (narrow a b c)
+  nets-kept a b = if-false (wideSizes m) 0 (rowsNets m) (in-limits m a b)
 
 -- ---- a memory that no number refuses
 module _ (next : ℕ) (m : Memory) (nets trits output : List ℕ) (z : lowerFallbackNumber next (givenOf m nets trits) output ≡ 0) where
@@ -115,9 +102,9 @@ module _ (next : ℕ) (m : Memory) (nets trits output : List ℕ) (z : lowerFall
   limits : Sizes m
   limits = sizes (good next m nets trits output z)
 
-  sized : (M .depth ≤ maxDepth) × (M .width ≤ maxWidth) × (M .depth * M .width ≤ maxBits)
+  sized : (M .depth ≤ maxDepth) × (M .width ≤ maxWidth)
   unfolding memoryOf
-  sized = (limits .depth-ok, limits .width-ok, limits .bits-ok)
+  sized = (limits .depth-ok, limits .width-ok)
 
   shapes-good : any (badWriteShape (allBare M)) (allBare M .writes) ≡ false
   shapes-good = bare-shapes M ∙ shapes M (good next m nets trits output z .shape-not)
@@ -143,7 +130,7 @@ module _ (next : ℕ) (m : Memory) (nets trits output : List ℕ) (z : lowerFall
 
   -- which `rows_size` gives
   pub words-are : sizeWords M ≡ rowsWords M
-  words-are = words-kept M (sized .0) (sized .1) (sized .2)
+  words-are = words-kept M (sized .0) (sized .1)
 
   pub nets-are : sizeNets M ≡ rowsNets M
-  nets-are = nets-kept M (sized .0) (sized .1) (sized .2)
+  nets-are = nets-kept M (sized .0) (sized .1)

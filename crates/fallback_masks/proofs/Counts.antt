@@ -1,44 +1,42 @@
 -- The words and nets of all rows of a fallback, in closed form.
-use mathlib.Core.Path.{_≡_, refl, sym, ap, _∙_, subst}
-use mathlib.Core.Logic.{_≢_, ⊎-elim}
-use Prim.Native.Nat.{ℕ, zero, suc, _+_, _-_, _*_, _/_, _^_, _<_, _≤_, min}
-use native.Mathlib.Nat.{zero-mul, suc-mul, mul-zero, mul-one, one-mul, mul-add, mul-comm, mul-le-mul, mul-le-mul-left, le-trans, pow-le-pow-right, eq-zero-or-pos}
+use mathlib.Core.Path.{_≡_, refl, sym, ap, _∙_}
+use mathlib.Core.Logic.{_≢_}
+use Prim.Native.Nat.{ℕ, zero, suc, _+_, _-_, _*_, _^_, _<_, _≤_, min}
+use native.Mathlib.Nat.{zero-mul, suc-mul, mul-zero, mul-one, one-mul, mul-add, mul-comm, mul-le-mul, mul-le-mul-left, le-trans, pow-le-pow-right}
 use native.Mathlib.Omega.{arith}
 use lib.Pow.{pow-pos}
-use mathlib.Core.Bool.{Bool, true, false, not, _||_}
+use mathlib.Core.Bool.{false, not, _||_}
 use mathlib.Core.List.{List, [], _∷_, map}
-use lib.ListN.{length, replicate, take, drop, length-map}
+use lib.ListN.{length, replicate, length-map}
 use lib.Dec.{eqb, ltb}
-use borrow.Author.Tests.{eq-eqb, ne-eqb, eqb-true, ltb-false, not-false}
+use borrow.Author.Tests.{ne-eqb, eqb-true, ltb-false, not-false}
 use Rattle.lists.specs.Choice.{if_then_else_}
 use Rattle.lists.specs.Lists.{any, sumBy, part, upFrom}
-use Rattle.lists.proofs.Choice.{or-false, if-true, if-false}
+use Rattle.lists.proofs.Choice.{or-false, if-false}
 use Rattle.lists.proofs.UpFrom.{length-up}
-use Rattle.rules.specs.Limits.{X, None, addrBits, maxWidth, maxWide, maxDepth}
+use Rattle.rules.specs.Limits.{X, addrBits, maxWidth, maxWide, maxDepth}
 use Rattle.rules.specs.Numbers.{largest}
 use Rattle.rules.specs.Value.{Value}
-use Rattle.rules.specs.Cell.{WritePort, ReadPort, Mem, Plan, wideLog2, writeWideLog2, readWideLog2, withReads}
-use Rattle.rules.specs.Conditions.{badDepth, badDataLen, badAddrLen, unequal, badWriteShape}
+use Rattle.rules.specs.Cell.{WritePort, ReadPort, Mem, wideLog2, writeWideLog2}
+use Rattle.rules.specs.Conditions.{badDepth, badDataLen, unequal, badWriteShape}
 use Rattle.rules.specs.Log.{_>>=_, _>>_, done}
 use Rattle.rules.specs.Merge.{runs}
-use Rattle.rules.specs.Ports.{Driving}
 use Rattle.rules.specs.Geometry.{Layout, layoutOf, rowLen, allChunks, columns}
-use Rattle.rules.specs.Swizzle.{Split, splitBy, splitAddr, sources, repeating, blank, memPart, maskPieces, WideWrite, swizzleWrite, swizzleWrites, writePart, WideRead, swizzleRead, swizzleReads, readPart, resultMem, swizzle}
+use Rattle.rules.specs.Swizzle.{Split, splitBy, splitAddr, sources, repeating, blank, memPart, maskPieces, WideWrite, swizzleWrite, swizzleWrites, writePart, swizzleReads, readPart, resultMem, swizzle}
 use Rattle.rules.specs.Fallback.{maxWideLog2, fallbackPlan, lowerRows}
 use Rattle.rules.proofs.Counted.{Counted}
 use Rattle.swizzle_laws.proofs.Pairs.{counted-as}
-use Rattle.port_unmap_all.specs.All.{bare, allBare}
 use Rattle.fallback_plan.proofs.Numbers.{columns-are, chunks-all, whole-depth}
 use Rattle.fallback_plan.proofs.Pieces.{pieces-are, pieces-fit}
 use Rattle.fallback_counts.specs.Counts.{muxWords, rowWords, rowNets, driveWords, lowerWords, lowerNets}
 use Rattle.fallback_counts.proofs.Rows.{rows-counted}
-use Rattle.fallback_masks.specs.Sizes.{maxMaskNets, maskRuns, portPieces, portRuns, registerWords, registerNets, rowsWords, rowsNets}
+use Rattle.fallback_masks.specs.Sizes.{maxMaskNets, portPieces, portRuns, registerWords, registerNets, rowsWords, rowsNets}
 use Rattle.fallback_masks.proofs.Alike.{rowRuns}
 use Rattle.fallback_masks.proofs.Masks.{mask-rows}
 use Rattle.fallback_masks.proofs.Stores.{repeats, runs-all}
 use Rattle.fallback_masks.proofs.Sums.{sum-same, sum-plus, sum-const, sum-five, sum-map, sum-rows}
-use Rattle.fallback_masks.proofs.Wide.{part-is, WholeWrite, AllWrites}
-use Rattle.fallback_masks.proofs.Rows.{ws, rs, row, writes-whole, rows, rows-are, all-wide, flat-none}
+use Rattle.fallback_masks.proofs.Wide.{part-is, AllWrites}
+use Rattle.fallback_masks.proofs.Rows.{ws, rs, row, writes-whole, rows, rows-are, all-wide}
 
 -- ---- the muxes of the rows, from the masks of the wide ports
 mux-cons : (q : Layout) (u i : ℕ) (w : WideWrite) (l : List WideWrite) → muxWords u (map (writePart q i) (w ∷ l)) ≡ 5 * length (runs (memPart q (w .split) i (w .port .mask))) + 2 * u + muxWords u (map (writePart q i) l)

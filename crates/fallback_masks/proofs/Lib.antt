@@ -7,4 +7,5 @@ pub mod Stores
 pub mod Masks
 pub mod Sums
 pub mod Counts
+pub mod Numbers
 pub mod Closed

@@ -9,7 +9,6 @@ use lib.ListN.{length, take, drop, length-take, length-drop, take-append-drop}
 use lib.Dec.{eqb, ltb}
 use borrow.Author.Tests.{le-ltb}
 use Rattle.lists.proofs.Choice.{if-false}
-use Rattle.lists.proofs.Parts.{none-front}
 use Rattle.rules.specs.Log.{flag}
 use Rattle.rules.specs.Merge.{longer, runs}
 use Rattle.fallback_masks.specs.Sizes.{runsFrom, maxMaskNets, maskRuns}

@@ -1,11 +1,10 @@
 -- The masks of the pieces of a port, by the plan of a fallback: each is stored after the one before it, so the rows of all memories have the runs of the
 -- mask for each piece, and one run where there is no piece.
-use mathlib.Core.Path.{_≡_, refl, sym, ap, _∙_, subst}
+use mathlib.Core.Path.{_≡_, refl, sym, ap, _∙_}
 use Prim.Native.Nat.{ℕ, zero, suc, _+_, _-_, _*_, _/_, _^_, _<_, _≤_}
-use native.Mathlib.Nat.{zero-mul, zero-add, suc-mul, mul-zero, mul-comm, mul-assoc, mul-one, one-mul, add-mul, mul-le-mul-left, mul-le-mul-right, pow-le-pow-right, le-trans}
+use native.Mathlib.Nat.{zero-mul, zero-add, suc-mul, mul-zero, mul-comm, one-mul, add-mul, mul-le-mul-left, mul-le-mul-right, pow-le-pow-right, le-trans}
 use native.Mathlib.Omega.{arith}
 use lib.Pow.{pow-add, pow-pos}
-use mathlib.Core.Bool.{Bool, true, false}
 use mathlib.Core.List.{List, [], _∷_, _++_, map, append-assoc, append-nil}
 use lib.ListN.{length, getD, take, drop, replicate, length-append, length-take, length-drop, length-replicate, take-append-drop}
 use lib.Seq.{sets, sets-eq, take-append-seam, drop-append-add, take-all}
@@ -18,7 +17,7 @@ use Rattle.lists.proofs.Parts.{part-cons, none-front}
 use Rattle.rules.specs.Limits.{X, None, addrBits}
 use Rattle.rules.specs.Numbers.{softs, bitsFor}
 use Rattle.rules.specs.Value.{Value}
-use Rattle.rules.specs.Log.{Trace, _>>=_, done}
+use Rattle.rules.specs.Log.{done}
 use Rattle.rules.specs.Geometry.{Layout, rowLen, allChunks, columns}
 use Rattle.rules.specs.Swizzle.{Role, High, roles, lowRoles, muxRoles, countDoubles, Split, splitBy, splitAddr, pieceStart, oldRows, sources, repeating, storeRows, storePiece, pieceMask, maskPieces}
 use Rattle.rules.proofs.Traces.{bind-value}

@@ -1,10 +1,10 @@
 -- Sums over lists, and over the rows of a list of nets.
 use mathlib.Core.Path.{_≡_, refl, sym, ap, _∙_}
 use Prim.Native.Nat.{ℕ, zero, suc, _+_, _*_}
-use native.Mathlib.Nat.{zero-mul, suc-mul, mul-zero, mul-add}
+use native.Mathlib.Nat.{zero-mul, suc-mul}
 use native.Mathlib.Omega.{arith}
 use mathlib.Core.List.{List, [], _∷_, map}
-use lib.ListN.{length, take, drop}
+use lib.ListN.{length, drop}
 use lib.Seq.{drop-drop}
 use Rattle.lists.specs.Lists.{sumBy, part, upFrom}
 use Rattle.rules.specs.Merge.{runs}

@@ -6,7 +6,7 @@ use lib.ListN.{length}
 use lib.Dec.{eqb, ltb}
 use Rattle.lists.specs.Choice.{if_then_else_}
 use Rattle.lists.specs.Lists.{sumBy}
-use Rattle.rules.specs.Limits.{maxDepth, maxWidth, maxBits}
+use Rattle.rules.specs.Limits.{maxDepth, maxWidth}
 use Rattle.rules.specs.Cell.{WritePort, Mem, writeWideLog2}
 use Rattle.rules.specs.Log.{flag}
 use Rattle.rules.specs.Fallback.{maxWideLog2}
@@ -50,7 +50,7 @@ rowsNets m = if eqb (m .width) 0 then 0 else registerNets m
 
 -- sizes past the limits give 0
 unfoldable pub wideSizes : Mem → Bool
-wideSizes m = ltb maxDepth (m .depth) || (ltb maxWidth (m .width) || ltb maxBits (m .depth * m .width))
+wideSizes m = ltb maxDepth (m .depth) || ltb maxWidth (m .width)
 
 unfoldable pub sizeWords : Mem → ℕ
 sizeWords m = if wideSizes m then 0 else rowsWords m
