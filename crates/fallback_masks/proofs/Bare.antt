@@ -1,9 +1,8 @@
 -- A memory without the flip-flops of its read ports has the same wide logs and the same depth.
-use mathlib.Core.Path.{_≡_, refl, sym, ap, _∙_}
-use Prim.Native.Nat.{ℕ, max, _≤_}
-use mathlib.Core.Bool.{Bool, _||_}
+use mathlib.Core.Path.{_≡_, refl, _∙_}
+use Prim.Native.Nat.{max}
+use mathlib.Core.Bool.{_||_}
 use mathlib.Core.List.{List, [], _∷_, map}
-use lib.ListN.{length}
 use Rattle.lists.specs.Lists.{any}
 use Rattle.rules.specs.Numbers.{largest}
 use Rattle.rules.specs.Cell.{WritePort, ReadPort, Mem, writeWideLog2, readWideLog2, withReads}

@@ -2,3 +2,10 @@
 pub mod Bare
 pub mod Wide
 pub mod Rows
+pub mod Alike
+pub mod Stores
+pub mod Masks
+pub mod Sums
+pub mod Counts
+pub mod Numbers
+pub mod Closed

@@ -4,15 +4,15 @@ use mathlib.Core.Logic.{_≢_, ⊎-elim}
 use Prim.Native.Nat.{ℕ, zero, suc, _+_, _-_, _*_, _<_, _≤_, min}
 use native.Mathlib.Nat.{zero-add, mul-one, mul-zero, suc-mul, mul-le-mul-right, eq-zero-or-pos}
 use native.Mathlib.Omega.{arith}
-use mathlib.Core.Bool.{Bool, true, false}
-use mathlib.Core.List.{List, [], _∷_, map}
+use mathlib.Core.Bool.{false}
+use mathlib.Core.List.{List, [], map}
 use lib.ListN.{length, getD, length-map}
 use lib.Dec.{eqb}
 use borrow.Author.Tests.{eq-eqb, ne-eqb}
-use Rattle.lists.specs.Lists.{upFrom, concatMap}
+use Rattle.lists.specs.Lists.{upFrom}
 use Rattle.lists.specs.Choice.{if_then_else_}
 use Rattle.lists.proofs.Choice.{else-zero, if-true, if-false}
-use Rattle.lists.proofs.Parts.{length-part, getD-any}
+use Rattle.lists.proofs.Parts.{length-part}
 use Rattle.lists.proofs.UpFrom.{length-up, getD-up}
 use Rattle.rules.specs.Limits.{addrBits}
 use Rattle.rules.specs.Value.{Value}
@@ -20,7 +20,7 @@ use Rattle.rules.specs.Cell.{WritePort, ReadPort, Mem, Plan}
 use Rattle.rules.specs.Conditions.{badDepth, badOutputLen, badValue}
 use Rattle.rules.specs.Log.{Trace, _>>=_, _>>_, done}
 use Rattle.rules.specs.Ports.{Driving}
-use Rattle.rules.specs.Geometry.{Layout, layoutOf, fullDepth, partDepth, fullMems, allMems}
+use Rattle.rules.specs.Geometry.{Layout, layoutOf, allMems}
 use Rattle.rules.specs.Image.{rowsBefore, memStart, trits, imageSize, layout, imageOf}
 use Rattle.rules.specs.Swizzle.{WideWrite, swizzleWrites, WideRead, swizzleReads, resultMem, swizzleRows, swizzleEmpty, swizzle}
 use Rattle.rules.specs.Fallback.{maxWideLog2, fallbackPlan}

@@ -1,9 +1,9 @@
 -- The wide ports of a split with new wide logs of 0: their values have a net for each column, and a memory's part is one run of them.
 use mathlib.Core.Path.{_≡_, refl, sym, ap, _∙_}
 use Prim.Native.Nat.{ℕ, zero, suc, _+_, _*_, _^_, _<_, _≤_}
-use native.Mathlib.Nat.{zero-mul, zero-add, one-mul, add-mul, mul-le-mul-right, suc-mul}
+use native.Mathlib.Nat.{zero-mul, zero-add, one-mul, mul-le-mul-right, suc-mul}
 use native.Mathlib.Omega.{arith}
-use mathlib.Core.List.{List, [], _∷_, _++_, map, append-nil}
+use mathlib.Core.List.{List, [], _∷_, map, append-nil}
 use lib.ListN.{length, take, drop, length-append}
 use Rattle.lists.specs.Lists.{part, upFrom, concatMap}
 use Rattle.lists.proofs.Parts.{length-part}
