@@ -82,3 +82,8 @@ rows-of w (suc n) l e h =
 pub mask-rows : (w n : ℕ) (l : List ℕ) → length l ≡ n * w → length l ≤ maxMaskNets → 0 < w → maskRuns w l ≡ rowRuns w n l
 unfolding maskRuns
 mask-rows w n l e f h = if-false (ltb maxMaskNets (length l)) 0 (runsFrom w 0 0 l) (le-ltb maxMaskNets (length l) f) ∙ rows-of w n l e h
+
+-- of rows of two nets, 5 5 and 5 6: the second row starts a run of its own
+worked : runsFrom 2 0 0 (5 ∷ 5 ∷ 5 ∷ 6 ∷ []) ≡ 3
+unfolding runsFrom flag
+worked = refl
