@@ -35,7 +35,7 @@ use Rattle.fallback_pass.proofs.Unmapped.{ready, unmapped-memory, unmapped-long
 use Rattle.fallback_pass.proofs.Counts.{swizzle-counted}
 use Rattle.fallback.specs.Split.{splitLowered}
 
-none-lower : lowerRows [] ≡ done tt
+pub none-lower : lowerRows [] ≡ done tt
 unfolding lowerRows
 none-lower = refl
 
@@ -62,7 +62,7 @@ module _ (next : ℕ) (m : Memory) (nets trits output : List ℕ) (z : lowerFall
   wide-rest w outs e =
       counted-bind (swizzle B outs (fallbackPlan B)) lowerRows (splitWords M) (splitNets M) (rowsWords M) (rowsNets M) (swizzle-counted next m nets trits output z w outs e) (rows-of outs) chains-lower
 
-  flat-is : (outs : Value) → M .width ≡ 0 → splitLowered B outs ≡ (done [] >>= lowerRows)
+  pub flat-is : (outs : Value) → M .width ≡ 0 → splitLowered B outs ≡ (done [] >>= lowerRows)
   unfolding splitLowered
   flat-is outs w =
       ap (λ (u : Trace (List Driving)). u >>= lowerRows)
@@ -80,7 +80,7 @@ module _ (next : ℕ) (m : Memory) (nets trits output : List ℕ) (z : lowerFall
   unfolding lowerFallback
   whole-is = refl
 
-  rest-at : (n : ℕ) → rest (t n .value) ≡ splitLowered B (t n .value .output)
+  pub rest-at : (n : ℕ) → rest (t n .value) ≡ splitLowered B (t n .value .output)
   unfolding splitLowered
   rest-at n = ap (λ (b : Mem). swizzle b (t n .value .output) (fallbackPlan b) >>= lowerRows) (unmapped-memory next m nets trits output z n)
 
