@@ -1,6 +1,5 @@
 // memory/src/lib.rs, lower_fallback: the flip-flops of all read ports are unmapped, the memory is split into rows, and each row becomes a register.
 ghost use mathlib.Core.Path.{_≡_};
-ghost use mathlib.Core.Logic.{_≢_};
 ghost use mathlib.Core.List.{[]};
 ghost use Prim.Native.Nat.{_+_, _*_, _≤_, min};
 ghost use lib.ListN.{length, drop};
