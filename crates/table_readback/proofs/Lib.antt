@@ -1,0 +1,2 @@
+-- Laws of the rows read back.
+pub mod Ends
