@@ -107,10 +107,9 @@ fn put_row(out: &mut [u8], s: Spot, row: u32, width: u32, x: &[u8], y: &[u8]) ->
     if same_trits(x, y) {
         return s;
     }
-    Spot {
-        at: put_line(out, s.at, row, width, x, y),
-        count: s.count + 1,
-    }
+    let at = put_line(out, s.at, row, width, x, y);
+    let count = s.count + 1;
+    Spot { at, count }
 }
 
 // ---- all rows

@@ -31,8 +31,8 @@ put-line-requires : tie.Need-put-line-requires
 put-line-requires c κs = search needs
 
 -- src/lib.rt:112:16
-add-t11 : tie.Need-add-t11
-add-t11 c = search needs
+add-count : tie.Need-add-count
+add-count c = search needs
 
 -- src/lib.rt:103:1
 same-length : tie.Need-same-length
@@ -48,4 +48,4 @@ returns-2 c =
 pub put-row-spec : {M : Type 1} → statement M
 put-row-spec =
     tie.close
-    (tie.spec same-trits-requires returns put-line-requires add-t11 same-length returns-2)
+    (tie.spec same-trits-requires returns put-line-requires add-count same-length returns-2)
