@@ -2,7 +2,7 @@
 use mathlib.Core.Path.{_≡_, refl, sym, ap, _∙_, subst}
 use mathlib.Core.Logic.{_≢_}
 use mathlib.Core.Bool.{Bool, true, false, _&&_, not}
-use mathlib.Core.List.{List, [], _∷_, _++_, append-assoc}
+use mathlib.Core.List.{List, [], _∷_, _++_, append-assoc, append-nil}
 use Prim.Native.Nat.{ℕ, zero, suc, _+_, _*_, _≤_}
 use native.Mathlib.Omega.{arith}
 use lib.ListN.{length, take, drop, getD, replicate, length-append, length-replicate}
@@ -199,9 +199,9 @@ module _ (body x : List ℕ) (one : OneLine body) (t : Table) (parsed : parseTab
         ∙ front room wrote (recordBytes z) n (omega (arith, bytes-fit z (omega (arith, s, image-fits (t .layout) (good .good)))))
 
     -- the header line and the record: the header line and the rows
-    pub split-read-back : (out : List ℕ) → backCall out (line ++ (record-of ++ [])) ≡ textEnd out (line ++ rowsShown (t .layout .depth) (t .layout .width) (t .rows))
+    pub split-read-back : (out : List ℕ) → backCall out (line ++ record-of) ≡ textEnd out (line ++ rowsShown (t .layout .depth) (t .layout .width) (t .rows))
     split-read-back out =
-        ap (λ (l : List ℕ). backCall out (line ++ (l ++ []))) record-is
+        ap (λ (l : List ℕ). backCall out (line ++ l)) (record-is ∙ sym (append-nil wrote))
         ∙ record-read out []
         ∙ sym (none-behind out line (t .rows) (t .layout .depth) (t .layout .width) [] refl)
 
