@@ -11,15 +11,14 @@ use lib.ListN.{length, take, drop, getD, replicate, length-append, length-replic
 use lib.Seq.{sets, drop-cons, take-at, take-take}
 use lib.Dec.{eqb}
 use borrow.Author.Tests.{eq-eqb, ne-eqb, lt-ltb, le-ltb}
-use Rattle.lists.specs.Choice.{if_then_else_}
-use Rattle.lists.specs.Lists.{part, sumBy, concatMap, upFrom, sameList}
+use Rattle.lists.specs.Lists.{part, sumBy, concatMap, sameList}
 use Rattle.lists.proofs.Store.{sets-at, part-sets}
 use Rattle.lists.proofs.UpFrom.{count-step, count-end}
 use Rattle.lists.proofs.Same.{same-refl}
 use Rattle.rules.specs.Image.{rowOf}
 use Rattle.rules.specs.Lister.{decimal}
 use Rattle.record_listing.specs.Put.{Put}
-use Rattle.table_print.specs.Rows.{bitsText, rowsFrom, rowsText, rowsShown}
+use Rattle.table_print.specs.Rows.{bitsText, rowsFrom, rowsShown}
 use Rattle.table_print.proofs.Back.{bits-append}
 use Rattle.table_print.proofs.Putting.{length-bits, shown-all}
 use Rattle.table_differ.specs.Differ.{sameLine, differWord, diffLine, diffOf, differs, diffLines, differing, lastLine, diffText}

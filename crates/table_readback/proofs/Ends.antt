@@ -1,39 +1,36 @@
 -- What each function of the crate gives, by cases.
 use mathlib.Core.Path.{_≡_, refl, sym, ap, _∙_}
 use mathlib.Core.Logic.{_≢_}
-use mathlib.Core.Bool.{Bool, true, false, _&&_}
+use mathlib.Core.Bool.{true, false, _&&_}
 use mathlib.Core.List.{List, [], _∷_, _++_, append-nil}
-use Prim.Native.Nat.{ℕ, zero, suc, _+_, _-_, _*_, _/_, _≤_, _<_, min}
-use native.Mathlib.Nat.{zero-add, add-zero, suc-add, mul-le-mul}
+use Prim.Native.Nat.{ℕ, suc, _+_, _-_, _*_, _/_, _≤_, _<_, min}
+use native.Mathlib.Nat.{zero-add, suc-add, mul-le-mul}
 use native.Mathlib.Numerals.{add-one}
 use native.Mathlib.Omega.{arith}
-use lib.ListN.{length, take, drop, getD, set, replicate, length-append, length-drop, length-take, take-append-drop, drop-of-length-le}
+use lib.ListN.{length, take, drop, getD, set, replicate, length-drop, take-append-drop, drop-of-length-le}
 use lib.Seq.{sets, drop-cons, take-all, length-take-le}
 use lib.Dec.{eqb, ltb}
 use borrow.Author.Tests.{eqb-true, eq-eqb, ne-eqb, lt-ltb, le-ltb, ltb-false}
-use Rattle.lists.specs.Choice.{if_then_else_, leaves}
-use Rattle.lists.specs.Lists.{part}
+use Rattle.lists.specs.Choice.{if_then_else_}
 use Rattle.lists.proofs.Choice.{and-true, or-false, leaves-refused, leaves-accepted}
-use Rattle.lists.proofs.Store.{sets-at}
-use Rattle.rules.specs.Limits.{maxImage, maxBits}
 use Rattle.rules.specs.Geometry.{Layout}
 use Rattle.rules.specs.Image.{Laid}
-use Rattle.rules.specs.Record.{Sizes, sizeTrits, sizeMems, arrayBytes, recordBytes}
+use Rattle.rules.specs.Record.{Sizes, sizeTrits, sizeMems, recordBytes}
 use Rattle.rules.specs.Conditions.{noRoom, badUnit, badDepths, badSizes}
 use Rattle.rules.specs.Refusals.{lentRefusal}
-use Rattle.rules.specs.Answers.{Answer, Refused, Accepted, Filled, filledWith, listedIn, sizesCall, Decoded, readRecordCall}
+use Rattle.rules.specs.Answers.{Answer, Refused, Accepted, Filled, filledWith, sizesCall, readRecordCall}
 use Rattle.rules.specs.Beside.Shape.{handedOn}
 use Rattle.rules.proofs.Answers.{answer-refused, answer-accepted}
 use Rattle.record_codec.proofs.Heads.{array-bytes}
 use Rattle.record_codec.proofs.Writing.{bytes-are}
 use Rattle.image_geometry.specs.View.{layoutBy}
 use Rattle.table_read.specs.declared.Table.{Table}
-use Rattle.table_read.specs.Table.{Parsed, NoTable, IsTable, parseTable}
-use Rattle.table_read.specs.View.{parsedOf, layoutIn}
+use Rattle.table_read.specs.Table.{Parsed, parseTable}
+use Rattle.table_read.specs.View.{parsedOf}
 use Rattle.table_print.specs.Rows.{rowsShown}
 use Rattle.table_rows.specs.Rows.{readRowsCall}
 use Rattle.table_differ.specs.Differ.{diffText}
-use Rattle.table_readback.specs.Back.{lineEnd, sameSizes, sizedRows, recordRows, Back, BadText, BadTable, IsBack, BackEnd, refusedEnd, textEnd, comparedEnd, behindEnd, rowsEnd, recordEnd, headEnd, backBy, backCall}
+use Rattle.table_readback.specs.Back.{lineEnd, sameSizes, sizedRows, recordRows, BadText, BadTable, IsBack, BackEnd, refusedEnd, textEnd, comparedEnd, behindEnd, rowsEnd, recordEnd, headEnd, backBy, backCall}
 
 -- ---- the record's rows
 module _ (q : Layout) (z : Sizes) (room image : List ℕ) (head : Answer Sizes) where

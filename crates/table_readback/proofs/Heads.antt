@@ -1,21 +1,21 @@
 -- The header line decides the layout: whatever follows its break, the table is read by the same layout, or the text is refused.
-use mathlib.Core.Path.{_≡_, refl, sym, ap, _∙_}
+use mathlib.Core.Path.{_≡_, refl, ap, _∙_}
 use mathlib.Core.Bool.{Bool, true, false, _&&_, not}
 use mathlib.Core.List.{List, [], _∷_, _++_, append-assoc}
-use Prim.Native.Nat.{ℕ, zero, suc, _+_, _≤_}
+use Prim.Native.Nat.{ℕ, _+_, _≤_}
 use native.Mathlib.Omega.{arith}
-use lib.ListN.{length, take, drop, replicate, length-append}
+use lib.ListN.{length, replicate}
 use lib.Dec.{eqb, ltb, leb}
-use borrow.Author.Tests.{le-ltb, ltb-false, eq-eqb, ne-eqb, eqb-true, eqb-false, not-true}
+use borrow.Author.Tests.{le-ltb}
 use Rattle.lists.specs.Choice.{if_then_else_}
 use Rattle.lists.specs.Lists.{all}
 use Rattle.lists.proofs.Choice.{and-true}
 use Rattle.rules.specs.Geometry.{Layout}
 use Rattle.rules.specs.Limits.{None}
 use Rattle.table_text.specs.declared.head.Head.{Head}
-use Rattle.table_text.specs.Bytes.{maxText, bump, more, isBlank, isDigit, letterOf, nextLetter}
+use Rattle.table_text.specs.Bytes.{maxText, bump, isBlank, isDigit, letterOf, nextLetter}
 use Rattle.table_text.specs.Head.{headAs, headStart, headBad, numberEnd, headBlank, headComma, headBreak, headDigit, headEntry, headLetter, headWord, headStep, headStored, HeadEnd, headRun}
-use Rattle.table_read.specs.Table.{Table, Parsed, NoTable, IsTable, maxWords, layoutRead, headNumber, layoutTable, headTable, parseTable}
+use Rattle.table_read.specs.Table.{Parsed, NoTable, maxWords, layoutRead, headNumber, layoutTable, headTable, parseTable}
 use Rattle.table_readback.specs.Back.{lineEnd}
 
 -- ---- before the break the line is not read to its end

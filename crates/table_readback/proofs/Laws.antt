@@ -1,9 +1,9 @@
 -- What `split` wrote for a text reads back to the text's table, and with the text behind it the answer is `same`.
-use mathlib.Core.Path.{_≡_, refl, sym, ap, _∙_, subst}
+use mathlib.Core.Path.{_≡_, refl, sym, ap, _∙_}
 use mathlib.Core.Logic.{_≢_}
-use mathlib.Core.Bool.{Bool, true, false, _&&_, not}
+use mathlib.Core.Bool.{Bool, true, false}
 use mathlib.Core.List.{List, [], _∷_, _++_, append-assoc, append-nil}
-use Prim.Native.Nat.{ℕ, zero, suc, _+_, _*_, _≤_}
+use Prim.Native.Nat.{ℕ, zero, suc, _*_, _≤_}
 use native.Mathlib.Omega.{arith}
 use lib.ListN.{length, take, drop, getD, replicate, length-append, length-replicate}
 use lib.Seq.{sets, take-at, drop-at}
@@ -19,11 +19,11 @@ use Rattle.rules.specs.Image.{layout}
 use Rattle.rules.specs.Numbers.{ceilDiv}
 use Rattle.rules.specs.Record.{Sizes, sizeTrits, sizesOf, arrayBytes, recordBytes, encodeRecord}
 use Rattle.rules.specs.Conditions.{badLayout}
-use Rattle.rules.specs.Answers.{Answer, Accepted, sizesCall}
+use Rattle.rules.specs.Answers.{Accepted, sizesCall}
 use Rattle.rules.specs.Beside.Shape.{handedOn}
 use Rattle.rules.proofs.GoodLayouts.{good-small, handed-some}
 use Rattle.table_text.specs.Bytes.{maxText, isBlank, isEnd, tritOf}
-use Rattle.table_text.specs.Scan.{scanAs, scanStart, ScanEnd, wordEnd, ended, between, scanPlain, scanStep, isStored, scanStored, scanRun}
+use Rattle.table_text.specs.Scan.{scanAs, scanStart, ended, between, scanPlain, scanStep, isStored, scanStored, scanRun}
 use Rattle.table_text.specs.Head.{headStart, headRun}
 use Rattle.table_read.specs.Table.{Table, Parsed, NoTable, IsTable, maxWords, headTable, tableOf, rowsTable, layoutTable, parseTable}
 use Rattle.table_print.specs.Rows.{rowsFrom, rowsShown}
@@ -35,7 +35,7 @@ use Rattle.table_record.proofs.Written.{split-written}
 use Rattle.table_record.proofs.Swizzled.{image-fits}
 use Rattle.table_differ.specs.Differ.{sameLine, diffText}
 use Rattle.table_differ.proofs.Lines.{diff-same}
-use Rattle.table_readback.specs.Back.{lineEnd, Back, IsBack, BackEnd, textEnd, comparedEnd, behindEnd, recordEnd, headEnd, backBy, backCall}
+use Rattle.table_readback.specs.Back.{lineEnd, IsBack, textEnd, comparedEnd, behindEnd, recordEnd, headEnd, backBy, backCall}
 use Rattle.table_readback.proofs.Ends.{none-behind, some-behind, text-accepted}
 use Rattle.table_readback.proofs.Trip.{front, size-is, record-long, record-back}
 use Rattle.table_readback.proofs.Heads.{OneLine, byHead, HeadLine, head-line, line-length, parse-line}

@@ -1,27 +1,25 @@
 -- The record of rows reads back to the rows.
 use mathlib.Core.Path.{_≡_, refl, sym, ap, _∙_}
-use mathlib.Core.Bool.{Bool, true, false, _&&_, not}
-use mathlib.Core.Option.{some}
-use mathlib.Core.List.{List, [], _∷_, _++_}
-use Prim.Native.Nat.{ℕ, _+_, _*_, _≤_, _<_}
+use mathlib.Core.Bool.{true, false}
+use mathlib.Core.List.{List, [], _++_}
+use Prim.Native.Nat.{ℕ, _*_, _≤_}
 use native.Mathlib.Omega.{arith}
-use lib.ListN.{length, take, drop, replicate, length-replicate}
+use lib.ListN.{length, take, replicate, length-replicate}
 use lib.Seq.{sets, length-sets, take-at, drop-at}
-use lib.Dec.{eqb}
 use borrow.Author.Tests.{eq-eqb, not-false}
-use Rattle.lists.specs.Choice.{if_then_else_, leaves}
+use Rattle.lists.specs.Choice.{leaves}
 use Rattle.lists.proofs.Choice.{leaves-accepted}
 use Rattle.lists.proofs.Store.{part-sets}
 use Rattle.rules.specs.Logic.{areTrits}
 use Rattle.rules.specs.Geometry.{Layout}
-use Rattle.rules.specs.Image.{imageSize, layout, Laid}
+use Rattle.rules.specs.Image.{imageSize, layout}
 use Rattle.rules.specs.Record.{Sizes, sizeTrits, sizesOf, recordImage, encodeRecord, headSizes, decodeImage, recordBytes}
 use Rattle.rules.specs.Conditions.{badTrits, badSizes, badLayout}
 use Rattle.rules.specs.Refusals.{recordNumber, readRecordRefusal, ReadsBack}
 use Rattle.rules.specs.Patch.{laidOut}
-use Rattle.rules.specs.Answers.{Answer, Refused, Accepted, answerOf, Filled, filled, filledWith, sizesCall, Decoded, readRecordCall}
+use Rattle.rules.specs.Answers.{Accepted, answerOf, Filled, filledWith, Decoded, readRecordCall}
 use Rattle.rules.specs.Beside.Shape.{handedOn}
-use Rattle.rules.proofs.Answers.{accepted, filled-done}
+use Rattle.rules.proofs.Answers.{accepted}
 use Rattle.rules.proofs.Demand.{length-layout}
 use Rattle.rules.proofs.GoodLayouts.{good, good-small, handed-some}
 use Rattle.rules.proofs.SwizzleSizes.{layout-trits, layout-sizes}
@@ -33,7 +31,7 @@ use Rattle.table_record.proofs.Written.{image-is, image-trits}
 use Rattle.table_rows.specs.Rows.{imageRows, readRowsRefusalOf, readRowsCall}
 use Rattle.table_rows.proofs.Reading.{rows-0, rows-done}
 use Rattle.table_rows.proofs.Back.{rows-back}
-use Rattle.table_readback.specs.Back.{sameSizes, sizedRows, recordRows, BackEnd, behindEnd, rowsEnd, recordEnd}
+use Rattle.table_readback.specs.Back.{sameSizes, sizedRows, recordRows, behindEnd, rowsEnd, recordEnd}
 
 same-self : (z : Sizes) → sameSizes z z ≡ true
 unfolding sameSizes

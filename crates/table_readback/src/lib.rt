@@ -1,9 +1,9 @@
 // The rows of a record as a table's text, or the rows in which they differ from a table: the text has a header line, the record, and the table.
 ghost use mathlib.Core.Path.{_≡_};
 ghost use mathlib.Core.Bool.{false};
-ghost use mathlib.Core.List.{List, _++_};
+ghost use mathlib.Core.List.{_++_};
 ghost use Prim.Native.Nat.{_*_, _≤_};
-ghost use lib.ListN.{length, take, drop};
+ghost use lib.ListN.{length, take};
 ghost use lib.Seq.{sets};
 ghost use Rattle.rules.specs.Record.{Sizes as LayoutSizes, recordBytes};
 ghost use Rattle.rules.specs.Conditions.{badSizes};

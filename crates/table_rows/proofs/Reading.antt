@@ -1,19 +1,19 @@
 -- The rows of an image read back: the numbers, one row, and the rows one after the other.
-use Prim.Native.Nat.{ℕ, zero, suc, _+_, _-_, _*_, _≤_, _<_}
-use mathlib.Core.Path.{_≡_, refl, sym, ap, _∙_}
+use Prim.Native.Nat.{ℕ, _+_, _-_, _*_, _≤_, _<_}
+use mathlib.Core.Path.{_≡_, sym, ap, _∙_}
 use mathlib.Core.Logic.{_≢_}
-use mathlib.Core.Bool.{Bool, false, _||_}
+use mathlib.Core.Bool.{false, _||_}
 use mathlib.Core.Option.{none, some}
-use mathlib.Core.List.{List, [], _∷_, _++_}
+use mathlib.Core.List.{List, [], _++_}
 use native.Mathlib.Omega.{arith}
 use native.Mathlib.Nat.{suc-mul, mul-le-mul, zero-mul}
 use native.Mathlib.Numerals.{add-one}
 use lib.Dec.{ltb}
-use lib.ListN.{length, take, replicate, length-replicate, length-append}
+use lib.ListN.{length, take, replicate, length-replicate}
 use lib.Seq.{sets}
 use borrow.Author.Tests.{lt-ltb, le-ltb, ltb-false}
-use Rattle.lists.specs.Choice.{if_then_else_, leaves}
-use Rattle.lists.specs.Lists.{upFrom, concatMap}
+use Rattle.lists.specs.Choice.{leaves}
+use Rattle.lists.specs.Lists.{concatMap}
 use Rattle.lists.proofs.Choice.{if-zero, or-false, leaves-accepted}
 use Rattle.lists.proofs.Store.{sets-at, part-sets}
 use Rattle.lists.proofs.UpFrom.{count-step, count-end}
@@ -21,7 +21,7 @@ use Rattle.rules.specs.Geometry.{Layout}
 use Rattle.rules.specs.Image.{imageSize, Laid}
 use Rattle.rules.specs.Conditions.{noRoom, badLayout}
 use Rattle.rules.specs.Beside.Shape.{handedOn}
-use Rattle.rules.specs.Beside.Layouts.{readRow, readRowRefusalBy, readRowRefusalOf, readRowRefusal, rowRead, readRowCall}
+use Rattle.rules.specs.Beside.Layouts.{readRow, readRowRefusalOf, readRowRefusal, rowRead, readRowCall}
 use Rattle.rules.specs.Answers.{Filled, filled}
 use Rattle.rules.proofs.Answers.{filled-kept, filled-done}
 use Rattle.rules.proofs.GoodLayouts.{good-small, handed-some}

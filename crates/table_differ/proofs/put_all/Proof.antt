@@ -1,19 +1,12 @@
 -- `table_differ::put_all` meets its contract.
 use Rattle.table_differ.proofs.Lines.{Left, left-all, left-turn, left-end, times-max, one-more, no-times}
-use lib.Seq.{sets, length-sets}
-use mathlib.Core.Path.{_≡_, refl, sym, ap, _∙_}
-use Prim.Native.Nat.{ℕ, suc, _+_, _-_, _*_, _<_, _≤_, min}
+use mathlib.Core.Path.{_≡_, refl, _∙_}
+use Prim.Native.Nat.{_-_, _*_, _≤_}
 use native.Mathlib.Omega.{arith}
-use mathlib.Core.List.{List, [], _∷_, _++_}
-use lib.ListN.{length, take, drop, getD, set}
+use lib.ListN.{length}
 use borrow.Author.Needs.{needs}
 use Rattle.table_differ.proofs.put_all.Statement.{statement}
 use Rattle.table_differ.proofs.put_all.Tie as tie
-use Rattle.table_differ.proofs.put_all.Reads as reads
-use Rattle.table_differ.proofs.put_all.Lts as lts
-use Rattle.lists.proofs.part_u8.Reads as part-u8-reads
-use Rattle.lists.proofs.usize_of_u32.Reads as usize-of-u32-reads
-use Rattle.table_differ.proofs.put_row.Reads as put-row-reads
 
 abbrev Inv-loop : tie.InvT-loop
 Inv-loop out₀ depth width a b w s₀ from₀ row₀ out s from row =
@@ -22,44 +15,35 @@ Inv-loop out₀ depth width a b w s₀ from₀ row₀ out s from row =
 abbrev μ-loop : tie.MeasureT-loop
 μ-loop out₀ depth width a b w s₀ from₀ row₀ out s from row = depth - row
 
--- src/lib.rt:122:9
 usize-of-u32-requires : tie.Need-usize-of-u32-requires Inv-loop μ-loop
 usize-of-u32-requires c κs = search needs
 
--- src/lib.rt:126:5
 loop-holds : tie.Need-loop-holds Inv-loop μ-loop
 loop-holds c = let a = c .before .before .before .before .args in (omega arith, refl, no-times (a .width), omega arith, omega arith, left-all (a .width) (a .a .now) (a .b .now) (a .out .now) (a .depth))
 
--- src/lib.rt:132:13
 part-u8-requires : tie.Need-part-u8-requires Inv-loop μ-loop
 part-u8-requires c κs = search needs
 
--- src/lib.rt:133:13
 part-u8-requires-2 : tie.Need-part-u8-requires-2 Inv-loop μ-loop
 part-u8-requires-2 c κs = search needs
 
--- src/lib.rt:127:9
 put-row-requires : tie.Need-put-row-requires Inv-loop μ-loop
 put-row-requires c κs =
     let l = c .before .before .before .before .loop in
     (omega (arith, l .inv .3, l .inv .0, c .before .before .before .before .before .before .before .before .before .pre .0), omega (arith, l .inv .4, l .inv .0, c .before .before .before .before .before .before .before .before .before .pre .0), c .before .before .before .before .before .before .before .before .before .pre .1)
 
--- src/lib.rt:135:9
 add-from : tie.Need-add-from Inv-loop μ-loop
 add-from c =
     let l = c .before .before .before .before .before .before .before .loop in
     let a = c .before .before .before .before .before .before .before .before .before .before .before .before .args in
     omega (arith, l .inv .2, times-max (l .row) (a .width) (omega (arith, l .inv .0, c .before .before .before .before .before .before .before .before .before .before .before .before .pre .0)) (c .before .before .before .before .before .before .before .before .before .before .before .before .pre .1), c .before .before .before .before .before .before .before .before .usize-of-u32 .ensures .0, c .before .before .before .before .before .before .before .before .before .before .before .before .pre .1)
 
--- src/lib.rt:136:9
 add-row : tie.Need-add-row Inv-loop μ-loop
 add-row c = omega arith
 
--- src/lib.rt:126:5
 loop-less : tie.Need-loop-less Inv-loop μ-loop
 loop-less c = omega arith
 
--- src/lib.rt:126:5
 loop-again : tie.Need-loop-again Inv-loop μ-loop
 loop-again c =
     let l = c .before .before .before .before .before .before .before .loop in
@@ -74,11 +58,9 @@ loop-again c =
       left-turn (a .width) (a .a .now) (a .b .now) (a .out .now) (l .out) _ (l .s .at) _ (l .s .count) _ (a .depth) (l .row) (l .from) _ _ _ (omega arith) (l .inv .2) w (c .before .before .before .before .part-u8 .ensures .0) (c .before .before .before .part-u82 .ensures .0) (p .0) (p .1) (l .inv .5),
     )
 
--- src/lib.rt:118:1
 same-length : tie.Need-same-length Inv-loop μ-loop
 same-length c = c .before .loop .inv .1
 
--- src/lib.rt:118:1
 returns : tie.Need-returns Inv-loop μ-loop
 returns c =
     let l = c .before .loop in

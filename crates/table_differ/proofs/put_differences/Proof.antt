@@ -3,46 +3,34 @@ use Rattle.table_differ.proofs.Lines.{diff-deep, diff-wide, diff-all}
 use Rattle.table_differ.specs.Differ.{diffText}
 use Rattle.record_listing.proofs.Puts.{put-then, put-as}
 use lib.Seq.{sets}
-use mathlib.Core.Path.{_≡_, refl, sym, ap, _∙_}
-use Prim.Native.Nat.{ℕ, suc, _+_, _-_, _*_, _<_, _≤_, min}
+use mathlib.Core.Path.{ap}
 use native.Mathlib.Omega.{arith}
-use mathlib.Core.List.{List, [], _∷_, _++_}
-use lib.ListN.{length, take, drop, getD, set}
+use lib.ListN.{length}
 use borrow.Author.Needs.{needs}
 use Rattle.table_differ.proofs.put_differences.Statement.{statement}
 use Rattle.table_differ.proofs.put_differences.Tie as tie
-use Rattle.table_differ.proofs.put_differences.Reads as reads
-use Rattle.table_differ.proofs.put_differences.Lts as lts
-use Rattle.table_differ.proofs.put_all.Reads as put-all-reads
-use Rattle.table_differ.proofs.put_last.Reads as put-last-reads
 
--- src/lib.rt:159:9
 returns : tie.Need-returns
 returns c =
     let a = c .before .before .before .before .args in
     let e = diff-deep (a .depth) (a .width) (a .a .now) (a .b .now) (c .if1 .taken) in
     (ap (sets (a .out .now) 0) e, ap length e)
 
--- src/lib.rt:162:9
 returns-2 : tie.Need-returns-2
 returns-2 c =
     let a = c .before .before .before .before .before .args in
     let e = diff-wide (a .depth) (a .width) (a .a .now) (a .b .now) (c .before .if1 .left) (c .if2 .taken) in
     (ap (sets (a .out .now) 0) e, ap length e)
 
--- src/lib.rt:164:9
 put-all-requires : tie.Need-put-all-requires
 put-all-requires c κs = search needs
 
--- src/lib.rt:165:5
 put-last-requires : tie.Need-put-last-requires
 put-last-requires c κs = omega (arith, c .before .before .before .put-all .ensures .2, c .before .before .before .before .before .before .if1 .left)
 
--- src/lib.rt:155:1
 same-length : tie.Need-same-length
 same-length c = search needs
 
--- src/lib.rt:155:1
 returns-3 : tie.Need-returns-3
 returns-3 c =
     let a = c .before .before .before .before .before .before .before .before .before .before .before .before .before .args in

@@ -2,61 +2,41 @@
 use Rattle.table_differ.proofs.Lines.{last-same, last-differ}
 use Rattle.table_differ.specs.Differ.{sameLine, differWord, lastLine}
 use Rattle.record_listing.proofs.Puts.{put-then, put-as}
-use mathlib.Core.Path.{_≡_, refl, sym, ap, _∙_}
-use Prim.Native.Nat.{ℕ, suc, _+_, _-_, _*_, _<_, _≤_, min}
-use native.Mathlib.Omega.{arith}
-use mathlib.Core.List.{List, [], _∷_, _++_}
-use lib.ListN.{length, take, drop, getD, set}
 use borrow.Author.Needs.{needs}
 use Rattle.table_differ.proofs.put_last.Statement.{statement}
 use Rattle.table_differ.proofs.put_last.Tie as tie
-use Rattle.table_differ.proofs.put_last.Reads as reads
-use Rattle.table_differ.proofs.put_last.Lts as lts
-use Rattle.table_differ.proofs.put_number.Reads as put-number-reads
-use Rattle.table_differ.proofs.put_text.Reads as put-text-reads
 
--- src/lib.rt:147:36
 slice-aggregate-put-text : tie.Need-slice-aggregate-put-text
 slice-aggregate-put-text c = search needs
 
--- src/lib.rt:147:9
 put-text-requires : tie.Need-put-text-requires
 put-text-requires c κs = search needs
 
--- src/lib.rt:147:9
 same-length : tie.Need-same-length
 same-length c = search needs
 
--- src/lib.rt:147:9
 returns : tie.Need-returns
 unfolding sameLine
 returns c = put-as (lastLine (c .before .before .before .before .before .before .before .before .args .s .count)) (last-same (c .before .before .before .before .before .before .before .before .args .s .count) (c .before .before .before .before .before .if1 .taken)) (c .before .before .put-text .ensures)
 
--- src/lib.rt:149:33
 slice-aggregate-put-text-2 : tie.Need-slice-aggregate-put-text-2
 slice-aggregate-put-text-2 c = search needs
 
--- src/lib.rt:149:9
 put-text-requires-2 : tie.Need-put-text-requires-2
 put-text-requires-2 c κs = search needs
 
--- src/lib.rt:150:9
 put-number-requires : tie.Need-put-number-requires
 put-number-requires c κs = search needs
 
--- src/lib.rt:151:22
 slice-aggregate-put-text-3 : tie.Need-slice-aggregate-put-text-3
 slice-aggregate-put-text-3 c = search needs
 
--- src/lib.rt:151:5
 put-text-requires-3 : tie.Need-put-text-requires-3
 put-text-requires-3 c κs = search needs
 
--- src/lib.rt:142:1
 same-length-2 : tie.Need-same-length-2
 same-length-2 c = search needs
 
--- src/lib.rt:142:1
 returns-2 : tie.Need-returns-2
 unfolding differWord
 returns-2 c =

@@ -2,75 +2,52 @@
 use Rattle.table_differ.specs.Differ.{rowWord, colon, diffLine}
 use Rattle.record_listing.proofs.Puts.{put-then, put-as}
 use Rattle.rules.specs.Lister.{decimal}
-use mathlib.Core.Path.{_≡_, refl, sym, ap, _∙_}
-use Prim.Native.Nat.{ℕ, suc, _+_, _-_, _*_, _<_, _≤_, min}
+use mathlib.Core.Path.{ap}
 use native.Mathlib.Omega.{arith}
-use mathlib.Core.List.{List, [], _∷_, _++_}
-use lib.ListN.{length, take, drop, getD, set}
 use borrow.Author.Needs.{needs}
 use Rattle.table_differ.proofs.put_line.Statement.{statement}
 use Rattle.table_differ.proofs.put_line.Tie as tie
-use Rattle.table_differ.proofs.put_line.Reads as reads
-use Rattle.table_differ.proofs.put_line.Lts as lts
-use Rattle.lists.proofs.usize_of_u32.Reads as usize-of-u32-reads
-use Rattle.table_differ.proofs.put_number.Reads as put-number-reads
-use Rattle.table_differ.proofs.put_text.Reads as put-text-reads
-use Rattle.table_differ.proofs.put_trits.Reads as put-trits-reads
 
--- src/lib.rt:88:31
 slice-aggregate-put-text : tie.Need-slice-aggregate-put-text
 slice-aggregate-put-text c = search needs
 
--- src/lib.rt:88:9
 put-text-requires : tie.Need-put-text-requires
 put-text-requires c κs = search needs
 
--- src/lib.rt:89:32
 usize-of-u32-requires : tie.Need-usize-of-u32-requires
 usize-of-u32-requires c κs = search needs
 
--- src/lib.rt:89:9
 put-number-requires : tie.Need-put-number-requires
 put-number-requires c κs = search needs
 
--- src/lib.rt:90:30
 slice-aggregate-put-text-2 : tie.Need-slice-aggregate-put-text-2
 slice-aggregate-put-text-2 c = search needs
 
--- src/lib.rt:90:9
 put-text-requires-2 : tie.Need-put-text-requires-2
 put-text-requires-2 c κs = search needs
 
--- src/lib.rt:91:9
 put-trits-requires : tie.Need-put-trits-requires
 put-trits-requires c κs = search needs
 
--- src/lib.rt:92:30
 slice-aggregate-put-text-3 : tie.Need-slice-aggregate-put-text-3
 slice-aggregate-put-text-3 c = search needs
 
--- src/lib.rt:92:9
 put-text-requires-3 : tie.Need-put-text-requires-3
 put-text-requires-3 c κs = search needs
 
--- src/lib.rt:93:9
 put-trits-requires-2 : tie.Need-put-trits-requires-2
 put-trits-requires-2 c κs = search needs
 
--- src/lib.rt:94:22
 slice-aggregate-put-text-4 : tie.Need-slice-aggregate-put-text-4
 slice-aggregate-put-text-4 c = search needs
 
--- src/lib.rt:94:5
 put-text-requires-4 : tie.Need-put-text-requires-4
 put-text-requires-4 c κs =
     omega (arith, c .before .before .before .before .before .before .before .before .before .before .before .before .before .before .before .before .before .before .before .before .before .before .before .before .before .before .before .before .before .before .before .before .before .pre .0, c .before .before .before .before .before .before .before .before .before .before .before .before .before .before .before .before .before .before .before .before .before .before .before .before .before .before .before .put-text .ensures .place, c .before .before .before .before .before .before .before .before .before .before .before .before .before .before .before .before .before .before .before .before .before .before .put-number .ensures .1, c .before .before .before .before .before .before .before .before .before .before .before .before .before .before .before .before .before .put-text2 .ensures .place, c .before .before .before .before .before .before .before .before .before .before .before .before .before .put-trits .ensures .1, c .before .before .before .before .before .before .before .before .put-text3 .ensures .place, c .before .before .before .before .put-trits2 .ensures .1)
 
--- src/lib.rt:84:1
 same-length : tie.Need-same-length
 same-length c = search needs
 
--- src/lib.rt:84:1
 returns : tie.Need-returns
 unfolding diffLine rowWord colon
 returns c =

@@ -2,7 +2,6 @@
 use Rattle.rules.specs.Lister.{decimal}
 use Rattle.record_listing.proofs.Puts.{put-as, all-from}
 use Rattle.record_listing.proofs.Digits.{length-decimal}
-use Prim.Native.Nat.{_-_}
 use native.Mathlib.Omega.{arith}
 use borrow.Author.Needs.{needs}
 use Rattle.table_differ.proofs.put_number.Statement.{statement}

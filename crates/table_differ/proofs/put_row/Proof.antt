@@ -2,43 +2,30 @@
 use Rattle.table_differ.proofs.Lines.{no-line, a-line, no-count, a-count, nothing}
 use Rattle.table_differ.specs.Differ.{diffOf}
 use Rattle.record_listing.proofs.Puts.{put-as}
-use mathlib.Core.Path.{_≡_, refl, sym, ap, _∙_}
-use Prim.Native.Nat.{ℕ, suc, _+_, _-_, _*_, _<_, _≤_, min}
+use mathlib.Core.Path.{sym, _∙_}
 use native.Mathlib.Omega.{arith}
-use mathlib.Core.List.{List, [], _∷_, _++_}
-use lib.ListN.{length, take, drop, getD, set}
 use borrow.Author.Needs.{needs}
 use Rattle.table_differ.proofs.put_row.Statement.{statement}
 use Rattle.table_differ.proofs.put_row.Tie as tie
-use Rattle.table_differ.proofs.put_row.Reads as reads
-use Rattle.table_differ.proofs.put_row.Lts as lts
-use Rattle.table_differ.proofs.put_line.Reads as put-line-reads
-use Rattle.table_differ.proofs.same_trits.Reads as same-trits-reads
 
--- src/lib.rt:107:8
 same-trits-requires : tie.Need-same-trits-requires
 same-trits-requires c κs = search needs
 
--- src/lib.rt:108:9
 returns : tie.Need-returns
 returns c =
     let a = c .before .before .before .before .before .args in
     let e = sym (c .if1 .taken) ∙ c .before .same-trits .ensures in
     (put-as (diffOf (a .width) (a .row) (a .x .now) (a .y .now)) (no-line (a .width) (a .row) (a .x .now) (a .y .now) e) (nothing (a .out .now) (a .s .at)), omega (arith, no-count (a .x .now) (a .y .now) e), omega arith, omega arith)
 
--- src/lib.rt:111:13
 put-line-requires : tie.Need-put-line-requires
 put-line-requires c κs = search needs
 
--- src/lib.rt:112:16
 add-count : tie.Need-add-count
 add-count c = search needs
 
--- src/lib.rt:103:1
 same-length : tie.Need-same-length
 same-length c = search needs
 
--- src/lib.rt:103:1
 returns-2 : tie.Need-returns-2
 returns-2 c =
     let a = c .before .before .before .before .before .before .before .before .before .before .args in

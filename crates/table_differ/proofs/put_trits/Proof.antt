@@ -3,50 +3,34 @@ use Rattle.table_differ.proofs.Lines.{row-text}
 use Rattle.table_print.proofs.Putting.{length-bits}
 use Rattle.table_print.specs.Rows.{bitsText}
 use Rattle.record_listing.proofs.Puts.{put-as}
-use mathlib.Core.Path.{_≡_, refl, sym, ap, _∙_}
-use Prim.Native.Nat.{ℕ, suc, _+_, _-_, _*_, _<_, _≤_, min}
+use mathlib.Core.Path.{_∙_}
 use native.Mathlib.Omega.{arith}
-use mathlib.Core.List.{List, [], _∷_, _++_}
-use lib.ListN.{length, take, drop, getD, set}
+use mathlib.Core.List.{[]}
 use borrow.Author.Needs.{needs}
 use Rattle.table_differ.proofs.put_trits.Statement.{statement}
 use Rattle.table_differ.proofs.put_trits.Tie as tie
-use Rattle.table_differ.proofs.put_trits.Reads as reads
-use Rattle.table_differ.proofs.put_trits.Lts as lts
-use Rattle.lists.proofs.part_u8.Reads as part-u8-reads
-use Rattle.lists.proofs.usize_of_u32.Reads as usize-of-u32-reads
-use Rattle.table_differ.proofs.put_text.Reads as put-text-reads
-use Rattle.table_print.proofs.put_rows.Reads as put-rows-reads
 
--- src/lib.rt:57:27
 slice-aggregate-put-rows : tie.Need-slice-aggregate-put-rows
 slice-aggregate-put-rows c = search needs
 
--- src/lib.rt:57:5
 put-rows-requires : tie.Need-put-rows-requires
 put-rows-requires c κs = search needs
 
--- src/lib.rt:61:24
 slice-aggregate-part-u8 : tie.Need-slice-aggregate-part-u8
 slice-aggregate-part-u8 c = search needs
 
--- src/lib.rt:61:34
 usize-of-u32-requires : tie.Need-usize-of-u32-requires
 usize-of-u32-requires c κs = search needs
 
--- src/lib.rt:61:9
 part-u8-requires : tie.Need-part-u8-requires
 part-u8-requires c κs = search needs
 
--- src/lib.rt:58:5
 put-text-requires : tie.Need-put-text-requires
 put-text-requires c κs = omega (arith, c .part-u8 .ensures .1, c .before .usize-of-u32 .ensures .0, c .before .before .before .before .before .before .before .before .before .pre .0, c .before .before .before .before .before .before .before .before .before .pre .1)
 
--- src/lib.rt:52:1
 same-length : tie.Need-same-length
 same-length c = search needs
 
--- src/lib.rt:52:1
 returns : tie.Need-returns
 returns c =
     let a = c .before .before .before .before .before .before .before .before .before .before .before .before .args in

@@ -1,41 +1,29 @@
 -- `table_readback::against` meets its contract.
 use Rattle.table_readback.specs.Back.{textEnd}
 use Rattle.table_differ.specs.Differ.{diffText}
-use mathlib.Core.Path.{_≡_, refl, sym, ap, _∙_}
-use Prim.Native.Nat.{ℕ, suc, _+_, _-_, _*_, _<_, _≤_, min}
-use native.Mathlib.Omega.{arith}
-use mathlib.Core.List.{List, [], _∷_, _++_}
-use lib.ListN.{length, take, drop, getD, set}
+use mathlib.Core.Path.{ap, _∙_}
+use Prim.Native.Nat.{ℕ}
+use mathlib.Core.List.{List}
+use lib.ListN.{take}
 use borrow.Author.Needs.{needs}
 use Rattle.table_readback.proofs.against.Statement.{statement}
 use Rattle.table_readback.proofs.against.Tie as tie
-use Rattle.table_readback.proofs.against.Reads as reads
-use Rattle.table_readback.proofs.against.Lts as lts
-use Rattle.lists.proofs.part_u8.Reads as part-u8-reads
-use Rattle.table_readback.proofs.differences.Reads as differences-reads
-use Rattle.table_readback.proofs.trits_of.Reads as trits-of-reads
 
--- src/lib.rt:141:29
 slice-aggregate-part-u8 : tie.Need-slice-aggregate-part-u8
 slice-aggregate-part-u8 c = search needs
 
--- src/lib.rt:141:41
 trits-of-requires : tie.Need-trits-of-requires
 trits-of-requires c κs = search needs
 
--- src/lib.rt:141:9
 part-u8-requires : tie.Need-part-u8-requires
 part-u8-requires c κs = search needs
 
--- src/lib.rt:142:5
 differences-requires : tie.Need-differences-requires
 differences-requires c κs = search needs
 
--- src/lib.rt:137:1
 same-length : tie.Need-same-length
 same-length c = search needs
 
--- src/lib.rt:137:1
 returns : tie.Need-returns
 returns c =
     let a = c .before .before .before .before .before .before .before .before .before .before .args in

@@ -1,47 +1,31 @@
 -- `table_readback::behind_end` meets its contract.
 use Rattle.table_readback.proofs.Ends.{none-behind, some-behind}
 use Rattle.table_readback.specs.Back.{comparedEnd}
-use mathlib.Core.Path.{_≡_, refl, sym, ap, _∙_}
-use Prim.Native.Nat.{ℕ, suc, _+_, _-_, _*_, _<_, _≤_, min}
-use native.Mathlib.Omega.{arith}
-use mathlib.Core.List.{List, [], _∷_, _++_}
-use lib.ListN.{length, take, drop, getD, set}
+use mathlib.Core.Path.{ap, _∙_}
 use borrow.Author.Needs.{needs}
 use Rattle.table_readback.proofs.behind_end.Statement.{statement}
 use Rattle.table_readback.proofs.behind_end.Tie as tie
-use Rattle.table_readback.proofs.behind_end.Reads as reads
-use Rattle.table_readback.proofs.behind_end.Lts as lts
-use Rattle.table_read.proofs.read_table.Reads as read-table-reads
-use Rattle.table_readback.proofs.compared.Reads as compared-reads
-use Rattle.table_readback.proofs.shown.Reads as shown-reads
 
--- src/lib.rt:164:9
 shown-requires : tie.Need-shown-requires
 shown-requires c κs = search needs
 
--- src/lib.rt:164:9
 same-length : tie.Need-same-length
 same-length c = search needs
 
--- src/lib.rt:164:9
 returns : tie.Need-returns
 returns c =
     let a = c .before .before .before .before .before .before .before .before .before .args in
     c .before .before .shown .ensures ∙ none-behind (a .out .now) (a .line .now) (a .rows .now) (a .depth) (a .width) (a .behind .now) (c .before .before .before .before .if1 .taken)
 
--- src/lib.rt:166:39
 read-table-requires : tie.Need-read-table-requires
 read-table-requires c κs = search needs
 
--- src/lib.rt:166:5
 compared-requires : tie.Need-compared-requires
 compared-requires c κs = search needs
 
--- src/lib.rt:153:1
 same-length-2 : tie.Need-same-length-2
 same-length-2 c = search needs
 
--- src/lib.rt:153:1
 returns-2 : tie.Need-returns-2
 returns-2 c =
     let a = c .before .before .before .before .before .before .before .before .before .before .args in

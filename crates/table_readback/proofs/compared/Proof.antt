@@ -1,39 +1,25 @@
 -- `table_readback::compared` meets its contract.
 use Rattle.table_readback.proofs.Ends.{bad-table, other-table, same-table}
-use mathlib.Core.Path.{_≡_, refl, sym, ap, _∙_}
-use Prim.Native.Nat.{ℕ, suc, _+_, _-_, _*_, _<_, _≤_, min}
-use native.Mathlib.Omega.{arith}
-use mathlib.Core.List.{List, [], _∷_, _++_}
-use lib.ListN.{length, take, drop, getD, set}
+use mathlib.Core.Path.{sym, _∙_}
 use borrow.Author.Needs.{needs}
 use Rattle.table_readback.proofs.compared.Statement.{statement}
 use Rattle.table_readback.proofs.compared.Tie as tie
-use Rattle.table_readback.proofs.compared.Reads as reads
-use Rattle.table_readback.proofs.compared.Lts as lts
-use Rattle.table_readback.proofs.against.Reads as against-reads
-use Rattle.table_text.proofs.bytes.both.Reads as both-reads
 
--- src/lib.rt:150:9
 returns : tie.Need-returns
 returns c = bad-table (c .before .before .before .before .args .out .now) (c .before .before .before .before .args .rows .now) (c .before .before .before .before .args .depth) (c .before .before .before .before .args .width) (c .before .before .before .before .args .t) (c .if1 .taken)
 
--- src/lib.rt:153:8
 both-requires : tie.Need-both-requires
 both-requires c κs = search needs
 
--- src/lib.rt:154:9
 against-requires : tie.Need-against-requires
 against-requires c κs = search needs
 
--- src/lib.rt:154:9
 same-length : tie.Need-same-length
 same-length c = search needs
 
--- src/lib.rt:154:9
 returns-2 : tie.Need-returns-2
 returns-2 c = same-table (c .before .before .before .before .before .before .before .before .before .before .before .before .before .args .out .now) (c .before .before .before .before .before .before .before .before .before .before .before .before .before .args .rows .now) (c .before .before .before .before .before .before .before .before .before .before .before .before .before .args .depth) (c .before .before .before .before .before .before .before .before .before .before .before .before .before .args .width) (c .before .before .before .before .before .before .before .before .before .before .before .before .before .args .t) _ (c .before .before .before .before .before .before .before .before .before .if1 .left) (sym (c .before .before .before .before .if2 .taken) ∙ c .before .before .before .before .before .both .ensures) (c .before .before .against .ensures)
 
--- src/lib.rt:146:1
 returns-3 : tie.Need-returns-3
 returns-3 c = other-table (c .before .before .before .before .before .before .before .before .before .args .out .now) (c .before .before .before .before .before .before .before .before .before .args .rows .now) (c .before .before .before .before .before .before .before .before .before .args .depth) (c .before .before .before .before .before .before .before .before .before .args .width) (c .before .before .before .before .before .before .before .before .before .args .t) (c .before .before .before .before .before .if1 .left) (sym (c .if2 .left) ∙ c .before .both .ensures)
 

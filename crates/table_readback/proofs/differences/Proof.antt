@@ -1,38 +1,25 @@
 -- `table_readback::differences` meets its contract.
 use Rattle.table_readback.proofs.Ends.{text-refused, text-accepted}
 use Rattle.table_differ.specs.Differ.{diffText}
-use mathlib.Core.Path.{_≡_, refl, sym, ap, _∙_}
-use Prim.Native.Nat.{ℕ, suc, _+_, _-_, _*_, _<_, _≤_, min}
 use native.Mathlib.Omega.{arith}
-use mathlib.Core.List.{List, [], _∷_, _++_}
-use lib.ListN.{length, take, drop, getD, set}
 use borrow.Author.Needs.{needs}
 use Rattle.table_readback.proofs.differences.Statement.{statement}
 use Rattle.table_readback.proofs.differences.Tie as tie
-use Rattle.table_readback.proofs.differences.Reads as reads
-use Rattle.table_readback.proofs.differences.Lts as lts
-use Rattle.table_differ.proofs.put_differences.Reads as put-differences-reads
-use Rattle.table_readback.proofs.differences_size.Reads as differences-size-reads
 
--- src/lib.rt:123:20
 differences-size-requires : tie.Need-differences-size-requires
 differences-size-requires c κs = search needs
 
--- src/lib.rt:124:9
 returns : tie.Need-returns
 returns c =
     let a = c .before .before .before .before .before .args in
     text-refused (a .out .now) (diffText (a .depth) (a .width) (a .rows .now) (a .theirs .now)) (omega (arith, c .if1 .taken, c .before .differences-size .ensures))
 
--- src/lib.rt:126:22
 put-differences-requires : tie.Need-put-differences-requires
 put-differences-requires c κs = search needs
 
--- src/lib.rt:120:1
 same-length : tie.Need-same-length
 same-length c = search needs
 
--- src/lib.rt:120:1
 returns-2 : tie.Need-returns-2
 returns-2 c =
     let a = c .before .before .before .before .before .before .before .before .before .args in

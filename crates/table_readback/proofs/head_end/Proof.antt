@@ -1,55 +1,34 @@
 -- `table_readback::head_end` meets its contract.
 use Rattle.table_readback.proofs.Ends.{bad-head, good-head}
 use Rattle.image_state.specs.View.{laidOf}
-use mathlib.Core.Path.{_≡_, refl, sym, ap, _∙_}
-use Prim.Native.Nat.{ℕ, suc, _+_, _-_, _*_, _<_, _≤_, min}
-use native.Mathlib.Omega.{arith}
-use mathlib.Core.List.{List, [], _∷_, _++_}
-use lib.ListN.{length, take, drop, getD, set}
 use borrow.Author.Needs.{needs}
 use Rattle.table_readback.proofs.head_end.Statement.{statement}
 use Rattle.table_readback.proofs.head_end.Tie as tie
-use Rattle.table_readback.proofs.head_end.Reads as reads
-use Rattle.table_readback.proofs.head_end.Lts as lts
-use Rattle.image_state.proofs.laid_out.Reads as laid-out-reads
-use Rattle.image_state.proofs.sizes_of.Reads as sizes-of-reads
-use Rattle.lists.proofs.part_u32.Reads as part-u32-reads
-use Rattle.lists.proofs.usize_of_u32.Reads as usize-of-u32-reads
-use Rattle.table_readback.proofs.sized_end.Reads as sized-end-reads
 
--- src/lib.rt:231:9
 returns : tie.Need-returns
 returns c = bad-head (c .before .before .before .before .before .args .out .now) (c .before .before .before .before .before .args .line .now) (c .before .before .before .before .before .args .after .now) (c .before .before .before .before .before .args .t) (c .if1 .taken)
 
--- src/lib.rt:235:30
 slice-aggregate-part-u32 : tie.Need-slice-aggregate-part-u32
 slice-aggregate-part-u32 c = search needs
 
--- src/lib.rt:235:43
 usize-of-u32-requires : tie.Need-usize-of-u32-requires
 usize-of-u32-requires c κs = search needs
 
--- src/lib.rt:235:9
 part-u32-requires : tie.Need-part-u32-requires
 part-u32-requires c κs = search needs
 
--- src/lib.rt:236:9
 laid-out-requires : tie.Need-laid-out-requires
 laid-out-requires c κs = search needs
 
--- src/lib.rt:237:40
 sizes-of-requires : tie.Need-sizes-of-requires
 sizes-of-requires c κs = search needs
 
--- src/lib.rt:237:5
 sized-end-requires : tie.Need-sized-end-requires
 sized-end-requires c κs = c .sizes-of .ensures .1
 
--- src/lib.rt:227:1
 same-length : tie.Need-same-length
 same-length c = search needs
 
--- src/lib.rt:227:1
 returns-2 : tie.Need-returns-2
 returns-2 c =
     let a = c .before .before .before .before .before .before .before .before .before .before .before .before .before .before .before .before .args in

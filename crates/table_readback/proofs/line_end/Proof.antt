@@ -1,16 +1,12 @@
 -- `table_readback::line_end` meets its contract.
 use Rattle.table_readback.proofs.Ends.{line-found, line-more, line-none}
 use Rattle.table_readback.specs.Back.{lineEnd}
-use mathlib.Core.Path.{_≡_, refl, sym, ap, _∙_}
-use Prim.Native.Nat.{ℕ, suc, _+_, _-_, _*_, _<_, _≤_, min}
+use mathlib.Core.Path.{_≡_}
+use Prim.Native.Nat.{_+_, _-_, _≤_}
 use native.Mathlib.Omega.{arith}
-use mathlib.Core.List.{List, [], _∷_, _++_}
-use lib.ListN.{length, take, drop, getD, set}
-use borrow.Author.Needs.{needs}
+use lib.ListN.{length, drop}
 use Rattle.table_readback.proofs.line_end.Statement.{statement}
 use Rattle.table_readback.proofs.line_end.Tie as tie
-use Rattle.table_readback.proofs.line_end.Reads as reads
-use Rattle.table_readback.proofs.line_end.Lts as lts
 
 abbrev Inv-loop : tie.InvT-loop
 Inv-loop text i₀ i = (i ≤ length text) × (i + lineEnd (drop i text) ≡ lineEnd text)
@@ -18,39 +14,31 @@ Inv-loop text i₀ i = (i ≤ length text) × (i + lineEnd (drop i text) ≡ lin
 abbrev μ-loop : tie.MeasureT-loop
 μ-loop text i₀ i = length text - i
 
--- src/lib.rt:245:5
 loop-holds : tie.Need-loop-holds Inv-loop μ-loop
 loop-holds c = (omega arith, omega arith)
 
--- src/lib.rt:246:12
 shared-slice-read-if1 : tie.Need-shared-slice-read-if1 Inv-loop μ-loop
 shared-slice-read-if1 c = omega arith
 
--- src/lib.rt:247:20
 add-result : tie.Need-add-result Inv-loop μ-loop
 add-result c = omega arith
 
--- src/lib.rt:247:13
 returns : tie.Need-returns Inv-loop μ-loop
 returns c =
     let l = c .before .before .before .loop in
     (line-found (c .before .before .before .before .args .text .now) (l .i) (omega arith) (c .if1 .taken) (l .inv .1), omega arith)
 
--- src/lib.rt:249:9
 add-i : tie.Need-add-i Inv-loop μ-loop
 add-i c = omega arith
 
--- src/lib.rt:245:5
 loop-less : tie.Need-loop-less Inv-loop μ-loop
 loop-less c = omega arith
 
--- src/lib.rt:245:5
 loop-again : tie.Need-loop-again Inv-loop μ-loop
 loop-again c =
     let l = c .before .before .before .loop in
     (omega arith, line-more (c .before .before .before .before .args .text .now) (l .i) (omega arith) (c .if1 .left) (l .inv .1))
 
--- src/lib.rt:241:1
 returns-2 : tie.Need-returns-2 Inv-loop μ-loop
 returns-2 c =
     let l = c .before .loop in

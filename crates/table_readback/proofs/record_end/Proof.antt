@@ -1,41 +1,28 @@
 -- `table_readback::record_end` meets its contract.
-use Rattle.table_readback.proofs.Ends.{by-record, end-refused, end-rows, rest-is}
+use Rattle.table_readback.proofs.Ends.{by-record, end-refused, end-rows}
 use Rattle.rules.specs.Answers.{Filled, filledWith}
 use Rattle.image_geometry.specs.View.{layoutBy}
 use Rattle.record_sizes.specs.View.{viewSizes}
-use mathlib.Core.Path.{_≡_, refl, sym, ap, _∙_}
-use Prim.Native.Nat.{ℕ, suc, _+_, _-_, _*_, _<_, _≤_, min}
-use native.Mathlib.Omega.{arith}
-use mathlib.Core.List.{List, [], _∷_, _++_}
-use lib.ListN.{length, take, drop, getD, set}
+use mathlib.Core.Path.{refl, ap, _∙_}
+use Prim.Native.Nat.{ℕ}
+use mathlib.Core.List.{[]}
+use lib.ListN.{length, take, drop}
 use borrow.Author.Needs.{needs}
 use Rattle.table_readback.proofs.record_end.Statement.{statement}
 use Rattle.table_readback.proofs.record_end.Tie as tie
-use Rattle.table_readback.proofs.record_end.Reads as reads
-use Rattle.table_readback.proofs.record_end.Lts as lts
-use Rattle.lists.proofs.part_u8.Reads as part-u8-reads
-use Rattle.table_readback.proofs.behind_end.Reads as behind-end-reads
-use Rattle.table_readback.proofs.record_bytes.Reads as record-bytes-reads
-use Rattle.table_readback.proofs.record_rows.Reads as record-rows-reads
-use Rattle.table_readback.proofs.trits_of.Reads as trits-of-reads
 
--- src/lib.rt:192:9
 record-bytes-requires : tie.Need-record-bytes-requires
 record-bytes-requires c κs = search needs
 
--- src/lib.rt:194:30
 slice-aggregate-record-rows : tie.Need-slice-aggregate-record-rows
 slice-aggregate-record-rows c = search needs
 
--- src/lib.rt:194:56
 part-u8-requires : tie.Need-part-u8-requires
 part-u8-requires c κs = search needs
 
--- src/lib.rt:194:9
 record-rows-requires : tie.Need-record-rows-requires
 record-rows-requires c κs = search needs
 
--- src/lib.rt:196:9
 returns : tie.Need-returns
 returns c =
     let a = c .before .before .before .before .before .before .before .before .before .before .args in
@@ -44,31 +31,24 @@ returns c =
     let f : Filled = filledWith (c .before .before .record-rows .result) (c .before .before .record-rows .last .0) in
     by-record (a .out .now) (a .line .now) (a .after .now) q (viewSizes (a .z)) n _ f (take (length (a .after .now)) (drop n (a .after .now))) _ (c .before .before .before .before .before .record-bytes .ensures) (c .before .before .before .part-u8 .ensures .0) refl (c .before .before .record-rows .ensures) (end-refused (a .out .now) (a .line .now) [] (a .p .depth) (a .p .width) f _ _ refl (c .if1 .taken))
 
--- src/lib.rt:203:24
 slice-aggregate-part-u8 : tie.Need-slice-aggregate-part-u8
 slice-aggregate-part-u8 c = search needs
 
--- src/lib.rt:203:34
 trits-of-requires : tie.Need-trits-of-requires
 trits-of-requires c κs = search needs
 
--- src/lib.rt:203:9
 part-u8-requires-2 : tie.Need-part-u8-requires-2
 part-u8-requires-2 c κs = search needs
 
--- src/lib.rt:204:9
 part-u8-requires-3 : tie.Need-part-u8-requires-3
 part-u8-requires-3 c κs = search needs
 
--- src/lib.rt:198:5
 behind-end-requires : tie.Need-behind-end-requires
 behind-end-requires c κs = search needs
 
--- src/lib.rt:181:1
 same-length : tie.Need-same-length
 same-length c = search needs
 
--- src/lib.rt:181:1
 returns-2 : tie.Need-returns-2
 returns-2 c =
     let a = c .before .before .before .before .before .before .before .before .before .before .before .before .before .before .before .before .before .before .args in

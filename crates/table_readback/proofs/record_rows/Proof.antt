@@ -2,40 +2,26 @@
 use Rattle.table_readback.proofs.Ends.{rows-are}
 use Rattle.image_geometry.specs.View.{layoutBy}
 use Rattle.record_sizes.specs.View.{viewSizes}
-use mathlib.Core.Path.{_≡_, refl, sym, ap, _∙_}
-use Prim.Native.Nat.{ℕ, suc, _+_, _-_, _*_, _<_, _≤_, min}
-use native.Mathlib.Omega.{arith}
-use mathlib.Core.List.{List, [], _∷_, _++_}
-use lib.ListN.{length, take, drop, getD, set}
+use mathlib.Core.Path.{_∙_}
 use borrow.Author.Needs.{needs}
 use Rattle.table_readback.proofs.record_rows.Statement.{statement}
 use Rattle.table_readback.proofs.record_rows.Tie as tie
-use Rattle.table_readback.proofs.record_rows.Reads as reads
-use Rattle.table_readback.proofs.record_rows.Lts as lts
-use Rattle.record_codec.proofs.read_record.Reads as read-record-reads
-use Rattle.table_readback.proofs.sized_rows.Reads as sized-rows-reads
 
--- src/lib.rt:72:42
 slice-aggregate-read-record : tie.Need-slice-aggregate-read-record
 slice-aggregate-read-record c = search needs
 
--- src/lib.rt:72:9
 read-record-requires : tie.Need-read-record-requires
 read-record-requires c κs = search needs
 
--- src/lib.rt:73:43
 slice-aggregate-sized-rows : tie.Need-slice-aggregate-sized-rows
 slice-aggregate-sized-rows c = search needs
 
--- src/lib.rt:73:5
 sized-rows-requires : tie.Need-sized-rows-requires
 sized-rows-requires c κs = search needs
 
--- src/lib.rt:68:1
 same-length : tie.Need-same-length
 same-length c = search needs
 
--- src/lib.rt:68:1
 returns : tie.Need-returns
 returns c =
     let a = c .before .before .before .before .before .before .before .before .before .before .before .args in

@@ -3,59 +3,43 @@ use Rattle.table_readback.proofs.Ends.{text-refused, text-accepted}
 use Rattle.lists.proofs.Stores.{sets-then}
 use Rattle.table_print.specs.Rows.{rowsShown}
 use lib.ListN.{length-append}
-use mathlib.Core.Path.{_≡_, refl, sym, ap, _∙_}
-use Prim.Native.Nat.{ℕ, suc, _+_, _-_, _*_, _<_, _≤_, min}
 use native.Mathlib.Omega.{arith}
-use mathlib.Core.List.{List, [], _∷_, _++_}
-use lib.ListN.{length, take, drop, getD, set}
+use mathlib.Core.List.{_++_}
+use lib.ListN.{length}
 use borrow.Author.Needs.{needs}
 use Rattle.table_readback.proofs.shown.Statement.{statement}
 use Rattle.table_readback.proofs.shown.Tie as tie
-use Rattle.table_readback.proofs.shown.Reads as reads
-use Rattle.table_readback.proofs.shown.Lts as lts
-use Rattle.lists.proofs.copy_u8.Reads as copy-u8-reads
-use Rattle.table_readback.proofs.put_behind.Reads as put-behind-reads
-use Rattle.table_readback.proofs.rows_size.Reads as rows-size-reads
 
--- src/lib.rt:98:9
 rows-size-requires : tie.Need-rows-size-requires
 rows-size-requires c κs = search needs
 
--- src/lib.rt:101:9
 returns : tie.Need-returns
 returns c =
     let a = c .before .before .before .before .before .args in
     let t = rowsShown (a .depth) (a .width) (a .rows .now) in
     text-refused (a .out .now) (a .line .now ++ t) (omega (arith, length-append (a .line .now) t, c .if1 .taken))
 
--- src/lib.rt:103:8
 sub-if2 : tie.Need-sub-if2
 sub-if2 c = search needs
 
--- src/lib.rt:104:9
 returns-2 : tie.Need-returns-2
 returns-2 c =
     let a = c .before .before .before .before .before .before .args in
     let t = rowsShown (a .depth) (a .width) (a .rows .now) in
     text-refused (a .out .now) (a .line .now ++ t) (omega (arith, length-append (a .line .now) t, c .if2 .taken, c .before .if1 .left, c .before .before .rows-size .ensures))
 
--- src/lib.rt:106:5
 copy-u8-requires : tie.Need-copy-u8-requires
 copy-u8-requires c κs = search needs
 
--- src/lib.rt:107:5
 put-behind-requires : tie.Need-put-behind-requires
 put-behind-requires c κs = omega (arith, c .before .before .before .before .before .before .if1 .left, c .before .before .before .copy-u8 .kept .0)
 
--- src/lib.rt:108:22
 add-t8 : tie.Need-add-t8
 add-t8 c = search needs
 
--- src/lib.rt:95:1
 same-length : tie.Need-same-length
 same-length c = search needs
 
--- src/lib.rt:95:1
 returns-3 : tie.Need-returns-3
 returns-3 c =
     let a = c .before .before .before .before .before .before .before .before .before .before .before .before .before .before .args in

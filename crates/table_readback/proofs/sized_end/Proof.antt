@@ -3,41 +3,28 @@ use Rattle.table_readback.proofs.Ends.{no-sizes}
 use Rattle.table_readback.specs.Back.{recordEnd}
 use Rattle.image_geometry.specs.View.{layoutBy}
 use Rattle.image_state.specs.View.{sizedOf}
-use mathlib.Core.Path.{_≡_, refl, sym, ap, _∙_}
-use Prim.Native.Nat.{ℕ, suc, _+_, _-_, _*_, _<_, _≤_, min}
-use native.Mathlib.Omega.{arith}
-use mathlib.Core.List.{List, [], _∷_, _++_}
-use lib.ListN.{length, take, drop, getD, set}
+use mathlib.Core.Path.{sym, ap, _∙_}
 use borrow.Author.Needs.{needs}
 use Rattle.table_readback.proofs.sized_end.Statement.{statement}
 use Rattle.table_readback.proofs.sized_end.Tie as tie
-use Rattle.table_readback.proofs.sized_end.Reads as reads
-use Rattle.table_readback.proofs.sized_end.Lts as lts
-use Rattle.table_readback.proofs.record_end.Reads as record-end-reads
 
--- src/lib.rt:221:24
 enum-known-sized : tie.Need-enum-known-sized
 enum-known-sized c = search needs
 
--- src/lib.rt:222:25
 enum-known-sized-2 : tie.Need-enum-known-sized-2
 enum-known-sized-2 c = search needs
 
--- src/lib.rt:222:31
 record-end-requires : tie.Need-record-end-requires
 record-end-requires c κs = c .before .before .before .before .before .before .before .before .pre _ (ap sizedOf (c .before .before .sized2 .given .1))
 
--- src/lib.rt:209:1
 returns : tie.Need-returns
 returns c =
     let a = c .before .before .before .before .before .before .before .args in
     no-sizes (a .out .now) (a .line .now) (a .after .now) (layoutBy (a .p) (a .entries .now)) (sizedOf (a .sized)) _ (ap sizedOf (c .before .sized .given .1))
 
--- src/lib.rt:209:1
 same-length : tie.Need-same-length
 same-length c = search needs
 
--- src/lib.rt:209:1
 returns-2 : tie.Need-returns-2
 returns-2 c =
     let a = c .before .before .before .before .before .before .before .before .before .before .before .args in

@@ -3,52 +3,36 @@ use Rattle.table_readback.proofs.Ends.{rows-refused, rows-same, rows-ot
 use Rattle.image_geometry.specs.View.{layoutBy}
 use Rattle.record_codec.specs.View.{viewHead}
 use Rattle.record_sizes.specs.View.{viewSizes}
-use mathlib.Core.Path.{_≡_, refl, sym, ap, _∙_}
-use Prim.Native.Nat.{ℕ, suc, _+_, _-_, _*_, _<_, _≤_, min}
-use native.Mathlib.Omega.{arith}
-use mathlib.Core.List.{List, [], _∷_, _++_}
-use lib.ListN.{length, take, drop, getD, set}
+use mathlib.Core.Path.{sym, ap, _∙_}
 use borrow.Author.Needs.{needs}
 use Rattle.table_readback.proofs.sized_rows.Statement.{statement}
 use Rattle.table_readback.proofs.sized_rows.Tie as tie
-use Rattle.table_readback.proofs.sized_rows.Reads as reads
-use Rattle.table_readback.proofs.sized_rows.Lts as lts
-use Rattle.table_readback.proofs.same_sizes.Reads as same-sizes-reads
-use Rattle.table_rows.proofs.read_rows.Reads as read-rows-reads
 
--- src/lib.rt:57:23
 enum-known-head : tie.Need-enum-known-head
 enum-known-head c = search needs
 
--- src/lib.rt:58:24
 enum-known-head-2 : tie.Need-enum-known-head-2
 enum-known-head-2 c = search needs
 
--- src/lib.rt:59:16
 same-sizes-requires : tie.Need-same-sizes-requires
 same-sizes-requires c κs = search needs
 
--- src/lib.rt:60:17
 read-rows-requires : tie.Need-read-rows-requires
 read-rows-requires c κs = search needs
 
--- src/lib.rt:60:17
 same-length : tie.Need-same-length
 same-length c = search needs
 
--- src/lib.rt:60:17
 returns : tie.Need-returns
 returns c =
     let a = c .before .before .before .before .before .before .before .before .before .before .before .before .args in
     rows-same (layoutBy (a .p) (a .entries .now)) (viewSizes (a .z)) (a .room .now) (a .image .now) (viewHead (a .head)) _ _ (ap viewHead (c .before .before .before .before .before .before .before .head2 .given .1)) (sym (c .before .before .before .before .if1 .taken) ∙ c .before .before .before .before .before .same-sizes .ensures) (c .before .before .read-rows .ensures)
 
--- src/lib.rt:46:1
 returns-2 : tie.Need-returns-2
 returns-2 c =
     let a = c .before .before .before .before .before .before .args in
     rows-refused (layoutBy (a .p) (a .entries .now)) (viewSizes (a .z)) (a .room .now) (a .image .now) (viewHead (a .head)) _ (ap viewHead (c .before .head .given .1))
 
--- src/lib.rt:46:1
 returns-3 : tie.Need-returns-3
 returns-3 c =
     let a = c .before .before .before .before .before .before .before .before .args in

@@ -6,17 +6,12 @@ use Rattle.rules.specs.Beside.Layouts.{readRow}
 use Rattle.rules.proofs.GoodLayouts.{good-small}
 use Rattle.image_geometry.specs.View.{layoutBy}
 use mathlib.Core.Path.{_≡_, refl, sym, ap, _∙_}
-use Prim.Native.Nat.{ℕ, suc, _+_, _-_, _*_, _<_, _≤_, min}
+use Prim.Native.Nat.{ℕ, _+_, _-_, _*_, _≤_}
 use native.Mathlib.Omega.{arith}
-use mathlib.Core.List.{List, [], _∷_, _++_}
-use lib.ListN.{length, take, drop, getD, set}
+use lib.ListN.{length}
 use borrow.Author.Needs.{needs}
 use Rattle.table_rows.proofs.put_all.Statement.{statement}
 use Rattle.table_rows.proofs.put_all.Tie as tie
-use Rattle.table_rows.proofs.put_all.Reads as reads
-use Rattle.table_rows.proofs.put_all.Lts as lts
-use Rattle.lists.proofs.usize_of_u32.Reads as usize-of-u32-reads
-use Rattle.table_rows.proofs.put_row.Reads as put-row-reads
 
 abbrev Inv-loop : tie.InvT-loop
 Inv-loop room₀ p entries image width at₀ row₀ room at row =
@@ -26,21 +21,17 @@ Inv-loop room₀ p entries image width at₀ row₀ room at row =
 abbrev μ-loop : tie.MeasureT-loop
 μ-loop room₀ p entries image width at₀ row₀ room at row = p .depth - row
 
--- src/lib.rt:35:9
 usize-of-u32-requires : tie.Need-usize-of-u32-requires Inv-loop μ-loop
 usize-of-u32-requires c κs = search needs
 
--- src/lib.rt:38:5
 loop-holds : tie.Need-loop-holds Inv-loop μ-loop
 loop-holds c =
     let a = c .before .before .before .before .args in
     (omega arith, refl, no-times (a .p .width), on-start (layoutBy (a .p) (a .entries .now)) (a .image .now) (a .room .now))
 
--- src/lib.rt:39:9
 put-row-requires : tie.Need-put-row-requires Inv-loop μ-loop
 put-row-requires c κs = (c .before .before .before .before .before .before .before .before .pre .0, c .before .before .before .before .before .before .before .before .pre .1, c .before .if1 .taken)
 
--- src/lib.rt:40:9
 add-at : tie.Need-add-at Inv-loop μ-loop
 add-at c =
     let a = c .before .before .before .before .before .before .before .before .before .before .before .args in
@@ -48,15 +39,12 @@ add-at c =
     let s = good-small (layoutBy (a .p) (a .entries .now)) (c .before .before .before .before .before .before .before .before .before .before .before .pre .0) in
     omega (arith, l .inv .2, times-max (l .row) (a .p .width) (a .p .depth) (l .inv .0) (s .depth-max) (s .width-max), c .before .before .before .before .before .before .before .usize-of-u32 .ensures .0, s .width-max)
 
--- src/lib.rt:41:9
 add-row : tie.Need-add-row Inv-loop μ-loop
 add-row c = omega (arith, c .before .before .before .before .if1 .taken)
 
--- src/lib.rt:38:5
 loop-less : tie.Need-loop-less Inv-loop μ-loop
 loop-less c = omega (arith, c .before .before .before .before .if1 .taken)
 
--- src/lib.rt:38:5
 loop-again : tie.Need-loop-again Inv-loop μ-loop
 loop-again c =
     let a = c .before .before .before .before .before .before .before .before .before .before .before .args in
@@ -69,11 +57,9 @@ loop-again c =
       on-turn q (a .image .now) (l .room) _ (l .at) _ (l .row) (c .before .before .before .before .if1 .taken) (c .before .before .put-row .ensures) (ap (λ (n : ℕ). l .at + n) w) ∙ l .inv .3,
     )
 
--- src/lib.rt:31:1
 same-length : tie.Need-same-length Inv-loop μ-loop
 same-length c = c .before .before .loop .inv .1
 
--- src/lib.rt:31:1
 returns : tie.Need-returns Inv-loop μ-loop
 returns c =
     let a = c .before .before .before .before .before .before .before .args in

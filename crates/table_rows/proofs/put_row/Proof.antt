@@ -2,50 +2,32 @@
 use lib.Seq.{sets}
 use Rattle.image_geometry.specs.View.{layoutBy}
 use Rattle.table_rows.proofs.Reading.{row-is}
-use mathlib.Core.Path.{_≡_, refl, sym, ap, _∙_}
-use Prim.Native.Nat.{ℕ, suc, _+_, _-_, _*_, _<_, _≤_, min}
-use native.Mathlib.Omega.{arith}
-use mathlib.Core.List.{List, [], _∷_, _++_}
-use lib.ListN.{length, take, drop, getD, set}
+use mathlib.Core.Path.{ap, _∙_}
 use borrow.Author.Needs.{needs}
 use Rattle.table_rows.proofs.put_row.Statement.{statement}
 use Rattle.table_rows.proofs.put_row.Tie as tie
-use Rattle.table_rows.proofs.put_row.Reads as reads
-use Rattle.table_rows.proofs.put_row.Lts as lts
-use Rattle.image_rows.proofs.read_row.Reads as read-row-reads
-use Rattle.lists.proofs.copy_u8.Reads as copy-u8-reads
-use Rattle.lists.proofs.part_u8.Reads as part-u8-reads
-use Rattle.lists.proofs.usize_of_u32.Reads as usize-of-u32-reads
 
--- src/lib.rt:22:26
 slice-aggregate-read-row : tie.Need-slice-aggregate-read-row
 slice-aggregate-read-row c = search needs
 
--- src/lib.rt:22:5
 read-row-requires : tie.Need-read-row-requires
 read-row-requires c κs = search needs
 
--- src/lib.rt:26:24
 slice-aggregate-part-u8 : tie.Need-slice-aggregate-part-u8
 slice-aggregate-part-u8 c = search needs
 
--- src/lib.rt:26:34
 usize-of-u32-requires : tie.Need-usize-of-u32-requires
 usize-of-u32-requires c κs = search needs
 
--- src/lib.rt:26:9
 part-u8-requires : tie.Need-part-u8-requires
 part-u8-requires c κs = search needs
 
--- src/lib.rt:23:5
 copy-u8-requires : tie.Need-copy-u8-requires
 copy-u8-requires c κs = search needs
 
--- src/lib.rt:17:1
 same-length : tie.Need-same-length
 same-length c = search needs
 
--- src/lib.rt:17:1
 returns : tie.Need-returns
 returns c =
     let a = c .before .before .before .before .before .before .before .before .before .before .before .before .before .args in

@@ -6,19 +6,11 @@ use Rattle.image_check.specs.View.{checkedOf}
 use Rattle.image_geometry.specs.View.{layoutBy, shapeBy}
 use Rattle.rules.specs.Beside.Shape.{handedOn, laidShape}
 use mathlib.Core.Option.{some}
-use mathlib.Core.Path.{_≡_, refl, sym, ap, _∙_}
-use Prim.Native.Nat.{ℕ, suc, _+_, _-_, _*_, _<_, _≤_, min}
-use native.Mathlib.Omega.{arith}
-use mathlib.Core.List.{List, [], _∷_, _++_}
-use lib.ListN.{length, take, drop, getD, set}
+use mathlib.Core.Path.{_≡_, sym, ap, _∙_}
+use lib.ListN.{length}
 use borrow.Author.Needs.{needs}
 use Rattle.table_rows.proofs.read_rows.Statement.{statement}
 use Rattle.table_rows.proofs.read_rows.Tie as tie
-use Rattle.table_rows.proofs.read_rows.Reads as reads
-use Rattle.table_rows.proofs.read_rows.Lts as lts
-use Rattle.image_check.proofs.check_layout.Reads as check-layout-reads
-use Rattle.table_rows.proofs.put_all.Reads as put-all-reads
-use Rattle.table_rows.proofs.rows_refusal.Reads as rows-refusal-reads
 
 told : (c : tie.After-s) → some (shapeBy (c .s .given .0 .0)) ≡ laidShape (layoutBy (c .before .before .before .before .before .before .args .p) (c .before .before .before .before .before .before .args .entries .now))
 told c = sym (ap checkedOf (c .s .given .1)) ∙ c .before .before .check-layout .ensures
@@ -26,43 +18,34 @@ told c = sym (ap checkedOf (c .s .given .1)) ∙ c .before .before .check-layout
 number : (c : tie.After-rows-refusal) → c .rows-refusal .result ≡ readRowsRefusalOf (layoutBy (c .before .before .before .before .before .before .before .before .args .p) (c .before .before .before .before .before .before .before .before .args .entries .now)) (length (c .before .before .before .before .before .before .before .before .args .room .now)) (length (c .before .before .before .before .before .before .before .before .args .image .now))
 number c = c .rows-refusal .ensures ∙ rows-refusal-is (layoutBy (c .before .before .before .before .before .before .before .before .args .p) (c .before .before .before .before .before .before .before .before .args .entries .now)) _ _ _ (size-is _ _ _ (told (c .before .before)))
 
--- src/lib.rt:62:41
 check-layout-requires : tie.Need-check-layout-requires
 check-layout-requires c κs = search needs
 
--- src/lib.rt:62:36
 enum-known-s : tie.Need-enum-known-s
 enum-known-s c = search needs
 
--- src/lib.rt:63:9
 enum-told : tie.Need-enum-told
 enum-told c = search needs
 
--- src/lib.rt:63:9
 returns : tie.Need-returns
 returns c =
     let a = c .before .before .before .before .before .before .args in
     rows-unset (handedOn (layoutBy (a .p) (a .entries .now))) _ _ (not-passed (a .p) (a .entries .now) (sym (ap checkedOf (c .enum-told .given .1)) ∙ c .before .before .check-layout .ensures))
 
--- src/lib.rt:65:9
 rows-refusal-requires : tie.Need-rows-refusal-requires
 rows-refusal-requires c κs = search needs
 
--- src/lib.rt:67:9
 returns-2 : tie.Need-returns-2
 returns-2 c =
     let a = c .before .before .before .before .before .before .before .before .before .args in
     rows-refused _ _ _ (layoutBy (a .p) (a .entries .now)) (handed _ _ _ (told (c .before .before .before))) _ (number (c .before)) (c .if1 .taken)
 
--- src/lib.rt:69:5
 put-all-requires : tie.Need-put-all-requires
 put-all-requires c κs = (passed _ _ _ (told (c .before .before .before .before)), rows-read (layoutBy (c .before .before .before .before .before .before .before .before .before .before .args .p) (c .before .before .before .before .before .before .before .before .before .before .args .entries .now)) _ _ (sym (number (c .before .before)) ∙ c .before .if1 .left))
 
--- src/lib.rt:59:1
 same-length : tie.Need-same-length
 same-length c = search needs
 
--- src/lib.rt:59:1
 returns-3 : tie.Need-returns-3
 returns-3 c =
     let a = c .before .before .before .before .before .before .before .before .before .before .before .before .before .args in

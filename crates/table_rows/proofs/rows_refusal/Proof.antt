@@ -1,55 +1,40 @@
 -- `table_rows::rows_refusal` meets its contract.
-use mathlib.Core.Path.{subst}
 use Rattle.table_rows.proofs.Reading.{rows-20-image, rows-20-room, rows-0}
 use Rattle.image_rows.proofs.Filling.{words-product}
 use Rattle.image_geometry.proofs.Fields.{depth-word, width-word}
-use mathlib.Core.Path.{_≡_, refl, sym, ap, _∙_}
-use Prim.Native.Nat.{ℕ, suc, _+_, _-_, _*_, _<_, _≤_, min}
+use mathlib.Core.Path.{_≡_, sym}
+use Prim.Native.Nat.{_*_}
 use native.Mathlib.Omega.{arith}
-use mathlib.Core.List.{List, [], _∷_, _++_}
-use lib.ListN.{length, take, drop, getD, set}
 use borrow.Author.Needs.{needs}
 use Rattle.table_rows.proofs.rows_refusal.Statement.{statement}
 use Rattle.table_rows.proofs.rows_refusal.Tie as tie
-use Rattle.table_rows.proofs.rows_refusal.Reads as reads
-use Rattle.table_rows.proofs.rows_refusal.Lts as lts
-use Rattle.lists.proofs.u64_of_u32.Reads as u64-of-u32-reads
-use Rattle.lists.proofs.u64_of_usize.Reads as u64-of-usize-reads
 
--- src/lib.rt:49:8
 u64-of-usize-requires : tie.Need-u64-of-usize-requires
 u64-of-usize-requires c κs = search needs
 
--- src/lib.rt:50:9
 returns : tie.Need-returns
 returns c = sym (rows-20-image _ _ _ _ _ (omega (arith, c .before .u64-of-usize .ensures)))
 
--- src/lib.rt:52:8
 u64-of-usize-requires-2 : tie.Need-u64-of-usize-requires-2
 u64-of-usize-requires-2 c κs = search needs
 
--- src/lib.rt:52:36
 u64-of-u32-requires : tie.Need-u64-of-u32-requires
 u64-of-u32-requires c κs = search needs
 
--- src/lib.rt:52:65
 u64-of-u32-requires-2 : tie.Need-u64-of-u32-requires-2
 u64-of-u32-requires-2 c κs = search needs
 
--- src/lib.rt:52:36
 mul-if2 : tie.Need-mul-if2
 mul-if2 c =
     let s = c .before .before .before .before .before in
     omega (arith, words-product _ _ (s .args .p .depth) (s .args .p .width) (c .before .u64-of-u32 .ensures) (c .u64-of-u322 .ensures) (depth-word (s .args .p) _ (s .good .1 .0)) (width-word (s .args .p) _ (s .good .1 .0)))
 
--- src/lib.rt:53:9
 returns-2 : tie.Need-returns-2
 returns-2 c =
     let a = c .before .before .before .before .before .before .args in
     let e : c .before .before .u64-of-u32 .result * c .before .u64-of-u322 .result ≡ a .p .depth * a .p .width = λ k. c .before .before .u64-of-u32 .ensures k * c .before .u64-of-u322 .ensures k in
     sym (rows-20-room _ _ _ _ _ (omega (arith, c .before .before .before .before .before .u64-of-usize .ensures)) (omega (arith, e, c .before .before .before .u64-of-usize2 .ensures)))
 
--- src/lib.rt:46:1
 returns-3 : tie.Need-returns-3
 returns-3 c =
     let a = c .before .before .before .before .before .before .args in
