@@ -5,7 +5,7 @@ use libc::STDIN_FILENO;
 use libc::STDOUT_FILENO;
 use table_readback::Answer;
 
-// A header line of up to 4,096 bytes, the longest record and the longest table, and a byte more, so that a longer table is seen.
+// A header line of up to 4,096 bytes, the longest record and the longest table, and a byte more. An input that fills it may be longer, and is refused.
 const ROOM: usize = 1085453;
 
 // The longest answer: 13 bytes and two rows for each row that differs, and a last line. A header line of up to 4,096 bytes and the rows are shorter.
@@ -83,6 +83,10 @@ fn main() {
     let mut text = input_room();
     let mut out = text_room();
     let n = io::read_full(STDIN_FILENO, &mut text);
+    if n == ROOM {
+        write_fault(1, 8);
+        return;
+    }
     let answer = table_readback::read_back(&mut out, &text[..n]);
     match answer {
         Answer::BadText(line, reason) => write_fault(line, reason),
