@@ -36,7 +36,7 @@ fn report_numbers(t: Tally) {
     count(b", 21: ", t.netless);
 }
 
-// The names, four to a function: what a check of such a function takes grows as the square of its texts.
+// The names, four to a function.
 fn name_of(kind: u32) {
     match kind {
         1 => say(b"add_void:"),
