@@ -146,7 +146,7 @@ def main():
     if swizzles:
         drawn += run(program, ['gen', str(SEED), str(RANDOM_SWIZZLES), *swizzles])
     random = [p for p in answered(program, drawn) if p[0][0] in OPS and short(*p)]
-    border = [p for p in answered(program, borders()) if p[0][0] in OPS and len(p[0]) <= MAX_BORDER]
+    border = [p for p in answered(program, borders()) if p[0][0] in OPS and p[0][0] != FALLBACK and len(p[0]) <= MAX_BORDER]
     small, drawn = KEEP_SWIZZLES
     chosen = kept(systematic, KEEP_SMALL, small) + kept(border, KEEP_BORDER) + kept(random, KEEP_RANDOM, drawn)
     chosen += fallbacks(program)
