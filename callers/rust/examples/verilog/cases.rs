@@ -96,16 +96,14 @@ impl Case {
         }
     }
 
-    /// The same with two rows exchanged that differ in known trits and that some read port reaches; the lowest ones.
-    pub fn exchanged(&self) -> Option<(Case, Answer)> {
-        let (m, width) = (&self.memory, self.memory.width as usize);
-        let row = |n: usize| &m.init_value[n * width..(n + 1) * width];
+    /// The same with its rows in reverse order, where a row that some read port reaches then has another known trit.
+    pub fn reversed(&self) -> Option<(Case, Answer)> {
+        let (m, mut other) = (&self.memory, self.clone());
+        let width = m.width as usize;
+        other.memory.init_value = m.init_value.chunks(width).rev().flatten().copied().collect();
+        let reached = m.read_ports.iter().map(|port| port.data_len << port.addr.len()).max()?;
         let known = |(a, b): (&Trit, &Trit)| *a != Trit::X && *b != Trit::X && a != b;
-        let reached = m.read_ports.iter().map(|port| (port.data_len / width) << port.addr.len()).max()?.min(m.depth as usize);
-        let pairs = (0..reached).flat_map(|a| (0..a).map(move |b| (a, b)));
-        let (a, b) = pairs.into_iter().find(|&(a, b)| row(a).iter().zip(row(b)).any(known))?;
-        let mut other = self.clone();
-        (0..width).for_each(|bit| other.memory.init_value.swap(a * width + bit, b * width + bit));
+        m.init_value.iter().zip(&other.memory.init_value).take(reached).any(known).then_some(())?;
         let answer = other.run().ok()?;
         Some((other, answer))
     }

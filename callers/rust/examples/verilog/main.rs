@@ -1,6 +1,6 @@
 //! Writes memories and what a swizzle or a fallback made of them as Verilog, beside each other: `verilog FOLDER SMALL TINY SEED`. Each case has a folder with
 //! the original memory, the log's cells with the resulting memories, a test bench, and one `$readmemb` file for each memory. Its folder `wrong` has two
-//! memories' images exchanged, or the design of a fallback with two rows exchanged. `callers/verilog/run` simulates and proves them.
+//! memories' images exchanged, or the design of a fallback with its rows in reverse order. `callers/verilog/run` simulates and proves them.
 
 mod bench;
 mod cases;
@@ -101,7 +101,7 @@ fn unlike(memories: &[Memory]) -> Option<(usize, usize)> {
     pairs.into_iter().find(|&(a, b)| differ(&memories[a], &memories[b]))
 }
 
-/// The images, and those with two exchanged where there are two that differ; of a fallback the design with two rows exchanged.
+/// The images, and those with two exchanged where there are two that differ; of a fallback the design with its rows in reverse order.
 fn images(folder: &Path, case: &Case, answer: &Answer) -> Result<bool, Box<dyn Error>> {
     let memories: Vec<Memory> = answer.memories().into_iter().map(|(memory, _)| memory).collect();
     let write = |folder: &Path, order: &dyn Fn(usize) -> usize| -> std::io::Result<()> {
@@ -115,7 +115,7 @@ fn images(folder: &Path, case: &Case, answer: &Answer) -> Result<bool, Box<dyn E
     };
     write(folder, &|n| n)?;
     if case.way == Way::Fallback {
-        let Some((other, answer)) = case.exchanged() else { return Ok(false) };
+        let Some((other, answer)) = case.reversed() else { return Ok(false) };
         write(&folder.join("wrong"), &|n| n)?;
         fs::write(folder.join("wrong/design.v"), [emit::MACROS, &original(case), &split(&other, &answer)?].concat())?;
         return Ok(true);
