@@ -97,7 +97,7 @@ module _ (m : Mem) (a : AllReady m) (output : Value) where
       let x = or-false (badReadShape m p) (any (badReadShape m) rs) e in
       omega (arith, size-few (m .width) _ _ (a .thin) (reads-shaped m p (x .0) .shape), sum-few rs (x .1))
 
-  outputs-few : badOutputLen m output ≡ false → length output ≤ maxOutputs
+  pub outputs-few : badOutputLen m output ≡ false → length output ≤ maxOutputs
   unfolding badOutputLen outputLen
   outputs-few e = omega (arith, eqb-true (length output) _ (not-false _ e), sum-few (m .reads) (a .reads-good), a .reads-few)
 

@@ -1,0 +1,3 @@
+-- Laws of the struct of a fallback's rows.
+pub mod Ports
+pub mod Structs
