@@ -1,5 +1,6 @@
 -- The refusal of a fallback: what its parts are asked and what they leave.
 use mathlib.Core.Path.{_≡_}
+use mathlib.Core.Logic.{_≢_}
 use Prim.Native.Nat.{ℕ, _+_, _<_, _≤_, min}
 use mathlib.Core.Bool.{true, false}
 use mathlib.Core.List.{List}
@@ -27,6 +28,10 @@ pub record Later (next made r : ℕ) : Type 0 where
 pub record Asked (m : Memory) (nets trits output : List ℕ) (st : machine.LogState) (tables : ℕ) : Type 0 where
   pub number : lowerFallbackNumber (st .next) (givenOf m nets trits) output ≡ 0
   pub room : fallbackScratch (memoryOf m nets trits) ≤ tables
+
+-- a memory of some width: one of width 0 is not split
+abbrev pub HasWidth : Memory → Type 0
+HasWidth m = m .width ≢ 0
 
 -- the state after a run of the unmappings without a log: their words and the net after them, or more words than a log has
 pub record DryRun (m : Mem) (output : Value) (s dry : LogState) : Type 0 where

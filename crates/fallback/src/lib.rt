@@ -16,7 +16,7 @@ ghost use Rattle.swizzle_counts.specs.Refusal.{roomsOf};
 ghost use Rattle.fallback_bare.specs.Bare.{bareOf};
 ghost use Rattle.fallback_pass.specs.Split.{splitWords, splitNets};
 ghost use Rattle.fallback.specs.Split.{Passes, SplitDone, Prepared, Ready, splitLowered};
-ghost use Rattle.fallback.specs.Refusal.{Later, Asked, DryRun};
+ghost use Rattle.fallback.specs.Refusal.{Later, Asked, HasWidth, DryRun};
 ghost use Rattle.fallback.specs.Answer.{loweredOf, Lowers};
 use log_entries::LogState;
 use net_memory::Memory;
@@ -227,7 +227,7 @@ fn split_number(
     trits: &[u8],
     output: &[u32],
 ) -> u32
-    requires { ⌜ Asked m (now nets) (now trits) (now output) st tables × (m .width ≢ 0) ⌝ }
+    requires { ⌜ Asked m (now nets) (now trits) (now output) st tables × HasWidth m ⌝ }
     ensures { λ r. ⌜ r ≡ roomRefusal room (stateOf st) (words + splitWords (memoryOf m (now (nets .entry)) (now (trits .entry)))) (made + splitNets (memoryOf m (now (nets .entry)) (now (trits .entry)))) ⌝ }
 {
     let whole = lists::smaller(room, rules::MAX_WORDS);

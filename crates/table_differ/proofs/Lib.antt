@@ -1,0 +1,2 @@
+-- Laws of the rows that differ.
+pub mod Lines

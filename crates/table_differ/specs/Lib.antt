@@ -1,0 +1,2 @@
+-- The rows in which two tables differ, as text.
+pub mod Differ

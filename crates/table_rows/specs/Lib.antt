@@ -1,0 +1,2 @@
+-- The rows of an image.
+pub mod Rows
