@@ -740,6 +740,7 @@ tablegoose_count tablegoose_list_input(uint8_t *out, size_t out_len, const uint8
  *    1152 tablegoose_laid_out
  *     512 tablegoose_list_input
  *     512 tablegoose_list_record
+ *  820224 tablegoose_lower_fallback
  *    2816 tablegoose_make_data_swizzle
  *     256 tablegoose_measure
  *    2816 tablegoose_memory_refusal

@@ -78,7 +78,7 @@ def section(header):
     listed = sorted((name for name in stack if name in ROOMS or stack[name] >= SMALL), key=lambda name: (-stack[name], name))
     rows = ''.join(f'| `{name}` | {stack[name]:,} | {", ".join(shown(room, known) for room in ROOMS.get(name, [])) or "none"} |\n' for name in listed)
     others = [stack[name] for name in stack if name not in listed]
-    return (f'{HEADING}\n\nA call allocates nothing and keeps nothing: it takes stack, and the arrays that it is lent. The rooms are the most that any input inside the limits needs; a\n'
+    return (f'{HEADING}\n\nA call allocates nothing and keeps nothing: it takes stack, and the arrays that it is lent. The rooms are bounds by the limits: no input needs more. A\n'
             'call with less room than its own input needs is refused by 20. A log comes to them where the call has one: as many words as the rules give. Results as long as what\n'
             f'is given (constants, values, numbers of patches) are left out. `scripts/needs.py` writes this part.\n\n| call | stack in bytes | rooms and scratch at most |\n|---|---|---|\n{rows}'
             f'\nThe {len(others)} other calls take at most {max(others):,} bytes of stack.\n')
