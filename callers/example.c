@@ -1,5 +1,6 @@
 /* A tester's job on a slot table, in C: 1,024 slots of 3 bits in block RAMs of 256 rows and 4 bits. The rows are laid out, slots are patched, the record
- * is written and listed, read back and compared. callers/rust/examples/slots.rs does the same and prints the same text. Status 0: all as expected. */
+ * is written and listed, read back and compared. The first slots are also made of flip-flops, for a chip without a block RAM to spare.
+ * callers/rust/examples/slots.rs does the same and prints the same text. Status 0: all as expected. */
 #include <stdio.h>
 #include <stdlib.h>
 #include <string.h>
@@ -76,6 +77,32 @@ static uint32_t first_other(void) {
     return SLOTS;
 }
 
+enum { FEW = 16, ADDR = 4, WORDS = 2000, FIRST_NET = 10, OUTPUT = 30, CLOCK = 5 };
+
+static uint32_t log_words[WORDS], scratch[2 * FEW * BITS];
+
+/* The first slots with a write port and a read port as registers: what the log asks for. */
+static void lower(void) {
+    tablegoose_memory m;
+    memset(&m, 0, sizeof m);
+    m.depth = FEW, m.width = BITS, m.init_len = FEW * BITS, m.write_count = 1, m.read_count = 1;
+    m.write_ports[0].addr_len = ADDR, m.write_ports[0].data_len = BITS, m.write_ports[0].mask_len = BITS, m.write_ports[0].clock.net = CLOCK;
+    m.read_ports[0].addr_len = ADDR, m.read_ports[0].data_len = BITS;
+    uint32_t nets[2 * ADDR + 2 * BITS], output[BITS];
+    for (uint32_t i = 0; i < 2 * ADDR + 2 * BITS; i++) nets[i] = FIRST_NET + i;
+    for (uint32_t i = 0; i < BITS; i++) output[i] = OUTPUT + i;
+    tablegoose_log_state st = {0, 100};
+    tablegoose_logged made = tablegoose_lower_fallback(log_words, WORDS, st, scratch, 2 * FEW * BITS - 1, m, nets, sizeof nets / sizeof *nets, rows,
+                                                       FEW * BITS, output, BITS);
+    printf("scratch one word short: refused %u: %s\n", (unsigned)made.number, tablegoose_refusal_text(made.number));
+    made = tablegoose_lower_fallback(log_words, WORDS, made.state, scratch, 2 * FEW * BITS, m, nets, sizeof nets / sizeof *nets, rows, FEW * BITS,
+                                     output, BITS);
+    check("fallback", made.number);
+    unsigned cells = 0, flip_flops = 0;
+    for (size_t at = 0; at < made.state.used; at += 4 + log_words[at + 3]) cells++, flip_flops += log_words[at] == 9;
+    printf("%u slots as registers: %u entries, %u of them flip-flops, next net %u\n", (unsigned)FEW, cells, flip_flops, (unsigned)made.state.next);
+}
+
 int main(void) {
     make_rows();
     lay_out();
@@ -87,5 +114,6 @@ int main(void) {
     record[TABLEGOOSE_HEAD_BYTES + 300] &= 0xFE;
     record[TABLEGOOSE_HEAD_BYTES + IMAGE / 8 + 300] &= 0xFE;
     printf("a trit of the record lost: slot %u differs\n", (unsigned)first_other());
+    lower();
     return other == SLOTS ? 0 : 1;
 }

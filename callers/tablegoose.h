@@ -660,6 +660,20 @@ tablegoose_part tablegoose_swizzled_init(tablegoose_wide_memory g, size_t n, siz
 /* The output net of a bit of read port i of memory n; 0 where there is none. */
 uint32_t tablegoose_swizzled_output(tablegoose_wide_memory g, size_t n, size_t i, size_t bit);
 
+/* ---- the fallback: a memory as flip-flops and muxes
+ *
+ * Each read port's flip-flop is taken out of the memory as by tablegoose_unmap_read_dff. Then each row is a register: a flip-flop of the first write port's
+ * clock that starts with the row's trits, and before it a mux for each write port in order, the last one winning. Without write ports a row is its trits. All of
+ * it stands in the log, and each old output net is replaced by entries of the log. No image comes of it: the state for patches of an earlier swizzle stays
+ * good. The given memory, its arrays and the output nets stay as they are. */
+
+/* output has a net for each output bit. An accepted call writes the log; of scratch, 2 x write_count x depth x width elements (data and mask of each write
+ * port for all rows), which it needs, have any values after it. Width 0 logs the read ports' flip-flops alone; depth 0 replaces the outputs by X. Numbers 1,
+ * 2 (also output_len), 3, 4 (also output), 11 (the write clocks differ), 14 (a transparent pair's narrower address is too short), 20 (scratch or log), 21. */
+tablegoose_logged tablegoose_lower_fallback(uint32_t *log, size_t log_len, tablegoose_log_state st, uint32_t *scratch, size_t scratch_len,
+                                            tablegoose_memory m, const uint32_t *nets, size_t nets_len, const uint8_t *trits, size_t trits_len,
+                                            const uint32_t *output, size_t output_len);
+
 /* ---- records of images */
 
 /* index, depth, known trits and ones of a memory. */
@@ -726,6 +740,7 @@ tablegoose_count tablegoose_list_input(uint8_t *out, size_t out_len, const uint8
  *    1152 tablegoose_laid_out
  *     512 tablegoose_list_input
  *     512 tablegoose_list_record
+ *  820224 tablegoose_lower_fallback
  *    2816 tablegoose_make_data_swizzle
  *     256 tablegoose_measure
  *    2816 tablegoose_memory_refusal

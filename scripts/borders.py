@@ -7,8 +7,8 @@
 Of each border the last size that is taken and the first that is not, for the calls over a memory that change nothing: extract_read_ports (20),
 make_data_swizzle (24), swizzle_depths (25), swizzle_mux_bits (26), can_lower_fallback (28); for the calls on its ports: transparency_mux (13),
 unmap_read_dff (21), unmap_read_init_reset_transparency (22), emulate_read_before_write (23); the swizzle (27), by itself and as the second step of a
-history (30); and the layout alone (40). `oracle/compare` runs them. With --large it writes swizzles that are long: up to 2,048 chunks and 32,768 pieces, and
-eight ports of each kind and of k 4.
+history (30); the fallback (29); and the layout alone (40). `oracle/compare` runs them. With --large it writes swizzles that are long: up to 2,048 chunks and
+32,768 pieces, and eight ports of each kind and of k 4; and fallbacks of as many bits as a memory may have.
 """
 import array
 import sys
@@ -19,7 +19,7 @@ IMAGE_ROOM = 131112
 X = 0xFFFFFFFF
 # A log for the calls on ports: room, used words, and a next free net above all nets of a case.
 LOG = [200000, 3, 400000]
-# One for the large swizzles.
+# One for fallbacks and for the large swizzles.
 LARGE_LOG = [7999999, 3, 400000]
 
 
@@ -96,7 +96,7 @@ def over(memory, ports=None, granularities=None, **fields):
 
 
 def on_ports(memory):
-    """The calls on the first and the last port of a memory, and the emulation."""
+    """The calls on the first and the last port of a memory, the emulation and the fallback."""
     m, output = memory.words(), nets(300000, memory.outputs())
     for port in sorted({0, max(len(memory.reads), 1) - 1}):
         length = memory.width << memory.reads[port][1] if memory.reads else 0
@@ -106,6 +106,7 @@ def on_ports(memory):
         for flag in (0, 1):
             yield case(22, LOG + m + [port, flag] + output)
     yield case(23, LOG + m)
+    yield case(29, LARGE_LOG + m + output)
 
 
 def memories():
@@ -178,7 +179,7 @@ def rooms():
 
 
 def large():
-    """Deep memories in many chunks and pieces, and wide ports; one case each without patches and with two."""
+    """Deep memories in many chunks and pieces, and wide ports; one case each without patches and with two. Fallbacks of large memories."""
     def swizzled(memory, **fields):
         row = listed([1] * memory.width)
         head = [IMAGE_ROOM] + LARGE_LOG + memory.words() + nets(300000, memory.outputs()) + plan(memory, **fields)
@@ -194,6 +195,14 @@ def large():
     for hard, unit in [(9, 32), (5, 32), (5, 17), (6, 256)]:
         yield from swizzled(Memory(512, 32, writes=[(5, 4)] * 8, reads=[(5, 4, [2] * 8)] * 8), hard=hard, unit=unit)
     yield from swizzled(Memory(256, 128, writes=[(4, 4)] * 8, reads=[(8, 0, [2] * 8)] * 8), hard=5, unit=128, writes=[4] * 8, reads=[0] * 8)
+    for memory in [
+        Memory(256, 128, writes=[(4, 4)] * 8, reads=[(4, 4, [0] * 8)] * 8),
+        Memory(256, 128, writes=[(4, 4), (8, 0)], reads=[(4, 4, [2, 2]), (8, 0, [2, 1]), (7, 1)]),
+        Memory(32768, 1, writes=[(15, 0)], reads=[(15, 0, [2])]),
+        Memory(32768, 1, reads=[(15, 0, []), (11, 4), (16, 0)]),
+        Memory(16384, 2, writes=[(10, 4), (16, 0)], reads=[(14, 0, [0, 2])]),
+    ]:
+        yield case(29, LARGE_LOG + memory.words() + nets(300000, memory.outputs()))
 
 
 def all_cases():

@@ -5,8 +5,7 @@
     python3 scripts/cases.py --oracle PROGRAM      the oracle: every op, and what the Rust alone does with the cases of docs/differences.cases
 
 Before that it holds the two texts to their documents: docs/NUMBERS.md shows the case that is called by the number alone, docs/DIFFERENCES.md names each
-case in a row, and each row names one. A case of an op that oracle/OPS does not list is left out, and the last line counts it. A number of which no case is run fails, but for
-those of LATER.
+case in a row, and each row names one. A case of an op that oracle/OPS does not list is left out, and the last line counts it. A number of which no case is run fails.
 """
 import os
 import re
@@ -18,8 +17,6 @@ NUMBERS, NUMBERS_DOC = 'docs/numbers.cases', 'docs/NUMBERS.md'
 DIFFERENCES, DIFFERENCES_DOC = 'docs/differences.cases', 'docs/DIFFERENCES.md'
 DRIVER = 'target/callers/release/answer'
 ALL = [n for n in range(1, 24) if n != 19]
-# 11 is the fallback's alone, which the port does not answer yet
-LATER = {11: 29}
 # the ops whose answers carry the numbers of patches
 PATCHING = (27, 30, 40)
 # what the Rust does where it gives no result, by the words of `oracle alone`
@@ -136,7 +133,7 @@ def answer_faults(cases, wanted, answers):
 def run_faults(numbers, run):
     """Numbers of which no case is run."""
     for number in ALL:
-        if number not in LATER and not any(re.match(r'\d+', case.name).group() == str(number) for case in numbers if case in run):
+        if not any(re.match(r'\d+', case.name).group() == str(number) for case in numbers if case in run):
             yield f'no case of number {number} is run'
 
 

@@ -5,8 +5,7 @@
 
 `callers/run` gives the cases to the driver and compares every byte of its output with the answers. The cases are those of `oracle gen-small`,
 short ones of `scripts/borders.py`, and random ones from a fixed seed; of each call and refusal number only so many are kept, evenly spread. After them stand
-the swizzles of `scripts/stored_cases.txt`. Calls that the port does not answer yet are left out, and histories with a fallback among their steps as long as
-call 29 is: oracle/OPS is the list to extend.
+fallbacks and histories with fallbacks among their steps, and the swizzles and fallbacks of `scripts/stored_cases.txt`. Only calls of oracle/OPS are taken.
 """
 import array
 import subprocess
@@ -26,8 +25,12 @@ ON_PORTS = [13, 21, 22, 23]
 RANDOM_ON_PORTS = 12000
 SWIZZLES = [27, 30]
 RANDOM_SWIZZLES = 9000
+# fallbacks too, and histories with them
+FALLBACK, HISTORY = 29, 30
+RANDOM_FALLBACKS = 1500
 # of the accepted ones: from the systematic list and from the random ones; and the most words of a random case with its answer
 KEEP_SWIZZLES = (360, 240)
+KEEP_FALLBACKS = (60, 60)
 MAX_SWIZZLE = 900
 ADDED = 'scripts/stored_cases.txt'
 # of each call and number: from the systematic list, from the random ones, from those at borders, and the most words of a random case
@@ -83,8 +86,8 @@ def fits(case):
 
 
 def short(case, answer):
-    if case[0] in SWIZZLES:
-        return len(case) + len(answer) <= MAX_SWIZZLE
+    if case[0] in (*SWIZZLES, FALLBACK):
+        return len(case) + len(answer) <= MAX_SWIZZLE and fits(case)
     return len(case) <= MAX_RANDOM and fits(case)
 
 
@@ -92,7 +95,8 @@ def kept(pairs, most, swizzles=0):
     groups = {}
     for case, answer in pairs:
         groups.setdefault((case[0], answer[0]), []).append((case, answer))
-    count = lambda op, number: swizzles if op in SWIZZLES and number == 0 and swizzles else most // 4 if op in MEMORIES else most
+    whole = (*SWIZZLES, FALLBACK)
+    count = lambda op, number: swizzles if op in whole and number == 0 and swizzles else most // 4 if op in MEMORIES else most
     return [pair for key in sorted(groups) for pair in spread(groups[key], count(*key))]
 
 
@@ -108,6 +112,18 @@ def added(program):
     return pairs
 
 
+def fallbacks(program):
+    """Calls 29 and histories with them: the systematic ones, which a list without 29 has not, and random ones."""
+    if FALLBACK not in OPS:
+        return []
+    without = {case.tobytes() for case in split(run(program, ['gen-small', str(HISTORY)]))}
+    systematic = run(program, ['gen-small', str(FALLBACK), str(HISTORY)])
+    systematic = [p for p in answered(program, systematic) if p[0].tobytes() not in without and short(*p)]
+    random = [p for p in answered(program, run(program, ['gen', str(SEED), str(RANDOM_FALLBACKS), str(FALLBACK), str(HISTORY)])) if short(*p)]
+    small, drawn = KEEP_FALLBACKS
+    return kept(systematic, KEEP_SMALL, small) + kept(random, KEEP_RANDOM, drawn)
+
+
 def borders():
     """The cases at the borders of the limits."""
     with tempfile.NamedTemporaryFile() as out:
@@ -119,19 +135,21 @@ def main():
     if len(sys.argv) != 2:
         sys.exit('usage: stored.py ORACLE')
     program = sys.argv[1]
-    ops = [str(op) for op in OPS if op not in (LAYOUT, *ON_PORTS, *SWIZZLES)]
+    ops = [str(op) for op in OPS if op not in (LAYOUT, *ON_PORTS, *SWIZZLES, FALLBACK)]
     on_ports = [str(op) for op in OPS if op in ON_PORTS]
     swizzles = [str(op) for op in OPS if op in SWIZZLES]
-    systematic = [p for p in answered(program, run(program, ['gen-small', *map(str, OPS)])) if p[0][0] in OPS and fits(p[0])]
+    others = [str(op) for op in OPS if op != FALLBACK]
+    systematic = [p for p in answered(program, run(program, ['gen-small', *others])) if p[0][0] in OPS and fits(p[0])]
     drawn = run(program, ['gen', str(SEED), str(RANDOM), *ops]) + run(program, ['gen', str(SEED), str(RANDOM_LAYOUTS), str(LAYOUT)])
     if on_ports:
         drawn += run(program, ['gen', str(SEED), str(RANDOM_ON_PORTS), *on_ports])
     if swizzles:
-        drawn += run(program, ['gen', str(SEED), str(RANDOM_SWIZZLES), *swizzles, *(['29'] if 29 in OPS else [])])
+        drawn += run(program, ['gen', str(SEED), str(RANDOM_SWIZZLES), *swizzles])
     random = [p for p in answered(program, drawn) if p[0][0] in OPS and short(*p)]
-    border = [p for p in answered(program, borders()) if p[0][0] in OPS and len(p[0]) <= MAX_BORDER]
+    border = [p for p in answered(program, borders()) if p[0][0] in OPS and p[0][0] != FALLBACK and len(p[0]) <= MAX_BORDER]
     small, drawn = KEEP_SWIZZLES
     chosen = kept(systematic, KEEP_SMALL, small) + kept(border, KEEP_BORDER) + kept(random, KEEP_RANDOM, drawn)
+    chosen += fallbacks(program)
     chosen += added(program) if swizzles else []
     for name, part in (('cases', 0), ('answers', 1)):
         with open(f'callers/stored/{name}', 'wb') as out:

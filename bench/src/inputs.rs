@@ -102,7 +102,7 @@ fn constants(out: &mut Vec<Input>) {
         out.push(given(what, Call::IsUndef(IsUndef { a: vec![2; n] })));
     }
     out.push(given("Neg of a net", Call::ControlInverse(ControlInverse { control: Control::neg(7) })));
-    let remap = RemapReset { log: LOG, reset: Control::pos(5), enable: Control::neg(6), reset_over_enable: true };
+    let remap = RemapReset { log: LOG, reset: Control::pos(5), enable: Control::neg(6), reset_over_enable: false };
     out.push(given("two cells logged", Call::RemapReset(remap)));
 }
 
@@ -239,14 +239,19 @@ fn rows_of_1(out: &mut Vec<Input>, what: &'static str, depth: u32, ports: usize)
     swizzle(out, what, table, plan);
 }
 
-/// 512 rows of 32 bits, so many ports of both kinds that name 16 rows at once, cut every 32 rows.
+/// A table with so many ports of both kinds that name 16 rows at once.
+fn of_k_4(depth: u32, width: u32, ports: u32) -> Memory {
+    let (addr, bits) = (depth.ilog2() as usize - 4, width as usize * 16);
+    Memory {
+        write_ports: (0..ports).map(|i| write_port(1_000 + 10_000 * i, addr, bits)).collect(),
+        read_ports: (0..ports).map(|i| read_port(700 + 10_000 * i, addr, bits, ports as usize)).collect(),
+        ..memory(depth, width, addr, 0, 0)
+    }
+}
+
+/// 512 rows of 32 bits, cut every 32 rows.
 fn ports_of_k_4(out: &mut Vec<Input>, what: &'static str, ports: u32) {
-    let table = memory(512, 32, 5, 0, 0);
-    let table = Memory {
-        write_ports: (0..ports).map(|i| write_port(1_000 + 10_000 * i, 5, 512)).collect(),
-        read_ports: (0..ports).map(|i| read_port(700 + 10_000 * i, 5, 512, ports as usize)).collect(),
-        ..table
-    };
+    let table = of_k_4(512, 32, ports);
     let plan = Plan { write_logs: vec![4; ports as usize], read_logs: vec![4; ports as usize], ..plan(&table, 5, 32) };
     swizzle(out, what, table, plan);
 }
@@ -271,6 +276,19 @@ fn swizzles(out: &mut Vec<Input>) {
     ports_of_k_4(out, "512 × 32, 4 + 4 ports of k 4, 16 chunks", 4);
 }
 
+/// A fallback of a memory; a log that is long enough for all lines.
+fn fallback(out: &mut Vec<Input>, what: &'static str, memory: Memory) {
+    let (output, log) = (outputs(&memory), Log { room: 5_000_000, ..LOG });
+    out.push(given(what, Call::LowerFallback(LowerFallback { log, memory, output })));
+}
+
+fn fallbacks(out: &mut Vec<Input>) {
+    fallback(out, "16 × 8, 1 + 1 ports", memory(16, 8, 4, 1, 1));
+    fallback(out, "1,024 × 3, 1 + 1 ports", memory(1_024, 3, 10, 1, 1));
+    fallback(out, "256 × 128, 8 + 8 ports of k 4", related(of_k_4(256, 128, 8), UNDEFINED));
+    fallback(out, "256 × 128, 8 + 8 transparent ports of k 4", of_k_4(256, 128, 8));
+}
+
 pub fn all() -> Vec<Input> {
     let mut out = vec![];
     constants(&mut out);
@@ -282,5 +300,6 @@ pub fn all() -> Vec<Input> {
     records(&mut out);
     layouts(&mut out);
     swizzles(&mut out);
+    fallbacks(&mut out);
     out
 }

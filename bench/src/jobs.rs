@@ -56,9 +56,8 @@ pub fn rust(call: &Call) -> Job {
         Call::ReadRecord(c) => job(move || oracle::record::read(&c.bytes)),
         Call::Lister(c) => job(move || oracle::record::list(&c.bytes)),
         Call::RemapReset(_) | Call::DedupMux(_) | Call::DedupDff(_) | Call::BitwiseMux(_) => rust_on_log(call.clone()),
-        Call::UnmapReadDff(_) | Call::UnmapReadReset(_) | Call::EmulateReadBeforeWrite(_) | Call::TransparencyMux(_) | Call::Swizzle(_) => {
-            ports::rust(call.clone())
-        }
+        Call::UnmapReadDff(_) | Call::UnmapReadReset(_) | Call::EmulateReadBeforeWrite(_) | Call::TransparencyMux(_) => ports::rust(call.clone()),
+        Call::Swizzle(_) | Call::LowerFallback(_) => ports::rust(call.clone()),
         other => rust_over_memory(other),
     }
 }
@@ -172,9 +171,8 @@ pub fn port(call: &Call) -> Job {
             job(move || ffi::list_record(&mut out, &record))
         }
         Call::RemapReset(_) | Call::DedupMux(_) | Call::DedupDff(_) | Call::BitwiseMux(_) => port_on_log(call.clone()),
-        Call::UnmapReadDff(_) | Call::UnmapReadReset(_) | Call::EmulateReadBeforeWrite(_) | Call::TransparencyMux(_) | Call::Swizzle(_) => {
-            ports::port(call.clone())
-        }
+        Call::UnmapReadDff(_) | Call::UnmapReadReset(_) | Call::EmulateReadBeforeWrite(_) | Call::TransparencyMux(_) => ports::port(call.clone()),
+        Call::Swizzle(_) | Call::LowerFallback(_) => ports::port(call.clone()),
         other => port_over_memory(other),
     }
 }

@@ -1,4 +1,4 @@
-//! The calls that change a memory's ports, and the swizzle. What a call changes is made anew for each run, on both sides: the memory is cloned, or its arrays are copied.
+//! The calls that change a memory's ports, the swizzle and the fallback. What a call changes is made anew for each run, on both sides: the memory is cloned, or its arrays are copied.
 
 use oracle::convert::*;
 use oracle::wire::{Call, Wire};
@@ -41,6 +41,10 @@ pub fn rust(call: Call) -> Job {
         Call::Swizzle(c) => {
             let (output, plan) = (to_value(&c.request.output), to_swizzle(&c.request.plan));
             on_log(c.request.log, move |design| memory.clone().swizzle(design, &output, &plan))
+        }
+        Call::LowerFallback(c) => {
+            let output = to_value(&c.output);
+            on_log(c.log, move |design| memory.clone().lower_fallback(design, &output))
         }
         _ => unreachable!("a call on ports"),
     }
@@ -89,6 +93,10 @@ pub fn port(call: Call) -> Job {
                 let (entries, writes, reads) = (&p.entries, &p.write_logs, &p.read_logs);
                 ffi::swizzle(&mut words, st, image, nets_to, trits_to, scratch, numbers, &nets, &trits, &output, s, entries, writes, reads)
             })
+        }
+        Call::LowerFallback(c) => {
+            let ((mut words, st), mut scratch) = (log(c.log), vec![0; tablegoose::fallback_scratch(&numbers)]);
+            job(move || ffi::lower_fallback(&mut words, st, &mut scratch, numbers, &nets, &trits, &c.output))
         }
         Call::EmulateReadBeforeWrite(c) => {
             let ((mut words, st), mut after) = (log(c.log), nets.clone());

@@ -2,6 +2,7 @@
 
 use tablegoose::ffi::{self, LogState};
 
+use crate::fallbacks;
 use crate::layouts;
 use crate::lent::Lent;
 use crate::ports;
@@ -33,6 +34,7 @@ pub fn outcome(op: u32, words: &mut Words) -> Option<Outcome> {
         26 => swizzle_mux_bits(words),
         27 => swizzles::swizzle(words),
         28 => can_lower_fallback(words),
+        29 => fallbacks::lower_fallback(words),
         30 => swizzles::history(words),
         31 => write_record(words),
         32 => read_record(words),

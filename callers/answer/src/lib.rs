@@ -2,6 +2,7 @@
 //! may not write, or two ways of the same call differ.
 
 mod calls;
+mod fallbacks;
 mod layouts;
 mod lent;
 mod ports;

@@ -1,10 +1,11 @@
-//! Ops 27 and 30: a swizzle with patches, and histories. Log and image have the rooms of the case, the other rooms are exactly as large as needed; each of
-//! these is also tried one short. Op 27 runs by single patches and at once, and both must agree.
+//! Ops 27 and 30: a swizzle with patches, and histories, whose fallbacks are in `fallbacks`. Log and image have the rooms of the case, the other rooms are
+//! exactly as large as needed; each of these is also tried one short. Op 27 runs by single patches and at once, and both must agree.
 
 use tablegoose::SwizzleRooms;
 use tablegoose::ffi::{self, LogState, WideMemory};
 
 use crate::calls::{IMAGE_ROOM, Outcome, logged};
+use crate::fallbacks;
 use crate::layouts::{patch_lent, patches};
 use crate::lent::Lent;
 use crate::wire::{Memory, Plan, Words, put_control, put_list};
@@ -267,14 +268,15 @@ impl Ran {
 /// A step of a history.
 enum Step {
     Swizzle(Box<Asked>),
+    Fallback(Box<fallbacks::Asked>),
     Patch { room: u32, row: u32, trits: Vec<u8> },
 }
 
 impl Step {
-    /// A fallback (2) is not exported yet: a history with one is answered as a case that is not known. Its step goes here, and its call into `history`.
     fn read(words: &mut Words) -> Option<Step> {
         match words.word()? {
             1 => Some(Step::Swizzle(Box::new(Asked::read(words)?))),
+            2 => Some(Step::Fallback(Box::new(fallbacks::Asked::read(words)?))),
             3 => Some(Step::Patch { room: words.word()?, row: words.word()?, trits: words.bytes()? }),
             _ => None,
         }
@@ -296,6 +298,7 @@ pub fn history(words: &mut Words) -> Option<Outcome> {
                 }
                 Err(number) => number,
             },
+            Step::Fallback(asked) => asked.run().err().unwrap_or(0),
             Step::Patch { room, row, trits } => {
                 let given = Lent::of("trits", trits.clone());
                 patched(&mut image, laid, *room, *row, given.get())

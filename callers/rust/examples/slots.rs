@@ -1,7 +1,10 @@
 //! A tester's job on a slot table, in Rust: 1,024 slots of 3 bits in block RAMs of 256 rows and 4 bits. The rows are laid out, slots are patched, the
-//! record is written and listed, read back and compared. `callers/example.c` does the same and prints the same text.
+//! record is written and listed, read back and compared. The first slots are also made of flip-flops, for a chip without a block RAM to spare.
+//! `callers/example.c` does the same and prints the same text.
 
-use tablegoose::{HEAD_BYTES, Image, Layout, Record, Refusal, Swizzle, Trit, ffi, trits};
+use tablegoose::{
+    Cell, Control, HEAD_BYTES, Image, Layout, Log, Memory, Net, ReadPort, Record, Refusal, Swizzle, Trit, WritePort, fallback_scratch, ffi, trits,
+};
 
 const SLOTS: u32 = 1024;
 const BITS: usize = 3;
@@ -66,6 +69,29 @@ fn first_other(table: &Layout, rows: &[Vec<Trit>], record: &Record) -> Result<u3
     Ok(SLOTS)
 }
 
+const FEW: usize = 16;
+const ADDR: usize = 4;
+
+/// The first slots with a write port and a read port as registers: what the log asks for.
+fn lower(rows: &[Vec<Trit>]) -> Result<(), Refusal> {
+    let write = WritePort { addr: Net(10).run(ADDR), data: Net(14).run(BITS), mask: Net(17).run(BITS), clock: Control::Pos(Net(5)) };
+    let read = ReadPort { addr: Net(20).run(ADDR), data_len: BITS, flip_flop: None, relations: vec![] };
+    let init_value = rows[..FEW].concat();
+    let memory = Memory { depth: FEW as u32, width: BITS as u32, init_value, write_ports: vec![write], read_ports: vec![read] };
+    let given = memory.lowered();
+    let mut short = vec![0; fallback_scratch(&given.memory) - 1];
+    let st = ffi::LogState { used: 0, next: 100 };
+    let answer = ffi::lower_fallback(&mut [0; 2000], st, &mut short, given.memory, &given.nets, &given.trits, &[30, 31, 32]);
+    if let Err(refusal) = Refusal::check(answer.number) {
+        println!("scratch one word short: {refusal}");
+    }
+    let mut log = Log::new(2000, Net(100));
+    memory.lower_fallback(&mut log, &Net(30).run(BITS))?;
+    let flip_flops = log.entries().filter(|entry| matches!(entry.cell, Cell::FlipFlop { .. })).count();
+    println!("{FEW} slots as registers: {} entries, {flip_flops} of them flip-flops, next net {}", log.entries().count(), log.next().0);
+    Ok(())
+}
+
 fn main() -> Result<(), Refusal> {
     let (table, mut rows) = (table(), rows());
     let mut image = lay_out(&table, &rows)?;
@@ -82,6 +108,7 @@ fn main() -> Result<(), Refusal> {
     record.0[HEAD_BYTES + 300] &= 0xFE;
     record.0[HEAD_BYTES + half + 300] &= 0xFE;
     println!("a trit of the record lost: slot {} differs", first_other(&table, &rows, &record)?);
+    lower(&rows)?;
     assert_eq!(other, SLOTS);
     Ok(())
 }

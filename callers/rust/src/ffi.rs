@@ -344,6 +344,9 @@ exported! {
     swizzled_reset(g: WideMemory, n: usize, i: usize) -> Part;
     swizzled_init(g: WideMemory, n: usize, i: usize) -> Part;
     swizzled_output(g: WideMemory, n: usize, i: usize, bit: usize) -> u32;
+    lower_fallback(
+        log: &mut [u32], st: LogState, scratch: &mut [u32], m: Memory, nets: &[u32], trits: &[u8], output: &[u32]
+    ) -> Logged;
 }
 
 exported! {

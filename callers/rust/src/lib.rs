@@ -16,6 +16,7 @@
 //! # Ok::<(), tablegoose::Refusal>(())
 //! ```
 
+mod fallback;
 pub mod ffi;
 mod image;
 mod log;
@@ -34,9 +35,11 @@ pub use net::{Control, Driver, Net, Trit, const_and, const_not, const_or, is_und
 pub use ports::Overlay;
 pub use record::{HEAD_BYTES, Record, Sizes, Summary, header, list_input, memory_summary};
 pub use refusal::Refusal;
-pub use rooms::SwizzleRooms;
+pub use rooms::{SwizzleRooms, fallback_scratch};
 pub use swizzle::{Swizzled, SwizzledMemory};
 
+/// A memory's depth × width.
+pub const MAX_BITS: u64 = 32_768;
 /// A result's columns, rounded up to the unit.
 pub const MAX_COLUMNS: u64 = 32_768;
 /// A result's trits.

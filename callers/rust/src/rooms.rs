@@ -1,4 +1,4 @@
-//! The rooms that a swizzle needs, in closed form.
+//! The rooms that a swizzle and a fallback need, in closed form.
 
 use crate::ffi;
 
@@ -25,6 +25,13 @@ impl SwizzleRooms {
         }
         Split::of(m, s, entries).and_then(|split| split.rooms(m, writes, reads)).unwrap_or_default()
     }
+}
+
+/// Nets of scratch that a fallback needs: data and mask of each write port for all rows. With one less it is refused by 20. Of a memory that keeps the
+/// rules; others are refused whatever the scratch, and need none.
+pub fn fallback_scratch(m: &ffi::Memory) -> usize {
+    let bits = u64::from(m.depth) * u64::from(m.width);
+    if m.write_count as usize > ffi::MAX_PORTS || bits > crate::MAX_BITS { 0 } else { 2 * m.write_count as usize * bits as usize }
 }
 
 /// How rows and columns are split; nothing where a size is past its limit.

@@ -430,6 +430,59 @@ fn refused_swizzles_change_nothing() {
     assert!(log.entries().last().is_some_and(|entry| matches!(entry.cell, Cell::Replace { to, .. } if to == [Net::X; 3])));
 }
 
+/// Each row is a void, a mux for the write port, a flip-flop that starts with the row, and replacements; the read ports select among the rows.
+#[test]
+fn memories_become_registers() {
+    let memory = Memory { init_value: vec![Trit::One, Trit::X], ..ported() };
+    let (mut log, output) = (Log::new(1_000, Net(100)), Net(80).run(3));
+    assert_eq!(memory.lower_fallback(&mut log, &output), Ok(()));
+    let made: Vec<Net> = log.entries().flat_map(|entry| entry.made).collect();
+    assert_eq!(made, Net(100).run((log.next().0 - 100) as usize));
+    let flip_flops: Vec<FlipFlop> = log
+        .entries()
+        .filter_map(|entry| match entry.cell {
+            Cell::FlipFlop { flip_flop, .. } => Some(flip_flop),
+            _ => None,
+        })
+        .collect();
+    let row = |trit: Trit| FlipFlop {
+        controls: Controls::clocked(Control::Pos(Net(5))),
+        clear_value: vec![trit],
+        reset_value: vec![trit],
+        init_value: vec![trit],
+    };
+    let first = memory.read_ports[0].flip_flop.clone().expect("a flip-flop");
+    assert_eq!(flip_flops, [first, row(Trit::One), row(Trit::X)]);
+    // Without write ports a row is its trits.
+    let table = Memory { write_ports: vec![], read_ports: vec![memory.read_ports[1].clone()], ..memory };
+    let mut log = Log::new(1_000, Net(100));
+    assert_eq!(table.lower_fallback(&mut log, &output[..2]), Ok(()));
+    assert!(log.entries().any(|entry| matches!(entry.cell, Cell::Replace { to, .. } if to == [Net::ONE])));
+}
+
+#[test]
+fn refused_fallbacks_change_nothing() {
+    let (memory, output) = (ported(), Net(80).run(3));
+    let tried = |memory: &Memory, room: usize, next: u32, output: &[Net]| {
+        let mut log = Log::new(room, Net(next));
+        let number = number(memory.lower_fallback(&mut log, output));
+        assert!(number == 0 || log == Log::new(room, Net(next)));
+        number
+    };
+    assert_eq!(tried(&memory, 20, 100, &output), 20);
+    assert_eq!(tried(&memory, 1_000, 16_777_216, &output), 21);
+    assert_eq!(tried(&memory, 1_000, 100, &output[..2]), 2);
+    assert_eq!(tried(&memory, 1_000, 81, &output), 4);
+    let other = WritePort { clock: Control::Neg(Net(5)), ..memory.write_ports[0].clone() };
+    let clocks = Memory { write_ports: vec![memory.write_ports[0].clone(), other], read_ports: vec![], ..memory.clone() };
+    assert_eq!(tried(&clocks, 1_000, 100, &[]), 11);
+    // Without rows the flip-flop is unmapped, and the outputs become X.
+    let empty = Memory { depth: 0, init_value: vec![], ..memory };
+    let mut log = Log::new(1_000, Net(100));
+    assert_eq!(empty.lower_fallback(&mut log, &output), Ok(()));
+    assert!(log.entries().last().is_some_and(|entry| matches!(entry.cell, Cell::Replace { to, .. } if to == [Net::X; 3])));
+}
+
 /// Codes that the safe types do not have: 4, and every field of the answer 0.
 #[test]
 fn flags_and_polarities() {

@@ -246,6 +246,22 @@ fn swizzles_and_patches() {
     assert_eq!((both.swizzled.number, both.patches, *image), (0, 20, [1, 0]));
 }
 
+#[test]
+fn fallbacks() {
+    let lower = |output: &'static [u32]| {
+        move |r: &mut [Room]| {
+            let [log, scratch] = r else { panic!("two rooms") };
+            let answer = ffi::lower_fallback(log.words(), state(), scratch.words(), memory(), &NETS, &TRITS, output);
+            assert_eq!(answer.state == state(), answer.number != 0);
+            answer.number
+        }
+    };
+    sweep(case("lower_fallback", vec![words(170), words(4)], lower(&[80]), 2, lower(&[])));
+    assert_eq!(tablegoose::fallback_scratch(&memory()), 4);
+    assert_eq!(tablegoose::fallback_scratch(&ffi::Memory { depth: u32::MAX, width: u32::MAX, ..memory() }), 0);
+    assert_eq!(tablegoose::fallback_scratch(&ffi::Memory { write_count: u32::MAX, ..memory() }), 0);
+}
+
 fn laid() -> Laid {
     ffi::laid_out(first(), &FIRST_ENTRIES)
 }

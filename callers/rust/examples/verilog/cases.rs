@@ -1,4 +1,4 @@
-//! Random small memories and plans, and the calls before the swizzle.
+//! Random small memories and plans, and the calls before the swizzle or the fallback.
 
 use tablegoose::{Control, Controls, FlipFlop, Layout, Log, Memory, Net, ReadPort, Refusal, Relation, Swizzle, Swizzled, Trit, WritePort, wide_log2};
 
@@ -14,8 +14,17 @@ pub enum Size {
     Tiny,
 }
 
-/// A memory whose nets from 2 on are inputs, and after them its outputs; and how it is split.
+/// What becomes of a memory: memories by a plan, or a register for each row.
+#[derive(Clone, Copy, PartialEq, Eq)]
+pub enum Way {
+    Swizzle,
+    Fallback,
+}
+
+/// A memory whose nets from 2 on are inputs, and after them its outputs; and how it is split, which plays no part in a fallback.
+#[derive(Clone)]
 pub struct Case {
+    pub way: Way,
     pub memory: Memory,
     pub plan: Swizzle,
     /// Input nets, the clocks included.
@@ -25,7 +34,7 @@ pub struct Case {
     pub steps: Vec<Step>,
 }
 
-/// A call before the swizzle, on a read port or on all.
+/// A call before the swizzle or the fallback, on a read port or on all.
 #[derive(Clone, Copy, Debug, PartialEq, Eq)]
 pub enum Step {
     Remap(usize),
@@ -34,10 +43,18 @@ pub enum Step {
     Emulate,
 }
 
-/// What a case gives: the log and the memories.
+/// What a case gives: the log, and the memories of a swizzle.
 pub struct Answer {
     pub log: Log,
-    pub split: Swizzled,
+    pub split: Option<Swizzled>,
+}
+
+impl Answer {
+    /// The memories by themselves; none of a fallback.
+    pub fn memories(&self) -> Vec<(Memory, Vec<Net>)> {
+        let split = self.split.iter().flat_map(|split| split.memories());
+        split.map(|part| (part.to_memory(), part.outputs())).collect()
+    }
 }
 
 impl Case {
@@ -50,7 +67,7 @@ impl Case {
         Layout::of(&self.memory, &self.plan)
     }
 
-    /// Runs the steps and the swizzle. A step that is refused, or that has nothing to do, is taken out.
+    /// Runs the steps, and the swizzle or the fallback. A step that is refused, or that has nothing to do, is taken out.
     fn run(&mut self) -> Result<Answer, Refusal> {
         let (mut memory, mut output) = (self.memory.clone(), self.outputs());
         let mut log = Log::new(100_000, Net(2 + self.inputs + output.len() as u32));
@@ -58,21 +75,37 @@ impl Case {
             let used = log.words().len();
             step.run(&mut log, &mut memory, &mut output).is_ok() && log.words().len() > used
         });
-        let split = memory.swizzle(&mut log, &output, &self.plan)?;
+        let split = match self.way {
+            Way::Swizzle => Some(memory.swizzle(&mut log, &output, &self.plan)?),
+            Way::Fallback => memory.lower_fallback(&mut log, &output).map(|()| None)?,
+        };
         Ok(Answer { log, split })
     }
 
-    /// The case of a seed: drawn until one is accepted, with not too many memories.
-    pub fn of_seed(seed: u64, size: Size) -> (Case, Answer) {
+    /// The case of a seed: drawn until one is accepted, a swizzle with not too many memories.
+    pub fn of_seed(seed: u64, size: Size, way: Way) -> (Case, Answer) {
         let mut random = Random::new(seed);
         let memories = if size == Size::Tiny { 6 } else { 20 };
         loop {
-            let mut case = Draw::new(&mut random, size).case();
-            let fits = case.layout().shape().is_ok_and(|shape| u64::from(shape.all_mems as u32) <= memories);
+            let mut case = Case { way, ..Draw::new(&mut random, size).case() };
+            let shape = case.layout().shape();
+            let fits = way == Way::Fallback || shape.is_ok_and(|shape| u64::from(shape.all_mems as u32) <= memories);
             if let Some(answer) = fits.then(|| case.run().ok()).flatten() {
                 return (case, answer);
             }
         }
+    }
+
+    /// The same with its rows in reverse order, where a row that some read port reaches then has another known trit.
+    pub fn reversed(&self) -> Option<(Case, Answer)> {
+        let (m, mut other) = (&self.memory, self.clone());
+        let width = m.width as usize;
+        other.memory.init_value = m.init_value.chunks(width).rev().flatten().copied().collect();
+        let reached = m.read_ports.iter().map(|port| port.data_len << port.addr.len()).max()?;
+        let known = |(a, b): (&Trit, &Trit)| *a != Trit::X && *b != Trit::X && a != b;
+        m.init_value.iter().zip(&other.memory.init_value).take(reached).any(known).then_some(())?;
+        let answer = other.run().ok()?;
+        Some((other, answer))
     }
 }
 
@@ -132,7 +165,7 @@ impl Draw<'_> {
         }
         let plan = self.plan(&memory, soft_addr_bits_mask);
         let steps = self.steps(&memory);
-        Case { memory, plan, inputs: self.next - 2, rare: self.rare, steps }
+        Case { way: Way::Swizzle, memory, plan, inputs: self.next - 2, rare: self.rare, steps }
     }
 
     /// Half of them without soft bits; others with one or two among the low ones.

@@ -1,6 +1,6 @@
-//! Writes memories and what a swizzle made of them as Verilog, beside each other: `verilog FOLDER SMALL TINY SEED`. Each case has a folder with the original
-//! memory, the log's cells with the resulting memories, a test bench, and one `$readmemb` file for each memory; in its folder `wrong` the same files stand
-//! with two memories' images exchanged. `callers/verilog/run` simulates and proves them.
+//! Writes memories and what a swizzle or a fallback made of them as Verilog, beside each other: `verilog FOLDER SMALL TINY SEED`. Each case has a folder with
+//! the original memory, the log's cells with the resulting memories, a test bench, and one `$readmemb` file for each memory. Its folder `wrong` has two
+//! memories' images exchanged, or the design of a fallback with its rows in reverse order. `callers/verilog/run` simulates and proves them.
 
 mod bench;
 mod cases;
@@ -14,7 +14,7 @@ use std::path::Path;
 
 use tablegoose::{Cell, Memory, Net, ReadPort, Relation, Swizzle, Trit, wide_log2};
 
-use cases::{Answer, Case, Size, Step};
+use cases::{Answer, Case, Size, Step, Way};
 
 /// The head of a module, with wires for the inputs and the outputs.
 fn head(case: &Case, name: &str, known: bool) -> Vec<String> {
@@ -52,10 +52,20 @@ fn original(case: &Case) -> String {
 fn split(case: &Case, answer: &Answer) -> Result<String, Box<dyn Error>> {
     let mut out = head(case, "split", false);
     answer.log.entries().for_each(|entry| emit::cell(&mut out, &entry));
-    for (n, part) in answer.split.memories().enumerate() {
+    for (n, (memory, output)) in answer.memories().iter().enumerate() {
         let (name, file) = (format!("m{n}"), format!("memory_{n}.mem"));
-        emit::Block { name: &name, file: &file, memory: &part.to_memory(), output: &part.outputs(), known: false }.write(&mut out);
+        emit::Block { name: &name, file: &file, memory, output, known: false }.write(&mut out);
     }
+    match case.way {
+        _ if case.memory.depth == 0 => out.push("assign rows = 1'b0;".into()),
+        Way::Swizzle => rows_of_memories(case, &mut out)?,
+        Way::Fallback => out.push(format!("assign rows = {};", emit::value(&rows_of_registers(case, answer)))),
+    }
+    out.push("endmodule\n".into());
+    Ok(out.join("\n"))
+}
+
+fn rows_of_memories(case: &Case, out: &mut Vec<String>) -> Result<(), Box<dyn Error>> {
     let layout = case.layout();
     let entry_of = |bit: u32| case.plan.data_swizzle.iter().position(|&entry| entry == Some(bit)).expect("each bit has an entry");
     for row in 0..case.memory.depth {
@@ -64,11 +74,18 @@ fn split(case: &Case, answer: &Answer) -> Result<String, Box<dyn Error>> {
             out.push(format!("assign rows[{}] = m{}[{}][{}];", row * case.memory.width + bit, place.memory, place.row, place.bit));
         }
     }
-    if case.memory.depth == 0 {
-        out.push("assign rows = 1'b0;".into());
+    Ok(())
+}
+
+/// A fallback's last flip-flops are its rows in order; without write ports a row is its trits.
+fn rows_of_registers(case: &Case, answer: &Answer) -> Vec<Net> {
+    let m = &case.memory;
+    if m.write_ports.is_empty() {
+        return m.init_value.iter().map(|trit| [Net::ZERO, Net::ONE, Net::X][trit.code() as usize]).collect();
     }
-    out.push("endmodule\n".into());
-    Ok(out.join("\n"))
+    let flip_flops: Vec<Vec<Net>> =
+        answer.log.entries().filter(|entry| matches!(entry.cell, Cell::FlipFlop { .. })).map(|entry| entry.made).collect();
+    flip_flops[flip_flops.len() - m.depth as usize..].concat()
 }
 
 /// A `$readmemb` file: a line for each row.
@@ -84,9 +101,9 @@ fn unlike(memories: &[Memory]) -> Option<(usize, usize)> {
     pairs.into_iter().find(|&(a, b)| differ(&memories[a], &memories[b]))
 }
 
-/// The images, and those with two exchanged where there are two that differ.
-fn images(folder: &Path, case: &Case, answer: &Answer) -> std::io::Result<bool> {
-    let memories: Vec<Memory> = answer.split.memories().map(|part| part.to_memory()).collect();
+/// The images, and those with two exchanged where there are two that differ; of a fallback the design with its rows in reverse order.
+fn images(folder: &Path, case: &Case, answer: &Answer) -> Result<bool, Box<dyn Error>> {
+    let memories: Vec<Memory> = answer.memories().into_iter().map(|(memory, _)| memory).collect();
     let write = |folder: &Path, order: &dyn Fn(usize) -> usize| -> std::io::Result<()> {
         fs::create_dir_all(folder)?;
         fs::write(folder.join("original.mem"), image(&case.memory.init_value, case.memory.width))?;
@@ -97,6 +114,12 @@ fn images(folder: &Path, case: &Case, answer: &Answer) -> std::io::Result<bool> 
         Ok(())
     };
     write(folder, &|n| n)?;
+    if case.way == Way::Fallback {
+        let Some((other, answer)) = case.reversed() else { return Ok(false) };
+        write(&folder.join("wrong"), &|n| n)?;
+        fs::write(folder.join("wrong/design.v"), [emit::MACROS, &original(case), &split(&other, &answer)?].concat())?;
+        return Ok(true);
+    }
     let Some((a, b)) = unlike(&memories) else { return Ok(false) };
     let exchanged = |n: usize| match n {
         _ if n == a => b,
@@ -124,11 +147,14 @@ impl Counts {
         };
         let clocked = |port: &&ReadPort| port.flip_flop.is_some();
         self.add("memories given", 1);
-        self.add("memories made", answer.split.len());
+        self.add("memories made", answer.memories().len());
+        self.add("fallbacks", usize::from(case.way == Way::Fallback));
         self.add("without rows", usize::from(m.depth == 0));
-        self.add("soft bits", usize::from(plan.soft_addr_bits_mask != 0));
-        self.add("a soft bit above a chunk bit that is not", usize::from(soft_above(plan, m.depth)));
-        self.add("partial chunk", usize::from(partial_depth(case) != 0));
+        if case.way == Way::Swizzle {
+            self.add("soft bits", usize::from(plan.soft_addr_bits_mask != 0));
+            self.add("a soft bit above a chunk bit that is not", usize::from(soft_above(plan, m.depth)));
+            self.add("partial chunk", usize::from(partial_depth(case) != 0));
+        }
         self.add("write ports", m.write_ports.len());
         self.add("read ports clocked", m.read_ports.iter().filter(clocked).count());
         self.add("read ports unclocked", m.read_ports.iter().filter(|port| !clocked(port)).count());
@@ -192,17 +218,18 @@ fn soft_above(plan: &Swizzle, depth: u32) -> bool {
 
 fn summary(case: &Case, answer: &Answer, wrong: bool) -> String {
     let (m, plan) = (&case.memory, &case.plan);
-    let (writes, reads, made) = (m.write_ports.len(), m.read_ports.len(), answer.split.len());
+    let (writes, reads, made) = (m.write_ports.len(), m.read_ports.len(), answer.memories().len());
     let (mask, hard, unit, partial) = (plan.soft_addr_bits_mask, plan.hard_addr_bits, plan.data_width_unit, partial_depth(case));
-    let exchanged = if wrong { "" } else { ", no two images to exchange" };
-    format!(
-        "depth {} width {} writes {writes} reads {reads}, soft {mask:b} hard {hard} unit {unit}, partial {partial}, memories {made}, steps {:?}{exchanged}\n",
-        m.depth, m.width, case.steps
-    )
+    let exchanged = if wrong { "" } else { ", nothing to exchange" };
+    let way = match case.way {
+        Way::Swizzle => format!("soft {mask:b} hard {hard} unit {unit}, partial {partial}, memories {made}"),
+        Way::Fallback => "a fallback".into(),
+    };
+    format!("depth {} width {} writes {writes} reads {reads}, {way}, steps {:?}{exchanged}\n", m.depth, m.width, case.steps)
 }
 
-fn write_case(folder: &Path, seed: u64, size: Size, counts: &mut Counts) -> Result<(), Box<dyn Error>> {
-    let (case, answer) = Case::of_seed(seed, size);
+fn write_case(folder: &Path, seed: u64, size: Size, way: Way, counts: &mut Counts) -> Result<(), Box<dyn Error>> {
+    let (case, answer) = Case::of_seed(seed, size, way);
     assert!(case.inputs <= 128 && case.outputs().first() == Some(&Net(2 + case.inputs)), "too many inputs");
     let wrong = images(folder, &case, &answer)?;
     let (outputs, rows) = (case.outputs().len(), row_bits(&case));
@@ -220,11 +247,11 @@ fn main() -> Result<(), Box<dyn Error>> {
     let [folder, small, tiny, seed] = &arguments[..] else { return Err("verilog FOLDER SMALL TINY SEED".into()) };
     let (small, tiny, seed): (u64, u64, u64) = (small.parse()?, tiny.parse()?, seed.parse()?);
     let mut counts = Counts::default();
-    for n in 0..small {
-        write_case(&Path::new(folder).join(format!("small_{n:02}")), seed + n, Size::Small, &mut counts)?;
-    }
-    for n in 0..tiny {
-        write_case(&Path::new(folder).join(format!("tiny_{n:02}")), seed + n, Size::Tiny, &mut counts)?;
+    for (size, name, count) in [(Size::Small, "small", small), (Size::Tiny, "tiny", tiny)] {
+        for n in 0..count {
+            write_case(&Path::new(folder).join(format!("{name}_{n:02}")), seed + n, size, Way::Swizzle, &mut counts)?;
+            write_case(&Path::new(folder).join(format!("{name}_fallback_{n:02}")), seed + n, size, Way::Fallback, &mut counts)?;
+        }
     }
     let counts: Vec<String> = counts.0.iter().map(|(what, count)| format!("{what} {count}")).collect();
     println!("{}", counts.join(", "));

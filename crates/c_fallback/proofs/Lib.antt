@@ -1,0 +1,2 @@
+-- What an answer's struct says.
+pub mod Told
