@@ -711,9 +711,9 @@ tablegoose_count tablegoose_list_input(uint8_t *out, size_t out_len, const uint8
 
 /* ---- stack: what each function takes at most, in bytes, beside the structs that it is given; read from the x86-64 code by scripts/stack.py
  *     512 tablegoose_add_and
- *   70656 tablegoose_add_bitwise_mux
- *   83072 tablegoose_add_dedup_dff
- *   54144 tablegoose_add_dedup_mux
+ *   71168 tablegoose_add_bitwise_mux
+ *   83584 tablegoose_add_dedup_dff
+ *   54656 tablegoose_add_dedup_mux
  *     640 tablegoose_add_dff
  *     512 tablegoose_add_eq
  *     512 tablegoose_add_mux
@@ -730,7 +730,7 @@ tablegoose_count tablegoose_list_input(uint8_t *out, size_t out_len, const uint8
  *     128 tablegoose_const_or
  *     128 tablegoose_control_is_always
  *     128 tablegoose_control_not
- *  143104 tablegoose_emulate_read_before_write
+ *  143616 tablegoose_emulate_read_before_write
  *    6144 tablegoose_extract_read_ports
  *    1920 tablegoose_fill
  *    2304 tablegoose_fill_and_patch
@@ -740,7 +740,7 @@ tablegoose_count tablegoose_list_input(uint8_t *out, size_t out_len, const uint8
  *    1152 tablegoose_laid_out
  *     512 tablegoose_list_input
  *     512 tablegoose_list_record
- *  820224 tablegoose_lower_fallback
+ *  820736 tablegoose_lower_fallback
  *    2816 tablegoose_make_data_swizzle
  *     256 tablegoose_measure
  *    2816 tablegoose_memory_refusal
@@ -764,8 +764,8 @@ tablegoose_count tablegoose_list_input(uint8_t *out, size_t out_len, const uint8
  *     512 tablegoose_replace_value
  *    1664 tablegoose_sizes_of
  *     128 tablegoose_slice_refusal
- *  386688 tablegoose_swizzle
- *  387072 tablegoose_swizzle_and_patch
+ *  387200 tablegoose_swizzle
+ *  387584 tablegoose_swizzle_and_patch
  *    3840 tablegoose_swizzle_depths
  *    6272 tablegoose_swizzle_mux_bits
  *    2560 tablegoose_swizzled_clear
@@ -778,12 +778,12 @@ tablegoose_count tablegoose_list_input(uint8_t *out, size_t out_len, const uint8
  *    1280 tablegoose_swizzled_write_addr
  *    1920 tablegoose_swizzled_write_data
  *    1920 tablegoose_swizzled_write_mask
- *  158848 tablegoose_transparency_mux
+ *  159360 tablegoose_transparency_mux
  *     128 tablegoose_trit_and
  *     128 tablegoose_trit_not
  *     128 tablegoose_trit_or
- *  143360 tablegoose_unmap_read_dff
- *  183808 tablegoose_unmap_read_init_reset_transparency
+ *  143872 tablegoose_unmap_read_dff
+ *  184320 tablegoose_unmap_read_init_reset_transparency
  *     128 tablegoose_unset
  *     128 tablegoose_value_is_undef
  *     128 tablegoose_wide_log2
