@@ -7,11 +7,11 @@ use native.Mathlib.Omega.{arith}
 use mathlib.Core.Bool.{Bool, true, false, _||_}
 use mathlib.Core.List.{List, [], _∷_}
 use lib.ListN.{length, take}
-use lib.Seq.{sets, length-sets, take-all}
+use lib.Seq.{sets, length-take-le}
 use lib.Dec.{eqb, ltb}
 use borrow.Author.Tests.{lt-ltb, le-ltb, eq-eqb, ne-eqb}
 use Rattle.lists.specs.Choice.{if_then_else_}
-use Rattle.lists.specs.Lists.{upFrom}
+use Rattle.lists.specs.Lists.{part, upFrom}
 use Rattle.lists.proofs.UpFrom.{count-step, count-end}
 use Rattle.lists.proofs.Stores.{take-stored}
 use Rattle.rules.specs.Limits.{maxMerge, maxPorts, maxUnit, maxColumns, maxNets}
@@ -76,10 +76,8 @@ held-is : (w : ℕ) (clock : Control) (init v q : Value) → w ≤ maxMerge → 
 unfolding heldIf
 held-is w clock init v q h = rw (le-ltb maxMerge w h)
 
-pub same-row : (w : ℕ) (row row′ q : List ℕ) → row′ ≡ sets row 0 q → length q ≡ length row → take w row′ ≡ take w q
-same-row w row row′ q e h =
-    ap (take w)
-    (sym (take-all (length q) row′ (omega (arith, ap length e, length-sets row 0 q, h))) ∙ take-stored row row′ q (length q) e refl (omega (arith, h)))
+pub same-row : (w : ℕ) (row row′ q own : List ℕ) → own ≡ part 0 w q → row′ ≡ sets row 0 own → w ≤ length q → w ≤ length row → take w row′ ≡ take w q
+same-row w row row′ q own eo e h k = take-stored row row′ (take w q) w (e ∙ ap (sets row 0) eo) (sym (length-take-le w q h)) k
 
 module _ (g : WideMemory) (m : Mem) (init : Const) (w : ℕ) (ew : w ≡ g .unit) (hw : g .unit ≤ maxUnit) where
   pub register-gave : (q v r : Value) (l l1 l2 l3 : Lent) → Gave (startIf (g .unit) v) l l1 q → Gave (writesBy w m (writeNumbers g) q) l1 l2 r → l3 ≡ run (heldIf w (clockOf g) init r q) l2
