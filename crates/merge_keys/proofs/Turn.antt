@@ -1,11 +1,11 @@
 -- What the loop of `merge_first` keeps after i keys: the keys kept of those, in the two columns, and the place of each.
 use mathlib.Core.Path.{_≡_, refl, sym, ap, _∙_}
 use mathlib.Core.Bool.{Bool, true, false}
-use Prim.Native.Nat.{ℕ, _+_, _-_, _<_, _≤_, min}
+use Prim.Native.Nat.{ℕ, _+_, _-_, _<_, _≤_, min, max}
 use native.Mathlib.Omega.{arith}
 use mathlib.Core.List.{List, [], _∷_, _++_, map}
 use lib.ListN.{length, take, getD, set, length-append, length-map}
-use lib.Seq.{sets, length-sets, length-take-le}
+use lib.Seq.{sets, length-sets, length-take-le, getD-set-same, getD-set-other}
 use lib.Dec.{eqb}
 use borrow.Author.Tests.{eq-eqb, eqb-true, eqb-false}
 use Rattle.lists.specs.Choice.{if_then_else_}
@@ -18,7 +18,7 @@ use Rattle.lists.proofs.Pairs.{pairs-size, pairs-at, take-pairs, pairs-columns}
 use Rattle.lists.proofs.Distinct.{with-new-found, with-new-new, place-with-new, place-le, length-kept, kept-more, places-more, length-places}
 use Rattle.rules.specs.Limits.{maxMerge}
 use Rattle.rules.specs.Merge.{Key2, same2}
-use Rattle.merge_keys.specs.Keys.{room, merging, Columns, Ready, Roomy, firsts, seconds}
+use Rattle.merge_keys.specs.Keys.{room, merging, Columns, Ready, Bounded, Roomy, firsts, seconds}
 
 -- ---- columns of keys
 front : (ks : List Key2) (ws l : List ℕ) → length ws ≡ length ks → length ks ≤ length l → take (length ks) (sets l 0 ws) ≡ ws
@@ -149,6 +149,24 @@ module _ (x y kx₀ ky₀ at₀ kx ky at : List ℕ) (n count last i : ℕ) (r :
               → Merged x y kx₀ ky₀ at₀ (if b then set kx count (getD x i 0) else kx) (if b then set ky count (getD y i 0) else ky) (set at i place) n (if b then count + 1 else count) place (i + 1)
           on true q = turn-new (eqb-true place count q)
           on false q = turn-old (eqb-false place count q)
+
+-- ---- the largest first word
+module _ (kx : List ℕ) (count most x : ℕ) (b : Bounded kx count most) where
+  old-bound : Bounded kx count (max most x)
+  old-bound j h = omega (arith, b j h)
+
+  new-bound : count < length kx → Bounded (set kx count x) (count + 1) (max most x)
+  new-bound g j h =
+      cases-le count j
+      (λ q. let e : j ≡ count = omega (arith, h, q) in omega (arith, ap (λ (k : ℕ). getD (set kx count x) k 0) e, getD-set-same kx count x 0 g))
+      (λ q. omega (arith, getD-set-other kx count j x 0 (λ e. omega (arith, e, q)), b j q))
+
+  pub bound-turn : count < length kx → (place : ℕ) → Bounded (if eqb place count then set kx count x else kx) (if eqb place count then count + 1 else count) (max most x)
+  bound-turn g place = on (eqb place count)
+    where
+      on : (t : Bool) → Bounded (if t then set kx count x else kx) (if t then count + 1 else count) (max most x)
+      on true = new-bound g
+      on false = old-bound
 
 -- ---- as many keys as there is room for
 pub merging-first : (x y kx ky at : List ℕ) (n : ℕ) → n ≡ min (min maxMerge (min (length kx) (min (length ky) (length at)))) (min (length x) (length y))

@@ -35,6 +35,10 @@ pub record Ready (x y : List ℕ) (i : ℕ) (kx ky : List ℕ) (count last : ℕ
   pub columns : Columns kx ky count
   pub before : 0 < i → last ≡ placeIn same2 (getD x (i - 1) 0, getD y (i - 1) 0) (take count (pairs kx ky))
 
+-- no first word of the keys kept is larger
+abbrev pub Bounded : List ℕ → ℕ → ℕ → Type 0
+Bounded kx count most = (j : ℕ) → j < count → getD kx j 0 ≤ most
+
 -- n keys are given, and have room
 pub record Roomy (x y kx ky at : List ℕ) (n : ℕ) : Type 0 where
   pub in-x : n ≤ length x

@@ -1,7 +1,7 @@
 // Equal keys are kept once, in order of first appearance. A key is two words, one of each column; `merge` keeps the keys of two columns and gives
 // each its place among them.
 ghost use mathlib.Core.Path.{_≡_};
-ghost use Prim.Native.Nat.{_+_, _-_, _<_};
+ghost use Prim.Native.Nat.{_+_, _-_, _<_, max};
 ghost use lib.ListN.{length, take, getD, set};
 ghost use lib.Seq.{sets};
 ghost use lib.Dec.{eqb};
@@ -9,7 +9,7 @@ ghost use Rattle.lists.specs.Choice.{if_then_else_};
 ghost use Rattle.lists.specs.Lists.{pairs};
 ghost use Rattle.lists.specs.Distinct.{placeIn, kept, places};
 ghost use Rattle.rules.specs.Merge.{same2};
-ghost use Rattle.merge_keys.specs.Keys.{merging, Columns, Ready, Roomy, firsts, seconds};
+ghost use Rattle.merge_keys.specs.Keys.{merging, Columns, Ready, Bounded, Roomy, firsts, seconds};
 
 // The place of a key among the first count of two columns, or count where it is not among them.
 fn find(kx: &[u32], ky: &[u32], count: usize, x: u32, y: u32) -> usize
@@ -28,7 +28,18 @@ fn find(kx: &[u32], ky: &[u32], count: usize, x: u32, y: u32) -> usize
     count
 }
 
-// The same for the key at i, which is the key before it as often as not: last is that key's place.
+// The larger of two words.
+fn larger_word(a: u32, b: u32) -> u32
+    ensures { λ r. ⌜ r ≡ max a b ⌝ }
+{
+    if a < b {
+        return b;
+    }
+    a
+}
+
+// The same for the key at i, which is the key before it as often as not: last is that key's place. A key whose first word is larger than any that
+// is kept is new: nets that were made one after the other need no search.
 fn place_at(
     x: &[u32],
     y: &[u32],
@@ -37,8 +48,9 @@ fn place_at(
     ky: &[u32],
     count: usize,
     last: usize,
+    most: u32,
 ) -> usize
-    requires { ⌜ Ready (now x) (now y) i (now kx) (now ky) count last ⌝ }
+    requires { ⌜ Ready (now x) (now y) i (now kx) (now ky) count last × Bounded (now kx) count most ⌝ }
     ensures { λ r. ⌜ r ≡ placeIn same2 (getD (now (x .entry)) i 0, getD (now (y .entry)) i 0) (take count (pairs (now (kx .entry)) (now (ky .entry)))) ⌝ }
 {
     if 0 < i {
@@ -47,6 +59,9 @@ fn place_at(
                 return last;
             }
         }
+    }
+    if most < x[i] {
+        return count;
     }
     find(kx, ky, count, x[i], y[i])
 }
@@ -83,10 +98,12 @@ fn merge_first(
 {
     let mut count: usize = 0;
     let mut last: usize = 0;
+    let mut most: u32 = 0;
     let mut i: usize = 0;
     while i < n {
-        last = place_at(x, y, i, kx, ky, count, last);
+        last = place_at(x, y, i, kx, ky, count, last, most);
         count = keep(kx, ky, count, last, x[i], y[i]);
+        most = larger_word(most, x[i]);
         at[i] = last as u32;
         i += 1;
     }

@@ -72,18 +72,18 @@ fn with_controls(state: LogState, controls: Controls) -> Got {
         state,
         first: 0,
         count: 0,
-        controls,
+        controls: got::words_of(controls),
     }
 }
 
-fn lent_pair(log: &mut [u32], st: LogState, c: Case, a: &[u32], b: &[u32]) -> Got {
-    if c.kind == 3 {
+fn lent_pair(log: &mut [u32], st: LogState, kind: u32, a: &[u32], b: &[u32]) -> Got {
+    if kind == 3 {
         return got::lent_nets(lent::add_and(log, st, a, b));
     }
-    if c.kind == 4 {
+    if kind == 4 {
         return got::lent_nets(lent::add_or(log, st, a, b));
     }
-    if c.kind == 6 {
+    if kind == 6 {
         return got::lent_net(lent::add_eq(log, st, a, b));
     }
     got::lent_none(lent::replace_value(log, st, a, b))
@@ -184,16 +184,16 @@ fn plain_remap(log: &mut [u32], st: LogState, c: Case) -> Got {
     }
 }
 
-fn plain_pair(log: &mut [u32], st: LogState, c: Case, a: &[u32], b: &[u32]) -> Got {
-    if c.kind == 3 {
+fn plain_pair(log: &mut [u32], st: LogState, kind: u32, n: usize, a: &[u32], b: &[u32]) -> Got {
+    if kind == 3 {
         let r = log_requests::add_and(log, st, a, b);
-        return got::plain(r, st, st.next, c.n);
+        return got::plain(r, st, st.next, n);
     }
-    if c.kind == 4 {
+    if kind == 4 {
         let r = log_requests::add_or(log, st, a, b);
-        return got::plain(r, st, st.next, c.n);
+        return got::plain(r, st, st.next, n);
     }
-    if c.kind == 6 {
+    if kind == 6 {
         let r = log_requests::add_eq(log, st, a, b);
         return got::plain(r, st, st.next, 1);
     }
@@ -291,7 +291,7 @@ pub(crate) fn lent(
 ) -> Got {
     match form(c.kind) {
         1 => lent_one(log, st, c, a),
-        2 => lent_pair(log, st, c, a, b),
+        2 => lent_pair(log, st, c.kind, a, b),
         3 => lent_shift(log, st, c, a, b),
         4 => lent_dff(log, st, c, a, trits),
         5 => lent_merge_dff(log, st, out, c, a, trits),
@@ -310,7 +310,7 @@ pub(crate) fn plain(
 ) -> Got {
     match form(c.kind) {
         1 => plain_one(log, st, c, a),
-        2 => plain_pair(log, st, c, a, b),
+        2 => plain_pair(log, st, c.kind, c.n, a, b),
         3 => plain_shift(log, st, c, a, b),
         4 => plain_dff(log, st, c, a, trits),
         5 => plain_merge_dff(log, st, out, c, a, trits),

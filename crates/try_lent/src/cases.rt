@@ -27,6 +27,10 @@ use try_kit::words::plus;
 
 const CASES: u32 = 720;
 
+const LOG_WORDS: usize = 16640;
+
+const NETS: usize = 4100;
+
 // The words of the entry; of a merge, those where no two bits are equal.
 fn words(kind: u32, n: usize, m: usize) -> usize {
     match kind {
@@ -182,74 +186,46 @@ fn then_lent(
     t: Tally,
     w: Got,
     c: Case,
-    log: &mut [u32],
     want: &[u32],
-    out: &mut [u32],
     room: &[u32],
     a: &[u32],
     b: &[u32],
     trits: &[u8],
 ) -> Tally {
-    let g = lent_painted(log, out, c, a, b, trits);
-    compared(t, g, w, log, want, out, room)
+    let mut log = [0u32; LOG_WORDS];
+    let mut out = [0u32; NETS];
+    let g = lent_painted(&mut log, &mut out, c, a, b, trits);
+    compared(t, g, w, &log, want, &out, room)
 }
 
 // A case: by value, then on a lent state.
-fn try_case(
-    t: Tally,
-    c: Case,
-    log: &mut [u32],
-    want: &mut [u32],
-    out: &mut [u32],
-    room: &mut [u32],
-    a: &[u32],
-    b: &[u32],
-    trits: &[u8],
-) -> Tally {
-    let w = plain_painted(want, room, c, a, b, trits);
-    then_lent(t, w, c, log, want, out, room, a, b, trits)
+fn try_case(t: Tally, c: Case, a: &[u32], b: &[u32], trits: &[u8]) -> Tally {
+    let mut want = [0u32; LOG_WORDS];
+    let mut room = [0u32; NETS];
+    let w = plain_painted(&mut want, &mut room, c, a, b, trits);
+    then_lent(t, w, c, &want, &room, a, b, trits)
 }
 
-fn set_and_try(
-    t: Tally,
-    c: Case,
-    log: &mut [u32],
-    want: &mut [u32],
-    out: &mut [u32],
-    room: &mut [u32],
-    a: &mut [u32],
-    b: &mut [u32],
-    trits: &mut [u8],
-) -> Tally {
-    set_inputs(c, a, b, trits);
+fn set_and_try(t: Tally, c: Case) -> Tally {
+    let mut a = [0u32; NETS];
+    let mut b = [0u32; NETS];
+    let mut trits = [0u8; NETS];
+    set_inputs(c, &mut a, &mut b, &mut trits);
     try_case(
         t,
         c,
-        log,
-        want,
-        out,
-        room,
-        net_value::value_slice(a, 0, c.n),
-        net_value::value_slice(b, 0, c.m),
-        trits,
+        net_value::value_slice(&a, 0, c.n),
+        net_value::value_slice(&b, 0, c.m),
+        &trits,
     )
 }
 
 // All the cases of one kind.
-pub(crate) fn cases(
-    kind: u32,
-    log: &mut [u32],
-    want: &mut [u32],
-    out: &mut [u32],
-    room: &mut [u32],
-    a: &mut [u32],
-    b: &mut [u32],
-    trits: &mut [u8],
-) -> Tally {
+pub(crate) fn cases(kind: u32) -> Tally {
     let mut t = numbered::start();
     let mut k: u32 = 0;
     while k < CASES {
-        t = set_and_try(t, case_at(kind, k), log, want, out, room, a, b, trits);
+        t = set_and_try(t, case_at(kind, k));
         k += 1;
     }
     t

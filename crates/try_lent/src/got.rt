@@ -1,4 +1,4 @@
-// What a request gave: its number or 0, the state after it, its first net and how many it made, and its controls.
+// What a request gave: its number or 0, the state after it, its first net and how many it made, and the words of its controls, 0 where it gives none.
 use crate::lent::LentNet;
 use crate::lent::LentNets;
 use crate::lent::LentNone;
@@ -9,7 +9,7 @@ use log_lent::OneNet;
 use log_requests::Answer;
 use net_flip_flop::Controls;
 use net_value::ControlNet;
-use try_kit::samples::pos;
+use try_kit::paint;
 use try_kit::words::both;
 
 pub(crate) struct Got {
@@ -17,19 +17,47 @@ pub(crate) struct Got {
     pub(crate) state: LogState,
     pub(crate) first: u32,
     pub(crate) count: usize,
-    pub(crate) controls: Controls,
+    pub(crate) controls: [u32; 9],
 }
 
-// The controls of a request that gives none.
-pub(crate) fn no_controls() -> Controls {
-    let none = pos(0);
-    Controls {
-        clock: none,
-        clear: none,
-        reset: none,
-        enable: none,
-        reset_over_enable: false,
+fn sign(c: ControlNet) -> u32 {
+    match c {
+        ControlNet::Pos(_) => 0,
+        ControlNet::Neg(_) => 1,
     }
+}
+
+fn net(c: ControlNet) -> u32 {
+    match c {
+        ControlNet::Pos(n) => n.0,
+        ControlNet::Neg(n) => n.0,
+    }
+}
+
+fn bit(b: bool) -> u32 {
+    if b {
+        return 1;
+    }
+    0
+}
+
+// The four controls, each as whether it is Neg and its net, and whether the reset is over the enable.
+pub(crate) fn words_of(c: Controls) -> [u32; 9] {
+    let clock = c.clock;
+    let clear = c.clear;
+    let reset = c.reset;
+    let enable = c.enable;
+    [
+        sign(clock),
+        net(clock),
+        sign(clear),
+        net(clear),
+        sign(reset),
+        net(reset),
+        sign(enable),
+        net(enable),
+        bit(c.reset_over_enable),
+    ]
 }
 
 pub(crate) fn nets(number: u32, state: LogState, first: u32, count: usize) -> Got {
@@ -38,7 +66,7 @@ pub(crate) fn nets(number: u32, state: LogState, first: u32, count: usize) -> Go
         state,
         first,
         count,
-        controls: no_controls(),
+        controls: [0u32; 9],
     }
 }
 
@@ -80,44 +108,12 @@ pub(crate) fn lent_none(t: LentNone) -> Got {
 
 // ---- equal in every part
 
-fn same_control(a: ControlNet, b: ControlNet) -> bool {
-    match a {
-        ControlNet::Pos(x) => match b {
-            ControlNet::Pos(y) => x.0 == y.0,
-            ControlNet::Neg(_) => false,
-        },
-        ControlNet::Neg(x) => match b {
-            ControlNet::Pos(_) => false,
-            ControlNet::Neg(y) => x.0 == y.0,
-        },
-    }
-}
-
-// Two controls of each.
-fn same_two(a: ControlNet, b: ControlNet, c: ControlNet, d: ControlNet) -> bool {
-    both(same_control(a, b), same_control(c, d))
-}
-
-fn same_controls(a: Controls, b: Controls) -> bool {
-    let clock = a.clock;
-    let clock_b = b.clock;
-    let clear = a.clear;
-    let clear_b = b.clear;
-    let reset = a.reset;
-    let reset_b = b.reset;
-    let enable = a.enable;
-    let enable_b = b.enable;
-    if a.reset_over_enable != b.reset_over_enable {
-        return false;
-    }
-    both(
-        same_two(clock, clock_b, clear, clear_b),
-        same_two(reset, reset_b, enable, enable_b),
-    )
-}
-
 fn same_state(a: LogState, b: LogState) -> bool {
     both(a.used == b.used, a.next == b.next)
+}
+
+fn same_words(a: [u32; 9], b: [u32; 9]) -> bool {
+    paint::same(&a, &b)
 }
 
 pub(crate) fn same(a: Got, b: Got) -> bool {
@@ -130,8 +126,7 @@ pub(crate) fn same(a: Got, b: Got) -> bool {
     if a.count != b.count {
         return false;
     }
-    both(
-        same_state(a.state, b.state),
-        same_controls(a.controls, b.controls),
-    )
+    let controls = a.controls;
+    let wanted = b.controls;
+    both(same_state(a.state, b.state), same_words(controls, wanted))
 }

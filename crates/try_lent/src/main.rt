@@ -8,10 +8,6 @@ mod lent;
 
 use try_kit::numbered::Tally;
 
-const LOG_WORDS: usize = 16640;
-
-const NETS: usize = 4100;
-
 const KINDS: u32 = 15;
 
 fn say(s: &[u8]) {
@@ -28,73 +24,63 @@ fn report(t: Tally) {
     count(b" ", t.right);
     count(b" of ", t.made);
     count(b": accepted ", t.accepted);
+    report_numbers(t);
+    say(b"\n");
+}
+
+fn report_numbers(t: Tally) {
     count(b", 1: ", t.large);
     count(b", 2: ", t.unequal);
     count(b", 4: ", t.bad);
     count(b", 20: ", t.full);
     count(b", 21: ", t.netless);
-    io::write_all(libc::STDOUT_FILENO, b"\n");
 }
 
-fn late_name(kind: u32) {
-    match kind {
-        9 => say(b"add_dff:"),
-        10 => say(b"replace_value:"),
-        11 => say(b"into_pos:"),
-        12 => say(b"remap_reset_over_enable:"),
-        13 => say(b"add_dedup_mux:"),
-        14 => say(b"add_dedup_dff:"),
-        _ => say(b"add_bitwise_mux:"),
-    }
-}
-
+// The names, four to a function.
 fn name_of(kind: u32) {
     match kind {
         1 => say(b"add_void:"),
         2 => say(b"add_not:"),
         3 => say(b"add_and:"),
         4 => say(b"add_or:"),
+        _ => name_from_5(kind),
+    }
+}
+
+fn name_from_5(kind: u32) {
+    match kind {
         5 => say(b"add_mux:"),
         6 => say(b"add_eq:"),
         7 => say(b"add_shl:"),
         8 => say(b"add_ushr:"),
-        _ => late_name(kind),
+        _ => name_from_9(kind),
     }
 }
 
-fn all_kinds(
-    log: &mut [u32],
-    want: &mut [u32],
-    out: &mut [u32],
-    room: &mut [u32],
-    a: &mut [u32],
-    b: &mut [u32],
-    trits: &mut [u8],
-) {
-    let mut kind: u32 = 1;
-    while kind <= KINDS {
-        let t = cases::cases(kind, log, want, out, room, a, b, trits);
-        name_of(kind);
-        report(t);
-        kind += 1;
+fn name_from_9(kind: u32) {
+    match kind {
+        9 => say(b"add_dff:"),
+        10 => say(b"replace_value:"),
+        11 => say(b"into_pos:"),
+        12 => say(b"remap_reset_over_enable:"),
+        _ => name_from_13(kind),
+    }
+}
+
+fn name_from_13(kind: u32) {
+    match kind {
+        13 => say(b"add_dedup_mux:"),
+        14 => say(b"add_dedup_dff:"),
+        _ => say(b"add_bitwise_mux:"),
     }
 }
 
 fn main() {
-    let mut log = [0u32; LOG_WORDS];
-    let mut want = [0u32; LOG_WORDS];
-    let mut out = [0u32; NETS];
-    let mut room = [0u32; NETS];
-    let mut a = [0u32; NETS];
-    let mut b = [0u32; NETS];
-    let mut trits = [0u8; NETS];
-    all_kinds(
-        &mut log,
-        &mut want,
-        &mut out,
-        &mut room,
-        &mut a,
-        &mut b,
-        &mut trits,
-    );
+    let mut kind: u32 = 1;
+    while kind <= KINDS {
+        let t = cases::cases(kind);
+        name_of(kind);
+        report(t);
+        kind += 1;
+    }
 }

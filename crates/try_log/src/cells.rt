@@ -47,6 +47,10 @@ struct Case {
 
 const CASES: u32 = 720;
 
+const LOG_WORDS: usize = 16640;
+
+const NETS: usize = 4100;
+
 const STRIDE: u32 = 3;
 
 // The words of an entry.
@@ -371,60 +375,42 @@ fn want_entry(want: &mut [u32], n: u32, c: Case, a: &[u32], b: &[u32], trits: &[
     }
 }
 
-// A case: every word of the log is compared.
-fn try_case(
-    t: Tally,
-    c: Case,
-    log: &mut [u32],
-    want: &mut [u32],
-    a: &[u32],
-    b: &[u32],
-    trits: &[u8],
-) -> Tally {
-    let n = number(c);
-    want_entry(want, n, c, a, b, trits);
-    paint_words(log);
-    let r = call_in(log, c, a, b, trits);
-    let ok = answered(c, n, r);
-    let kept = same(log, want);
-    numbered::add(t, n, both(ok, kept))
+// The call on a painted log, of which every word is compared.
+fn compared(c: Case, n: u32, want: &[u32], a: &[u32], b: &[u32], trits: &[u8]) -> bool {
+    let mut log = [0u32; LOG_WORDS];
+    paint_words(&mut log);
+    let r = call_in(&mut log, c, a, b, trits);
+    both(answered(c, n, r), same(&log, want))
 }
 
-fn set_and_try(
-    t: Tally,
-    c: Case,
-    log: &mut [u32],
-    want: &mut [u32],
-    a: &mut [u32],
-    b: &mut [u32],
-    trits: &mut [u8],
-) -> Tally {
-    set_nets(c, a, b);
-    set_trits(trits, c.bad == TRIT, bad_trit(c));
+fn try_case(t: Tally, c: Case, a: &[u32], b: &[u32], trits: &[u8]) -> Tally {
+    let mut want = [0u32; LOG_WORDS];
+    let n = number(c);
+    want_entry(&mut want, n, c, a, b, trits);
+    numbered::add(t, n, compared(c, n, &want, a, b, trits))
+}
+
+fn set_and_try(t: Tally, c: Case) -> Tally {
+    let mut a = [0u32; NETS];
+    let mut b = [0u32; NETS];
+    let mut trits = [0u8; NETS];
+    set_nets(c, &mut a, &mut b);
+    set_trits(&mut trits, c.bad == TRIT, bad_trit(c));
     try_case(
         t,
         c,
-        log,
-        want,
-        net_value::value_slice(a, 0, c.n),
-        net_value::value_slice(b, 0, c.m),
-        trits,
+        net_value::value_slice(&a, 0, c.n),
+        net_value::value_slice(&b, 0, c.m),
+        &trits,
     )
 }
 
 // All the cases of one kind.
-pub(crate) fn cases(
-    kind: u32,
-    log: &mut [u32],
-    want: &mut [u32],
-    a: &mut [u32],
-    b: &mut [u32],
-    trits: &mut [u8],
-) -> Tally {
+pub(crate) fn cases(kind: u32) -> Tally {
     let mut t = numbered::start();
     let mut k: u32 = 0;
     while k < CASES {
-        t = set_and_try(t, case_at(kind, k), log, want, a, b, trits);
+        t = set_and_try(t, case_at(kind, k));
         k += 1;
     }
     t

@@ -4,10 +4,6 @@ mod cells;
 
 use try_kit::numbered::Tally;
 
-const LOG_WORDS: usize = 16640;
-
-const NETS: usize = 4100;
-
 fn say(s: &[u8]) {
     io::write_all(libc::STDOUT_FILENO, s);
 }
@@ -22,12 +18,16 @@ fn report(t: Tally) {
     count(b" ", t.right);
     count(b" of ", t.made);
     count(b": accepted ", t.accepted);
+    report_numbers(t);
+    io::write_all(libc::STDOUT_FILENO, b"\n");
+}
+
+fn report_numbers(t: Tally) {
     count(b", 1: ", t.large);
     count(b", 2: ", t.unequal);
     count(b", 4: ", t.bad);
     count(b", 20: ", t.full);
     count(b", 21: ", t.netless);
-    io::write_all(libc::STDOUT_FILENO, b"\n");
 }
 
 fn name_of(kind: u32) {
@@ -37,21 +37,12 @@ fn name_of(kind: u32) {
 }
 
 // The kinds of entries: void, not, and, or, mux, eq, shl, ushr, flip-flop and replace.
-fn all_cells(log: &mut [u32], want: &mut [u32], a: &mut [u32], b: &mut [u32], trits: &mut [u8]) {
+fn main() {
     let mut kind: u32 = 1;
     while kind < 11 {
-        let t = cells::cases(kind, log, want, a, b, trits);
+        let t = cells::cases(kind);
         name_of(kind);
         report(t);
         kind += 1;
     }
-}
-
-fn main() {
-    let mut log = [0u32; LOG_WORDS];
-    let mut want = [0u32; LOG_WORDS];
-    let mut a = [0u32; NETS];
-    let mut b = [0u32; NETS];
-    let mut trits = [0u8; NETS];
-    all_cells(&mut log, &mut want, &mut a, &mut b, &mut trits);
 }

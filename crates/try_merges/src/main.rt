@@ -24,6 +24,7 @@ use try_kit::spoilt::NOTHING;
 use try_kit::spoilt::SECOND;
 use try_kit::spoilt::of_what;
 use try_kit::spoilt::select_in;
+use try_kit::words::both;
 use try_kit::words::minus;
 use try_kit::words::net_above;
 use try_kit::words::plus;
@@ -415,21 +416,18 @@ fn compare(
     s: &[u32],
     a: &[u32],
     b: &[u32],
-    log: &mut [u32],
-    out: &mut [u32],
     want: &[u32],
     nets: &[u32],
 ) -> bool {
-    paint_words(log);
-    paint_words(out);
-    let r = call_in(c, room, log, s, a, b, out);
+    let mut log = [0u32; LOG_WORDS];
+    let mut out = [0u32; NETS];
+    paint_words(&mut log);
+    paint_words(&mut out);
+    let r = call_in(c, room, &mut log, s, a, b, &mut out);
     if !answered(n, wanted, r) {
         return false;
     }
-    if !same(log, want) {
-        return false;
-    }
-    same(out, nets)
+    both(same(&log, want), same(&out, nets))
 }
 
 // A refused call leaves all as it was.
@@ -442,23 +440,14 @@ fn unset(n: u32, want: &mut [u32], nets: &mut [u32]) {
 }
 
 // A case: the words and nets expected are set first.
-fn try_case(
-    t: Tally,
-    c: Case,
-    mode: u32,
-    s: &[u32],
-    a: &[u32],
-    b: &[u32],
-    log: &mut [u32],
-    want: &mut [u32],
-) -> Tally {
-    let mut out = [0u32; NETS];
+fn try_case(t: Tally, c: Case, mode: u32, s: &[u32], a: &[u32], b: &[u32]) -> Tally {
+    let mut want = [0u32; LOG_WORDS];
     let mut nets = [0u32; NETS];
-    let wanted = paint_and_expect(c, want, s, a, b, &mut nets);
+    let wanted = paint_and_expect(c, &mut want, s, a, b, &mut nets);
     let room = room_at(mode, 0, wanted.used);
     let n = number(c, room, wanted);
-    unset(n, want, &mut nets);
-    let ok = compare(c, n, wanted, room, s, a, b, log, &mut out, want, &nets);
+    unset(n, &mut want, &mut nets);
+    let ok = compare(c, n, wanted, room, s, a, b, &want, &nets);
     numbered::add(t, n, ok)
 }
 
@@ -481,7 +470,7 @@ fn set_nets(c: Case, s: &mut [u32], a: &mut [u32], b: &mut [u32]) {
     spoil(b, of_what(c.bad, SECOND, c.m), c.next);
 }
 
-fn set_and_try(t: Tally, bitwise: bool, k: u32, log: &mut [u32], want: &mut [u32]) -> Tally {
+fn set_and_try(t: Tally, bitwise: bool, k: u32) -> Tally {
     let mut s = [0u32; NETS];
     let mut a = [0u32; NETS];
     let mut b = [0u32; NETS];
@@ -494,17 +483,15 @@ fn set_and_try(t: Tally, bitwise: bool, k: u32, log: &mut [u32], want: &mut [u32
         net_value::value_slice(&s, 0, c.n),
         net_value::value_slice(&a, 0, c.n),
         net_value::value_slice(&b, 0, c.m),
-        log,
-        want,
     )
 }
 
 // All the cases of one of the two merges.
-fn cases(bitwise: bool, log: &mut [u32], want: &mut [u32]) -> Tally {
+fn cases(bitwise: bool) -> Tally {
     let mut t = numbered::start();
     let mut k: u32 = 0;
     while k < CASES {
-        t = set_and_try(t, bitwise, k, log, want);
+        t = set_and_try(t, bitwise, k);
         k += 1;
     }
     t
@@ -520,21 +507,23 @@ fn report(t: Tally) {
     count(b" ", t.right);
     count(b" of ", t.made);
     count(b": accepted ", t.accepted);
+    report_numbers(t);
+    io::write_all(libc::STDOUT_FILENO, b"\n");
+}
+
+fn report_numbers(t: Tally) {
     count(b", 1: ", t.large);
     count(b", 2: ", t.unequal);
     count(b", 4: ", t.bad);
     count(b", 20: ", t.full);
     count(b", 21: ", t.netless);
-    io::write_all(libc::STDOUT_FILENO, b"\n");
 }
 
 fn main() {
-    let mut log = [0u32; LOG_WORDS];
-    let mut want = [0u32; LOG_WORDS];
-    let t = cases(false, &mut log, &mut want);
+    let t = cases(false);
     io::write_all(libc::STDOUT_FILENO, b"add_dedup_mux:");
     report(t);
-    let u = cases(true, &mut log, &mut want);
+    let u = cases(true);
     io::write_all(libc::STDOUT_FILENO, b"add_bitwise_mux:");
     report(u);
 }

@@ -1,4 +1,5 @@
 -- `table_text::bytes::hex_of` meets its contract.
+use mathlib.Core.Path.{_∙_, refl}
 use Rattle.table_text.specs.Bytes.{hexOf}
 use borrow.Author.Needs.{needs}
 use Rattle.table_text.proofs.bytes.hex_of.Statement.{statement}
@@ -33,7 +34,7 @@ pick-requires-3 c κs = search needs
 
 returns : tie.Need-returns
 unfolding hexOf
-returns c = cc
+returns c = c .pick3 .ensures ∙ rw (c .before .minus3 .ensures, c .before .before .is-digit .ensures, c .before .before .before .pick2 .ensures, c .before .before .before .before .pick .ensures, c .before .before .before .before .before .minus2 .ensures, c .before .before .before .before .before .before .both2 .ensures, c .before .before .before .before .before .before .before .minus .ensures, c .before .before .before .before .before .before .before .before .both .ensures) refl
 
 pub hex-of-spec : {M : Type 1} → statement M
 hex-of-spec =

@@ -1,4 +1,5 @@
 -- `table_text::bytes::is_end` meets its contract.
+use mathlib.Core.Path.{_∙_, refl}
 use Rattle.table_text.specs.Bytes.{isEnd}
 use borrow.Author.Needs.{needs}
 use Rattle.table_text.proofs.bytes.is_end.Statement.{statement}
@@ -15,7 +16,7 @@ either-requires-2 c κs = search needs
 
 returns : tie.Need-returns
 unfolding isEnd
-returns c = cc
+returns c = c .either2 .ensures ∙ rw (c .before .either .ensures, c .before .before .is-blank .ensures) refl
 
 pub is-end-spec : {M : Type 1} → statement M
 is-end-spec = tie.close (tie.spec is-blank-requires either-requires either-requires-2 returns)

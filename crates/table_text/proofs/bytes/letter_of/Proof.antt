@@ -1,4 +1,5 @@
 -- `table_text::bytes::letter_of` meets its contract.
+use mathlib.Core.Path.{_∙_, refl}
 use Rattle.table_text.specs.Bytes.{letterOf}
 use borrow.Author.Needs.{needs}
 use Rattle.table_text.proofs.bytes.letter_of.Statement.{statement}
@@ -15,7 +16,7 @@ pick-requires-3 c κs = search needs
 
 returns : tie.Need-returns
 unfolding letterOf
-returns c = cc
+returns c = c .pick3 .ensures ∙ rw (c .before .pick2 .ensures, c .before .before .pick .ensures) refl
 
 pub letter-of-spec : {M : Type 1} → statement M
 letter-of-spec = tie.close (tie.spec pick-requires pick-requires-2 pick-requires-3 returns)

@@ -1,4 +1,5 @@
 -- `table_text::bytes::trit_of` meets its contract.
+use mathlib.Core.Path.{_∙_, refl}
 use Rattle.table_text.specs.Bytes.{tritOf}
 use borrow.Author.Needs.{needs}
 use Rattle.table_text.proofs.bytes.trit_of.Statement.{statement}
@@ -18,7 +19,7 @@ pick-requires-4 c κs = search needs
 
 returns : tie.Need-returns
 unfolding tritOf
-returns c = cc
+returns c = c .pick4 .ensures ∙ rw (c .before .pick3 .ensures, c .before .before .pick2 .ensures, c .before .before .before .pick .ensures) refl
 
 pub trit-of-spec : {M : Type 1} → statement M
 trit-of-spec =

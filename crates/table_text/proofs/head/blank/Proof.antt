@@ -1,4 +1,5 @@
 -- `table_text::head::blank` meets its contract.
+use mathlib.Core.Path.{_∙_, refl}
 use Rattle.table_text.specs.Head.{headBlank}
 use borrow.Author.Needs.{needs}
 use Rattle.table_text.proofs.head.blank.Statement.{statement}
@@ -30,7 +31,7 @@ pick-head-requires-3 c κs = search needs
 
 returns : tie.Need-returns
 unfolding headBlank
-returns c = cc
+returns c = c .pick-head3 .ensures ∙ rw (c .before .pick-head2 .ensures, c .before .before .number-end .ensures, c .before .before .before .bumped2 .ensures, c .before .before .before .before .before .before .pick-head .ensures, c .before .before .before .before .before .before .before .bad .ensures, c .before .before .before .before .before .before .before .before .made .ensures, c .before .before .before .before .before .before .before .before .before .bumped .ensures) refl
 
 pub blank-spec : {M : Type 1} → statement M
 blank-spec =

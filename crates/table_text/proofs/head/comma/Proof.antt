@@ -1,4 +1,5 @@
 -- `table_text::head::comma` meets its contract.
+use mathlib.Core.Path.{_∙_, refl}
 use Rattle.table_text.specs.Head.{headComma}
 use borrow.Author.Needs.{needs}
 use Rattle.table_text.proofs.head.comma.Statement.{statement}
@@ -18,7 +19,7 @@ pick-head-requires c κs = search needs
 
 returns : tie.Need-returns
 unfolding headComma
-returns c = cc
+returns c = c .pick-head .ensures ∙ rw (c .before .bad .ensures, c .before .before .number-end .ensures, c .before .before .before .both .ensures) refl
 
 pub comma-spec : {M : Type 1} → statement M
 comma-spec =

@@ -1,4 +1,5 @@
 -- `table_text::head::digit` meets its contract.
+use mathlib.Core.Path.{_∙_, refl}
 use Rattle.table_text.specs.Head.{headDigit}
 use borrow.Author.Needs.{needs}
 use Rattle.table_text.proofs.head.digit.Statement.{statement}
@@ -21,7 +22,7 @@ pick-head-requires c κs = search needs
 
 returns : tie.Need-returns
 unfolding headDigit
-returns c = cc
+returns c = c .pick-head .ensures ∙ rw (c .before .bad .ensures, c .before .before .made .ensures, c .before .before .before .before .more-ten .ensures, c .before .before .before .before .before .minus .ensures) refl
 
 pub digit-spec : {M : Type 1} → statement M
 digit-spec =

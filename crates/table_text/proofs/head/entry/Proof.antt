@@ -1,4 +1,5 @@
 -- `table_text::head::entry` meets its contract.
+use mathlib.Core.Path.{_∙_, refl}
 use Rattle.table_text.specs.Head.{headEntry}
 use borrow.Author.Needs.{needs}
 use Rattle.table_text.proofs.head.entry.Statement.{statement}
@@ -18,7 +19,7 @@ pick-head-requires c κs = search needs
 
 returns : tie.Need-returns
 unfolding headEntry
-returns c = cc
+returns c = c .pick-head .ensures ∙ rw (c .before .bad .ensures, c .before .before .made .ensures, c .before .before .before .both .ensures) refl
 
 pub entry-spec : {M : Type 1} → statement M
 entry-spec =

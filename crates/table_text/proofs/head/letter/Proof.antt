@@ -1,4 +1,5 @@
 -- `table_text::head::letter` meets its contract.
+use mathlib.Core.Path.{_∙_, refl}
 use Rattle.table_text.specs.Head.{headLetter}
 use borrow.Author.Needs.{needs}
 use Rattle.table_text.proofs.head.letter.Statement.{statement}
@@ -30,7 +31,7 @@ pick-head-requires-2 c κs = search needs
 
 returns : tie.Need-returns
 unfolding headLetter
-returns c = cc
+returns c = c .pick-head2 .ensures ∙ rw (c .before .bad .ensures, c .before .before .both .ensures, c .before .before .before .letter-of .ensures, c .before .before .before .before .before .pick-head .ensures, c .before .before .before .before .before .before .made2 .ensures, c .before .before .before .before .before .before .before .next-letter .ensures, c .before .before .before .before .before .before .before .before .made .ensures) refl
 
 pub letter-spec : {M : Type 1} → statement M
 letter-spec =

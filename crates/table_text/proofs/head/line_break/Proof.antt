@@ -1,4 +1,5 @@
 -- `table_text::head::line_break` meets its contract.
+use mathlib.Core.Path.{_∙_, refl}
 use Rattle.table_text.specs.Head.{headBreak}
 use borrow.Author.Needs.{needs}
 use Rattle.table_text.proofs.head.line_break.Statement.{statement}
@@ -21,7 +22,7 @@ pick-head-requires c κs = search needs
 
 returns : tie.Need-returns
 unfolding headBreak
-returns c = cc
+returns c = c .pick-head .ensures ∙ rw (c .before .bad .ensures, c .before .before .made .ensures, c .before .before .before .both .ensures, c .before .before .before .before .before .before .blank .ensures) refl
 
 pub line-break-spec : {M : Type 1} → statement M
 line-break-spec =

@@ -1,4 +1,5 @@
 -- `table_text::head::number_end` meets its contract.
+use mathlib.Core.Path.{_∙_, refl}
 use Rattle.table_text.specs.Head.{numberEnd}
 use borrow.Author.Needs.{needs}
 use Rattle.table_text.proofs.head.number_end.Statement.{statement}
@@ -18,7 +19,7 @@ pick-head-requires c κs = search needs
 
 returns : tie.Need-returns
 unfolding numberEnd
-returns c = cc
+returns c = c .pick-head .ensures ∙ rw (c .before .bad .ensures, c .before .before .made .ensures, c .before .before .before .bumped .ensures) refl
 
 pub number-end-spec : {M : Type 1} → statement M
 number-end-spec =

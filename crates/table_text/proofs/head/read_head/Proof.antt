@@ -1,7 +1,7 @@
 -- `table_text::head::read_head` meets its contract.
 use Rattle.table_text.specs.Head.{headRead}
 use borrow.Author.Tests.{lt-ltb, le-ltb}
-use mathlib.Core.Path.{_∙_, ap, sym}
+use mathlib.Core.Path.{_∙_, ap, refl, sym}
 use borrow.Author.Needs.{needs}
 use Rattle.table_text.proofs.head.read_head.Statement.{statement}
 use Rattle.table_text.proofs.head.read_head.Tie as tie
@@ -11,7 +11,7 @@ made-requires c κs = search needs
 
 returns : tie.Need-returns
 unfolding headRead
-returns c = rw (lt-ltb _ _ (c .before .if1 .taken)) (cc)
+returns c = rw (lt-ltb _ _ (c .before .if1 .taken), c .made .ensures) refl
 
 read-line-requires : tie.Need-read-line-requires
 read-line-requires c κs = search needs

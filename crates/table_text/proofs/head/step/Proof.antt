@@ -1,4 +1,5 @@
 -- `table_text::head::step` meets its contract.
+use mathlib.Core.Path.{_∙_, refl}
 use Rattle.table_text.specs.Head.{headStep}
 use borrow.Author.Needs.{needs}
 use Rattle.table_text.proofs.head.step.Statement.{statement}
@@ -39,7 +40,7 @@ pick-head-requires-4 c κs = search needs
 
 returns : tie.Need-returns
 unfolding headStep
-returns c = cc
+returns c = c .pick-head4 .ensures ∙ rw (c .before .pick-head3 .ensures, c .before .before .blank .ensures, c .before .before .before .is-blank .ensures, c .before .before .before .before .digit .ensures, c .before .before .before .before .before .is-digit .ensures, c .before .before .before .before .before .before .pick-head2 .ensures, c .before .before .before .before .before .before .before .pick-head .ensures, c .before .before .before .before .before .before .before .before .word .ensures, c .before .before .before .before .before .before .before .before .before .line-break .ensures, c .before .before .before .before .before .before .before .before .before .before .comma .ensures) refl
 
 pub step-spec : {M : Type 1} → statement M
 step-spec =

@@ -24,10 +24,10 @@ same-length : tie.Need-same-length
 same-length c = search needs
 
 returns : tie.Need-returns
-returns c = let a = c .before .before .before .before .before .before .before .before .before .before .before .args in cc (head-stored (a .h) (a .b) (a .words .now) (cc))
+returns c = let a = c .before .before .before .before .before .before .before .before .before .before .before .args in c .before .before .put-u32 .ensures ∙ rw (c .before .before .before .before .usize-of-u32 .ensures .0, c .before .before .before .low-word .ensures) (head-stored (a .h) (a .b) (a .words .now) (rw (sym (c .before .before .before .before .before .before .before .before .is-stop .ensures)) (sym (c .before .before .before .before .before .before .before .both .ensures) ∙ c .before .before .before .before .before .before .if1 .taken)))
 
 returns-2 : tie.Need-returns-2
-returns-2 c = let a = c .before .before .before .before .before .args in head-kept (a .h) (a .b) (a .words .now) (cc)
+returns-2 c = let a = c .before .before .before .before .before .args in head-kept (a .h) (a .b) (a .words .now) (rw (sym (c .before .before .is-stop .ensures)) (sym (c .before .both .ensures) ∙ c .if1 .left))
 
 pub store-spec : {M : Type 1} → statement M
 store-spec =

@@ -1,4 +1,5 @@
 -- `table_text::head::word` meets its contract.
+use mathlib.Core.Path.{_∙_, refl}
 use Rattle.table_text.specs.Head.{headWord}
 use borrow.Author.Needs.{needs}
 use Rattle.table_text.proofs.head.word.Statement.{statement}
@@ -21,7 +22,7 @@ pick-head-requires-2 c κs = search needs
 
 returns : tie.Need-returns
 unfolding headWord
-returns c = cc
+returns c = c .pick-head2 .ensures ∙ rw (c .before .pick-head .ensures, c .before .before .letter .ensures, c .before .before .before .entry2 .ensures, c .before .before .before .before .entry .ensures) refl
 
 pub word-spec : {M : Type 1} → statement M
 word-spec =

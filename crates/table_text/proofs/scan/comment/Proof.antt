@@ -1,4 +1,5 @@
 -- `table_text::scan::comment` meets its contract.
+use mathlib.Core.Path.{_∙_, refl}
 use Rattle.table_text.specs.Scan.{scanComment}
 use borrow.Author.Needs.{needs}
 use Rattle.table_text.proofs.scan.comment.Statement.{statement}
@@ -15,7 +16,7 @@ pick-scan-requires c κs = search needs
 
 returns : tie.Need-returns
 unfolding scanComment
-returns c = cc
+returns c = c .pick-scan .ensures ∙ rw (c .before .made .ensures, c .before .before .bumped .ensures) refl
 
 pub comment-spec : {M : Type 1} → statement M
 comment-spec = tie.close (tie.spec bumped-requires made-requires pick-scan-requires returns)

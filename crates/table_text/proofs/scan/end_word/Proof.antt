@@ -1,4 +1,5 @@
 -- `table_text::scan::end_word` meets its contract.
+use mathlib.Core.Path.{_∙_, refl}
 use Rattle.table_text.specs.Scan.{ended}
 use borrow.Author.Needs.{needs}
 use Rattle.table_text.proofs.scan.end_word.Statement.{statement}
@@ -24,7 +25,7 @@ pick-scan-requires-3 c κs = search needs
 
 returns : tie.Need-returns
 unfolding ended
-returns c = cc
+returns c = c .pick-scan3 .ensures ∙ rw (c .before .pick-scan2 .ensures, c .before .before .word-end .ensures, c .before .before .before .before .before .pick-scan .ensures, c .before .before .before .before .before .before .turned .ensures, c .before .before .before .before .before .before .before .number-end .ensures) refl
 
 pub end-word-spec : {M : Type 1} → statement M
 end-word-spec =

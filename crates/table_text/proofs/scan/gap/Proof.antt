@@ -1,4 +1,5 @@
 -- `table_text::scan::gap` meets its contract.
+use mathlib.Core.Path.{_∙_, refl}
 use Rattle.table_text.specs.Scan.{between}
 use borrow.Author.Needs.{needs}
 use Rattle.table_text.proofs.scan.gap.Statement.{statement}
@@ -24,7 +25,7 @@ pick-scan-requires-3 c κs = search needs
 
 returns : tie.Need-returns
 unfolding between
-returns c = cc
+returns c = c .pick-scan3 .ensures ∙ rw (c .before .before .pick-scan2 .ensures, c .before .before .before .made .ensures, c .before .before .before .before .bumped .ensures, c .before .before .before .before .before .pick-scan .ensures, c .before .before .before .before .before .before .turned .ensures) refl
 
 pub gap-spec : {M : Type 1} → statement M
 gap-spec =

@@ -1,4 +1,5 @@
 -- `table_text::scan::hex` meets its contract.
+use mathlib.Core.Path.{_∙_, refl}
 use Rattle.table_text.specs.Scan.{scanHex}
 use borrow.Author.Needs.{needs}
 use Rattle.table_text.proofs.scan.hex.Statement.{statement}
@@ -21,7 +22,7 @@ pick-scan-requires c κs = search needs
 
 returns : tie.Need-returns
 unfolding scanHex
-returns c = cc
+returns c = c .pick-scan .ensures ∙ rw (c .before .turned .ensures, c .before .before .made .ensures, c .before .before .before .more-sixteen .ensures, c .before .before .before .before .hex-of .ensures) refl
 
 pub hex-spec : {M : Type 1} → statement M
 hex-spec =

@@ -1,4 +1,5 @@
 -- `table_text::scan::is_stored` meets its contract.
+use mathlib.Core.Path.{_∙_, refl}
 use Rattle.table_text.specs.Scan.{isStored}
 use borrow.Author.Needs.{needs}
 use Rattle.table_text.proofs.scan.is_stored.Statement.{statement}
@@ -21,7 +22,7 @@ both-requires-3 c κs = search needs
 
 returns : tie.Need-returns
 unfolding isStored
-returns c = cc
+returns c = c .both3 .ensures ∙ rw (c .before .both2 .ensures, c .before .before .trit-of .ensures, c .before .before .before .before .both .ensures, c .before .before .before .before .before .left-of .ensures) refl
 
 pub is-stored-spec : {M : Type 1} → statement M
 is-stored-spec =

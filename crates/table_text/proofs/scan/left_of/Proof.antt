@@ -1,4 +1,5 @@
 -- `table_text::scan::left_of` meets its contract.
+use mathlib.Core.Path.{_∙_, refl}
 use Rattle.table_text.specs.Scan.{leftOf}
 use borrow.Author.Needs.{needs}
 use Rattle.table_text.proofs.scan.left_of.Statement.{statement}
@@ -9,7 +10,7 @@ pick-requires c κs = search needs
 
 returns : tie.Need-returns
 unfolding leftOf
-returns c = cc
+returns c = c .pick .ensures
 
 pub left-of-spec : {M : Type 1} → statement M
 left-of-spec = tie.close (tie.spec pick-requires returns)

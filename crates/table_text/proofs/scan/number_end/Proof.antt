@@ -1,4 +1,5 @@
 -- `table_text::scan::number_end` meets its contract.
+use mathlib.Core.Path.{_∙_, refl}
 use Rattle.table_text.specs.Scan.{numberEnd}
 use borrow.Author.Needs.{needs}
 use Rattle.table_text.proofs.scan.number_end.Statement.{statement}
@@ -21,7 +22,7 @@ pick-scan-requires c κs = search needs
 
 returns : tie.Need-returns
 unfolding numberEnd
-returns c = cc
+returns c = c .pick-scan .ensures ∙ rw (c .before .turned .ensures, c .before .before .made .ensures, c .before .before .before .before .u64-of-u32 .ensures, c .before .before .before .before .before .low-word .ensures) refl
 
 pub number-end-spec : {M : Type 1} → statement M
 number-end-spec =

@@ -1,4 +1,5 @@
 -- `table_text::scan::plain` meets its contract.
+use mathlib.Core.Path.{_∙_, refl}
 use Rattle.table_text.specs.Scan.{scanPlain}
 use borrow.Author.Needs.{needs}
 use Rattle.table_text.proofs.scan.plain.Statement.{statement}
@@ -27,7 +28,7 @@ pick-scan-requires-2 c κs = search needs
 
 returns : tie.Need-returns
 unfolding scanPlain
-returns c = cc
+returns c = c .pick-scan2 .ensures ∙ rw (c .before .gap .ensures, c .before .before .end-word .ensures, c .before .before .before .is-end .ensures, c .before .before .before .before .pick-scan .ensures, c .before .before .before .before .before .hex .ensures, c .before .before .before .before .before .before .word .ensures) refl
 
 pub plain-spec : {M : Type 1} → statement M
 plain-spec =

@@ -1,4 +1,5 @@
 -- `table_text::scan::read_rows` meets its contract.
+use mathlib.Core.Path.{refl}
 use Rattle.table_text.specs.Scan.{rowsRead}
 use borrow.Author.Tests.{lt-ltb, le-ltb}
 use borrow.Author.Needs.{needs}
@@ -10,14 +11,14 @@ made-requires c κs = search needs
 
 returns : tie.Need-returns
 unfolding rowsRead
-returns c = rw (lt-ltb _ _ (c .before .if1 .taken)) (cc)
+returns c = rw (lt-ltb _ _ (c .before .if1 .taken), c .made .ensures) refl
 
 made-requires-2 : tie.Need-made-requires-2
 made-requires-2 c κs = search needs
 
 returns-2 : tie.Need-returns-2
 unfolding rowsRead
-returns-2 c = rw (le-ltb _ _ (c .before .before .if1 .left), lt-ltb _ _ (c .before .if2 .taken)) (cc)
+returns-2 c = rw (le-ltb _ _ (c .before .before .if1 .left), lt-ltb _ _ (c .before .if2 .taken), c .made2 .ensures) refl
 
 read-from-requires : tie.Need-read-from-requires
 read-from-requires c κs = search needs

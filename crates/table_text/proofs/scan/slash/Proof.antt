@@ -1,4 +1,5 @@
 -- `table_text::scan::slash` meets its contract.
+use mathlib.Core.Path.{_∙_, refl}
 use Rattle.table_text.specs.Scan.{scanSlash}
 use borrow.Author.Needs.{needs}
 use Rattle.table_text.proofs.scan.slash.Statement.{statement}
@@ -15,7 +16,7 @@ pick-scan-requires c κs = search needs
 
 returns : tie.Need-returns
 unfolding scanSlash
-returns c = cc
+returns c = c .pick-scan .ensures ∙ rw (c .before .turned2 .ensures, c .before .before .turned .ensures) refl
 
 pub slash-spec : {M : Type 1} → statement M
 slash-spec = tie.close (tie.spec turned-requires turned-requires-2 pick-scan-requires returns)

@@ -1,4 +1,5 @@
 -- `table_text::scan::step` meets its contract.
+use mathlib.Core.Path.{_∙_, refl}
 use Rattle.table_text.specs.Scan.{scanStep}
 use borrow.Author.Needs.{needs}
 use Rattle.table_text.proofs.scan.step.Statement.{statement}
@@ -24,7 +25,7 @@ pick-scan-requires-3 c κs = search needs
 
 returns : tie.Need-returns
 unfolding scanStep
-returns c = cc
+returns c = c .pick-scan3 .ensures ∙ rw (c .before .pick-scan2 .ensures, c .before .before .comment .ensures, c .before .before .before .before .before .pick-scan .ensures, c .before .before .before .before .before .before .plain .ensures, c .before .before .before .before .before .before .before .slash .ensures) refl
 
 pub step-spec : {M : Type 1} → statement M
 step-spec =

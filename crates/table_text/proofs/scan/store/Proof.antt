@@ -21,10 +21,10 @@ same-length : tie.Need-same-length
 same-length c = search needs
 
 returns : tie.Need-returns
-returns c = let a = c .before .before .before .before .before .before .before .before .before .args in cc (scan-stored (a .depth) (a .width) (a .s) (a .b) (a .rows .now) (cc))
+returns c = let a = c .before .before .before .before .before .before .before .before .before .args in c .before .before .put-u8 .ensures ∙ rw (c .before .before .before .before .place .ensures, c .before .before .before .trit-byte .ensures) (scan-stored (a .depth) (a .width) (a .s) (a .b) (a .rows .now) (sym (c .before .before .before .before .before .before .before .is-stored .ensures) ∙ c .before .before .before .before .before .before .if1 .taken))
 
 returns-2 : tie.Need-returns-2
-returns-2 c = let a = c .before .before .before .args in scan-kept (a .depth) (a .width) (a .s) (a .b) (a .rows .now) (cc)
+returns-2 c = let a = c .before .before .before .args in scan-kept (a .depth) (a .width) (a .s) (a .b) (a .rows .now) (sym (c .before .is-stored .ensures) ∙ c .if1 .left)
 
 pub store-spec : {M : Type 1} → statement M
 store-spec =

@@ -1,4 +1,5 @@
 -- `table_text::scan::trit` meets its contract.
+use mathlib.Core.Path.{_∙_, refl}
 use Rattle.table_text.specs.Scan.{scanTrit}
 use borrow.Author.Needs.{needs}
 use Rattle.table_text.proofs.scan.trit.Statement.{statement}
@@ -27,7 +28,7 @@ pick-scan-requires-2 c κs = search needs
 
 returns : tie.Need-returns
 unfolding scanTrit
-returns c = cc
+returns c = c .pick-scan2 .ensures ∙ rw (c .before .turned2 .ensures, c .before .before .pick-scan .ensures, c .before .before .before .turned .ensures, c .before .before .before .before .before .made .ensures, c .before .before .before .before .before .before .minus .ensures, c .before .before .before .before .before .before .before .left-of .ensures) refl
 
 pub trit-spec : {M : Type 1} → statement M
 trit-spec =

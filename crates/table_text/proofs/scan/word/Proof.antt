@@ -1,4 +1,5 @@
 -- `table_text::scan::word` meets its contract.
+use mathlib.Core.Path.{_∙_, refl}
 use Rattle.table_text.specs.Scan.{scanWord}
 use borrow.Author.Needs.{needs}
 use Rattle.table_text.proofs.scan.word.Statement.{statement}
@@ -33,7 +34,7 @@ pick-scan-requires-3 c κs = search needs
 
 returns : tie.Need-returns
 unfolding scanWord
-returns c = cc
+returns c = c .pick-scan3 .ensures ∙ rw (c .before .trit .ensures, c .before .before .trit-of .ensures, c .before .before .before .pick-scan2 .ensures, c .before .before .before .before .both2 .ensures, c .before .before .before .before .before .before .pick-scan .ensures, c .before .before .before .before .before .before .before .turned2 .ensures, c .before .before .before .before .before .before .before .before .turned .ensures, c .before .before .before .before .before .before .before .before .before .both .ensures) refl
 
 pub word-spec : {M : Type 1} → statement M
 word-spec =

@@ -1,4 +1,5 @@
 -- `table_text::scan::word_end` meets its contract.
+use mathlib.Core.Path.{_∙_, refl}
 use Rattle.table_text.specs.Scan.{wordEnd}
 use borrow.Author.Needs.{needs}
 use Rattle.table_text.proofs.scan.word_end.Statement.{statement}
@@ -18,7 +19,7 @@ pick-scan-requires c κs = search needs
 
 returns : tie.Need-returns
 unfolding wordEnd
-returns c = cc
+returns c = c .pick-scan .ensures ∙ rw (c .before .turned .ensures, c .before .before .made .ensures, c .before .before .before .bumped .ensures) refl
 
 pub word-end-spec : {M : Type 1} → statement M
 word-end-spec =
