@@ -1,4 +1,5 @@
 // The fallback for callers in C and Rust: numbers, slices and `repr(C)` structs, no enums. A refused call gives state and lent arrays back as they were.
+#![tactic(auto)]
 ghost use Rattle.std.specs.Prelude.{◌≡◌};
 ghost use Rattle.rules.specs.Answers.{lower_fallback_call};
 ghost use Rattle.rules.specs.Fallback.{fallback_scratch};

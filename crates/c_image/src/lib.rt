@@ -1,4 +1,5 @@
 // Layouts, images, patches and places for callers in C and Rust: by a layout's numbers and entries, and by the state that a swizzle hands on.
+#![tactic(auto)]
 ghost use Rattle.std.specs.Prelude.{◌≡◌, length};
 ghost use Rattle.std.proofs.Math.Option.{none};
 ghost use Rattle.rules.specs.Patch.{Demanded};
@@ -20,7 +21,7 @@ use record_sizes::Sizes;
 
 // A refusal's number, or 0 and the shape of a layout.
 #[repr(C)]
-#[derive(Drop)]
+#[derive(Clone, Copy)]
 pub struct MeasuredResult {
     pub number: u32,
     pub shape: Shape,
@@ -28,7 +29,7 @@ pub struct MeasuredResult {
 
 // A refusal's number, or 0 and the place of an entry.
 #[repr(C)]
-#[derive(Drop)]
+#[derive(Clone, Copy)]
 pub struct PlacedResult {
     pub number: u32,
     pub place: Place,

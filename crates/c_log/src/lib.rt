@@ -1,5 +1,6 @@
 // Requests and merges on a lent log for callers in C and Rust. The log state goes in by value and comes back in the answer's struct; a refused call
 // gives it back as it was. Here are the structs and what they are in the library's terms; the exported functions are in `requests` and `merges`.
+#![tactic(auto)]
 ghost use Rattle.std.specs.Prelude.{◌≡◌};
 ghost use Rattle.net_flip_flop.specs.View.{controls_of};
 ghost use Rattle.log_requests.specs.Answers.{net_answer_of, controls_answer_of};
@@ -14,7 +15,7 @@ pub mod requests;
 
 // The controls of a flip-flop; reset_over_enable is 0 or 1.
 #[repr(C)]
-#[derive(Drop)]
+#[derive(Clone, Copy)]
 pub struct Controls {
     pub clock: Control,
     pub clear: Control,
@@ -25,7 +26,7 @@ pub struct Controls {
 
 // A refusal's number, or 0, and the state after the call.
 #[repr(C)]
-#[derive(Drop)]
+#[derive(Clone, Copy)]
 pub struct Logged {
     pub number: u32,
     pub state: LogState,
@@ -33,7 +34,7 @@ pub struct Logged {
 
 // With a net.
 #[repr(C)]
-#[derive(Drop)]
+#[derive(Clone, Copy)]
 pub struct NetLogged {
     pub number: u32,
     pub net: u32,
@@ -42,7 +43,7 @@ pub struct NetLogged {
 
 // With controls.
 #[repr(C)]
-#[derive(Drop)]
+#[derive(Clone, Copy)]
 pub struct ControlsLogged {
     pub number: u32,
     pub controls: Controls,

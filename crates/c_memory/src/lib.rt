@@ -1,4 +1,5 @@
 // A memory for callers in C and Rust, and the calls on its ports: numbers, slices and `repr(C)` structs, no enums.
+#![tactic(auto)]
 ghost use Rattle.std.specs.Prelude.{◌≡◌};
 ghost use Rattle.rules.specs.Refusals.{mem_refusal};
 ghost use Rattle.rules.specs.Answers.{wide_log2_call, output_len_call, output_slice_call, can_lower_fallback_call, extract_read_ports_call};
@@ -17,7 +18,7 @@ use port_outputs::{CanLower, OutputLen, OutputSlice};
 pub mod ports;
 
 #[repr(C)]
-#[derive(Drop)]
+#[derive(Clone, Copy)]
 pub struct WritePort {
     pub addr_len: u32,
     pub data_len: u32,
@@ -27,7 +28,7 @@ pub struct WritePort {
 
 // Relations are codes: 0 Undefined, 1 ReadBeforeWrite, 2 Transparent. With `clocked` 0 there is no flip-flop, and the controls play no part.
 #[repr(C)]
-#[derive(Drop)]
+#[derive(Clone, Copy)]
 pub struct ReadPort {
     pub addr_len: u32,
     pub data_len: u32,
@@ -45,7 +46,7 @@ pub struct ReadPort {
 }
 
 #[repr(C)]
-#[derive(Drop)]
+#[derive(Clone, Copy)]
 pub struct Memory {
     pub depth: u32,
     pub width: u32,
@@ -57,7 +58,7 @@ pub struct Memory {
 }
 
 // The fields of a read port that say its flip-flop.
-#[derive(Drop)]
+#[derive(Clone, Copy)]
 pub struct FlipFlop {
     pub clocked: u32,
     pub clock: Control,
@@ -69,7 +70,7 @@ pub struct FlipFlop {
 
 // A refusal's number and zeros, or 0 and a part's start and size, or a memory.
 #[repr(C)]
-#[derive(Drop)]
+#[derive(Clone, Copy)]
 pub struct Slice {
     pub number: u32,
     pub start: usize,
@@ -77,7 +78,7 @@ pub struct Slice {
 }
 
 #[repr(C)]
-#[derive(Drop)]
+#[derive(Clone, Copy)]
 pub struct Extracted {
     pub number: u32,
     pub memory: Memory,

@@ -5,7 +5,7 @@ use Prim.Native.Nat.{ℕ}
 use mathlib.Core.List.{List}
 use lib.ListN.{length}
 use lib.Seq.{sets}
-use Rattle.lists.specs.Choice.{◌orElse◌}
+use Rattle.lists.specs.Choice.{◌or_else◌}
 use Rattle.lists.proofs.Choice.{else_rest, leaves_refused, leaves_accepted}
 use Rattle.rules.specs.Refusals.{lent_refusal}
 use Rattle.rules.specs.Answers.{listed_in}

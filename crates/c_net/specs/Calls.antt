@@ -1,6 +1,6 @@
 -- Calls that the rules do not have as such: the functions of trits on codes, and the select bits in lent room.
 use Rattle.std.specs.Prelude.{ℕ, List, length}
-use Rattle.lists.specs.Choice.{◌orElse◌}
+use Rattle.lists.specs.Choice.{◌or_else◌}
 use Rattle.rules.specs.Logic.{Trit, trit_of, code_of, trit_not}
 use Rattle.rules.specs.Value.{Value}
 use Rattle.rules.specs.Ports.{narrower_select}

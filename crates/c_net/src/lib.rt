@@ -1,5 +1,6 @@
 // Trits, constants, nets and controls for callers in C and Rust: numbers, slices and `repr(C)` structs, no enums.
 // Here are the structs and what they are in the library's terms; the exported functions are in `logic` and `value`.
+#![tactic(auto)]
 ghost use Rattle.std.specs.Prelude.{◌≡◌};
 ghost use Rattle.net_logic.specs.View.{bool_answer};
 ghost use Rattle.net_value.specs.View.{control_of, control_answer, net_answer};
@@ -13,7 +14,7 @@ pub mod value;
 
 // A refusal's number, or 0 and a value.
 #[repr(C)]
-#[derive(Drop)]
+#[derive(Clone, Copy)]
 pub struct Result {
     pub number: u32,
     pub value: u32,
@@ -21,14 +22,14 @@ pub struct Result {
 
 // A net, or its inverse: polarity 0 is Pos, 1 is Neg.
 #[repr(C)]
-#[derive(Drop)]
+#[derive(Clone, Copy)]
 pub struct Control {
     pub polarity: u32,
     pub net: u32,
 }
 
 #[repr(C)]
-#[derive(Drop)]
+#[derive(Clone, Copy)]
 pub struct ControlResult {
     pub number: u32,
     pub control: Control,
@@ -36,7 +37,7 @@ pub struct ControlResult {
 
 // What drives a net: a cell of this number, or the constant of this trit code.
 #[repr(C)]
-#[derive(Drop)]
+#[derive(Clone, Copy)]
 pub struct Driver {
     pub is_cell: u32,
     pub value: u32,
@@ -44,7 +45,7 @@ pub struct Driver {
 
 // The trit code of a net that is a constant.
 #[repr(C)]
-#[derive(Drop)]
+#[derive(Clone, Copy)]
 pub struct Constant {
     pub known: u32,
     pub trit: u32,
@@ -52,7 +53,7 @@ pub struct Constant {
 
 // A refusal's number, or 0 and how many elements were stored.
 #[repr(C)]
-#[derive(Drop)]
+#[derive(Clone, Copy)]
 pub struct Count {
     pub number: u32,
     pub count: usize,

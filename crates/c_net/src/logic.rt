@@ -3,7 +3,7 @@ ghost use Rattle.std.specs.Prelude.{◌≡◌};
 ghost use Rattle.rules.specs.Logic.{trit_and, trit_or};
 ghost use Rattle.rules.specs.Refusals.{trit_refusal, slice_refusal};
 ghost use Rattle.rules.specs.Answers.{answer_of, const_is_undef_call, const_not_call, const_and_call, const_or_call, filled_with};
-ghost use Rattle.lists.specs.Choice.{◌orElse◌};
+ghost use Rattle.lists.specs.Choice.{◌or_else◌};
 ghost use Rattle.c_net.specs.View.{flag_result, value_result};
 ghost use Rattle.c_net.specs.Calls.{trit_not_call, trit_pair_call};
 

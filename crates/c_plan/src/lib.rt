@@ -1,4 +1,5 @@
 // The calls on a memory and a plan for callers in C and Rust: numbers, slices and `repr(C)` structs, no enums.
+#![tactic(auto)]
 ghost use Rattle.std.specs.Prelude.{◌≡◌};
 ghost use Rattle.rules.specs.Answers.{make_data_swizzle_call, swizzle_depths_call, swizzle_mux_bits_call, filled_with};
 ghost use Rattle.net_memory.specs.Given.{given_of};

@@ -1,5 +1,6 @@
 // Calls on a memory's ports for callers in C and Rust. Memory and log state go in by value and come back in the answer's struct; a refused call gives
 // both back as they were.
+#![tactic(auto)]
 ghost use Rattle.std.specs.Prelude.{◌≡◌, [], length, take};
 ghost use Rattle.rules.specs.Answers.{unmap_read_dff_call, unmap_reset_call, emulate_call, transparency_mux_call};
 ghost use Rattle.log_entries.specs.View.{state_of};
@@ -16,7 +17,7 @@ use log_entries::LogState;
 
 // A refusal's number, or 0; the memory and the log's state after the call.
 #[repr(C)]
-#[derive(Drop)]
+#[derive(Clone, Copy)]
 pub struct Driven {
     pub number: u32,
     pub memory: Memory,

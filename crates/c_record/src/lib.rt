@@ -1,4 +1,5 @@
 // Image records for callers in C and Rust: writing and reading one, its head, its summaries and the lister's text.
+#![tactic(auto)]
 ghost use Rattle.std.specs.Prelude.{◌≡◌, length};
 ghost use Rattle.rules.specs.Record.{record_bytes};
 ghost use Rattle.rules.specs.Refusals.{write_record_refusal};
@@ -19,7 +20,7 @@ use record_sizes::Sizes;
 
 // A refusal's number, or 0 and a record's sizes.
 #[repr(C)]
-#[derive(Drop)]
+#[derive(Clone, Copy)]
 pub struct Head {
     pub number: u32,
     pub sizes: Sizes,
@@ -27,7 +28,7 @@ pub struct Head {
 
 // A refusal's number, or 0 and what stands in a memory.
 #[repr(C)]
-#[derive(Drop)]
+#[derive(Clone, Copy)]
 pub struct SummaryResult {
     pub number: u32,
     pub summary: Summary,

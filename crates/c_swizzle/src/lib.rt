@@ -1,4 +1,5 @@
 // The swizzle for callers in C and Rust: numbers, slices and `repr(C)` structs, no enums. A refused call gives state and lent arrays back as they were.
+#![tactic(auto)]
 ghost use Rattle.std.specs.Prelude.{◌≡◌};
 ghost use Rattle.rules.specs.Answers.{swizzle_call};
 ghost use Rattle.rules.specs.Swizzle.{swizzle_scratch};
@@ -24,7 +25,7 @@ pub mod parts;
 pub mod wide;
 
 #[repr(C)]
-#[derive(Drop)]
+#[derive(Clone, Copy)]
 pub struct WideWritePort {
     pub addr_len: u32,
     pub wide: u32,
@@ -33,7 +34,7 @@ pub struct WideWritePort {
 
 // `first` is the first of the output nets. With `clocked` 0 there is no flip-flop, and the controls play no part.
 #[repr(C)]
-#[derive(Drop)]
+#[derive(Clone, Copy)]
 pub struct WideReadPort {
     pub addr_len: u32,
     pub wide: u32,
@@ -50,7 +51,7 @@ pub struct WideReadPort {
 
 // The memories that a swizzle gives: full ones and all, their depths, the columns of each, and the ports that they share.
 #[repr(C)]
-#[derive(Drop)]
+#[derive(Clone, Copy)]
 pub struct WideMemory {
     pub full: u32,
     pub mems: u32,
@@ -66,7 +67,7 @@ pub struct WideMemory {
 // A refusal's number, or 0; the log's state after the call; the memories, and how many nets and trits of the rooms are theirs; the state that patches go
 // by, and the record's sizes.
 #[repr(C)]
-#[derive(Drop)]
+#[derive(Clone, Copy)]
 pub struct Swizzled {
     pub number: u32,
     pub state: LogState,
@@ -79,7 +80,7 @@ pub struct Swizzled {
 
 // A swizzle's answer, and the number of the list of calls on its image.
 #[repr(C)]
-#[derive(Drop)]
+#[derive(Clone, Copy)]
 pub struct SwizzledPatches {
     pub swizzled: Swizzled,
     pub patches: u32,

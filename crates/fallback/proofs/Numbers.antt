@@ -9,7 +9,7 @@ use mathlib.Core.List.{List}
 use lib.ListN.{length}
 use lib.Dec.{eqb}
 use borrow.Author.Tests.{eq-eqb}
-use Rattle.lists.specs.Choice.{if◌then◌else◌, ◌orElse◌}
+use Rattle.lists.specs.Choice.{if◌then◌else◌, ◌or_else◌}
 use Rattle.lists.proofs.Choice.{else_first, else_rest, hit, miss}
 use Rattle.rules.specs.Limits.{max_bits, max_nets, max_ports, max_row, max_words}
 use Rattle.rules.specs.Value.{Value}

@@ -1,4 +1,5 @@
 // memory/src/lib.rs, lower_fallback: the flip-flops of all read ports are unmapped, the memory is split into rows, and each row becomes a register.
+#![tactic(auto)]
 ghost use Rattle.std.specs.Prelude.{◌≡◌, [], ◌+◌, ◌*◌, ◌≤◌, min, length, drop};
 ghost use Rattle.rules.specs.Limits.{max_bits, max_outputs, max_ports, max_row};
 ghost use Rattle.rules.specs.Fallback.{fallback_plan, lower_rows, lower_fallback, fallback_scratch};
@@ -308,7 +309,7 @@ fn act(
 }
 
 // What a fallback gives: the number that refuses it or 0, and the log's state.
-#[derive(Drop)]
+#[derive(Clone, Copy)]
 pub struct Lowered {
     pub refusal: u32,
     pub state: LogState,

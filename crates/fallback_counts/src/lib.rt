@@ -1,1 +1,2 @@
 // Laws alone: how many words and nets the rows of a fallback give.
+#![tactic(auto)]

@@ -1,4 +1,5 @@
 // How many words and nets the rows of a fallback give, by the masks of its memory: known before anything is stored.
+#![tactic(auto)]
 ghost use Rattle.std.specs.Prelude.{◌≡◌, List, [], ℕ, ◌+◌, ◌*◌, ◌^◌, ◌<◌, ◌≤◌};
 ghost use Rattle.lists.specs.Lists.{sum_by};
 ghost use Rattle.rules.specs.Limits.{max_depth};
@@ -10,7 +11,7 @@ ghost use Rattle.fallback_masks.specs.Steps.{starts_run, left_after_of, pieces_b
 use net_memory::{Memory, MemoryWritePort};
 
 // The words and nets of all rows.
-#[derive(Drop)]
+#[derive(Clone, Copy)]
 pub struct RowsSize {
     pub words: usize,
     pub nets: usize,

@@ -11,7 +11,7 @@ use mathlib.Core.List.{List, [], ◌∷◌, map}
 use lib.ListN.{length, get_or, length-map}
 use lib.Dec.{eqb, ltb, leb}
 use borrow.Author.Tests.{eq-eqb, ne_eqb, eqb-true, not-false, le-ltb, lt-leb}
-use Rattle.lists.specs.Choice.{if◌then◌else◌, ◌orElse◌}
+use Rattle.lists.specs.Choice.{if◌then◌else◌, ◌or_else◌}
 use Rattle.lists.specs.Lists.{any, pairs, up_from}
 use Rattle.lists.proofs.Choice.{or_false, if_true}
 use Rattle.lists.proofs.UpFrom.{length_up}
@@ -271,5 +271,5 @@ module _ (m : Mem) where
     no_10 l = ap (λ (b : Bool). if b then ten else zero) (image_good l)
 
     pub no_number : m.depth * m.width ≤ max_bits → whole_plan m (fallback_plan m) ≡ 0
-    unfolding whole_plan ◌orElse◌
+    unfolding whole_plan ◌or_else◌
     no_number l = λ i. no_7_8 h e i or_else no_9 i or_else no_10 l i

@@ -1,4 +1,5 @@
 // Tests of a plan: each bit of the width named exactly once (number 7), and the test of a laid-out state behind number 23.
+#![tactic(auto)]
 ghost use Rattle.std.specs.Prelude.{◌≡◌, not, ◌+◌, ◌-◌, ◌≤◌, ◌<◌, eqb, get_or, replicate};
 ghost use Rattle.lists.specs.Lists.{any, up_from};
 ghost use Rattle.rules.specs.Limits.{max_width};
@@ -12,7 +13,7 @@ ghost use Rattle.image_check.specs.View.{checked_of};
 const BLOCK: usize = rules::MAX_WIDTH as usize;
 
 // The sizes of a layout that an accepted swizzle can have handed on.
-#[derive(Drop)]
+#[derive(Clone, Copy)]
 pub enum Checked {
     Bad,
     Good(image_geometry::Shape),

@@ -1,5 +1,6 @@
 // Sizes of a layout: the memories that a swizzle gives and their depths, the bits that select among chunks, and the walk over the bits of a
 // row number.
+#![tactic(auto)]
 ghost use Rattle.std.specs.Prelude.{◌≡◌, true, List, ℕ, ◌+◌, ◌-◌, ◌*◌, ◌^◌, ◌≤◌, ◌<◌, ltb, length};
 ghost use Rattle.rules.specs.Limits.{addr_bits, max_row};
 ghost use Rattle.rules.specs.Numbers.{ceil_div, top_bits};
@@ -12,7 +13,7 @@ ghost use Rattle.image_geometry.specs.Steps.{Narrow, mems_of, Roomy, stepped, ta
 
 // A layout's numbers: the memory's depth and width, and the plan's without its entries.
 #[repr(C)]
-#[derive(Drop)]
+#[derive(Clone, Copy)]
 pub struct Params {
     pub depth: u32,
     pub width: u32,
@@ -22,7 +23,7 @@ pub struct Params {
 }
 
 // Where a row goes: the chunk, and the row in it.
-#[derive(Drop)]
+#[derive(Clone, Copy)]
 pub struct Spot {
     pub chunk: u32,
     pub row: u32,
@@ -31,7 +32,7 @@ pub struct Spot {
 // What a layout gives: the full memories and all, the depth of a full one and of the others, columns rounded up to the unit, the trits of all
 // memories, and those of the image, which has none where the width is 0.
 #[repr(C)]
-#[derive(Drop)]
+#[derive(Clone, Copy)]
 pub struct Shape {
     pub full_mems: u64,
     pub all_mems: u64,
@@ -42,14 +43,14 @@ pub struct Shape {
     pub image_size: u64,
 }
 
-#[derive(Drop)]
+#[derive(Clone, Copy)]
 pub enum Measured {
     Refused(u32),
     Accepted(Shape),
 }
 
 // A walk on its way: what the bits so far give, the weights of the next chunk bit and of the next row bit, and the hard bits left.
-#[derive(Drop)]
+#[derive(Clone, Copy)]
 struct Walk {
     chunk: u64,
     cb: u64,
@@ -59,7 +60,7 @@ struct Walk {
 }
 
 // The full memories and all, with their depths.
-#[derive(Drop)]
+#[derive(Clone, Copy)]
 struct Mems {
     full: u64,
     all: u64,

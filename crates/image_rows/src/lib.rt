@@ -1,4 +1,5 @@
 // Rows of an image with a given layout: the place of an entry, the rows laid out, a row patched and a row read back.
+#![tactic(auto)]
 ghost use Rattle.std.specs.Prelude.{◌≡◌, ◌+◌, ◌-◌, ◌*◌, ◌≤◌, ◌<◌, length};
 ghost use Rattle.rules.specs.Limits.{max_row};
 ghost use Rattle.rules.specs.Image.{put_row, write_row, write_rows, index_of};
@@ -14,7 +15,7 @@ pub mod entry;
 
 // The place of an entry: the memory, the row in it, the bit of that row, and the index in the flat image.
 #[repr(C)]
-#[derive(Drop)]
+#[derive(Clone, Copy)]
 pub struct Place {
     pub memory: u64,
     pub row: u64,
@@ -22,14 +23,14 @@ pub struct Place {
     pub index: u64,
 }
 
-#[derive(Drop)]
+#[derive(Clone, Copy)]
 pub enum Placed {
     Refused(u32),
     Accepted(Place),
 }
 
 // The full memories, the trits of a full one and of another, and the trits of a row in each.
-#[derive(Drop)]
+#[derive(Clone, Copy)]
 struct Steps {
     full: u64,
     full_step: u64,
@@ -38,7 +39,7 @@ struct Steps {
 }
 
 // Where the next entry of a row goes: its memory, its bit there, and the index of the row's bit 0.
-#[derive(Drop)]
+#[derive(Clone, Copy)]
 struct Cursor {
     memory: u64,
     bit: u64,
@@ -46,7 +47,7 @@ struct Cursor {
 }
 
 // A row's number with its spot: the chunk, and the row in it.
-#[derive(Drop)]
+#[derive(Clone, Copy)]
 struct Line {
     number: u32,
     chunk: u32,

@@ -1,4 +1,5 @@
 // Images: the state that a swizzle hands on, and by it an image laid out from rows, a row patched, a row read back and the record's sizes.
+#![tactic(auto)]
 ghost use Rattle.std.specs.Prelude.{◌≡◌, false, List, ℕ, ◌≤◌, min, length};
 ghost use Rattle.std.proofs.Math.Option.{none};
 ghost use Rattle.rules.specs.Limits.{max_row};
@@ -15,7 +16,7 @@ ghost use Rattle.image_state.specs.Counts.{Counted};
 // What a swizzle hands on for patches: the layout's numbers, and the entries of a row, of which the first `len` are in use. The unit is 0 where
 // no swizzle was accepted yet.
 #[repr(C)]
-#[derive(Drop)]
+#[derive(Clone, Copy)]
 pub struct Laid {
     pub depth: u32,
     pub width: u32,
@@ -26,7 +27,7 @@ pub struct Laid {
     pub entries: [u32; rules::MAX_ROW],
 }
 
-#[derive(Drop)]
+#[derive(Clone, Copy)]
 pub enum Sized {
     Refused(u32),
     Accepted(record_sizes::Sizes),

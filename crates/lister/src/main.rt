@@ -1,4 +1,5 @@
 // Lists the memories of the record that standard input holds, or the number that refuses it.
+#![tactic(auto)]
 ghost use Rattle.std.specs.Prelude.{◌≤◌};
 ghost use Rattle.rules.specs.Limits.{max_record};
 

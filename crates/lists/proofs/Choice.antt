@@ -6,7 +6,7 @@ use native.Mathlib.Omega.{arith}
 use mathlib.Core.Bool.{Bool, true, false, not, ◌&&◌, ◌||◌}
 use lib.Dec.{eqb, leb, ltb}
 use borrow.Author.Tests.{leb-true, leb-false, ltb-false, eqb-true, ne_eqb, not-false}
-use Rattle.lists.specs.Choice.{if◌then◌else◌, ◌orElse◌, leaves}
+use Rattle.lists.specs.Choice.{if◌then◌else◌, ◌or_else◌, leaves}
 
 -- ---- tests
 pub or_false : (a b : Bool) → (a || b) ≡ false → (a ≡ false) × (b ≡ false)
@@ -72,11 +72,11 @@ miss n rest x e q = rw e q
 
 -- ---- or_else
 pub else_first : (n rest : ℕ) → n ≢ 0 → (n or_else rest) ≡ n
-unfolding ◌orElse◌
+unfolding ◌or_else◌
 else_first n rest h = rw (ne_eqb n 0 h)
 
 pub else_rest : (n rest : ℕ) → n ≡ 0 → (n or_else rest) ≡ rest
-unfolding ◌orElse◌
+unfolding ◌or_else◌
 else_rest n rest e = rw e
 
 nonzero : (n : ℕ) → suc n ≡ 0 → ⊥

@@ -3,7 +3,7 @@ use mathlib.Core.Path.{◌≡◌, refl, sym, ap, ◌∙◌}
 use mathlib.Core.Bool.{Bool, true, false, ◌||◌}
 use Prim.Native.Nat.{ℕ, zero, suc, ◌+◌, ◌-◌}
 use native.Mathlib.Omega.{arith}
-use native.Mathlib.Nat.{suc-sub-suc, sub_zero, zero-sub, zero-add, add_assoc}
+use native.Mathlib.Nat.{suc-sub-suc, sub-zero, zero-sub, zero-add, add_assoc}
 use mathlib.Core.List.{List, [], ◌∷◌, ◌++◌, map}
 use lib.ListN.{length, take, drop}
 use lib.Seq.{take-nil, drop-nil}
@@ -15,12 +15,12 @@ or_assoc false b c = refl
 
 module _ {ℓ} {A : Type ℓ} where
   pub take_joined : (n : ℕ) (a b : List A) → take n (a ++ b) ≡ take n a ++ take (n - length a) b
-  take_joined n [] b = rw (take-nil {A = A} n, sub_zero)
+  take_joined n [] b = rw (take-nil {A = A} n, sub-zero)
   take_joined zero (x ∷ a) b = rw zero-sub
   take_joined (suc n) (x ∷ a) b = rw suc-sub-suc (ap (λ (r : List A). x ∷ r) (take_joined n a b))
 
   pub drop_joined : (n : ℕ) (a b : List A) → drop n (a ++ b) ≡ drop n a ++ drop (n - length a) b
-  drop_joined n [] b = rw (drop-nil {A = A} n, sub_zero)
+  drop_joined n [] b = rw (drop-nil {A = A} n, sub-zero)
   drop_joined zero (x ∷ a) b = rw zero-sub
   drop_joined (suc n) (x ∷ a) b = rw suc-sub-suc (drop_joined n a b)
 

@@ -7,9 +7,9 @@ module _ {ℓ} {A : Type ℓ} where
   if true then x else y = x
   if false then x else y = y
 
-infixr 9 ◌orElse◌
+infixr 9 ◌or_else◌
 -- the first number, or the second where the first is 0, which refuses nothing
-unfoldable pub ◌orElse◌ : ℕ → ℕ → ℕ
+unfoldable pub ◌or_else◌ : ℕ → ℕ → ℕ
 n or_else rest = if eqb n 0 then rest else n
 
 -- the lower of two numbers, where 0 is none

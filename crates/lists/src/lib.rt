@@ -1,5 +1,7 @@
 // Copies, fills, stores and parts at the element widths in use, and casts, sums and powers that ask nothing. What lies past the end of a lent array is not
 // stored.
+#![tactic(auto)]
+
 ghost use Rattle.std.specs.Prelude.{◌≡◌, ◌-◌, ◌^◌, ◌<◌, ◌≤◌, min, max, length, replicate, set};
 ghost use Rattle.std.proofs.lemmas.List.Edits.{sets};
 ghost use Rattle.lists.specs.Lists.{part, up_from};

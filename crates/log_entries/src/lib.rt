@@ -2,6 +2,7 @@
 //
 // Emission asks nothing: what lies past the log's end is not stored, and the state's numbers stop where `specs/Emission.antt` says. So a dry run
 // is the same function on an empty part of the log.
+#![tactic(auto)]
 ghost use Rattle.std.specs.Prelude.{◌≡◌, ◌∷◌, ◌++◌, ◌+◌, ◌-◌, ◌<◌, ◌≤◌, min, length};
 ghost use Rattle.std.proofs.lemmas.List.Edits.{sets};
 ghost use Rattle.rules.specs.Limits.{max_words};
@@ -17,7 +18,7 @@ use net_value::ControlNet;
 
 // The words of the log that are used, and the next free net.
 #[repr(C)]
-#[derive(Drop)]
+#[derive(Clone, Copy)]
 pub struct LogState {
     pub used: usize,
     pub next: u32,

@@ -1,5 +1,6 @@
 // The requests and merges of a design on a lent log and a lent log state: each takes the state by `&mut`, calls the core by value and stores the state
 // after it. A refused one leaves the log, the state and the room for results as they were.
+#![tactic(auto)]
 ghost use Rattle.std.specs.Prelude.{◌≡◌, length};
 ghost use Rattle.lists.specs.Lists.{up_from};
 ghost use Rattle.rules.specs.Log.{add_and_of, add_or_of, add_eq_of, add_shl_of, add_ushr_of, replace_value_of};
@@ -18,53 +19,53 @@ use net_flip_flop::Controls;
 use net_value::{ControlNet, Net};
 
 // The number of the refusal, or the first net that the request made and how many it made.
-#[derive(Drop)]
+#[derive(Clone, Copy)]
 pub enum NewNets {
     Refused(u32),
     Accepted(u32, usize),
 }
 
 // The number of the refusal, or the one net.
-#[derive(Drop)]
+#[derive(Clone, Copy)]
 pub enum OneNet {
     Refused(u32),
     Accepted(Net),
 }
 
 // The number of the refusal, or nothing.
-#[derive(Drop)]
+#[derive(Clone, Copy)]
 pub enum NoValue {
     Refused(u32),
     Accepted,
 }
 
 // The number of the refusal, or the controls.
-#[derive(Drop)]
+#[derive(Clone, Copy)]
 pub enum NewControls {
     Refused(u32),
     Accepted(Controls),
 }
 
 // An answer, with the state to store.
-#[derive(Drop)]
+#[derive(Clone, Copy)]
 struct TookNets {
     state: LogState,
     answer: NewNets,
 }
 
-#[derive(Drop)]
+#[derive(Clone, Copy)]
 struct TookNet {
     state: LogState,
     answer: OneNet,
 }
 
-#[derive(Drop)]
+#[derive(Clone, Copy)]
 struct TookNone {
     state: LogState,
     answer: NoValue,
 }
 
-#[derive(Drop)]
+#[derive(Clone, Copy)]
 struct TookControls {
     state: LogState,
     answer: NewControls,

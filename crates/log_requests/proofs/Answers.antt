@@ -7,7 +7,7 @@ use mathlib.Core.List.{List, []}
 use lib.ListN.{length}
 use borrow.Author.Tests.{ne_eqb}
 use mathlib.Core.Bool.{false}
-use Rattle.lists.specs.Choice.{◌orElse◌, leaves}
+use Rattle.lists.specs.Choice.{◌or_else◌, leaves}
 use Rattle.lists.proofs.Choice.{else_rest, else_same, else_zero}
 use Rattle.rules.specs.Limits.{X}
 use Rattle.lists.specs.Lists.{up_from}

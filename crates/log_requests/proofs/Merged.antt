@@ -8,7 +8,7 @@ use mathlib.Core.List.{List}
 use lib.ListN.{length}
 use lib.Seq.{sets}
 use borrow.Author.Tests.{lt-ltb, le-ltb}
-use Rattle.lists.specs.Choice.{◌orElse◌, leaves}
+use Rattle.lists.specs.Choice.{◌or_else◌, leaves}
 use Rattle.lists.proofs.Choice.{else_first, else_rest, leaves_refused, leaves_accepted}
 use Rattle.rules.specs.Value.{Value}
 use Rattle.rules.specs.Log.{Trace, LogState}

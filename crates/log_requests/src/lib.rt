@@ -1,6 +1,7 @@
 // The requests of a design, each logged as one entry: the cores, which take the log state by value. A refused request changes nothing.
+#![tactic(auto)]
 ghost use Rattle.std.specs.Prelude.{◌≡◌, ◌∷◌, [], ◌+◌, ◌*◌, ◌<◌, ◌≤◌, length, false, ◌||◌};
-ghost use Rattle.lists.specs.Choice.{◌orElse◌};
+ghost use Rattle.lists.specs.Choice.{◌or_else◌};
 ghost use Rattle.lists.specs.Lists.{up_from};
 ghost use Rattle.rules.specs.Log.{add_and_of, add_or_of, add_eq_of, add_shl_of, add_ushr_of, replace_value_of, into_pos_of, with_reset, remap_reset_over_enable_of};
 ghost use Rattle.rules.specs.Conditions.{bad_trit_lens, bad_trits};
@@ -18,19 +19,19 @@ use net_flip_flop::Controls;
 use net_value::{ControlNet, Net};
 
 // The number of the refusal, or the state after the request.
-#[derive(Drop)]
+#[derive(Clone, Copy)]
 pub enum Answer {
     Refused(u32),
     Accepted(LogState),
 }
 
-#[derive(Drop)]
+#[derive(Clone, Copy)]
 pub enum NetAnswer {
     Refused(u32),
     Accepted(Net, LogState),
 }
 
-#[derive(Drop)]
+#[derive(Clone, Copy)]
 pub enum ControlsAnswer {
     Refused(u32),
     Accepted(Controls, LogState),
@@ -343,7 +344,7 @@ fn into_pos_refusal(room: usize, st: LogState, c: ControlNet) -> u32
 }
 
 // A control's net, and the state after.
-#[derive(Drop)]
+#[derive(Clone, Copy)]
 struct PosNet {
     net: Net,
     state: LogState,
@@ -382,7 +383,7 @@ pub fn into_pos(log: &mut [u32], st: LogState, c: ControlNet) -> NetAnswer
 }
 
 // Controls, and the state after.
-#[derive(Drop)]
+#[derive(Clone, Copy)]
 struct Remapped {
     controls: Controls,
     state: LogState,

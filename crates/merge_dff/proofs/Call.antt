@@ -6,7 +6,7 @@ use mathlib.Core.List.{List, []}
 use lib.Dec.{ltb}
 use lib.ListN.{length, length-map, length-take}
 use borrow.Author.Tests.{lt-ltb, le-ltb, ltb-false}
-use Rattle.lists.specs.Choice.{◌orElse◌}
+use Rattle.lists.specs.Choice.{◌or_else◌}
 use Rattle.lists.specs.Lists.{pairs}
 use Rattle.lists.specs.Distinct.{kept}
 use Rattle.lists.proofs.Choice.{else_zero, refused_not}

@@ -8,7 +8,7 @@ use lib.ListN.{length}
 use lib.Seq.{take_all}
 use lib.Dec.{ltb, eqb}
 use borrow.Author.Tests.{lt-ltb, le-ltb, eq-eqb, ne_eqb, eqb-true, not-false, ltb-false}
-use Rattle.lists.specs.Choice.{if◌then◌else◌, ◌orElse◌}
+use Rattle.lists.specs.Choice.{if◌then◌else◌, ◌or_else◌}
 use Rattle.lists.proofs.Choice.{else_zero, else_first, else_rest, refused_not, or_false}
 use Rattle.rules.specs.Limits.{max_merge}
 use Rattle.rules.specs.Value.{Value, Control, good_value}

@@ -1,4 +1,5 @@
 // cell/flip_flop.rs: the controls that a flip-flop and a clocked read port share, and the tests and words of a flip-flop's parts.
+#![tactic(auto)]
 ghost use Rattle.std.specs.Prelude.{◌≡◌};
 ghost use Rattle.rules.specs.Value.{control_words};
 ghost use Rattle.rules.specs.Log.{flag};
@@ -10,7 +11,7 @@ ghost use Rattle.net_flip_flop.specs.View.{controls_of};
 use net_value::ControlNet;
 
 // What a flip-flop and a clocked read port share.
-#[derive(Drop)]
+#[derive(Clone, Copy)]
 pub struct Controls {
     pub clock: ControlNet,
     pub clear: ControlNet,

@@ -1,4 +1,5 @@
 // logic.rs: trits and constants. A constant is a slice of trit codes: 0, 1, and 2 for X.
+#![tactic(auto)]
 ghost use Rattle.std.specs.Prelude.{◌≡◌, ◌≤◌, max, length};
 ghost use Rattle.std.proofs.lemmas.List.Edits.{sets};
 ghost use Rattle.rules.specs.Logic.{trit_of, code_of, trit_not, trit_and, trit_or, const_not, tritwise, are_trits, is_undef};
@@ -7,28 +8,28 @@ ghost use Rattle.rules.specs.Answers.{trit_from_code, const_is_undef_call, slice
 ghost use Rattle.net_logic.specs.View.{trit_view, trit_answer, bool_answer, given_part, gate_of};
 
 // An extended binary value; Undef is X.
-#[derive(Drop)]
+#[derive(Clone, Copy)]
 pub enum Trit {
     Zero,
     One,
     Undef,
 }
 
-#[derive(Drop)]
+#[derive(Clone, Copy)]
 pub enum TritAnswer {
     Refused(u32),
     Accepted(Trit),
 }
 
 // The answer of a test, where a code, a net or a control may be bad.
-#[derive(Drop)]
+#[derive(Clone, Copy)]
 pub enum BoolAnswer {
     Refused(u32),
     Accepted(bool),
 }
 
 // The two functions of two trits.
-#[derive(Drop)]
+#[derive(Clone, Copy)]
 enum Gate {
     And,
     Or,

@@ -1,4 +1,5 @@
 // cell/memory.rs: a memory by value, with its nets and trits in two lent arrays, and the parts of them that belong to each port.
+#![tactic(auto)]
 ghost use Rattle.std.specs.Prelude.{◌≡◌, ℕ, ◌+◌, ◌*◌, ◌<◌, ◌≤◌, min, List, [], length};
 ghost use Rattle.lists.specs.Lists.{part};
 ghost use Rattle.rules.specs.Limits.{max_ports};
@@ -10,7 +11,7 @@ use net_value::{ControlNet, Net};
 
 pub mod wide;
 
-#[derive(Drop)]
+#[derive(Clone, Copy)]
 pub struct MemoryWritePort {
     pub addr_len: u32,
     pub data_len: u32,
@@ -19,14 +20,14 @@ pub struct MemoryWritePort {
 }
 
 // A read port's flip-flop, or none.
-#[derive(Drop)]
+#[derive(Clone, Copy)]
 pub enum MemoryReadFlipFlop {
     None,
     Some(Controls),
 }
 
 // The relations are codes: 0 Undefined, 1 ReadBeforeWrite, 2 Transparent.
-#[derive(Drop)]
+#[derive(Clone, Copy)]
 pub struct MemoryReadPort {
     pub addr_len: u32,
     pub data_len: u32,
@@ -38,7 +39,7 @@ pub struct MemoryReadPort {
     pub flip_flop: MemoryReadFlipFlop,
 }
 
-#[derive(Drop)]
+#[derive(Clone, Copy)]
 pub struct Memory {
     pub depth: u32,
     pub width: u32,

@@ -8,7 +8,7 @@ ghost use Rattle.rules.specs.Answers.{wide_log2_call};
 ghost use Rattle.net_memory.specs.Wide.{wide_of};
 
 // The answer of `wide_log2`.
-#[derive(Drop)]
+#[derive(Clone, Copy)]
 pub enum WideLog2 {
     Refused(u32),
     Accepted(u32),

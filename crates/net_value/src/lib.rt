@@ -1,4 +1,5 @@
 // value.rs: nets, cells, control nets and values. A value is a slice of net numbers.
+#![tactic(auto)]
 ghost use Rattle.std.specs.Prelude.{◌≡◌};
 ghost use Rattle.std.proofs.lemmas.List.Edits.{sets};
 ghost use Rattle.lists.specs.Lists.{all};
@@ -11,41 +12,41 @@ ghost use Rattle.net_value.specs.View.{control_of, net_answer, control_answer, d
 use net_logic::{BoolAnswer, Trit};
 
 // A net's number: 0, 1, X, or the first-cell offset and a cell's number.
-#[derive(Drop)]
+#[derive(Clone, Copy)]
 pub struct Net(pub u32);
 
 // A cell's number.
-#[derive(Drop)]
+#[derive(Clone, Copy)]
 pub struct CellIndex(pub u32);
 
 // A net, or its inverse.
-#[derive(Drop)]
+#[derive(Clone, Copy)]
 pub enum ControlNet {
     Pos(Net),
     Neg(Net),
 }
 
 // What drives a net: a constant, or a cell.
-#[derive(Drop)]
+#[derive(Clone, Copy)]
 pub enum Driver {
     Constant(Trit),
     Cell(CellIndex),
 }
 
 // The constant that a net is, where it is one.
-#[derive(Drop)]
+#[derive(Clone, Copy)]
 pub enum AsConst {
     None,
     Some(Trit),
 }
 
-#[derive(Drop)]
+#[derive(Clone, Copy)]
 pub enum NetAnswer {
     Refused(u32),
     Accepted(Net),
 }
 
-#[derive(Drop)]
+#[derive(Clone, Copy)]
 pub enum ControlAnswer {
     Refused(u32),
     Accepted(ControlNet),

@@ -1,6 +1,6 @@
 -- The write ports delayed one after the other, by the test of each and by whether the image is all X.
 use Rattle.std.specs.Prelude.{◌≡◌, ◌≢◌, ℕ, suc, ◌<◌, ◌≤◌, min, Bool, List, [], ◌∷◌, length, get_or, set}
-use Rattle.lists.specs.Choice.{if◌then◌else◌, leaves, ◌orElse◌}
+use Rattle.lists.specs.Choice.{if◌then◌else◌, leaves, ◌or_else◌}
 use Rattle.lists.specs.Lists.{any}
 use Rattle.rules.specs.Limits.{max_ports}
 use Rattle.rules.specs.Cell.{WritePort}

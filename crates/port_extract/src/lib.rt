@@ -1,4 +1,5 @@
 // memory/src/lib.rs, extract_read_ports: a memory with some of the read ports of another, in the order of a list.
+#![tactic(auto)]
 ghost use Rattle.std.specs.Prelude.{◌≡◌, List, ℕ, ◌+◌, ◌<◌, ◌≤◌, length};
 ghost use Rattle.std.proofs.lemmas.List.Edits.{sets};
 ghost use Rattle.lists.specs.Lists.{concat_map};
@@ -13,7 +14,7 @@ ghost use Rattle.port_extract.specs.Extract.{extracted_of, kept_port, kept_trits
 use net_memory::{Memory, MemoryReadFlipFlop, MemoryReadPort};
 
 // The number that refuses an extraction, or 0, and the memory after it.
-#[derive(Drop)]
+#[derive(Clone, Copy)]
 pub struct Extracted {
     pub refusal: u32,
     pub memory: Memory,

@@ -1,6 +1,7 @@
 // memory/src/lib.rs, transparency_mux with a mask and without its numbers, over all write ports that a read port is transparent to.
 //
 // The mask stands in lent scratch of as many nets as a merge takes, beside the data; where the emission overflowed the scratch is left open.
+#![tactic(auto)]
 ghost use Rattle.std.specs.Prelude.{List, ℕ, take};
 ghost use Rattle.log_entries.specs.View.{lent};
 ghost use Rattle.net_memory.specs.View.{memory_of};

@@ -6,7 +6,7 @@ use mathlib.Core.Bool.{Bool, true, false}
 use mathlib.Core.List.{List, []}
 use lib.ListN.{length, take}
 use lib.Seq.{sets, length-take-le}
-use Rattle.lists.specs.Choice.{◌orElse◌}
+use Rattle.lists.specs.Choice.{◌or_else◌}
 use Rattle.lists.proofs.Choice.{else_first, else_rest, leaves_refused, leaves_accepted}
 use Rattle.lists.proofs.Stores.{take_stored}
 use Rattle.rules.specs.Cell.{read_at_of, or_empty}

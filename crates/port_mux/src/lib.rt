@@ -1,6 +1,7 @@
 // memory/src/lib.rs, transparency_mux: a write port's data laid over what a read port reads, and its mask over a mask where one is wanted.
 //
 // Where `masked` is false there is no mask: its slice and the room for it play no part.
+#![tactic(auto)]
 ghost use Rattle.std.specs.Prelude.{◌≡◌, List, true, ℕ, ◌≤◌, length, take};
 ghost use Rattle.std.proofs.lemmas.List.Edits.{sets};
 ghost use Rattle.lists.specs.Lists.{any};

@@ -1,4 +1,5 @@
 // The calls that only look at a memory: the length of its outputs, a port's part of them, and whether a fallback is possible.
+#![tactic(auto)]
 ghost use Rattle.std.specs.Prelude.{◌≡◌, List, ℕ, length};
 ghost use Rattle.lists.specs.Lists.{any};
 ghost use Rattle.rules.specs.Value.{same_control};
@@ -16,21 +17,21 @@ use net_memory::Memory;
 use net_value::ControlNet;
 
 // The answer of `output_len`.
-#[derive(Drop)]
+#[derive(Clone, Copy)]
 pub enum OutputLen {
     Refused(u32),
     Accepted(usize),
 }
 
 // The answer of `read_port_output_slice`.
-#[derive(Drop)]
+#[derive(Clone, Copy)]
 pub enum OutputSlice {
     Refused(u32),
     Accepted { start: usize, size: usize },
 }
 
 // The answer of `can_lower_fallback`.
-#[derive(Drop)]
+#[derive(Clone, Copy)]
 pub enum CanLower {
     Refused(u32),
     Accepted(bool),

@@ -1,5 +1,6 @@
 // memory/src/lib.rs, unmap_read_dff without its numbers: the port reads at once, the write ports that it is transparent to are laid over what it
 // reads, and the flip-flop stands behind.
+#![tactic(auto)]
 ghost use Rattle.std.specs.Prelude.{◌≡◌, false, List, ℕ, ◌+◌, ◌<◌, ◌≤◌, length, take};
 ghost use Rattle.rules.specs.Limits.{max_merge};
 ghost use Rattle.rules.specs.Cell.{write_at, wide_log2};
@@ -17,7 +18,7 @@ use net_flip_flop::Controls;
 use net_memory::Memory;
 
 // The state after an unmapping, and the net after its void nets.
-#[derive(Drop)]
+#[derive(Clone, Copy)]
 pub struct Unmapped {
     pub state: LogState,
     pub last: u32,

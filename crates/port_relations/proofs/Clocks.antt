@@ -10,7 +10,7 @@ use mathlib.Core.List.{List, [], ◌∷◌, ◌++◌}
 use lib.ListN.{length, drop, get_or, drop_of_length-le}
 use lib.Seq.{drop-cons}
 use lib.Dec.{eqb}
-use Rattle.lists.specs.Choice.{if◌then◌else◌, ◌orElse◌}
+use Rattle.lists.specs.Choice.{if◌then◌else◌, ◌or_else◌}
 use Rattle.lists.specs.Lists.{any, part, up_from}
 use Rattle.lists.proofs.Choice.{else_first, else_rest, hit, miss, or_rest}
 use Rattle.rules.specs.Limits.{max_ports}

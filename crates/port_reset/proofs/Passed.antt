@@ -8,7 +8,7 @@ use mathlib.Core.Bool.{Bool, true, false, not, ◌&&◌}
 use mathlib.Core.Option.{Option, none, some}
 use mathlib.Core.List.{List}
 use lib.ListN.{length}
-use Rattle.lists.specs.Choice.{if◌then◌else◌, ◌orElse◌, leaves}
+use Rattle.lists.specs.Choice.{if◌then◌else◌, ◌or_else◌, leaves}
 use Rattle.lists.specs.Lists.{any}
 use Rattle.lists.proofs.Choice.{refused_not, else_zero, else_first, else_rest, if_true, if_false, leaves_refused}
 use Rattle.rules.specs.Limits.{max_ports}

@@ -1,5 +1,6 @@
 // memory/src/lib.rs, unmap_read_init_reset_transparency without its numbers: the write ports that a port is transparent to are laid over no data, the
 // flip-flops of data and mask stand behind, and muxes choose between them and what the port reads.
+#![tactic(auto)]
 ghost use Rattle.std.specs.Prelude.{◌≡◌, Bool, not, List, ℕ, ◌-◌, ◌≤◌, length, take, replicate};
 ghost use Rattle.lists.specs.Lists.{up_from};
 ghost use Rattle.rules.specs.Limits.{max_merge, X};
@@ -19,7 +20,7 @@ use net_flip_flop::Controls;
 use net_memory::Memory;
 
 // The state after an unmapping, and its void nets: from `first` on, `last` is the net after them.
-#[derive(Drop)]
+#[derive(Clone, Copy)]
 pub struct ResetNets {
     pub state: LogState,
     pub first: u32,

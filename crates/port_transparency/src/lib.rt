@@ -1,6 +1,7 @@
 // memory/src/lib.rs, transparency_mux without its numbers: a write port's data laid over what a read port reads, where the addresses are equal.
 //
 // Values stand in lent scratch of as many nets as a merge takes; where the emission overflowed the scratch is left open.
+#![tactic(auto)]
 ghost use Rattle.std.specs.Prelude.{◌≡◌, List, ℕ, ◌-◌, ◌<◌, ◌≤◌, max, length, take, drop};
 ghost use Rattle.std.proofs.Math.Option.{Option, some};
 ghost use Rattle.std.proofs.lemmas.List.Edits.{sets};
@@ -18,7 +19,7 @@ use log_entries::LogState;
 use net_value::{ControlNet, Net};
 
 // The state after the data of a pair, and the net of its address test.
-#[derive(Drop)]
+#[derive(Clone, Copy)]
 struct Tested {
     state: LogState,
     same: u32,

@@ -1,4 +1,5 @@
 // memory/src/lib.rs, unmap_read_dff: a read port reads at once, and its flip-flop stands behind it as a cell of its own.
+#![tactic(auto)]
 ghost use Rattle.std.specs.Prelude.{◌≡◌, false, List, ℕ, ◌+◌, ◌<◌, min, length, ◌&&◌};
 ghost use Rattle.lists.specs.Lists.{any};
 ghost use Rattle.rules.specs.Limits.{max_ports};
@@ -20,7 +21,7 @@ use net_memory::{Memory, MemoryReadFlipFlop, MemoryReadPort};
 use port_overlay::Unmapped;
 
 // The number that refuses an unmapping, or 0; the memory and the log's state after it.
-#[derive(Drop)]
+#[derive(Clone, Copy)]
 pub struct Driven {
     pub refusal: u32,
     pub memory: Memory,

@@ -1,5 +1,6 @@
 // Reads a header line, a record and, where there is more, a table from standard input. Writes the record's rows as a table, or the rows in which it differs
 // from the table; where the text is refused, nothing, and the line and the reason to standard error.
+#![tactic(auto)]
 use libc::{STDERR_FILENO, STDIN_FILENO, STDOUT_FILENO};
 use table_readback::Answer;
 

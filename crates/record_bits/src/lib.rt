@@ -1,4 +1,5 @@
 // Trits and their two bits, known and value, eight trits to a byte, lowest bit first.
+#![tactic(auto)]
 ghost use Rattle.std.specs.Prelude.{◌≡◌, ◌++◌, map, ◌+◌, ◌%◌, ◌≤◌, min, length, take, drop, get_or};
 ghost use Rattle.std.proofs.lemmas.List.Edits.{sets};
 ghost use Rattle.rules.specs.Value.{from_uint};
@@ -28,7 +29,7 @@ pub fn trit_by(known: u8, value: u8) -> u8
 // ---- trits to bytes
 
 // The known bits and the value bits of up to eight trits.
-#[derive(Drop)]
+#[derive(Clone, Copy)]
 pub struct Group {
     pub known: u8,
     pub value: u8,

@@ -1,4 +1,5 @@
 // The image record: its head, writing one and reading one.
+#![tactic(auto)]
 ghost use Rattle.std.specs.Prelude.{◌≡◌, false, ◌+◌, ◌-◌, ◌*◌, ◌<◌, ◌≤◌, length, drop};
 ghost use Rattle.std.proofs.lemmas.List.Edits.{sets};
 ghost use Rattle.lists.specs.Lists.{part};
@@ -18,7 +19,7 @@ use record_sizes::Sizes;
 // ---- the head
 
 // The sizes of a record, or the number that refuses it.
-#[derive(Drop)]
+#[derive(Clone, Copy)]
 pub enum Head {
     Refused(u32),
     Accepted(Sizes),
@@ -84,7 +85,7 @@ pub fn record_header(first: &[u8], total: usize) -> Head
 // ---- writing
 
 // The bytes of the record, or the number that refuses it.
-#[derive(Drop)]
+#[derive(Clone, Copy)]
 pub enum Written {
     Refused(u32),
     Accepted(usize),

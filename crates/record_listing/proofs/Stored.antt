@@ -7,7 +7,7 @@ use mathlib.Core.List.{List}
 use lib.ListN.{length, take}
 use lib.Seq.{take_all, length-take-le, get_or-take}
 use borrow.Author.Tests.{le-ltb}
-use Rattle.lists.specs.Choice.{◌orElse◌}
+use Rattle.lists.specs.Choice.{◌or_else◌}
 use Rattle.lists.proofs.Choice.{cases_le, else_first, else_zero}
 use Rattle.rules.specs.Limits.{head_bytes, max_record}
 use Rattle.rules.specs.Numbers.{ceil_div}

@@ -1,7 +1,8 @@
 // The lister's text for a record, as bytes in a lent array. The inner functions store what fits and count all: a run on one byte gives the length.
+#![tactic(auto)]
 ghost use Rattle.std.specs.Prelude.{◌≡◌, ◌∷◌, ◌+◌, ◌*◌, ◌<◌, ◌≤◌, length, drop};
 ghost use Rattle.lists.specs.Lists.{sum_by, part, concat_map};
-ghost use Rattle.lists.specs.Choice.{if◌then◌else◌, ◌orElse◌};
+ghost use Rattle.lists.specs.Choice.{if◌then◌else◌, ◌or_else◌};
 ghost use Rattle.rules.specs.Limits.{max_image};
 ghost use Rattle.rules.specs.Record.{size_mems, size_trits, bits_of, head_sizes, decode_image};
 ghost use Rattle.rules.specs.Refusals.{record_number, header_refusal};
@@ -210,7 +211,7 @@ fn put_input(out: &mut [u8], first: &[u8], total: usize) -> usize
 // ---- in lent room
 
 // The bytes of the text, or the number that refuses the call.
-#[derive(Drop)]
+#[derive(Clone, Copy)]
 pub enum Listed {
     Refused(u32),
     Accepted(usize),

@@ -13,7 +13,7 @@ use record_sizes::Sizes;
 
 // Of memory `index`: its depth, its known trits and its ones.
 #[repr(C)]
-#[derive(Drop)]
+#[derive(Clone, Copy)]
 pub struct Summary {
     pub index: usize,
     pub depth: usize,
@@ -21,7 +21,7 @@ pub struct Summary {
     pub ones: usize,
 }
 
-#[derive(Drop)]
+#[derive(Clone, Copy)]
 pub enum Summarized {
     Refused(u32),
     Accepted(Summary),
@@ -78,7 +78,7 @@ fn start_of(s: Sizes, index: usize) -> usize
 }
 
 // How many of the trits are known, and how many are ones.
-#[derive(Drop)]
+#[derive(Clone, Copy)]
 pub struct Counts {
     pub known: usize,
     pub ones: usize,

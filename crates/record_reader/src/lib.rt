@@ -1,5 +1,6 @@
 // A reader holds a record's bytes and a place in them, which counts bytes in the head and trits behind it: after six words it stands at trit 0. Few
 // functions are over it; each takes it apart.
+#![tactic(auto)]
 ghost use Rattle.std.specs.Prelude.{◌≡◌, ◌-◌, ◌≤◌, length, get_or};
 ghost use Rattle.std.proofs.lemmas.List.Edits.{sets};
 ghost use Rattle.rules.specs.Record.{size_trits, word_at, array_bytes, bits_of, head_sizes};
@@ -9,19 +10,19 @@ ghost use Rattle.record_reader.specs.Reading.{word_there, place_after_word, word
 
 use record_sizes::Sizes;
 
-#[derive(Drop)]
+#[derive(Clone, Copy)]
 pub struct Reader<'a> {
     pub bytes: &'a [u8],
     pub at: usize,
 }
 
-#[derive(Drop)]
+#[derive(Clone, Copy)]
 pub enum Word {
     Found(u16),
     End,
 }
 
-#[derive(Drop)]
+#[derive(Clone, Copy)]
 pub enum TritFound {
     Code(u8),
     End,
@@ -73,7 +74,7 @@ pub fn next_word<'s, 'a>(r: &'s mut Reader<'a>) -> Word
 }
 
 // The six words of a head, or that there are fewer.
-#[derive(Drop)]
+#[derive(Clone, Copy)]
 pub struct HeadWords {
     pub mark: Word,
     pub unit: Word,
@@ -249,7 +250,7 @@ pub fn next_trit<'s, 'a>(r: &'s mut Reader<'a>) -> TritFound
 }
 
 // The first two trits of a record, or that there are fewer.
-#[derive(Drop)]
+#[derive(Clone, Copy)]
 pub struct FirstTrits {
     pub first: TritFound,
     pub second: TritFound,

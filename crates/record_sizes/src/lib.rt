@@ -1,4 +1,5 @@
 // The sizes of the memories that a swizzle gives and a record holds: the rules on them, and how many trits they take.
+#![tactic(auto)]
 ghost use Rattle.std.specs.Prelude.{◌≡◌, false, ◌&&◌, not, ◌+◌, ◌*◌, ◌≤◌, min, eqb, ltb, leb};
 ghost use Rattle.rules.specs.Limits.{max_columns, max_image};
 ghost use Rattle.rules.specs.Record.{size_mems, size_trits, record_image};
@@ -7,7 +8,7 @@ ghost use Rattle.record_sizes.specs.View.{view_sizes};
 
 // `full` memories of depth `full_depth`, then `partial` ones of depth `partial_depth`, each `unit` bits wide.
 #[repr(C)]
-#[derive(Drop)]
+#[derive(Clone, Copy)]
 pub struct Sizes {
     pub unit: u32,
     pub full: u32,

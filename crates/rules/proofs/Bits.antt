@@ -4,7 +4,7 @@ use mathlib.Core.Path.{◌≡◌, refl, ap}
 use mathlib.Core.Bool.{Bool, true, false}
 use mathlib.Core.List.{List, [], ◌∷◌, ◌++◌, map, append_assoc, append-nil}
 use native.Mathlib.Omega.{arith}
-use native.Mathlib.Nat.{suc-sub-suc, sub_zero}
+use native.Mathlib.Nat.{suc-sub-suc, sub-zero}
 use lib.Dec.{leb}
 use lib.ListN.{length, take, drop, replicate, length-take, length-drop, take-append-drop, drop_of_length-le, replicate-append-replicate}
 use lib.Seq.{take_all, length-take-le}
@@ -28,7 +28,7 @@ zeros_of (suc k) = ap (λ (l : List ℕ). 0 ∷ l) (zeros_of k)
 -- the low k bits of the byte of at most k bits
 pub byte_bits : (k : ℕ) (bs : List ℕ) → are_bits bs ≡ true → length bs ≤ k → from_uint k (byte_of bs) ≡ bs ++ replicate (k - length bs) 0
 unfolding from_uint byte_of
-byte_bits k [] e h = rw sub_zero (zeros_of k)
+byte_bits k [] e h = rw sub-zero (zeros_of k)
 byte_bits zero (b ∷ bs) e h = absurd (omega arith)
 byte_bits (suc k) (b ∷ bs) e h =
     let f = and_true (leb b 1) (are_bits bs) e in

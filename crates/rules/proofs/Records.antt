@@ -10,7 +10,7 @@ use lib.ListN.{length, take, drop, replicate, length-append, length-map}
 use lib.Seq.{take_at, drop_at, drop-drop}
 use borrow.Author.Tests.{leb-true, eq-eqb, le-ltb}
 use Rattle.rules.specs.Limits.{trit_x, head_bytes, record_mark}
-use Rattle.lists.specs.Choice.{if◌then◌else◌, ◌orElse◌}
+use Rattle.lists.specs.Choice.{if◌then◌else◌, ◌or_else◌}
 use Rattle.lists.specs.Lists.{all, any, pairs}
 use Rattle.rules.specs.Numbers.{ceil_div}
 use Rattle.rules.specs.Logic.{are_trits}
@@ -147,5 +147,5 @@ module _ (s : Sizes) (image : List ℕ) where
       bits_good = rw (pairs_are, pairs_good image codes, spare_are, no_ones_tail)
 
       pub reads_back : ReadsBack s image
-      unfolding ReadsBack record_number header_refusal ◌orElse◌
+      unfolding ReadsBack record_number header_refusal ◌or_else◌
       reads_back = (rw (head_good, head_sizes_lem, good, bits_good), head_sizes_lem, image_back)

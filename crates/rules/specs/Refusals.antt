@@ -3,7 +3,7 @@
 -- the state (20 to 23) among them. Numbers for the input come first, then 22, 20 and 21; a patch tries 23 before all others.
 use Rattle.std.specs.Prelude.{ℕ, ◌-◌, ◌≡◌, Bool, false, ◌&&◌, ◌||◌, not, List, [], ◌∷◌, length, eqb, ltb, leb}
 use Rattle.std.proofs.Math.Option.{none, some}
-use Rattle.lists.specs.Choice.{if◌then◌else◌, ◌orElse◌}
+use Rattle.lists.specs.Choice.{if◌then◌else◌, ◌or_else◌}
 use Rattle.lists.specs.Lists.{any}
 use Rattle.rules.specs.Limits.{max_nets}
 use Rattle.rules.specs.Logic.{Const}

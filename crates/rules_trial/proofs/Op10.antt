@@ -4,7 +4,7 @@ use mathlib.Core.Path.{◌≡◌, refl}
 use mathlib.Core.Bool.{true}
 use mathlib.Core.List.{List, [], ◌∷◌, ◌++◌}
 use lib.ListN.{replicate}
-use Rattle.lists.specs.Choice.{◌orElse◌}
+use Rattle.lists.specs.Choice.{◌or_else◌}
 use Rattle.rules.specs.Conditions.{long_value, unequal, bad_value, log_full, no_room_of, nets_full}
 use Rattle.rules.specs.Log.{entry, flag, dff_operands, encode, words, ◌>>=◌, ◌>>◌, done, request, mux_by, add_mux_of, start_net, added, state_after}
 use Rattle.rules.specs.Merge.{spread, add_dedup_mux_of}
@@ -74,5 +74,5 @@ cases =
     []
 
 pub agreed : agree op10 cases ≡ true
-unfolding ◌orElse◌ long_value unequal bad_value log_full no_room_of nets_full entry flag dff_operands encode words ◌>>=◌ ◌>>◌ done request mux_by add_mux_of start_net added state_after spread add_dedup_mux_of room_refusal log_refusal mux_number result_refusal add_dedup_mux_refusal is_cell_net good_net good_value good_select control_words give word words_of list test control log controls reply as_list log_out merge_answer op10 agrees agree Rattle.rules_trial.specs.Read.◌>>=◌
+unfolding ◌or_else◌ long_value unequal bad_value log_full no_room_of nets_full entry flag dff_operands encode words ◌>>=◌ ◌>>◌ done request mux_by add_mux_of start_net added state_after spread add_dedup_mux_of room_refusal log_refusal mux_number result_refusal add_dedup_mux_refusal is_cell_net good_net good_value good_select control_words give word words_of list test control log controls reply as_list log_out merge_answer op10 agrees agree Rattle.rules_trial.specs.Read.◌>>=◌
 agreed = refl

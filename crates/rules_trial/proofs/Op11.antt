@@ -4,7 +4,7 @@ use mathlib.Core.Path.{◌≡◌, refl}
 use mathlib.Core.Bool.{true}
 use mathlib.Core.List.{List, [], ◌∷◌, ◌++◌}
 use lib.ListN.{replicate}
-use Rattle.lists.specs.Choice.{◌orElse◌}
+use Rattle.lists.specs.Choice.{◌or_else◌}
 use Rattle.rules.specs.Conditions.{long_value, bad_trit_lens, bad_value, bad_control, bad_trits, bad_controls, log_full, no_room_of, nets_full}
 use Rattle.rules.specs.Log.{entry, flag, dff_operands, encode, words, ◌>>=◌, ◌>>◌, done, request, add_dff_of, start_net, added, state_after}
 use Rattle.rules.specs.Logic.{are_trits}
@@ -75,5 +75,5 @@ cases =
     []
 
 pub agreed : agree op11 cases ≡ true
-unfolding ◌orElse◌ long_value bad_trit_lens bad_value bad_control bad_trits bad_controls log_full no_room_of nets_full entry flag dff_operands encode words ◌>>=◌ ◌>>◌ done request add_dff_of start_net added state_after are_trits spread dff_keys dff_of add_dedup_dff_of room_refusal log_refusal bad_flip_flop_lens bad_flip_flop dff_number result_refusal merge_dff_number add_dedup_dff_refusal is_cell_net good_net good_value good_control control_words give word words_of list test control log controls flip_flop reply as_list log_out merge_answer op11 agrees agree Rattle.rules_trial.specs.Read.◌>>=◌
+unfolding ◌or_else◌ long_value bad_trit_lens bad_value bad_control bad_trits bad_controls log_full no_room_of nets_full entry flag dff_operands encode words ◌>>=◌ ◌>>◌ done request add_dff_of start_net added state_after are_trits spread dff_keys dff_of add_dedup_dff_of room_refusal log_refusal bad_flip_flop_lens bad_flip_flop dff_number result_refusal merge_dff_number add_dedup_dff_refusal is_cell_net good_net good_value good_control control_words give word words_of list test control log controls flip_flop reply as_list log_out merge_answer op11 agrees agree Rattle.rules_trial.specs.Read.◌>>=◌
 agreed = refl

@@ -4,7 +4,7 @@ use mathlib.Core.Path.{◌≡◌, refl}
 use mathlib.Core.Bool.{true}
 use mathlib.Core.List.{List, [], ◌∷◌, ◌++◌}
 use lib.ListN.{replicate}
-use Rattle.lists.specs.Choice.{◌orElse◌}
+use Rattle.lists.specs.Choice.{◌or_else◌}
 use Rattle.rules.specs.Cell.{wide_log2, write_wide_log2, read_wide_log2, write_at, read_at_of, held}
 use Rattle.rules.specs.Conditions.{too_large, long_value, unequal, bad_data_len, bad_addr_len, bad_write_shape, bad_trit_lens, bad_flip_flop_shape, bad_read_shape, bad_shape, indivisible, bad_depth, bad_value, bad_control, bad_trits, bad_controls, bad_write_nets, bad_relation, bad_flip_flop_nets, bad_read_nets, bad_nets, too_few_bits, short_pair, not_below, bad_port, log_full, no_room_of, nets_full}
 use Rattle.rules.specs.Log.{entry, flag, dff_operands, encode, words, ◌>>=◌, ◌>>◌, done, request, add_or_of, mux_by, add_mux_of, add_eq_of, add_shl_of, add_ushr_of, start_net, added, state_after}
@@ -88,5 +88,5 @@ cases =
     []
 
 pub agreed : agree op13 cases ≡ true
-unfolding ◌orElse◌ wide_log2 write_wide_log2 read_wide_log2 write_at read_at_of held too_large long_value unequal bad_data_len bad_addr_len bad_write_shape bad_trit_lens bad_flip_flop_shape bad_read_shape bad_shape indivisible bad_depth bad_value bad_control bad_trits bad_controls bad_write_nets bad_relation bad_flip_flop_nets bad_read_nets bad_nets too_few_bits short_pair not_below bad_port log_full no_room_of nets_full entry flag dff_operands encode words ◌>>=◌ ◌>>◌ done request add_or_of mux_by add_mux_of add_eq_of add_shl_of add_ushr_of start_net added state_after are_trits spread add_dedup_mux_of longer runs mux_runs add_bitwise_mux_of top_bits narrower_select seen_wider seen_narrower seen overlaid_mask transparency_mux room_refusal log_refusal mem_number overlay_values bad_overlay_lens no_pair pair_ports_number transparency_mux_number overlay_refusal transparency_mux_refusal zext is_cell_net good_net good_value good_control control_words give many word words_of list test control option log controls flip_flop write_port read_flip_flop read_port memory reply as_list log_out option_words overlay_answer op13 agrees agree Rattle.rules_trial.specs.Read.◌>>=◌
+unfolding ◌or_else◌ wide_log2 write_wide_log2 read_wide_log2 write_at read_at_of held too_large long_value unequal bad_data_len bad_addr_len bad_write_shape bad_trit_lens bad_flip_flop_shape bad_read_shape bad_shape indivisible bad_depth bad_value bad_control bad_trits bad_controls bad_write_nets bad_relation bad_flip_flop_nets bad_read_nets bad_nets too_few_bits short_pair not_below bad_port log_full no_room_of nets_full entry flag dff_operands encode words ◌>>=◌ ◌>>◌ done request add_or_of mux_by add_mux_of add_eq_of add_shl_of add_ushr_of start_net added state_after are_trits spread add_dedup_mux_of longer runs mux_runs add_bitwise_mux_of top_bits narrower_select seen_wider seen_narrower seen overlaid_mask transparency_mux room_refusal log_refusal mem_number overlay_values bad_overlay_lens no_pair pair_ports_number transparency_mux_number overlay_refusal transparency_mux_refusal zext is_cell_net good_net good_value good_control control_words give many word words_of list test control option log controls flip_flop write_port read_flip_flop read_port memory reply as_list log_out option_words overlay_answer op13 agrees agree Rattle.rules_trial.specs.Read.◌>>=◌
 agreed = refl

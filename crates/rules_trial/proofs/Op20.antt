@@ -3,7 +3,7 @@ use Prim.Native.Nat.{ℕ}
 use mathlib.Core.Path.{◌≡◌, refl}
 use mathlib.Core.Bool.{true}
 use mathlib.Core.List.{List, [], ◌∷◌}
-use Rattle.lists.specs.Choice.{◌orElse◌}
+use Rattle.lists.specs.Choice.{◌or_else◌}
 use Rattle.rules.specs.Beside.Decode.{controls_words}
 use Rattle.rules.specs.Cell.{wide_log2, write_wide_log2, read_wide_log2, read_at_of, output_len, output_start, output_slice, with_reads, held, port_nets, flip_flop_trits, port_trits, flat_nets, flat_trits}
 use Rattle.rules.specs.Conditions.{too_large, long_list, unequal, bad_data_len, bad_addr_len, bad_write_shape, bad_trit_lens, bad_flip_flop_shape, bad_read_shape, bad_shape, bad_output_len, indivisible, bad_depth, bad_value, bad_control, bad_trits, bad_controls, bad_write_nets, bad_relation, bad_flip_flop_nets, bad_read_nets, bad_nets, not_below, bad_port, no_room_of}
@@ -89,5 +89,5 @@ cases =
     []
 
 pub agreed : agree op20 cases ≡ true
-unfolding ◌orElse◌ controls_words wide_log2 write_wide_log2 read_wide_log2 read_at_of output_len output_start output_slice with_reads held port_nets flip_flop_trits port_trits flat_nets flat_trits too_large long_list unequal bad_data_len bad_addr_len bad_write_shape bad_trit_lens bad_flip_flop_shape bad_read_shape bad_shape bad_output_len indivisible bad_depth bad_value bad_control bad_trits bad_controls bad_write_nets bad_relation bad_flip_flop_nets bad_read_nets bad_nets not_below bad_port no_room_of soft_bits soft row_len_of full_depth_of full_chunks part_depth_of all_chunks full_mems all_mems rows_before mem_start trits flag ◌>>=◌ ◌>>◌ are_trits ceil_div softs top_bits extract_read_ports no_rooms driving_refusal mem_number driving_number extract_read_ports_refusal is_cell_net good_net good_value good_control control_words give many word words_of list test control option controls flip_flop write_port read_flip_flop read_port memory reply as_list write_words flip_flop_words read_words mem_words driving_words op20 agrees agree Rattle.rules_trial.specs.Read.◌>>=◌
+unfolding ◌or_else◌ controls_words wide_log2 write_wide_log2 read_wide_log2 read_at_of output_len output_start output_slice with_reads held port_nets flip_flop_trits port_trits flat_nets flat_trits too_large long_list unequal bad_data_len bad_addr_len bad_write_shape bad_trit_lens bad_flip_flop_shape bad_read_shape bad_shape bad_output_len indivisible bad_depth bad_value bad_control bad_trits bad_controls bad_write_nets bad_relation bad_flip_flop_nets bad_read_nets bad_nets not_below bad_port no_room_of soft_bits soft row_len_of full_depth_of full_chunks part_depth_of all_chunks full_mems all_mems rows_before mem_start trits flag ◌>>=◌ ◌>>◌ are_trits ceil_div softs top_bits extract_read_ports no_rooms driving_refusal mem_number driving_number extract_read_ports_refusal is_cell_net good_net good_value good_control control_words give many word words_of list test control option controls flip_flop write_port read_flip_flop read_port memory reply as_list write_words flip_flop_words read_words mem_words driving_words op20 agrees agree Rattle.rules_trial.specs.Read.◌>>=◌
 agreed = refl

@@ -4,7 +4,7 @@ use mathlib.Core.Path.{◌≡◌, refl}
 use mathlib.Core.Bool.{true}
 use mathlib.Core.List.{List, [], ◌∷◌, ◌++◌}
 use lib.ListN.{replicate}
-use Rattle.lists.specs.Choice.{◌orElse◌}
+use Rattle.lists.specs.Choice.{◌or_else◌}
 use Rattle.rules.specs.Beside.Decode.{controls_words}
 use Rattle.rules.specs.Cell.{flip_flop_of, wide_log2, write_wide_log2, read_wide_log2, write_at, read_at_of, output_len, output_start, output_slice, with_output, with_reads, with_flip_flop, held, port_nets, flip_flop_trits, port_trits, flat_nets, flat_trits, is_transparent, transparent_from, transparent_ports}
 use Rattle.rules.specs.Conditions.{too_large, unequal, bad_data_len, bad_addr_len, bad_write_shape, bad_trit_lens, bad_flip_flop_shape, bad_read_shape, bad_shape, bad_output_len, indivisible, bad_depth, bad_value, bad_control, bad_trits, bad_controls, bad_write_nets, bad_relation, bad_flip_flop_nets, bad_read_nets, bad_nets, too_few_bits, short_pair, short_port, not_below, bad_port, log_full, no_room_of, nets_full}
@@ -91,5 +91,5 @@ cases =
     []
 
 pub agreed : agree op21 cases ≡ true
-unfolding ◌orElse◌ controls_words flip_flop_of wide_log2 write_wide_log2 read_wide_log2 write_at read_at_of output_len output_start output_slice with_output with_reads with_flip_flop held port_nets flip_flop_trits port_trits flat_nets flat_trits is_transparent transparent_from transparent_ports too_large unequal bad_data_len bad_addr_len bad_write_shape bad_trit_lens bad_flip_flop_shape bad_read_shape bad_shape bad_output_len indivisible bad_depth bad_value bad_control bad_trits bad_controls bad_write_nets bad_relation bad_flip_flop_nets bad_read_nets bad_nets too_few_bits short_pair short_port not_below bad_port log_full no_room_of nets_full soft_bits soft row_len_of full_depth_of full_chunks part_depth_of all_chunks full_mems all_mems rows_before mem_start trits entry flag dff_operands encode words ◌>>=◌ ◌>>◌ done request add_void_of add_or_of mux_by add_mux_of add_eq_of add_shl_of add_ushr_of add_dff_of replace_value_of start_net added state_after are_trits spread add_dedup_mux_of longer runs mux_runs add_bitwise_mux_of ceil_div softs top_bits narrower_select seen_wider seen_narrower seen overlaid_mask transparency_mux transparencies unmap_dff unmap_read_dff_of unmap_read_dff room_refusal log_refusal no_rooms driving_refusal mem_number driving_number port_number driven_refusal unmap_read_dff_number unmap_read_dff_refusal zext is_cell_net good_net good_value good_control control_words give many word words_of list test control option log controls flip_flop write_port read_flip_flop read_port memory reply as_list log_out write_words flip_flop_words read_words mem_words driving_words driving_answer op21 agrees agree Rattle.rules_trial.specs.Read.◌>>=◌
+unfolding ◌or_else◌ controls_words flip_flop_of wide_log2 write_wide_log2 read_wide_log2 write_at read_at_of output_len output_start output_slice with_output with_reads with_flip_flop held port_nets flip_flop_trits port_trits flat_nets flat_trits is_transparent transparent_from transparent_ports too_large unequal bad_data_len bad_addr_len bad_write_shape bad_trit_lens bad_flip_flop_shape bad_read_shape bad_shape bad_output_len indivisible bad_depth bad_value bad_control bad_trits bad_controls bad_write_nets bad_relation bad_flip_flop_nets bad_read_nets bad_nets too_few_bits short_pair short_port not_below bad_port log_full no_room_of nets_full soft_bits soft row_len_of full_depth_of full_chunks part_depth_of all_chunks full_mems all_mems rows_before mem_start trits entry flag dff_operands encode words ◌>>=◌ ◌>>◌ done request add_void_of add_or_of mux_by add_mux_of add_eq_of add_shl_of add_ushr_of add_dff_of replace_value_of start_net added state_after are_trits spread add_dedup_mux_of longer runs mux_runs add_bitwise_mux_of ceil_div softs top_bits narrower_select seen_wider seen_narrower seen overlaid_mask transparency_mux transparencies unmap_dff unmap_read_dff_of unmap_read_dff room_refusal log_refusal no_rooms driving_refusal mem_number driving_number port_number driven_refusal unmap_read_dff_number unmap_read_dff_refusal zext is_cell_net good_net good_value good_control control_words give many word words_of list test control option log controls flip_flop write_port read_flip_flop read_port memory reply as_list log_out write_words flip_flop_words read_words mem_words driving_words driving_answer op21 agrees agree Rattle.rules_trial.specs.Read.◌>>=◌
 agreed = refl

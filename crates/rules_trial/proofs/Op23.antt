@@ -4,7 +4,7 @@ use mathlib.Core.Path.{◌≡◌, refl}
 use mathlib.Core.Bool.{true}
 use mathlib.Core.List.{List, [], ◌∷◌, ◌++◌}
 use lib.ListN.{replicate}
-use Rattle.lists.specs.Choice.{◌orElse◌}
+use Rattle.lists.specs.Choice.{◌or_else◌}
 use Rattle.rules.specs.Beside.Decode.{controls_words}
 use Rattle.rules.specs.Cell.{plain_controls, new_flip_flop, with_init, wide_log2, write_wide_log2, read_wide_log2, is_some, held, port_nets, flip_flop_trits, port_trits, flat_nets, flat_trits, flip_flops, is_transparent, is_read_before_write}
 use Rattle.rules.specs.Conditions.{too_large, unequal, bad_data_len, bad_addr_len, bad_write_shape, bad_trit_lens, bad_flip_flop_shape, bad_read_shape, bad_shape, indivisible, bad_depth, bad_value, bad_control, bad_trits, bad_controls, bad_write_nets, bad_relation, bad_flip_flop_nets, bad_read_nets, bad_nets, clocks_differ, read_clocks_differ, mixed_relations, log_full, no_room_of, nets_full, unclocked}
@@ -109,5 +109,5 @@ cases =
     []
 
 pub agreed : agree op23 cases ≡ true
-unfolding ◌orElse◌ controls_words plain_controls new_flip_flop with_init wide_log2 write_wide_log2 read_wide_log2 is_some held port_nets flip_flop_trits port_trits flat_nets flat_trits flip_flops is_transparent is_read_before_write too_large unequal bad_data_len bad_addr_len bad_write_shape bad_trit_lens bad_flip_flop_shape bad_read_shape bad_shape indivisible bad_depth bad_value bad_control bad_trits bad_controls bad_write_nets bad_relation bad_flip_flop_nets bad_read_nets bad_nets clocks_differ read_clocks_differ mixed_relations log_full no_room_of nets_full unclocked soft_bits soft row_len_of full_depth_of full_chunks part_depth_of all_chunks full_mems all_mems rows_before mem_start trits entry flag dff_operands encode words ◌>>=◌ ◌>>◌ done request add_dff_of start_net added state_after is_undef undef zeros are_trits spread dff_keys dff_of add_dedup_dff_of ceil_div softs top_bits relates_to delayed delay_writes settled settled_flip_flop settled_port emulate_read_before_write room_refusal log_refusal no_rooms driving_refusal mem_number emulate_number alone emulate_read_before_write_refusal is_cell_net good_net good_value inverse same_control good_control control_words give many word words_of list test control option log controls flip_flop write_port read_flip_flop read_port memory reply as_list log_out write_words flip_flop_words read_words mem_words mem_answer op23 agrees agree Rattle.rules_trial.specs.Read.◌>>=◌
+unfolding ◌or_else◌ controls_words plain_controls new_flip_flop with_init wide_log2 write_wide_log2 read_wide_log2 is_some held port_nets flip_flop_trits port_trits flat_nets flat_trits flip_flops is_transparent is_read_before_write too_large unequal bad_data_len bad_addr_len bad_write_shape bad_trit_lens bad_flip_flop_shape bad_read_shape bad_shape indivisible bad_depth bad_value bad_control bad_trits bad_controls bad_write_nets bad_relation bad_flip_flop_nets bad_read_nets bad_nets clocks_differ read_clocks_differ mixed_relations log_full no_room_of nets_full unclocked soft_bits soft row_len_of full_depth_of full_chunks part_depth_of all_chunks full_mems all_mems rows_before mem_start trits entry flag dff_operands encode words ◌>>=◌ ◌>>◌ done request add_dff_of start_net added state_after is_undef undef zeros are_trits spread dff_keys dff_of add_dedup_dff_of ceil_div softs top_bits relates_to delayed delay_writes settled settled_flip_flop settled_port emulate_read_before_write room_refusal log_refusal no_rooms driving_refusal mem_number emulate_number alone emulate_read_before_write_refusal is_cell_net good_net good_value inverse same_control good_control control_words give many word words_of list test control option log controls flip_flop write_port read_flip_flop read_port memory reply as_list log_out write_words flip_flop_words read_words mem_words mem_answer op23 agrees agree Rattle.rules_trial.specs.Read.◌>>=◌
 agreed = refl

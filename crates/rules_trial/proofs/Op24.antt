@@ -4,7 +4,7 @@ use mathlib.Core.Path.{◌≡◌, refl}
 use mathlib.Core.Bool.{true}
 use mathlib.Core.List.{List, [], ◌∷◌, ◌++◌}
 use lib.ListN.{replicate}
-use Rattle.lists.specs.Choice.{◌orElse◌}
+use Rattle.lists.specs.Choice.{◌or_else◌}
 use Rattle.rules.specs.Cell.{wide_log2, write_wide_log2, read_wide_log2, held}
 use Rattle.rules.specs.Conditions.{too_large, unequal, bad_data_len, bad_addr_len, bad_write_shape, bad_trit_lens, bad_flip_flop_shape, bad_read_shape, bad_shape, indivisible, bad_depth, bad_value, bad_control, bad_trits, bad_controls, bad_write_nets, bad_relation, bad_flip_flop_nets, bad_read_nets, bad_nets, bad_granularities, row_too_long, no_room_of}
 use Rattle.rules.specs.Geometry.{mask_slice, changing, aligned, padding, padded, swizzle_from, make_data_swizzle}
@@ -103,5 +103,5 @@ cases =
     []
 
 pub agreed : agree op24 cases ≡ true
-unfolding ◌orElse◌ wide_log2 write_wide_log2 read_wide_log2 held too_large unequal bad_data_len bad_addr_len bad_write_shape bad_trit_lens bad_flip_flop_shape bad_read_shape bad_shape indivisible bad_depth bad_value bad_control bad_trits bad_controls bad_write_nets bad_relation bad_flip_flop_nets bad_read_nets bad_nets bad_granularities row_too_long no_room_of mask_slice changing aligned padding padded swizzle_from make_data_swizzle ◌>>=◌ ◌>>◌ are_trits top_bits mem_number mem_refusal make_data_swizzle_refusal is_cell_net good_net good_value good_control give many word words_of list test control option controls flip_flop write_port read_flip_flop read_port memory reply as_list op24 agrees agree Rattle.rules_trial.specs.Read.◌>>=◌
+unfolding ◌or_else◌ wide_log2 write_wide_log2 read_wide_log2 held too_large unequal bad_data_len bad_addr_len bad_write_shape bad_trit_lens bad_flip_flop_shape bad_read_shape bad_shape indivisible bad_depth bad_value bad_control bad_trits bad_controls bad_write_nets bad_relation bad_flip_flop_nets bad_read_nets bad_nets bad_granularities row_too_long no_room_of mask_slice changing aligned padding padded swizzle_from make_data_swizzle ◌>>=◌ ◌>>◌ are_trits top_bits mem_number mem_refusal make_data_swizzle_refusal is_cell_net good_net good_value good_control give many word words_of list test control option controls flip_flop write_port read_flip_flop read_port memory reply as_list op24 agrees agree Rattle.rules_trial.specs.Read.◌>>=◌
 agreed = refl

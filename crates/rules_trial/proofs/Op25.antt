@@ -4,7 +4,7 @@ use mathlib.Core.Path.{◌≡◌, refl}
 use mathlib.Core.Bool.{true}
 use mathlib.Core.List.{List, [], ◌∷◌, ◌++◌}
 use lib.ListN.{replicate}
-use Rattle.lists.specs.Choice.{◌orElse◌}
+use Rattle.lists.specs.Choice.{◌or_else◌}
 use Rattle.rules.specs.Cell.{wide_log2, write_wide_log2, read_wide_log2, held}
 use Rattle.rules.specs.Conditions.{too_large, plan_too_large, unequal, bad_data_len, bad_addr_len, bad_write_shape, bad_trit_lens, bad_flip_flop_shape, bad_read_shape, bad_shape, indivisible, bad_depth, bad_value, bad_control, bad_trits, bad_controls, bad_write_nets, bad_relation, bad_flip_flop_nets, bad_read_nets, bad_nets, times, bad_entry, bad_names, bad_entries, bad_soft_mask, result_too_large, no_room_of}
 use Rattle.rules.specs.Geometry.{layout_of, soft_bits, soft, row_len_of, full_depth_of, full_chunks, part_depth_of, all_chunks, full_mems, all_mems, columns, swizzle_depths}
@@ -118,5 +118,5 @@ cases =
     []
 
 pub agreed : agree op25 cases ≡ true
-unfolding ◌orElse◌ wide_log2 write_wide_log2 read_wide_log2 held too_large plan_too_large unequal bad_data_len bad_addr_len bad_write_shape bad_trit_lens bad_flip_flop_shape bad_read_shape bad_shape indivisible bad_depth bad_value bad_control bad_trits bad_controls bad_write_nets bad_relation bad_flip_flop_nets bad_read_nets bad_nets times bad_entry bad_names bad_entries bad_soft_mask result_too_large no_room_of layout_of soft_bits soft row_len_of full_depth_of full_chunks part_depth_of all_chunks full_mems all_mems columns swizzle_depths rows_before mem_start trits flag ◌>>=◌ ◌>>◌ are_trits ceil_div softs top_bits mem_number plan_number planned_number swizzle_depths_refusal is_cell_net good_net good_value good_control give many word words_of list test control option controls flip_flop write_port read_flip_flop read_port memory plan reply as_list op25 agrees agree Rattle.rules_trial.specs.Read.◌>>=◌
+unfolding ◌or_else◌ wide_log2 write_wide_log2 read_wide_log2 held too_large plan_too_large unequal bad_data_len bad_addr_len bad_write_shape bad_trit_lens bad_flip_flop_shape bad_read_shape bad_shape indivisible bad_depth bad_value bad_control bad_trits bad_controls bad_write_nets bad_relation bad_flip_flop_nets bad_read_nets bad_nets times bad_entry bad_names bad_entries bad_soft_mask result_too_large no_room_of layout_of soft_bits soft row_len_of full_depth_of full_chunks part_depth_of all_chunks full_mems all_mems columns swizzle_depths rows_before mem_start trits flag ◌>>=◌ ◌>>◌ are_trits ceil_div softs top_bits mem_number plan_number planned_number swizzle_depths_refusal is_cell_net good_net good_value good_control give many word words_of list test control option controls flip_flop write_port read_flip_flop read_port memory plan reply as_list op25 agrees agree Rattle.rules_trial.specs.Read.◌>>=◌
 agreed = refl

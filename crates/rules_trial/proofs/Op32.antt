@@ -4,7 +4,7 @@ use mathlib.Core.Path.{◌≡◌, refl}
 use mathlib.Core.Bool.{true}
 use mathlib.Core.List.{List, [], ◌∷◌, ◌++◌}
 use lib.ListN.{replicate}
-use Rattle.lists.specs.Choice.{◌orElse◌}
+use Rattle.lists.specs.Choice.{◌or_else◌}
 use Rattle.rules.specs.Conditions.{bad_head, is_power, bad_unit, unlike, bad_depths, bad_sizes, spare_bits, bad_bits, no_room_of}
 use Rattle.rules.specs.Geometry.{full_depth_of}
 use Rattle.rules.specs.Log.{◌>>=◌, ◌>>◌}
@@ -88,5 +88,5 @@ cases =
     []
 
 pub agreed : agree op32 cases ≡ true
-unfolding ◌orElse◌ bad_head is_power bad_unit unlike bad_depths bad_sizes spare_bits bad_bits no_room_of full_depth_of ◌>>=◌ ◌>>◌ ceil_div size_mems size_trits word_at bits_of array_bytes trit_by head_sizes record_bytes known_bits value_bits bit_pairs decode_image header_refusal record_number read_record_refusal from_uint give word words_of list reply as_list op32 agrees agree Rattle.rules_trial.specs.Read.◌>>=◌
+unfolding ◌or_else◌ bad_head is_power bad_unit unlike bad_depths bad_sizes spare_bits bad_bits no_room_of full_depth_of ◌>>=◌ ◌>>◌ ceil_div size_mems size_trits word_at bits_of array_bytes trit_by head_sizes record_bytes known_bits value_bits bit_pairs decode_image header_refusal record_number read_record_refusal from_uint give word words_of list reply as_list op32 agrees agree Rattle.rules_trial.specs.Read.◌>>=◌
 agreed = refl

@@ -4,7 +4,7 @@ use mathlib.Core.Path.{◌≡◌, refl}
 use mathlib.Core.Bool.{true}
 use mathlib.Core.List.{List, [], ◌∷◌, ◌++◌}
 use lib.ListN.{replicate}
-use Rattle.lists.specs.Choice.{◌orElse◌}
+use Rattle.lists.specs.Choice.{◌or_else◌}
 use Rattle.rules.specs.Answers.{after}
 use Rattle.rules.specs.Conditions.{bad_head, is_power, bad_unit, unlike, bad_depths, bad_sizes, spare_bits, bad_bits}
 use Rattle.rules.specs.Geometry.{full_depth_of}
@@ -62,5 +62,5 @@ cases =
     []
 
 pub agreed : agree op33 cases ≡ true
-unfolding ◌orElse◌ after bad_head is_power bad_unit unlike bad_depths bad_sizes spare_bits bad_bits full_depth_of depth_at rows_before size_depth size_start mem_trits summary_of summaries is_blank digits_from decimal memories_text trits_text blank_text load_text refused_text head_line memory_line refused_line listed lister entry flag dff_operands encode words ◌>>=◌ ◌>>◌ added state_after ones ceil_div size_mems size_trits word_at bits_of array_bytes known_bit value_bit trit_by head_sizes record_bytes known_bits value_bits bit_pairs decode_image header_refusal record_number from_uint control_words give word words_of list test control controls reply as_list op33 agrees agree Rattle.rules_trial.specs.Read.◌>>=◌
+unfolding ◌or_else◌ after bad_head is_power bad_unit unlike bad_depths bad_sizes spare_bits bad_bits full_depth_of depth_at rows_before size_depth size_start mem_trits summary_of summaries is_blank digits_from decimal memories_text trits_text blank_text load_text refused_text head_line memory_line refused_line listed lister entry flag dff_operands encode words ◌>>=◌ ◌>>◌ added state_after ones ceil_div size_mems size_trits word_at bits_of array_bytes known_bit value_bit trit_by head_sizes record_bytes known_bits value_bits bit_pairs decode_image header_refusal record_number from_uint control_words give word words_of list test control controls reply as_list op33 agrees agree Rattle.rules_trial.specs.Read.◌>>=◌
 agreed = refl

@@ -3,7 +3,7 @@ use Prim.Native.Nat.{ℕ}
 use mathlib.Core.Path.{◌≡◌, refl}
 use mathlib.Core.Bool.{true}
 use mathlib.Core.List.{List, [], ◌∷◌}
-use Rattle.lists.specs.Choice.{◌orElse◌}
+use Rattle.lists.specs.Choice.{◌or_else◌}
 use Rattle.rules.specs.Conditions.{bad_control, log_full, nets_full}
 use Rattle.rules.specs.Geometry.{soft_bits, soft, row_len_of, full_depth_of, full_chunks, part_depth_of, all_chunks, full_mems, all_mems}
 use Rattle.rules.specs.Image.{rows_before, mem_start, trits}
@@ -85,5 +85,5 @@ cases =
     []
 
 pub agreed : agree op6 cases ≡ true
-unfolding ◌orElse◌ bad_control log_full nets_full soft_bits soft row_len_of full_depth_of full_chunks part_depth_of all_chunks full_mems all_mems rows_before mem_start trits entry flag dff_operands encode words ◌>>=◌ ◌>>◌ done request add_not_of add_and_of into_pos_of with_reset remap_reset_over_enable_of start_net added state_after ceil_div softs room_refusal log_refusal remap_number remap_reset_over_enable_refusal is_cell_net same_control is_always good_control control_words give word test control log controls reply as_list log_out remap_answer op6 agrees agree Rattle.rules_trial.specs.Read.◌>>=◌
+unfolding ◌or_else◌ bad_control log_full nets_full soft_bits soft row_len_of full_depth_of full_chunks part_depth_of all_chunks full_mems all_mems rows_before mem_start trits entry flag dff_operands encode words ◌>>=◌ ◌>>◌ done request add_not_of add_and_of into_pos_of with_reset remap_reset_over_enable_of start_net added state_after ceil_div softs room_refusal log_refusal remap_number remap_reset_over_enable_refusal is_cell_net same_control is_always good_control control_words give word test control log controls reply as_list log_out remap_answer op6 agrees agree Rattle.rules_trial.specs.Read.◌>>=◌
 agreed = refl

@@ -1,4 +1,5 @@
 // Writes the image record of the table whose text standard input holds; where the text is refused, nothing, and the line and the reason to standard error.
+#![tactic(auto)]
 use libc::{STDERR_FILENO, STDIN_FILENO, STDOUT_FILENO};
 use table_record::Answer;
 

@@ -6,7 +6,7 @@ use mathlib.Core.Option.{some}
 use mathlib.Core.List.{List}
 use lib.ListN.{length}
 use lib.Dec.{eqb}
-use Rattle.lists.specs.Choice.{if◌then◌else◌, ◌orElse◌}
+use Rattle.lists.specs.Choice.{if◌then◌else◌, ◌or_else◌}
 use Rattle.lists.specs.Lists.{part, any}
 use Rattle.lists.proofs.Choice.{else_zero, or_false, leaves_accepted}
 use Rattle.rules.specs.Cell.{Mem, Plan}

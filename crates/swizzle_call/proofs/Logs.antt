@@ -5,7 +5,7 @@ use Prim.Native.Nat.{ℕ, ◌<◌}
 use native.Mathlib.Nat.{eq-zero-or-pos}
 use native.Mathlib.Omega.{arith}
 use mathlib.Core.List.{List, []}
-use Rattle.lists.specs.Choice.{◌orElse◌}
+use Rattle.lists.specs.Choice.{◌or_else◌}
 use Rattle.lists.proofs.Choice.{else_zero}
 use Rattle.rules.specs.Cell.{Mem, Plan}
 use Rattle.rules.specs.Log.{Trace, log_after, state_after, start_net}

@@ -1,4 +1,5 @@
 // The call `swizzle`: all numbers first; then width 0 does nothing, depth 0 unmaps the flip-flops, and rows have their ports made anew.
+#![tactic(auto)]
 ghost use Rattle.std.specs.Prelude.{◌≡◌, drop};
 ghost use Rattle.rules.specs.Answers.{swizzle_call};
 ghost use Rattle.log_entries.specs.View.{state_of, lent};
@@ -62,7 +63,7 @@ fn act<'a>(
 
 // What a swizzle gives beside the log and the lent arrays: the number that refuses it or 0, the log's state with the struct of the memories, the
 // state that patches go by, and the record's sizes.
-#[derive(Drop)]
+#[derive(Clone, Copy)]
 pub struct Swizzled {
     pub refusal: u32,
     pub made: Reads,

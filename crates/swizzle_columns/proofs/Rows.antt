@@ -1,7 +1,7 @@
 -- The loops over the entries of a row and over the old rows, each from what is left to do.
 use mathlib.Core.Path.{◌≡◌, refl, sym, ap, ◌∙◌}
 use Prim.Native.Nat.{ℕ, zero, suc, ◌+◌, ◌-◌, ◌*◌, ◌/◌, ◌%◌, ◌<◌, ◌≤◌}
-use native.Mathlib.Nat.{add-zero, sub_zero, zero-add, add-mul, zero-mul, suc-mul, mul-le-mul_right}
+use native.Mathlib.Nat.{add-zero, sub-zero, zero-add, add-mul, zero-mul, suc-mul, mul-le-mul_right}
 use native.Mathlib.Numerals.{add-one}
 use native.Mathlib.Omega.{arith}
 use mathlib.Core.List.{List, [], ◌∷◌, ◌++◌, map, append_assoc, append-nil}
@@ -129,7 +129,7 @@ module _ (olds width : ℕ) (es : List ℕ) where
 
   pub from_first : from_row_of 0 ≡ all_sources olds width es
   unfolding from_row_of all_sources
-  from_first = rw sub_zero
+  from_first = rw sub-zero
 
   pub from_step : (j base : ℕ) → j < olds → base ≡ j * width → from_row_of j ≡ row_sources base es ++ from_row_of (j + 1)
   unfolding from_row_of sources_from

@@ -1,7 +1,7 @@
 -- The loops over the trits of a row, as those over its data.
 use mathlib.Core.Path.{◌≡◌, refl, sym, ap, ◌∙◌}
 use Prim.Native.Nat.{ℕ, zero, suc, ◌+◌, ◌-◌, ◌*◌, ◌/◌, ◌%◌, ◌<◌, ◌≤◌}
-use native.Mathlib.Nat.{add-zero, sub_zero, zero-add, add-mul, zero-mul, suc-mul, mul-le-mul_right}
+use native.Mathlib.Nat.{add-zero, sub-zero, zero-add, add-mul, zero-mul, suc-mul, mul-le-mul_right}
 use native.Mathlib.Numerals.{add-one}
 use native.Mathlib.Omega.{arith}
 use mathlib.Core.List.{List, [], ◌∷◌, ◌++◌, map, append_assoc, append-nil}

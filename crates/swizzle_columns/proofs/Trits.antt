@@ -1,7 +1,7 @@
 -- A read port's trits: what the code leaves is what the rules give, in the order of the memories.
 use mathlib.Core.Path.{◌≡◌, refl, sym, ap, ◌∙◌}
 use Prim.Native.Nat.{ℕ, ◌+◌, ◌-◌, ◌*◌, ◌^◌, ◌<◌, ◌≤◌}
-use native.Mathlib.Nat.{sub_zero}
+use native.Mathlib.Nat.{sub-zero}
 use native.Mathlib.Omega.{arith}
 use mathlib.Core.List.{List, [], ◌∷◌}
 use lib.ListN.{length, take, replicate}
@@ -35,7 +35,7 @@ module _ (M R U L : ℕ) (starts : ℕ → List ℕ) (v : List ℕ) (N : ℕ) wh
   each_none l = refl
 
   pub each_first : (l : List ℕ) → spill_each M R U L starts (up_from 0 (N - 0)) v l ≡ spill_each M R U L starts (up_from 0 N) v l
-  each_first l = ap (λ (k : ℕ). spill_each M R U L starts (up_from 0 k) v l) (sub_zero N)
+  each_first l = ap (λ (k : ℕ). spill_each M R U L starts (up_from 0 k) v l) (sub-zero N)
 
   pub each_turn : (x : ℕ) (l l' : List ℕ) → x < N → l' ≡ spill_at M R U L (starts x) v l
       → spill_each M R U L starts (up_from (x + 1) (N - (x + 1))) v l' ≡ spill_each M R U L starts (up_from x (N - x)) v l

@@ -1,4 +1,5 @@
 // The columns of a wide port, memory after memory: where the pieces of its old rows start, their stores, and a read port's trits.
+#![tactic(auto)]
 ghost use Rattle.std.specs.Prelude.{◌≡◌, ◌+◌, ◌-◌, ◌*◌, ◌<◌, ◌≤◌, min, length, get_or, replicate, eqb};
 ghost use Rattle.std.proofs.lemmas.List.Edits.{sets};
 ghost use Rattle.lists.specs.Choice.{if◌then◌else◌};
@@ -13,7 +14,7 @@ ghost use Rattle.swizzle_columns.specs.Jobs.{Narrow, Port};
 
 // How the columns of a port stand: so many memories, rows of the port, columns of a memory, and entries of a row; and the steps from the last
 // column of a memory's row to the same row of the next memory, and back to the first memory.
-#[derive(Drop)]
+#[derive(Clone, Copy)]
 pub struct Grid {
     pub mems: usize,
     pub rows: usize,
@@ -25,7 +26,7 @@ pub struct Grid {
 
 // A wide port's numbers: so many memories, columns of each, new rows; old rows of so many bits each; the bits of a piece's number that are chunk
 // bits, and the pieces.
-#[derive(Drop)]
+#[derive(Clone, Copy)]
 pub struct WidePort {
     pub mems: u32,
     pub unit: u32,
@@ -99,7 +100,7 @@ fn columns_of(p: WidePort, len: usize, size: usize) -> usize
 }
 
 // A column on the way: its place memory after memory, its bit and its memory.
-#[derive(Drop)]
+#[derive(Clone, Copy)]
 struct Cursor {
     index: usize,
     bit: usize,

@@ -1,7 +1,7 @@
 -- A port's needs by the numbers that the code has.
 use mathlib.Core.Path.{◌≡◌, refl, sym, ap, ◌∙◌, subst}
 use Prim.Native.Nat.{ℕ, ◌+◌, ◌-◌, ◌*◌, ◌^◌, ◌≤◌, ◌<◌, max}
-use native.Mathlib.Nat.{mul-le-mul, add_assoc, add-zero, zero-add, sub_zero}
+use native.Mathlib.Nat.{mul-le-mul, add_assoc, add-zero, zero-add, sub-zero}
 use native.Mathlib.Omega.{arith}
 use mathlib.Core.Bool.{Bool, true, false, not}
 use mathlib.Core.List.{List, [], ◌∷◌, map}
@@ -133,7 +133,7 @@ module _ (f : ℕ → Needs) where
   needs_end i n acc h q = sym (plus_none acc) ∙ ap (plus_needs acc) (sym all_none) ∙ ap (λ (l : List ℕ). plus_needs acc (all_needs (map f l))) (sym (count_end i n h)) ∙ q
 
   pub needs_start : (n : ℕ) → plus_needs no_needs (all_needs (map f (up_from 0 (n - 0)))) ≡ all_needs (map f (up_from 0 n))
-  needs_start n = none_plus _ ∙ ap (λ (k : ℕ). all_needs (map f (up_from 0 k))) (sub_zero n)
+  needs_start n = none_plus _ ∙ ap (λ (k : ℕ). all_needs (map f (up_from 0 k))) (sub-zero n)
 
 -- one more port
 pub most-more : (i : ℕ) (a b : Needs) → Most (i * port_most) a → Most port_most b → Most ((i + 1) * port_most) (plus_needs a b)

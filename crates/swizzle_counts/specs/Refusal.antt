@@ -1,6 +1,6 @@
 -- The refusal of a swizzle by what it asks for, without making its entries.
 use Rattle.std.specs.Prelude.{◌≡◌, ℕ, false, not, ◌&&◌, ◌||◌, List, eqb, length}
-use Rattle.lists.specs.Choice.{if◌then◌else◌, ◌orElse◌}
+use Rattle.lists.specs.Choice.{if◌then◌else◌, ◌or_else◌}
 use Rattle.rules.specs.Value.{Value}
 use Rattle.rules.specs.Cell.{Given, Plan}
 use Rattle.rules.specs.Log.{LogState}

@@ -1,5 +1,6 @@
 // What a swizzle asks for before it stores anything: words and nets of the log, nets and trits of the resulting memories, and scratch, in
 // closed form.
+#![tactic(auto)]
 ghost use Rattle.std.specs.Prelude.{◌≡◌, true, [], ◌*◌, ◌^◌, ◌≤◌, length};
 ghost use Rattle.rules.specs.Limits.{max_ports, max_wide, max_width, max_row, max_merge};
 ghost use Rattle.image_geometry.specs.View.{layout_by};
@@ -14,7 +15,7 @@ use swizzle_split::{Outcome, Split};
 pub mod refusal;
 
 // Words and nets of the log, nets and trits of the resulting memories, and nets of scratch.
-#[derive(Drop)]
+#[derive(Clone, Copy)]
 pub struct Needs {
     pub words: usize,
     pub nets: usize,
@@ -24,7 +25,7 @@ pub struct Needs {
 }
 
 // What a swizzle is lent: room for the image, for the nets and the trits of the resulting memories, and scratch.
-#[derive(Drop)]
+#[derive(Clone, Copy)]
 pub struct SwizzleRooms {
     pub image: usize,
     pub nets: usize,

@@ -1,4 +1,5 @@
 // memory/src/lib.rs, make_data_swizzle: the entries of a row, padded so that bits whose write masks differ lie in different granules.
+#![tactic(auto)]
 ghost use Rattle.std.specs.Prelude.{◌≡◌, ◌||◌, List, [], ◌∷◌, ◌++◌, ℕ, ◌+◌, ◌-◌, ◌%◌, ◌<◌, ◌≤◌, length, get_or, set, replicate, eqb, ltb};
 ghost use Rattle.std.proofs.lemmas.List.Edits.{sets};
 ghost use Rattle.lists.specs.Choice.{if◌then◌else◌};
@@ -16,7 +17,7 @@ ghost use Rattle.swizzle_entries.specs.Calls.{slice, unchanged, listed_of};
 use net_memory::Memory;
 
 // How many entries there are, or the number that refuses the call.
-#[derive(Drop)]
+#[derive(Clone, Copy)]
 pub enum DataSwizzle {
     Refused(u32),
     Accepted(usize),

@@ -1,6 +1,7 @@
 // What a swizzle gives, memory by memory: small functions that find a memory's part of the ports, trits and image in the lent arrays, and its output nets.
 //
 // A struct whose numbers pass the limits of a swizzle, which no swizzle gives, holds no memory.
+#![tactic(auto)]
 ghost use Rattle.std.specs.Prelude.{◌≡◌, List, ℕ, ◌+◌, ◌*◌, ◌<◌, ◌≤◌, min, get_or};
 ghost use Rattle.lists.specs.Lists.{all, part};
 ghost use Rattle.rules.specs.Limits.{max_ports, max_wide, max_unit, max_columns, max_nets};
@@ -13,7 +14,7 @@ use swizzle_result::{WideMemory, WideReadPort, WideWritePort};
 
 // A part of a lent array; 0, 0 where there is none.
 #[repr(C)]
-#[derive(Drop)]
+#[derive(Clone, Copy)]
 pub struct Part {
     pub start: usize,
     pub size: usize,

@@ -1,4 +1,5 @@
 // Demand 3 of the calls themselves: a memory swizzled by a plan, then the patch calls of a list on its image, refused ones among them.
+#![tactic(auto)]
 ghost use Rattle.log_entries.specs.View.{state_of};
 ghost use Rattle.net_memory.specs.Given.{given_of};
 ghost use Rattle.swizzle_plan.specs.Calls.{plan_of};
@@ -11,7 +12,7 @@ use swizzle_call::Swizzled;
 use swizzle_plan::MemorySwizzle;
 
 // What the swizzle gives, and the number of the list of calls: 0, 20 where the room for their numbers is short, or the swizzle's.
-#[derive(Drop)]
+#[derive(Clone, Copy)]
 pub struct SwizzledPatches {
     pub swizzled: Swizzled,
     pub patches: u32,

@@ -1,4 +1,5 @@
 // The pieces of a read port, loaded from the nets of its columns, which run from a first one on.
+#![tactic(auto)]
 ghost use Rattle.std.specs.Prelude.{◌≡◌, ◌+◌, ◌*◌, ◌<◌, ◌≤◌, min, ◌&&◌, length};
 ghost use Rattle.lists.specs.Lists.{up_from};
 ghost use Rattle.rules.specs.Limits.{X};
@@ -7,7 +8,7 @@ ghost use Rattle.swizzle_pieces.specs.Steps.{start_of, size_of, guarded, guard_r
 
 // The first net of the columns, the width of a row, the columns of a new row, the bits of a piece number that are chunk bits, the old rows of
 // the port, and the pieces.
-#[derive(Drop)]
+#[derive(Clone, Copy)]
 pub struct Pieces {
     pub first: u32,
     pub width: u32,

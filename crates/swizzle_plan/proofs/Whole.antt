@@ -7,7 +7,7 @@ use mathlib.Core.Bool.{Bool, true, false, not, ◌&&◌, ◌||◌}
 use mathlib.Core.List.{List, [], ◌∷◌}
 use lib.ListN.{length}
 use lib.Dec.{eqb, ltb}
-use Rattle.lists.specs.Choice.{if◌then◌else◌, ◌orElse◌}
+use Rattle.lists.specs.Choice.{if◌then◌else◌, ◌or_else◌}
 use Rattle.lists.specs.Lists.{part, up_from}
 use Rattle.lists.proofs.Choice.{else_first, else_rest, or_false, or_both}
 use Rattle.rules.specs.Limits.{max_depth, max_width, max_bits, max_row, max_unit, max_hard, addr_bits}
@@ -48,24 +48,24 @@ abbrev whole_of : Bool → Bool → Bool → Bool → Bool → ℕ
 whole_of a b c z d = (if a then 7 else if b then 8 else 0) or_else (if c then 9 else 0) or_else (if not z && d then 10 else 0)
 
 seven : (a b c z d : Bool) (k : ℕ) → k ≡ (if a then 7 else 0) → k ≢ 0 → k ≡ whole_of a b c z d
-unfolding ◌orElse◌
+unfolding ◌or_else◌
 seven true b c z d k e h = e
 seven false b c z d k e h = absurd (h e)
 
 eight : (a b c z d : Bool) (k j : ℕ) → k ≡ (if a then 7 else 0) → k ≡ 0 → j ≡ (if b then 8 else 0) → j ≢ 0 → j ≡ whole_of a b c z d
-unfolding ◌orElse◌
+unfolding ◌or_else◌
 eight true b c z d k j e q f h = absurd (omega arith)
 eight false true c z d k j e q f h = f
 eight false false c z d k j e q f h = absurd (h f)
 
 nine : (a b c z d : Bool) (k j : ℕ) → k ≡ (if a then 7 else 0) → k ≡ 0 → j ≡ (if b then 8 else 0) → j ≡ 0 → c ≡ true → 9 ≡ whole_of a b c z d
-unfolding ◌orElse◌
+unfolding ◌or_else◌
 nine true b c z d k j e q f h t = absurd (omega arith)
 nine false true c z d k j e q f h t = absurd (omega arith)
 nine false false c z d k j e q f h t = sym (ap (λ (x : Bool). (if x then 9 else 0) or_else (if not z && d then 10 else 0)) t)
 
 rest : (a b c z d : Bool) (k j : ℕ) → k ≡ (if a then 7 else 0) → k ≡ 0 → j ≡ (if b then 8 else 0) → j ≡ 0 → c ≡ false → (if not z && d then 10 else 0) ≡ whole_of a b c z d
-unfolding ◌orElse◌
+unfolding ◌or_else◌
 rest true b c z d k j e q f h t = absurd (omega arith)
 rest false true c z d k j e q f h t = absurd (omega arith)
 rest false false c z d k j e q f h t = sym (ap (λ (x : Bool). (if x then 9 else 0) or_else (if not z && d then 10 else 0)) t)

@@ -1,4 +1,5 @@
 // memory/src/lib.rs, MemorySwizzle: a plan and its numbers, alone and with those of the memory that it is for.
+#![tactic(auto)]
 ghost use Rattle.std.specs.Prelude.{◌≡◌, false, ◌||◌, List, ℕ, ltb, length};
 ghost use Rattle.lists.specs.Lists.{any};
 ghost use Rattle.rules.specs.Limits.{max_wide};
@@ -14,7 +15,7 @@ pub mod logs;
 
 // A plan without its lists: the entries of a row and the new wide logs stand in lent arrays.
 #[repr(C)]
-#[derive(Drop)]
+#[derive(Clone, Copy)]
 pub struct MemorySwizzle {
     pub soft_addr_bits_mask: u32,
     pub hard_addr_bits: u32,

@@ -1,4 +1,5 @@
 // The read ports of a swizzle: what they log, their addresses and trits in lent room, and the struct of the memories.
+#![tactic(auto)]
 ghost use Rattle.std.specs.Prelude.{◌≡◌, List, ℕ, ◌+◌, ◌*◌, ◌^◌, ◌<◌, ◌≤◌, min, ◌&&◌, length, drop, get_or, leb, ltb};
 ghost use Rattle.rules.specs.Limits.{X, max_ports, max_wide, max_width, max_columns};
 ghost use Rattle.rules.specs.Value.{Value};
@@ -28,7 +29,7 @@ use swizzle_split::{Outcome, Split};
 const ROOM: usize = rules::ADDR_BITS as usize;
 
 // The log's state, the struct of the memories, and where the next address and the next trits go in their rooms.
-#[derive(Drop)]
+#[derive(Clone, Copy)]
 pub struct Reads {
     pub state: LogState,
     pub memory: WideMemory,
@@ -37,14 +38,14 @@ pub struct Reads {
 }
 
 // The memories of a layout, and its columns.
-#[derive(Drop)]
+#[derive(Clone, Copy)]
 struct Sizes {
     mems: u32,
     columns: u32,
 }
 
 // Whether a port has a flip-flop, and its clock and enable.
-#[derive(Drop)]
+#[derive(Clone, Copy)]
 struct Clocking {
     clocked: bool,
     clock: ControlNet,

@@ -1,4 +1,5 @@
 // The memories that a swizzle gives, by value: they share ports, whose nets and trits stand in lent arrays, memory after memory.
+#![tactic(auto)]
 ghost use Rattle.std.specs.Prelude.{◌≡◌, ◌*◌};
 ghost use Rattle.swizzle_result.specs.View.{mems_of};
 
@@ -6,7 +7,7 @@ use net_memory::MemoryReadFlipFlop;
 use net_value::ControlNet;
 
 // A write port of all memories: the length of the address that they share, the new wide log, and the clock.
-#[derive(Drop)]
+#[derive(Clone, Copy)]
 pub struct WideWritePort {
     pub addr_len: u32,
     pub wide: u32,
@@ -14,7 +15,7 @@ pub struct WideWritePort {
 }
 
 // A read port of all memories, with the first of its output nets; these stand row after row, column after column.
-#[derive(Drop)]
+#[derive(Clone, Copy)]
 pub struct WideReadPort {
     pub addr_len: u32,
     pub wide: u32,
@@ -25,7 +26,7 @@ pub struct WideReadPort {
 }
 
 // The memories: the full ones and all, the depth of a full one and of the others, and the columns of each.
-#[derive(Drop)]
+#[derive(Clone, Copy)]
 pub struct WideMemory {
     pub full: u32,
     pub mems: u32,

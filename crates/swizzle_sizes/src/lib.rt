@@ -1,5 +1,6 @@
 // memory/src/lib.rs, swizzle_depths and swizzle_mux_bits: the depths of the memories that a swizzle would give, and the address bits of each port that
 // it would decode with muxes.
+#![tactic(auto)]
 ghost use Rattle.std.specs.Prelude.{◌≡◌, List, map, ℕ, ◌+◌, ◌-◌, ◌≤◌, length};
 ghost use Rattle.lists.specs.Lists.{pairs};
 ghost use Rattle.rules.specs.Geometry.{chunk_mux_bits, soft_bits};
@@ -17,7 +18,7 @@ use swizzle_plan::MemorySwizzle;
 
 // The number that refuses `swizzle_mux_bits`, or 0, and the mux bits of the write ports and of the listed read ports.
 #[repr(C)]
-#[derive(Drop)]
+#[derive(Clone, Copy)]
 pub struct MuxBits {
     pub refusal: u32,
     pub writes: [u32; rules::MAX_PORTS],

@@ -1,5 +1,6 @@
 // The split of a port's address: which bits go to the result's address and which to the mux address, how many pieces there are, and which bits
 // of a piece's number select a row.
+#![tactic(auto)]
 ghost use Rattle.std.specs.Prelude.{◌≡◌, ◌+◌, ◌-◌, ◌*◌, ◌/◌, ◌^◌, ◌<◌, ◌≤◌, length, set, List, ℕ, replicate};
 ghost use Rattle.rules.specs.Swizzle.{role_of};
 ghost use Rattle.swizzle_split.specs.Steps.{start_by, taken, to_row, to_mux, Roomy, Starts, Took, low_by, Fits, Splits, can_split, Answers};
@@ -13,7 +14,7 @@ use image_geometry::Params;
 
 // The split of a port with an old and a new wide log: the lengths of the result's address and of the mux address, the pieces, and the bits of a
 // piece's number that are chunk bits.
-#[derive(Drop)]
+#[derive(Clone, Copy)]
 pub struct Split {
     pub old: u32,
     pub new: u32,
@@ -24,7 +25,7 @@ pub struct Split {
 }
 
 // A split, or none where the numbers pass their limits.
-#[derive(Drop)]
+#[derive(Clone, Copy)]
 pub enum Outcome {
     Refused,
     Accepted(Split),
@@ -32,7 +33,7 @@ pub enum Outcome {
 
 // A walk over an address on its way: what is left of the mask, the wide bits and the row bits; the nets so far; the bits that double the pieces;
 // the weight of the next bit of a piece's number, and the bits of it that select a row.
-#[derive(Drop)]
+#[derive(Clone, Copy)]
 struct Taking {
     mask: u32,
     wide: u32,
@@ -45,7 +46,7 @@ struct Taking {
 }
 
 // The bits below an address: what is left of the mask, the soft bits, the weight of the next bit, and the bits that select a row.
-#[derive(Drop)]
+#[derive(Clone, Copy)]
 struct Low {
     mask: u32,
     softs: u32,

@@ -2,7 +2,7 @@
 use mathlib.Core.Path.{◌≡◌, refl, sym, ap, ◌∙◌}
 use mathlib.Core.Bool.{false}
 use Prim.Native.Nat.{ℕ, ◌+◌, ◌-◌, ◌*◌, ◌<◌, ◌≤◌}
-use native.Mathlib.Nat.{sub_zero}
+use native.Mathlib.Nat.{sub-zero}
 use native.Mathlib.Omega.{arith}
 use mathlib.Core.List.{List, [], ◌∷◌}
 use lib.ListN.{length}
@@ -42,8 +42,8 @@ module _ (M R U L : ℕ) (starts : ℕ → List ℕ) (mux mask : List ℕ) where
 
     pub going_starts : (m : List ℕ) (l : Lent) → Going m m l l 0
     going_starts m l = record {
-      whole = ap (λ (k : ℕ). run (spill_masks M R U L starts mux mask (up_from 0 k) m) l) (sub_zero N);
-      value = λ o. ap (λ (k : ℕ). (spill_masks M R U L starts mux mask (up_from 0 k) m l.state.next).value) (sub_zero N);
+      whole = ap (λ (k : ℕ). run (spill_masks M R U L starts mux mask (up_from 0 k) m) l) (sub-zero N);
+      value = λ o. ap (λ (k : ℕ). (spill_masks M R U L starts mux mask (up_from 0 k) m l.state.next).value) (sub-zero N);
     }
 
     module _ (m₀ m m1 k : List ℕ) (l₀ l l1 : Lent) (x : ℕ) (g : Going m₀ m l₀ l x) (h : x < N) (e1 : l1 ≡ run (piece_by mux mask x) l)

@@ -1,5 +1,6 @@
 // memory/src/lib.rs, the write ports of swizzle: for each its address, then its data and its mask in the order of the memories go to the nets of
 // the result, one port after the other.
+#![tactic(auto)]
 ghost use Rattle.std.specs.Prelude.{◌≡◌, List, ℕ, ◌+◌, ◌<◌, ◌≤◌, min, length, take, replicate};
 ghost use Rattle.log_entries.specs.View.{lent};
 ghost use Rattle.net_memory.specs.View.{memory_of};
@@ -17,7 +18,7 @@ use swizzle_result::WideWritePort;
 use swizzle_split::{Outcome, Split};
 
 // The state after all write ports, how many nets they take, and the ports of the result.
-#[derive(Drop)]
+#[derive(Clone, Copy)]
 pub struct Written {
     pub state: LogState,
     pub used: usize,
@@ -25,7 +26,7 @@ pub struct Written {
 }
 
 // The state after a port, where the next one starts, and the length of its address.
-#[derive(Drop)]
+#[derive(Clone, Copy)]
 struct Placing {
     state: LogState,
     next: usize,

@@ -1,4 +1,5 @@
 // The rows in which two tables differ, as text. The inner functions store what fits and count all: a run on one byte gives the length.
+#![tactic(auto)]
 ghost use Rattle.std.specs.Prelude.{◌≡◌, [], ◌+◌, ◌*◌, ◌≤◌, length, drop};
 ghost use Rattle.std.proofs.lemmas.List.Edits.{sets};
 ghost use Rattle.lists.specs.Lists.{same_list};
@@ -92,7 +93,7 @@ fn put_line(out: &mut [u8], at: usize, row: u32, width: u32, x: &[u8], y: &[u8])
 }
 
 // The place after the text so far, and the rows so far that differ.
-#[derive(Drop)]
+#[derive(Clone, Copy)]
 struct Spot {
     at: usize,
     count: usize,

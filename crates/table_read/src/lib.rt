@@ -1,4 +1,5 @@
 // The table of a text: the layout of its header line and its rows, or the line and the reason that refuse it.
+#![tactic(auto)]
 ghost use Rattle.std.specs.Prelude.{◌≡◌, not, ◌∷◌, [], ◌++◌, ◌-◌, ◌≤◌, length, take, get_or, drop};
 ghost use Rattle.rules.specs.Limits.{max_width, max_row};
 ghost use Rattle.rules.specs.Conditions.{bad_layout};
@@ -18,7 +19,7 @@ pub const MAX_TRITS: usize = rules::MAX_BITS as usize;
 
 // A table: its layout's numbers, `len` entries, and rows of which the first depth × width are in use; or, where the reason is not 0, the line of the text
 // that is refused.
-#[derive(Drop)]
+#[derive(Clone, Copy)]
 pub struct Table {
     pub line: u32,
     pub reason: u32,
@@ -90,7 +91,7 @@ fn params_of(words: &[u32], count: u32) -> Params
 }
 
 // Entries of a row, of which the first `len` are in use.
-#[derive(Drop)]
+#[derive(Clone, Copy)]
 struct Entries {
     len: u32,
     list: [u32; rules::MAX_ROW],

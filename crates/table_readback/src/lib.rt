@@ -1,4 +1,5 @@
 // The rows of a record as a table's text, or the rows in which they differ from a table: the text has a header line, the record, and the table.
+#![tactic(auto)]
 ghost use Rattle.std.specs.Prelude.{◌≡◌, false, ◌++◌, ◌*◌, ◌≤◌, length, take};
 ghost use Rattle.std.proofs.lemmas.List.Edits.{sets};
 ghost use Rattle.rules.specs.Record.{Sizes as LayoutSizes, record_bytes};
@@ -22,7 +23,7 @@ use table_read::Table;
 use table_text::bytes::both;
 
 // The line and the reason that refuse the header, or the table behind the record; a number; or the bytes of the text.
-#[derive(Drop)]
+#[derive(Clone, Copy)]
 pub enum Answer {
     BadText(u32, u32),
     BadTable(u32, u32),

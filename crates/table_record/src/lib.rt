@@ -1,4 +1,5 @@
 // The record of rows in a layout, and of a table's text.
+#![tactic(auto)]
 ghost use Rattle.std.specs.Prelude.{◌≡◌, ◌*◌};
 ghost use Rattle.image_state.specs.View.{sized_of};
 ghost use Rattle.image_geometry.specs.View.{layout_by};
@@ -36,7 +37,7 @@ pub fn record_of(out: &mut [u8], p: Params, entries: &[u32], rows: &[u8]) -> Wri
 }
 
 // The bytes of the record, the number that refuses it, or the line and the reason that refuse the text.
-#[derive(Drop)]
+#[derive(Clone, Copy)]
 pub enum Answer {
     BadText(u32, u32),
     Refused(u32),

@@ -7,7 +7,7 @@ ghost use Rattle.table_text.specs.Head.{head_as, head_start, head_bad, number_en
 use crate::bytes::{both, bumped, either};
 
 // The machine that reads the line: a kind, the field in hand, the words stored, and the number in hand.
-#[derive(Drop)]
+#[derive(Clone, Copy)]
 pub struct Head {
     pub kind: u32,
     pub field: u32,
@@ -161,7 +161,7 @@ fn store(words: &mut [u32], h: Head, b: u32)
 }
 
 // The machine after the line, and the place after it.
-#[derive(Drop)]
+#[derive(Clone, Copy)]
 pub struct Ended {
     pub head: Head,
     pub at: usize,

@@ -1,4 +1,5 @@
 // A table's text, read byte by byte: a header line, and rows as in `$readmemb` files.
+#![tactic(auto)]
 pub mod bytes;
 pub mod head;
 pub mod scan;

@@ -8,7 +8,7 @@ ghost use Rattle.table_text.specs.Scan.{scan_as, scan_start, with_kind, word_end
 use crate::bytes::{both, bumped, pick};
 
 // The machine that reads the rows: a kind, the line and the row in hand, the bits of a word that are to come, and a row number.
-#[derive(Drop)]
+#[derive(Clone, Copy)]
 pub struct Scan {
     pub kind: u32,
     pub line: u32,

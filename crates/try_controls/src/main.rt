@@ -1,5 +1,6 @@
 // Tries into_pos and remap_reset_over_enable, over controls that are constants, cells, inverses and bad ones, four rooms and six next free nets.
 // Every lent word holds a pattern before a call, and every word of log, state and result is compared after it with what a plain computation expects.
+#![tactic(auto)]
 use lists::copy_u32;
 use log_entries::LogState;
 use log_requests::{ControlsAnswer, NetAnswer};
@@ -13,7 +14,7 @@ use try_kit::paint::{paint_words, same};
 use try_kit::words::{both, minus, net_above, plus, word};
 
 // A control in plain numbers.
-#[derive(Drop)]
+#[derive(Clone, Copy)]
 struct Wire {
     neg: bool,
     net: u32,
@@ -74,7 +75,7 @@ fn nots(w: Wire) -> usize {
 }
 
 // The words and the nets of an emission.
-#[derive(Drop)]
+#[derive(Clone, Copy)]
 struct Size {
     words: usize,
     nets: usize,
@@ -184,7 +185,7 @@ fn pos_cases(log: &mut [u32], want: &mut [u32]) -> Tally {
 
 // ---- remap_reset_over_enable
 
-#[derive(Drop)]
+#[derive(Clone, Copy)]
 struct Remap {
     reset: Wire,
     enable: Wire,

@@ -11,7 +11,7 @@ pub(crate) const TRITS: usize = 200;
 pub(crate) const OUTS: usize = 200;
 
 // A memory, how many nets, trits and outputs are lent with it, and the element that is put in another's place, if there is one at that place.
-#[derive(Drop)]
+#[derive(Clone, Copy)]
 pub(crate) struct Case {
     pub(crate) m: Memory,
     pub(crate) nets: usize,

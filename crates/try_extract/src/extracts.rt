@@ -7,7 +7,7 @@ use try_kit::paint::{paint, paint_words};
 use try_kit::tally::{Tally, add};
 
 // How many places of each room are lent.
-#[derive(Drop)]
+#[derive(Clone, Copy)]
 pub(crate) struct Rooms {
     pub(crate) nets: usize,
     pub(crate) trits: usize,

@@ -1,4 +1,5 @@
 // Tries extract_read_ports. Every place of the lent rooms is painted before each call and compared after it, also past the part that is lent.
+#![tactic(auto)]
 mod case;
 mod extract_cases;
 mod extracts;

@@ -1,5 +1,6 @@
 // Lays out document 01's examples and some others, patches rows and reads them back. Every buffer starts as a pattern and is printed or compared
 // whole, after refused calls too.
+#![tactic(auto)]
 use libc::STDOUT_FILENO;
 
 fn number(n: u64) {

@@ -5,7 +5,7 @@ ghost use Rattle.try_kit.specs.Numbered.{no_case, one_case};
 use crate::tally::more;
 
 // How many cases were made, how many were right, and how many expect 0, 1, 2, 4, 20 and 21.
-#[derive(Drop)]
+#[derive(Clone, Copy)]
 pub struct Tally {
     pub made: u32,
     pub right: u32,

@@ -5,7 +5,7 @@ ghost use Rattle.try_kit.specs.Tally.{most, more as more·of, none_made, one_mor
 use crate::MOST;
 
 // How many comparisons were made, and how many failed.
-#[derive(Drop)]
+#[derive(Clone, Copy)]
 pub struct Tally {
     pub made: u32,
     pub failed: u32,

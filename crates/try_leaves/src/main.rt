@@ -1,5 +1,6 @@
 // Tries the functions of logic and value at normal and border inputs. Each lent buffer is filled with a pattern before the call, and every
 // word of it is compared after the call, whether the call is refused or accepted.
+#![tactic(auto)]
 mod consts;
 mod nets;
 mod values;

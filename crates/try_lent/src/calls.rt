@@ -13,7 +13,7 @@ pub(crate) const STRIDE: u32 = 3;
 
 // A request by its number: its values' lengths, whether its select is Neg, what is bad and which control or trit that is, the log's state and room,
 // and the room for results.
-#[derive(Drop)]
+#[derive(Clone, Copy)]
 pub(crate) struct Case {
     pub(crate) kind: u32,
     pub(crate) n: usize,

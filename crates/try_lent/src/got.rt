@@ -8,7 +8,7 @@ use net_value::ControlNet;
 use try_kit::paint;
 use try_kit::words::both;
 
-#[derive(Drop)]
+#[derive(Clone, Copy)]
 pub(crate) struct Got {
     pub(crate) number: u32,
     pub(crate) state: LogState,

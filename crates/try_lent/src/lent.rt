@@ -4,25 +4,25 @@ use log_lent::{NewControls, NewNets, NoValue, OneNet};
 use net_flip_flop::Controls;
 use net_value::ControlNet;
 
-#[derive(Drop)]
+#[derive(Clone, Copy)]
 pub(crate) struct LentNets {
     pub(crate) state: LogState,
     pub(crate) answer: NewNets,
 }
 
-#[derive(Drop)]
+#[derive(Clone, Copy)]
 pub(crate) struct LentNet {
     pub(crate) state: LogState,
     pub(crate) answer: OneNet,
 }
 
-#[derive(Drop)]
+#[derive(Clone, Copy)]
 pub(crate) struct LentNone {
     pub(crate) state: LogState,
     pub(crate) answer: NoValue,
 }
 
-#[derive(Drop)]
+#[derive(Clone, Copy)]
 pub(crate) struct LentControls {
     pub(crate) state: LogState,
     pub(crate) answer: NewControls,

@@ -1,6 +1,7 @@
 // Tries every request of `log_lent`, the three merges too, at border lengths, rooms and next free nets. Every lent word holds a pattern before a call;
 // after it the answer, the state and every word of the log and of the room for results are compared with those of the same request by value, for
 // accepted and for refused calls.
+#![tactic(auto)]
 mod calls;
 mod cases;
 mod got;

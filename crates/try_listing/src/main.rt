@@ -1,4 +1,5 @@
 // Lists records and prints each length, and whether the text is the one that is wanted. The lent array is painted before and compared after, also past the text.
+#![tactic(auto)]
 use libc::STDOUT_FILENO;
 use record_listing::Listed;
 use record_sizes::Sizes;

@@ -15,7 +15,7 @@ use try_kit::spoilt::{
 use try_kit::words::{both, minus, net_above, plus, word};
 
 // A request by its kind: its values' lengths, whether its select is Neg, what is bad and which control or trit that is, and the log's state and room.
-#[derive(Drop)]
+#[derive(Clone, Copy)]
 struct Case {
     kind: u32,
     n: usize,

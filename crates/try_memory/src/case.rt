@@ -7,7 +7,7 @@ const NETS: usize = 600;
 const TRITS: usize = 34900;
 
 // How many nets and trits are lent, and the net and the trit that are put at a place, if it is there.
-#[derive(Drop)]
+#[derive(Clone, Copy)]
 pub(crate) struct Case {
     pub(crate) m: Memory,
     pub(crate) nets: usize,

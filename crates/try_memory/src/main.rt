@@ -1,4 +1,5 @@
 // Tries the test of a memory and the calls that only look at one, at the borders of the numbers 1 to 4 and 15.
+#![tactic(auto)]
 mod calls;
 mod case;
 mod look_cases;

@@ -1,6 +1,7 @@
 // Tries the merging muxes: five lengths, three rooms and five next free nets; with good values, with a bad net in the first or in the second value, with a
 // bad select, with a room for results that is one net short, and with one value a bit longer than the other. Every lent word holds a pattern before a call, and every word of log, state and result is compared after it with what a plain computation
 // expects, which finds the distinct pairs by a plain search.
+#![tactic(auto)]
 use lists::{copy_u32, put_u32};
 use log_entries::LogState;
 use log_requests::Answer;
@@ -186,7 +187,7 @@ fn expect_runs(
 const ROOM: u32 = 4;
 
 // A merge: whether it is the bitwise one, its values' lengths, whether its select is Neg, what is wrong, and the next free net.
-#[derive(Drop)]
+#[derive(Clone, Copy)]
 struct Case {
     bitwise: bool,
     n: usize,

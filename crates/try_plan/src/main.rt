@@ -1,5 +1,6 @@
 // Tries make_data_swizzle, swizzle_depths and swizzle_mux_bits. Every word of a lent room is painted before each call and compared after it, also
 // past the part that is lent.
+#![tactic(auto)]
 mod depth_cases;
 mod entries;
 mod entry_cases;

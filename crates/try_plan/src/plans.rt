@@ -22,7 +22,7 @@ pub(crate) fn plan(mask: u32, hard: u32, unit: u32) -> MemorySwizzle {
 }
 
 // A call's number; how many full memories there are, of which depth, and how many others, of which depth.
-#[derive(Drop)]
+#[derive(Clone, Copy)]
 pub(crate) struct Wanted {
     pub(crate) number: u32,
     pub(crate) full: usize,

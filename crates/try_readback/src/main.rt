@@ -1,4 +1,5 @@
 // Tries texts of a header line, a record and a table: what refuses each, and what is written for those that are accepted.
+#![tactic(auto)]
 use libc::STDOUT_FILENO;
 use table_readback::Answer;
 

@@ -1,5 +1,6 @@
 // Runs the calls on records over cases and prints each answer. Every lent array is painted before and compared after, also past the part that is used, and so
 // is what the calls are given to read.
+#![tactic(auto)]
 use libc::STDOUT_FILENO;
 use record_codec::{Head, Written};
 use record_listing::summary::{Summarized, Summary};

@@ -1,4 +1,5 @@
 // Tries texts of tables: what refuses each, and the length of the record of those that are accepted.
+#![tactic(auto)]
 use libc::STDOUT_FILENO;
 use table_record::Answer;
 

@@ -1,5 +1,6 @@
 // Tries unmap_read_dff. Every lent word holds a pattern before a call; after it the answer, the memory, the outputs and every word of the log are
 // compared, for accepted and for refused calls.
+#![tactic(auto)]
 mod cases;
 mod sample;
 

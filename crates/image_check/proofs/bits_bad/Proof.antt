@@ -1,7 +1,7 @@
 -- `image_check::bits_bad` meets its contract.
 use mathlib.Core.Path.{◌≡◌, sym, ap, ◌∙◌}
 use Prim.Native.Nat.{ℕ, ◌-◌, ◌≤◌}
-use native.Mathlib.Nat.{sub_zero}
+use native.Mathlib.Nat.{sub-zero}
 use Rattle.lists.specs.Lists.{any, up_from}
 use Rattle.image_check.specs.Marks.{not_once}
 use Rattle.image_check.proofs.Marking.{block_found, block_pass}
@@ -17,7 +17,7 @@ abbrev decreases-loop : tie.decreases-loop
 decreases-loop width entries base₀ base = width - base
 
 loop-holds : tie.Need-loop-init invariant-loop decreases-loop
-loop-holds c = (omega arith, ap (λ (n : ℕ). any (not_once c.before.args.entries.now) (up_from 0 n)) (sub_zero c.before.args.width))
+loop-holds c = (omega arith, ap (λ (n : ℕ). any (not_once c.before.args.entries.now) (up_from 0 n)) (sub-zero c.before.args.width))
 
 sub-loop : tie.Need-overflow-sub-loop invariant-loop decreases-loop
 sub-loop c = c.loop.invariant.0

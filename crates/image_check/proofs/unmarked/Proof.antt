@@ -2,7 +2,7 @@
 use mathlib.Core.Path.{◌≡◌, ap}
 use mathlib.Core.Bool.{not}
 use Prim.Native.Nat.{ℕ, ◌-◌, ◌≤◌}
-use native.Mathlib.Nat.{sub_zero}
+use native.Mathlib.Nat.{sub-zero}
 use lib.Dec.{eqb}
 use lib.ListN.{get_or}
 use borrow.Author.Tests.{eq-eqb, ne_eqb}
@@ -19,7 +19,7 @@ abbrev decreases-loop : tie.decreases-loop
 decreases-loop marks count i₀ i = count - i
 
 loop-holds : tie.Need-loop-init invariant-loop decreases-loop
-loop-holds c = (omega arith, ap (λ (n : ℕ). any (λ (j : ℕ). not (eqb (get_or c.args.marks.now j 0) 1)) (up_from 0 n)) (sub_zero c.args.count))
+loop-holds c = (omega arith, ap (λ (n : ℕ). any (λ (j : ℕ). not (eqb (get_or c.args.marks.now j 0) 1)) (up_from 0 n)) (sub-zero c.args.count))
 
 element-copy-out-if1 : tie.Need-element-copy-out-if1 invariant-loop decreases-loop
 element-copy-out-if1 c = omega arith

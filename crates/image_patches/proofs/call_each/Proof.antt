@@ -1,7 +1,7 @@
 -- `image_patches::call_each` meets its contract. The calls from number i on, made from here, give the whole result.
 use Prim.Native.Nat.{ℕ, ◌-◌, ◌/◌, ◌≤◌}
 use mathlib.Core.Path.{◌≡◌, refl, sym, ap, ◌∙◌}
-use native.Mathlib.Nat.{sub_zero}
+use native.Mathlib.Nat.{sub-zero}
 use lib.ListN.{length}
 use lib.Seq.{sets}
 use Rattle.rules.specs.Beside.Shape.{handed_on}
@@ -28,7 +28,7 @@ loop-holds : tie.Need-loop-init invariant-loop decreases-loop
 loop-holds c =
     let a = c.before.before.before.before.before.args in
     let l = handed_on (layout_by a.p a.entries.now) in
-    let z = sub_zero (length a.calls.now / 4) in (
+    let z = sub-zero (length a.calls.now / 4) in (
       omega arith,
       refl,
       refl,

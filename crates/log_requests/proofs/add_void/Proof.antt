@@ -2,7 +2,7 @@
 use mathlib.Core.Path.{sym}
 use Rattle.log_entries.specs.View.{state_of}
 use Rattle.log_requests.proofs.Answers.{request_refused, request_accepted}
-use Rattle.lists.specs.Choice.{◌orElse◌}
+use Rattle.lists.specs.Choice.{◌or_else◌}
 use Rattle.rules.specs.Refusals.{add_void_refusal}
 use Rattle.rules.specs.Answers.{add_void_call}
 use Rattle.rules.proofs.Counted.{counted_void}
@@ -17,7 +17,7 @@ room-refusal-requires : tie.Need-room-refusal-requires
 room-refusal-requires c κs = search rules
 
 returns : tie.Need-returns
-unfolding add_void_call add_void_refusal ◌orElse◌
+unfolding add_void_call add_void_refusal ◌or_else◌
 returns c =
     let v = c.before.before.before.args in
     request_refused (up_from v.st.next v.width) (add_void_of v.width) 4 v.width 0 _ (λ z. counted_void v.width) v.log.now (state_of v.st) c.before.room-refusal.ensures c.if1.true
@@ -29,7 +29,7 @@ same_length : tie.Need-same-length
 same_length c = search rules
 
 returns-2 : tie.Need-returns-2
-unfolding add_void_call add_void_refusal ◌orElse◌
+unfolding add_void_call add_void_refusal ◌or_else◌
 returns-2 c =
     let v = c.before.before.before.before.before.before.before.args in
     let q = c.before.before.before.before.before.room-refusal in

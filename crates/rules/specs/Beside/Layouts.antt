@@ -1,7 +1,7 @@
 -- An image laid out from rows, and a row read back: numbers and whole answers.
 use Rattle.std.specs.Prelude.{ℕ, ◌*◌, ◌||◌, not, List, [], map, length, get_or, eqb}
 use Rattle.std.proofs.Math.Option.{none, some}
-use Rattle.lists.specs.Choice.{if◌then◌else◌, ◌orElse◌, leaves}
+use Rattle.lists.specs.Choice.{if◌then◌else◌, ◌or_else◌, leaves}
 use Rattle.lists.specs.Lists.{up_from}
 use Rattle.lists.specs.Distinct.{place_in}
 use Rattle.rules.specs.Limits.{trit_x}

@@ -1,6 +1,6 @@
 -- The lister's output by the first bytes of its standard input and the input's length: no more need be stored than the longest record takes.
 use Rattle.std.specs.Prelude.{ℕ, List, length, eqb}
-use Rattle.lists.specs.Choice.{if◌then◌else◌, ◌orElse◌}
+use Rattle.lists.specs.Choice.{if◌then◌else◌, ◌or_else◌}
 use Rattle.rules.specs.Lister.{refused_line, lister}
 use Rattle.rules.specs.Refusals.{header_refusal, lent_refusal}
 use Rattle.rules.specs.Answers.{Listed, listed_in}

@@ -1,5 +1,5 @@
 -- `swizzle_pieces::load_pieces` meets its contract.
-use native.Mathlib.Nat.{sub_zero}
+use native.Mathlib.Nat.{sub-zero}
 use Rattle.lists.specs.Lists.{up_from}
 use Rattle.swizzle_pieces.specs.Steps.{size_of, load_each}
 use Rattle.swizzle_pieces.proofs.Loaded.{each_turn, each_end, piece_fits, piece_place, size_start_lem}
@@ -23,7 +23,7 @@ piece-size-requires c κs = search rules
 loop-holds : tie.Need-loop-init invariant-loop decreases-loop
 loop-holds c =
     let v = c.before.before.before.args in
-    (omega arith, refl, size_start_lem (size_of v.n), ap (λ (k : ℕ). load_each v.n v.entries.now (up_from 0 k) 0 v.scratch.now) (sub_zero v.n.count))
+    (omega arith, refl, size_start_lem (size_of v.n), ap (λ (k : ℕ). load_each v.n v.entries.now (up_from 0 k) 0 v.scratch.now) (sub-zero v.n.count))
 
 load-piece-requires : tie.Need-load-piece-requires invariant-loop decreases-loop
 load-piece-requires c κs =

@@ -1,5 +1,5 @@
 -- `swizzle_pieces::load_rows` meets its contract.
-use native.Mathlib.Nat.{sub_zero}
+use native.Mathlib.Nat.{sub-zero}
 use Rattle.lists.specs.Lists.{up_from}
 use Rattle.swizzle_pieces.specs.Steps.{start_of, guard_rows}
 use Rattle.swizzle_pieces.proofs.Loaded.{rows_turn, rows_end, place_turn, place_start, place_room}
@@ -23,7 +23,7 @@ wide-requires c κs = search rules
 loop-holds : tie.Need-loop-init invariant-loop decreases-loop
 loop-holds c =
     let v = c.before.before.before.args in
-    (omega arith, refl, place_start v.at v.n.width, ap (λ (k : ℕ). guard_rows (start_of v.n (length v.entries.now) v.x) v.at v.n.width v.entries.now v.n.first (up_from 0 k) v.scratch.now) (sub_zero v.n.rows))
+    (omega arith, refl, place_start v.at v.n.width, ap (λ (k : ℕ). guard_rows (start_of v.n (length v.entries.now) v.x) v.at v.n.width v.entries.now v.n.first (up_from 0 k) v.scratch.now) (sub-zero v.n.rows))
 
 row-first-requires : tie.Need-row-first-requires invariant-loop decreases-loop
 row-first-requires c κs =

@@ -6,7 +6,7 @@ use mathlib.Core.List.{List, ◌++◌}
 use lib.ListN.{length, take, drop, get_or, length-set}
 use lib.Seq.{sets}
 use Rattle.rules.specs.Limits.{X}
-use native.Mathlib.Nat.{sub_zero, mod-lt}
+use native.Mathlib.Nat.{sub-zero, mod-lt}
 use borrow.Author.Rules.{rules}
 use Rattle.rules.specs.Value.{from_uint}
 use Rattle.swizzle_write.proofs.Numbers.{uint_turn, uint_end}
@@ -20,7 +20,7 @@ abbrev decreases-loop : tie.decreases-loop
 decreases-loop out₀ x left₀ i₀ out left i = length out₀ - i
 
 loop-holds : tie.Need-loop-init invariant-loop decreases-loop
-loop-holds c = (omega arith, refl, ap (λ (k : ℕ). from_uint k c.args.x) (sub_zero (length c.args.out.now)))
+loop-holds c = (omega arith, refl, ap (λ (k : ℕ). from_uint k c.args.x) (sub-zero (length c.args.out.now)))
 
 cast-out : tie.Need-overflow-cast-out invariant-loop decreases-loop
 cast-out c = omega (arith, mod-lt c.before.loop.left {m = 2} (omega arith))

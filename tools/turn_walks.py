@@ -1,0 +1,428 @@
+#!/usr/bin/env python3
+"""Turns the old proof files of a crate, proofs/F/Proof.antt, into proofs/F/Invariants.antt and Answers.antt, as today's Rattle reads them.
+
+usage: turn_walks.py CRATE [--all] [F ..]     at the top of the repository; with no F each Proof.antt of the crate
+
+It asks `rt check --generated DIR --old-names` for each goal's old and new name. Answers that Rattle finds itself (`search rules`, `omega arith`) are left out but
+under --all. A line that begins 'look:' names what it could not turn. What it wrote for each goal is kept in /tmp/turned/CRATE.json."""
+import glob
+import json
+import os
+import re
+import shutil
+import subprocess
+import sys
+
+TOP = os.getcwd()
+W = r'[^\s(){}.;,@"«»]'
+WORD = re.compile(W + '+')
+
+
+def norm(s):
+    return s.replace('-', '_').replace('«', '').replace('»', '')
+
+
+def said(*words):
+    print(*words)
+
+
+def clause_names(top):
+    """crate::path of a function -> names of its ensures and requires, by text."""
+    out = {}
+    for f in glob.glob(os.path.join(top, 'crates', '*', 'src', '**', '*.rt'), recursive=True):
+        crate = f.split('/crates/')[1].split('/')[0]
+        mod = f.split('/src/')[1][:-3]
+        mod = '' if mod in ('lib', 'main') else mod.replace('/', '::') + '::'
+        text = re.sub(r'//[^\n]*', '', open(f, encoding='utf-8').read())
+        for m in re.finditer(r'\bfn (\w+)', text):
+            end = text.find('\n}', m.end())
+            head = text[m.end():end if end > 0 else len(text)]
+            nxt = re.search(r'\bfn \w+', head)
+            head = head[:nxt.start()] if nxt else head
+            ens = re.findall(r'\bensures\*?(?: (\w+))? \{', head)
+            req = re.findall(r'\brequires\*?(?: (\w+))? \{', head)
+            out[f'{crate}::{mod}{m.group(1)}'] = (ens, req)
+    return out
+
+
+def split_tuple(s):
+    """The two parts of '(a, b)' or None."""
+    s = s.strip()
+    if not (s.startswith('(') and s.endswith(')')):
+        return None
+    deep, parts, at = 0, [], 1
+    for i, ch in enumerate(s):
+        if ch in '([{':
+            deep += 1
+        elif ch in ')]}':
+            deep -= 1
+            if deep == 0 and i != len(s) - 1:
+                return None
+        elif ch == ',' and deep == 1:
+            parts.append(s[at:i])
+            at = i + 1
+    parts.append(s[at:-1])
+    return [p.strip() for p in parts] if len(parts) > 1 else None
+
+
+def into_record(body, names):
+    """A nested tuple for several clauses as a record; leading lets stay."""
+    pos = 0
+    m = None
+    for m in re.finditer(r'(?:^|\s)in\s', body):
+        pass
+    lead, tail = (body[:m.end()], body[m.end():]) if m and body.strip().startswith('let') else ('', body)
+    parts, rest = [], tail
+    while len(parts) < len(names) - 1:
+        t = split_tuple(rest)
+        if not t or len(t) < 2:
+            return None
+        if len(t) == len(names) - len(parts):
+            parts += t
+            rest = None
+            break
+        parts.append(t[0])
+        rest = t[1] if len(t) == 2 else '(' + ', '.join(t[1:]) + ')'
+    if rest is not None:
+        parts.append(rest)
+    if len(parts) != len(names):
+        return None
+    return lead + 'record { ' + '; '.join(f'{n} = {p}' for n, p in zip(names, parts)) + ' }'
+
+
+class Fn:
+    def __init__(self, crate, path, row, clauses):
+        self.crate, self.path, self.row = crate, path, row
+        self.needs = {norm(a): b for a, b in row['needs']}
+        self.need_list = row['needs']
+        self.clauses = clauses
+        self.steps, self.places = {}, {}
+        self.parent = {}
+        for (place, parent, (old, new), callee, more), new_place in zip(row['places'], row['places_by_name']):
+            self.places[norm(place)] = new_place
+            self.parent[place] = parent
+            if old:
+                self.steps.setdefault(norm(old), []).append((new, callee, place))
+        self.arms = []
+        for arm, place in zip(row['arms'], row['places']):
+            if arm:
+                for new, step, path in arm[2]:
+                    if not new.endswith('-own'):
+                        self.arms.append((norm(step), path, arm[0], new))
+        self.asked = {}
+        for (old, new), (a, b) in zip(row['needs'], row['asked_at']):
+            self.asked[norm(old)] = (a, b)
+
+    def need(self, word):
+        """Need-overflow-mul-to and the like -> the new goal's name"""
+        w = norm(word)
+        tries = [w, re.sub(r'^overflow_', '', w), re.sub(r'_holds$', '_init', w), re.sub(r'_less$', '_smaller', w), re.sub(r'_again$', '_preserved', w),
+                 re.sub(r'^(overflow|nonzero)_', '', w)]
+        for t in tries:
+            if t in self.needs:
+                return self.needs[t]
+        return None
+
+    def turn_paths(self, text, roots):
+        """Paths behind c, or a variable that stands for it."""
+        text = re.sub(r'(?:\.before)+(?![\w-])', '', text)
+        for m in re.finditer(r'\blet (' + W + r'+) = c in\b', text):
+            roots.add(m.group(1))
+        look = []
+
+        def one(m):
+            root, rest = m.group(1), m.group(2)
+            if root not in roots:
+                return m.group(0)
+            parts = [p for p in rest.split('.') if p]
+            if not parts:
+                return m.group(0)
+            step = norm(parts[0])
+            for st, path, arm, new in self.arms:
+                if st == step and [norm(x) for x in parts[1:1 + len(path)]] == [norm(x) for x in path] and path:
+                    return root + '.' + '.'.join([arm, new] + parts[1 + len(path):])
+            if step in ('args', 'requires', 'ranges', 'type_inv'):
+                return m.group(0)
+            if step == 'measure' or step == 'auto':
+                return m.group(0)
+            if step in self.steps:
+                options = self.steps[step]
+                new, callee, place = options[0]
+                parts[0] = new
+                if len({o[0] for o in options}) > 1:
+                    look.append(f'{rest} may be one of {[o[0] for o in options]}')
+                parts = self.clause(parts, callee)
+                return root + '.' + '.'.join(parts)
+            look.append(f'no step {rest}')
+            return m.group(0)
+
+        text = re.sub(r'(?<![^\s(){};,@«»←])(' + W + r'+)((?:\.[^\s(){}.;,@"]+)+)', one, text)
+        # an alias of a step: let q = c.STEP in .. q.ensures.1.0
+        for m in re.finditer(r'\blet (' + W + r'+) = c\.(' + W + r'+) in\b', text):
+            callee = next((ca for ops in self.steps.values() for (n, ca, _) in ops if n == m.group(2)), None)
+            if callee:
+                v = m.group(1)
+                text = re.sub(r'(?<![^\s(){};,@«»←])' + re.escape(v) + r'((?:\.[^\s(){}.;,@"]+)+)',
+                              lambda k: '.'.join(self.clause([v] + k.group(1)[1:].split('.'), callee)), text)
+        return text, look
+
+    def clause(self, parts, callee):
+        """.ensures.1.0 -> .ensures.NAME"""
+        if not callee or 'ensures' not in parts or callee not in self.clauses:
+            return parts
+        names = self.clauses[callee][0]
+        if len(names) < 2 or any(not n for n in names):
+            return parts
+        i = parts.index('ensures')
+        rest, k = parts[i + 1:], 0
+        while rest and rest[0] == '1' and k < len(names) - 1:
+            rest, k = rest[1:], k + 1
+        if k < len(names) - 1:
+            if not rest or rest[0] != '0':
+                return parts
+            rest = rest[1:]
+        elif rest and rest[0] == '0' and len(parts) > i + 1 + k and False:
+            rest = rest[1:]
+        return parts[:i + 1] + [names[k]] + rest
+
+
+def paragraphs(text):
+    out, now = [], []
+    for line in text.split('\n'):
+        if not line.strip():
+            if now:
+                out.append('\n'.join(now))
+            now = []
+        else:
+            now.append(line)
+    if now:
+        out.append('\n'.join(now))
+    return out
+
+
+def inv(fn, body, args, which):
+    """An invariant's or a measure's body over l, from its positional arguments."""
+    loop = fn.row['loops'][which]
+    variables, changed = loop[1], fn.row['changed'][which]
+    order = [('l.initial.' if ch else 'l.') + v for v, ch in zip(variables, changed)] + ['l.' + v for v, ch in zip(variables, changed) if ch]
+    look = []
+    if len(order) != len(args):
+        look.append(f'{len(args)} arguments for {len(order)} variables')
+    known = {}
+    plain = {norm(v): v for v in variables}
+    for k, a in enumerate(args):
+        base = norm(a.rstrip('₀'))
+        if base in plain:
+            v = plain[base]
+            known[a] = ('l.initial.' if a.endswith('₀') else 'l.') + v
+        elif a != '_' and k < len(order) and len(order) == len(args):
+            known[a] = order[k]
+            look.append(f'{a} read as {order[k]}')
+        elif a != '_':
+            look.append(f'no variable {a}')
+    text = re.sub(r'(?<![^\s(){};,@«»])' + W + '+', lambda m: known.get(m.group(0), m.group(0)), body)
+    return text, look
+
+
+def imports(uses, text, own=()):
+    """The use lines whose names the text has."""
+    words = set(WORD.findall(text))
+    marks = set(re.findall(r'[^\s(){}.;,@"«»\w]+', text)) | words
+    out = []
+    for u in uses:
+        m = re.match(r'use (\S+?)\.\{(.*)\}$', u.replace('\n', ' '))
+        if not m:
+            m2 = re.match(r'use (\S+) as (\S+)$', u)
+            if m2:
+                if re.search(r'(?<![\w-])' + re.escape(m2.group(2)) + r'\.', text):
+                    out.append(u)
+            else:
+                last = u.split('.')[-1]
+                if re.search(r'(?<![\w-])' + re.escape(last) + r'\.', text):
+                    out.append(u)
+            continue
+        keep = []
+        for it in m.group(2).split(','):
+            it = it.strip()
+            name = it.split(' as ')[-1].strip()
+            pieces = [p for p in name.split('◌') if p]
+            if name in words or ('◌' in name and all(p in text for p in pieces)):
+                keep.append(it)
+        if keep:
+            out.append('use ' + m.group(1) + '.{' + ', '.join(keep) + '}')
+    return out
+
+
+TRIVIAL = {'search rules', 'omega arith', 'search needs', 'refl', 'tt'}
+
+
+def convert(crate, path, fn, everything):
+    folder = os.path.join(TOP, 'crates', crate, 'proofs', path)
+    old = os.path.join(folder, 'Proof.antt')
+    text = open(old, encoding='utf-8').read()
+    uses, helpers, invs, answers, looks, kept = [], [], [], [], [], {}
+    head = None
+    dotted = path.replace('/', '.')
+    own = fn.clauses.get(f'{crate}::' + path.replace('/', '::').replace('+', ''), ([], []))
+    loops = {norm(l[0][0]): i for i, l in enumerate(fn.row['loops'])}
+    for p in paragraphs(text):
+        body_lines = p.split('\n')
+        comment = [l for l in body_lines if l.startswith('--')]
+        code = '\n'.join(l for l in body_lines if not l.startswith('--'))
+        if comment and head is None and not code.strip().startswith(('abbrev', 'pub')):
+            head = comment[0]
+            comment = []
+        if code.startswith('use '):
+            for u in re.split(r'\n(?=use )', code):
+                if '.Statement.' in u or u.endswith('.Tie as tie') or '.Tie as ' in u:
+                    continue
+                uses.append(re.sub(r'\n\s*', ' ', u))
+            continue
+        if not code.strip():
+            continue
+        m = re.match(r'(?:abbrev )?(?:pub )?(invariant|decreases)-?(\S*) : (?:tie|goal)\.\S+', code)
+        if m:
+            name = m.group(2)
+            rest = code[m.end():]
+            unf = re.findall(r'(?m)^unfolding .*$', rest)
+            rest = re.sub(r'(?m)^unfolding .*$\n?', '', rest).strip()
+            d = re.match(r'(\S+)\s+((?:\S+\s+)*?)=\s', rest + ' ')
+            if not d:
+                looks.append(f'invariant of no known form: {rest[:80]}')
+                continue
+            args = d.group(2).split()
+            body = rest[d.end():] if d.end() <= len(rest) else rest[d.end() - 1:]
+            which = loops.get(norm(name), 0 if len(loops) == 1 else None)
+            if which is None:
+                which = next((i for l, i in loops.items() if l == norm(name)), None)
+            if which is None:
+                looks.append(f'no loop {name} among {list(loops)}')
+                which = 0
+            if not fn.row['loops']:
+                looks.append(f'no loops, but {m.group(0)}')
+                continue
+            new_body, look = inv(fn, body, args, which)
+            looks += look
+            new = fn.row['loops'][which][0][1]
+            invs.append('\n'.join(comment + [f'abbrev pub {m.group(1)}-{new} : goal.{m.group(1)}-{new}'] + unf + [f'{m.group(1)}-{new} l ={" " if not new_body.startswith(chr(10)) else ""}{new_body}']))
+            continue
+        m = re.match(r'(?:abbrev )?(?:pub )?(\S+) : (?:tie|goal)\.Need-(\S+)(?: \S+)*', code)
+        if m:
+            new = fn.need(m.group(2))
+            rest = code[m.end():]
+            unf = re.findall(r'(?m)^unfolding .*$', rest)
+            rest = re.sub(r'(?m)^unfolding .*$\n?', '', rest).strip()
+            d = re.match(r'(\S+)\s+((?:\S+\s+)*?)=\s', rest + ' ')
+            if not d:
+                looks.append(f'answer of no known form: {rest[:80]}')
+                continue
+            args = d.group(2).split()
+            body = (rest + ' ')[d.end():].rstrip()
+            if new is None:
+                if body.strip() not in TRIVIAL and not re.match(r'(same|shape|enum|known|long|told)', m.group(2)):
+                    looks.append(f'no goal for {m.group(2)}: {body[:100]!r}')
+                kept['?' + m.group(2)] = body
+                continue
+            body, look = fn.turn_paths(body, {'c'})
+            looks += [f'{new}: {l}' for l in look]
+            if new.startswith('returns') and len(own[0]) > 1:
+                r = into_record(body, own[0])
+                if r:
+                    body = r
+                elif body.strip() not in TRIVIAL:
+                    looks.append(f'{new}: not a tuple of {len(own[0])} clauses')
+            args = [a for a in args if a != 'κs']
+            nl = '\n' in body or len(body) > 110
+            whole = '\n'.join(comment + [f'pub {new} : goal.{new}'] + unf + [f'{new} {" ".join(args)} ={chr(10) + "    " if nl and not body.startswith(chr(10)) else " "}{body}'])
+            kept[new] = whole
+            if (body.strip() in TRIVIAL - {'refl', 'tt'} or new in fn.row.get('settled', [])) and not everything:
+                continue
+            answers.append(whole)
+            continue
+        if re.match(r'(?:pub )?\S+-spec : |(?:pub )?\S+_spec : ', code):
+            continue
+        body = code
+        t = re.search(r'\(c : tie\.(\S+?)\)', code)
+        if 'tie.' in code:
+            def place(k):
+                n = fn.places.get(norm(k.group(1)))
+                if n is None:
+                    looks.append(f'no place {k.group(1)}')
+                    return k.group(0)
+                return 'goal.' + n
+            body = re.sub(r'tie\.([A-Za-z][^\s(){}.;,]*)', place, body)
+            body, look = fn.turn_paths(body, {'c'})
+            looks += [f'helper: {l}' for l in look]
+            looks.append('a helper takes a place: call it with (goal.at.GOAL c).PLACE: ' + body.split('\n')[0][:120])
+        helpers.append('\n'.join(comment + [body]))
+    made = []
+    inv_text = '\n\n'.join(invs)
+    if invs:
+        # helpers that the invariants name go there too
+        f = os.path.join(folder, 'Invariants.antt')
+        lines = imports(uses, inv_text)
+        with open(f, 'w', encoding='utf-8') as it:
+            it.write(f'-- The invariants of `{crate}::{path.replace("/", "::")}`.\n' + '\n'.join(lines + [f'use Rattle.{crate}.proofs.{dotted}.Given as goal']) + '\n\n' + inv_text + '\n')
+        made.append('Invariants')
+    if answers:
+        # helpers stay only where an answer, or a helper that stays, names them
+        text = '\n\n'.join(answers)
+        stay = []
+        for h in reversed(helpers):
+            names = re.findall(r'(?m)^(?:  )?(?:(?:pub|abbrev|unfoldable) )*(' + W + r'+)(?: ' + W + r'+)* :', re.sub(r'(?m)^--.*$', '', h))
+            if any(re.search(r'(?<![^\s(){}.;,])' + re.escape(n) + r'(?![^\s(){}.;,])', text) for n in names) or h.lstrip('-').startswith(('module', 'open', 'use', 'infix')):
+                stay.insert(0, h)
+                text = h + '\n\n' + text
+        body = '\n\n'.join(stay + answers)
+        f = os.path.join(folder, 'Answers.antt')
+        lines = imports(uses, body)
+        with open(f, 'w', encoding='utf-8') as it:
+            it.write(f'-- `{crate}::{path.replace("/", "::")}` meets its contract.\n' + '\n'.join(lines + [f'use Rattle.{crate}.proofs.{dotted}.Goals as goal']) + '\n\n' + body + '\n')
+        made.append('Answers')
+    keep = os.path.join('/tmp/turned', crate, path)
+    os.makedirs(keep, exist_ok=True)
+    shutil.copy(old, os.path.join(keep, 'Proof.antt'))
+    with open(os.path.join(keep, 'kept.json'), 'w') as it:
+        json.dump({'uses': uses, 'answers': kept}, it, ensure_ascii=False, indent=1)
+    os.remove(old)
+    said(f'{crate}::{path}: {" ".join(made) or "no file"}' + (f', {len(answers)} answers' if answers else ''))
+    for l in looks:
+        said(f'look: {crate}::{path}: {l}')
+    if not os.listdir(folder):
+        os.rmdir(folder)
+
+
+def main(argv):
+    everything = '--all' in argv
+    argv = [a for a in argv if a != '--all']
+    crate, only = argv[0], argv[1:]
+    where = os.path.join(TOP, 'crates', crate)
+    names = f'/tmp/names-{os.getpid()}'
+    r = subprocess.run(['rt', 'check', '--generated', names, '--old-names'], cwd=where, capture_output=True, text=True)
+    got = os.path.join(names, 'names.json')
+    if not os.path.exists(got):
+        print(r.stdout[-3000:], r.stderr[-2000:])
+        sys.exit('turn_walks: no names: mend the source first')
+    table = json.load(open(got, encoding='utf-8'))
+    shutil.rmtree(names)
+    clauses = clause_names(TOP)
+    for old in sorted(glob.glob(os.path.join(where, 'proofs', '**', 'Proof.antt'), recursive=True)):
+        path = os.path.relpath(os.path.dirname(old), os.path.join(where, 'proofs'))
+        if only and path not in only:
+            continue
+        key = f'Rattle-{crate}-proofs.{path.replace("/", ".")}.Lts'
+        row = table.get(key)
+        if row is None:
+            close = [k for k in table if k.split('.')[-2].strip('+') == path.split('/')[-1].strip('+')]
+            said(f'look: {crate}::{path}: no names under {key}; near: {close}')
+            continue
+        try:
+            convert(crate, path, Fn(crate, path, row, clauses), everything)
+        except Exception as e:
+            import traceback
+            traceback.print_exc()
+            said(f'look: {crate}::{path}: {e!r}')
+
+
+if __name__ == '__main__':
+    main(sys.argv[1:])
