@@ -14,6 +14,7 @@ import subprocess
 import sys
 
 TOP = os.getcwd()
+MUTS = {}
 W = r'[^\s(){}.;,@"«»]'
 WORD = re.compile(W + '+')
 
@@ -42,6 +43,7 @@ def clause_names(top):
             ens = re.findall(r'\bensures\*?(?: (\w+))? \{', head)
             req = re.findall(r'\brequires\*?(?: (\w+))? \{', head)
             out[f'{crate}::{mod}{m.group(1)}'] = (ens, req)
+            MUTS[f'{crate}::{mod}{m.group(1)}'] = re.findall(r'(\w+): &mut ', head.split(')')[0] if '(' in head else '')
     return out
 
 
@@ -90,12 +92,29 @@ def into_record(body, names):
     return lead + 'record { ' + '; '.join(f'{n} = {p}' for n, p in zip(names, parts)) + ' }'
 
 
+def last_tuple(body, names):
+    """`rw e (a, (b, c))` with its last argument as a record."""
+    b = body.rstrip()
+    if not b.endswith(')'):
+        return None
+    deep = 0
+    for i in range(len(b) - 1, -1, -1):
+        deep += (b[i] == ')') - (b[i] == '(')
+        if deep == 0:
+            break
+    if i == 0:
+        return None
+    r = into_record(b[i:], names)
+    return b[:i] + '(' + r + ')' if r else None
+
+
 class Fn:
     def __init__(self, crate, path, row, clauses):
         self.crate, self.path, self.row = crate, path, row
         self.needs = {norm(a): b for a, b in row['needs']}
         self.need_list = row['needs']
         self.clauses = clauses
+        self.muts = MUTS
         self.steps, self.places = {}, {}
         self.parent = {}
         for (place, parent, (old, new), callee, more), new_place in zip(row['places'], row['places_by_name']):
@@ -138,6 +157,8 @@ class Fn:
             if not parts:
                 return m.group(0)
             step = norm(parts[0])
+            if step not in self.steps and re.search('_(lem|of)$', step) and re.sub('_(lem|of)$', '', step) in self.steps:
+                step = re.sub('_(lem|of)$', '', step)
             for st, path, arm, new in self.arms:
                 if st == step and [norm(x) for x in parts[1:1 + len(path)]] == [norm(x) for x in path] and path:
                     return root + '.' + '.'.join([arm, new] + parts[1 + len(path):])
@@ -152,6 +173,11 @@ class Fn:
                 if len({o[0] for o in options}) > 1:
                     look.append(f'{rest} may be one of {[o[0] for o in options]}')
                 parts = self.clause(parts, callee)
+                if len(parts) > 2 and parts[1] == 'new' and parts[2].isdigit() and callee in self.muts:
+                    ms = self.muts[callee]
+                    k = int(parts[2])
+                    if k < len(ms):
+                        parts[2] = ms[k]
                 return root + '.' + '.'.join(parts)
             look.append(f'no step {rest}')
             return m.group(0)
@@ -163,8 +189,14 @@ class Fn:
             if callee:
                 v = m.group(1)
                 text = re.sub(r'(?<![^\s(){};,@«»←])' + re.escape(v) + r'((?:\.[^\s(){}.;,@"]+)+)',
-                              lambda k: '.'.join(self.clause([v] + k.group(1)[1:].split('.'), callee)), text)
+                              lambda k: '.'.join(self.behind([v] + k.group(1)[1:].split('.'), callee)), text)
         return text, look
+
+    def behind(self, parts, callee):
+        parts = self.clause(parts, callee)
+        if len(parts) > 2 and parts[1] == 'new' and parts[2].isdigit() and int(parts[2]) < len(self.muts.get(callee, [])):
+            parts[2] = self.muts[callee][int(parts[2])]
+        return parts
 
     def clause(self, parts, callee):
         """.ensures.1.0 -> .ensures.NAME"""
@@ -256,11 +288,67 @@ def imports(uses, text, own=()):
 TRIVIAL = {'search rules', 'omega arith', 'search needs', 'refl', 'tt'}
 
 
+def placed_helper(body):
+    """A lemma whose first argument is a place, as (name, type, body over c, its unfolding words)."""
+    code = '\n'.join(l for l in body.split('\n') if not l.startswith('--'))
+    m = re.match(r'(?:pub )?(\S+) : \(c : goal\.\S+\) →\s*', code)
+    if not m:
+        return None
+    name = m.group(1)
+    rest = code[m.end():]
+    d = re.search(r'(?m)^(unfolding .*\n)?' + re.escape(name) + r' c((?: [^\s(){}]+)*) =\s*', rest)
+    if not d:
+        return None
+    kind = rest[:d.start()].rstrip()
+    inner = rest[d.end():].rstrip()
+    if re.search(r'(?m)^' + re.escape(name) + ' ', inner):
+        return None
+    args = d.group(2).split()
+    if args:
+        inner = 'λ ' + ' '.join(args) + '. ' + inner
+    unf = (d.group(1) or '').replace('unfolding', '').split()
+    return name, re.sub(r'\s*\n\s*', ' ', kind), re.sub(r'\s*\n\s*', ' ', inner), unf
+
+
+def join_unfolding(unf, word):
+    have = [w for u in unf for w in u.replace('unfolding', '').split()]
+    return 'unfolding ' + ' '.join(have + [word] if word not in have else have)
+
+
+def put_inside(body, inside):
+    """The answer's body with a let for each placed lemma that it calls."""
+    used, more = [], []
+
+    def calls(text, name):
+        return re.search(r'(?<![^\s(){};,@«»←])' + re.escape(name) + r' c(?![^\s(){}.;,@])', text)
+
+    def drop(text, name):
+        text = re.sub(r'\(' + re.escape(name) + r' c\)', name, text)
+        return re.sub(r'(?<![^\s(){};,@«»←])' + re.escape(name) + r' c(?![^\s(){}.;,@])', name, text)
+    wanted = body
+    for name, kind, inner, unf in reversed(inside):
+        if calls(wanted, name):
+            used.insert(0, (name, kind, inner, unf))
+            wanted += ' ' + kind + ' ' + inner
+    if not used:
+        return body, more
+    names = [u[0] for u in used]
+    lets = []
+    for name, kind, inner, unf in used:
+        for n in names:
+            kind, inner = drop(kind, n), drop(inner, n)
+        lets.append(f'let {name} : {kind} = {inner} in')
+        more += [w for w in unf if w not in more]
+    for n in names:
+        body = drop(body, n)
+    return '\n    '.join(lets) + '\n    ' + body.lstrip(), more
+
+
 def convert(crate, path, fn, everything):
     folder = os.path.join(TOP, 'crates', crate, 'proofs', path)
     old = os.path.join(folder, 'Proof.antt')
     text = open(old, encoding='utf-8').read()
-    uses, helpers, invs, answers, looks, kept = [], [], [], [], [], {}
+    uses, helpers, invs, answers, looks, kept, inside = [], [], [], [], [], {}, []
     head = None
     dotted = path.replace('/', '.')
     own = fn.clauses.get(f'{crate}::' + path.replace('/', '::').replace('+', ''), ([], []))
@@ -326,12 +414,16 @@ def convert(crate, path, fn, everything):
             body, look = fn.turn_paths(body, {'c'})
             looks += [f'{new}: {l}' for l in look]
             if new.startswith('returns') and len(own[0]) > 1:
-                r = into_record(body, own[0])
+                r = into_record(body, own[0]) or last_tuple(body, own[0])
                 if r:
                     body = r
                 elif body.strip() not in TRIVIAL:
                     looks.append(f'{new}: not a tuple of {len(own[0])} clauses')
             args = [a for a in args if a != 'κs']
+            body, more = put_inside(body, inside)
+            for u in more:
+                if u not in unf:
+                    unf = [join_unfolding(unf, u)]
             nl = '\n' in body or len(body) > 110
             whole = '\n'.join(comment + [f'pub {new} : goal.{new}'] + unf + [f'{new} {" ".join(args)} ={chr(10) + "    " if nl and not body.startswith(chr(10)) else " "}{body}'])
             kept[new] = whole
@@ -353,6 +445,10 @@ def convert(crate, path, fn, everything):
             body = re.sub(r'tie\.([A-Za-z][^\s(){}.;,]*)', place, body)
             body, look = fn.turn_paths(body, {'c'})
             looks += [f'helper: {l}' for l in look]
+            placed = placed_helper(body)
+            if placed:
+                inside.append(placed)
+                continue
             looks.append('a helper takes a place: call it with (goal.at.GOAL c).PLACE: ' + body.split('\n')[0][:120])
         helpers.append('\n'.join(comment + [body]))
     made = []
