@@ -73,7 +73,7 @@ def into_record(body, names):
     m = None
     for m in re.finditer(r'(?:^|\s)in\s', body):
         pass
-    lead, tail = (body[:m.end()], body[m.end():]) if m and body.strip().startswith('let') else ('', body)
+    lead, tail = (body[:m.end()].rstrip() + '\n    ', body[m.end():]) if m and body.strip().startswith('let') else ('', body)
     parts, rest = [], tail
     while len(parts) < len(names) - 1:
         t = split_tuple(rest)
@@ -144,9 +144,13 @@ class Fn:
 
     def turn_paths(self, text, roots):
         """Paths behind c, or a variable that stands for it."""
-        text = re.sub(r'(?:\.before)+(?![\w-])', '', text)
-        for m in re.finditer(r'\blet (' + W + r'+) = c in\b', text):
-            roots.add(m.group(1))
+        while True:
+            more = {v for v, of in re.findall(r'\blet (' + W + r'+) = (' + W + r'+)(?:\.before)* in\b', text) if of in roots} - roots
+            if not more:
+                break
+            roots |= more
+        root = '(?:' + '|'.join(re.escape(r) for r in sorted(roots)) + ')'
+        text = re.sub(r'(?<![^\s(){};,@«»←])(' + root + r')(?:\.before)+(?![\w-])', r'\1', text)
         look = []
 
         def one(m):
@@ -162,6 +166,8 @@ class Fn:
             for st, path, arm, new in self.arms:
                 if st == step and [norm(x) for x in parts[1:1 + len(path)]] == [norm(x) for x in path] and path:
                     return root + '.' + '.'.join([arm, new] + parts[1 + len(path):])
+            if step == 'well_formed':
+                return root + '.' + '.'.join(['well_formed'] + parts[1:])
             if step in ('args', 'requires', 'ranges', 'type_inv'):
                 return m.group(0)
             if step == 'measure' or step == 'auto':
@@ -178,6 +184,8 @@ class Fn:
                     k = int(parts[2])
                     if k < len(ms):
                         parts[2] = ms[k]
+                if new.startswith('if-not-') and len(parts) == 2 and parts[1] in ('true', 'false'):
+                    return '(ap not ' + root + '.' + '.'.join(parts) + ')'
                 return root + '.' + '.'.join(parts)
             look.append(f'no step {rest}')
             return m.group(0)
@@ -256,6 +264,9 @@ def inv(fn, body, args, which):
     return text, look
 
 
+BROUGHT = {'ap': 'use mathlib.Core.Path.{ap}', 'not': 'use mathlib.Core.Bool.{not}'}
+
+
 def imports(uses, text, own=()):
     """The use lines whose names the text has."""
     words = set(WORD.findall(text))
@@ -282,6 +293,9 @@ def imports(uses, text, own=()):
                 keep.append(it)
         if keep:
             out.append('use ' + m.group(1) + '.{' + ', '.join(keep) + '}')
+    if '(ap not ' in text:
+        have = set(re.split(r'[{},\s]+', ' '.join(out)))
+        out += [line for w, line in BROUGHT.items() if w not in have]
     return out
 
 
@@ -319,12 +333,20 @@ def put_inside(body, inside):
     """The answer's body with a let for each placed lemma that it calls."""
     used, more = [], []
 
+    roots = {'c'}
+    while True:
+        new = {v for v, of in re.findall(r'\blet (' + W + r'+) = (' + W + r'+) in\b', body) if of in roots} - roots
+        if not new:
+            break
+        roots |= new
+    root = '(?:' + '|'.join(re.escape(r) for r in sorted(roots)) + ')'
+
     def calls(text, name):
-        return re.search(r'(?<![^\s(){};,@«»←])' + re.escape(name) + r' c(?![^\s(){}.;,@])', text)
+        return re.search(r'(?<![^\s(){};,@«»←])' + re.escape(name) + r' ' + root + r'(?![^\s(){}.;,@])', text)
 
     def drop(text, name):
-        text = re.sub(r'\(' + re.escape(name) + r' c\)', name, text)
-        return re.sub(r'(?<![^\s(){};,@«»←])' + re.escape(name) + r' c(?![^\s(){}.;,@])', name, text)
+        text = re.sub(r'\(' + re.escape(name) + r' ' + root + r'\)', name, text)
+        return re.sub(r'(?<![^\s(){};,@«»←])' + re.escape(name) + r' ' + root + r'(?![^\s(){}.;,@])', name, text)
     wanted = body
     for name, kind, inner, unf in reversed(inside):
         if calls(wanted, name):
@@ -405,7 +427,7 @@ def convert(crate, path, fn, everything):
                 looks.append(f'answer of no known form: {rest[:80]}')
                 continue
             args = d.group(2).split()
-            body = (rest + ' ')[d.end():].rstrip()
+            body = (rest + ' ')[d.end():].strip()
             if new is None:
                 if body.strip() not in TRIVIAL and not re.match(r'(same|shape|enum|known|long|told)', m.group(2)):
                     looks.append(f'no goal for {m.group(2)}: {body[:100]!r}')
@@ -425,7 +447,7 @@ def convert(crate, path, fn, everything):
                 if u not in unf:
                     unf = [join_unfolding(unf, u)]
             nl = '\n' in body or len(body) > 110
-            whole = '\n'.join(comment + [f'pub {new} : goal.{new}'] + unf + [f'{new} {" ".join(args)} ={chr(10) + "    " if nl and not body.startswith(chr(10)) else " "}{body}'])
+            whole = '\n'.join(comment + [f'pub {new} : goal.{new}'] + unf + [f'{new} {" ".join(args)} ={chr(10) + "    " if nl else " "}{body}'])
             kept[new] = whole
             if (body.strip() in TRIVIAL - {'refl', 'tt'} or new in fn.row.get('settled', [])) and not everything:
                 continue
