@@ -64,16 +64,39 @@ def split_tuple(s):
             parts.append(s[at:i])
             at = i + 1
     parts.append(s[at:-1])
-    return [p.strip() for p in parts] if len(parts) > 1 else None
+    parts = [p.strip() for p in parts]
+    if not parts[-1]:
+        parts.pop()
+    return parts if len(parts) > 1 else None
+
+
+def lead_lets(body):
+    """The lets at the head of a body, and what follows their last `in`."""
+    at = 0
+    while True:
+        m = re.compile(r'\s*let\s').match(body, at)
+        if not m:
+            break
+        deep, lets = 0, 1
+        for k in re.compile(r'[(\[{]|[)\]}]|(?<![^\s(){}])(?:let|in)(?=\s)').finditer(body, m.end()):
+            w = k.group(0)
+            if w in '([{':
+                deep += 1
+            elif w in ')]}':
+                deep -= 1
+            elif deep == 0:
+                lets += 1 if w == 'let' else -1
+                if lets == 0:
+                    at = k.end()
+                    break
+        else:
+            break
+    return (body[:at] + '\n    ' if at else ''), body[at:]
 
 
 def into_record(body, names):
     """A nested tuple for several clauses as a record; leading lets stay."""
-    pos = 0
-    m = None
-    for m in re.finditer(r'(?:^|\s)in\s', body):
-        pass
-    lead, tail = (body[:m.end()].rstrip() + '\n    ', body[m.end():]) if m and body.strip().startswith('let') else ('', body)
+    lead, tail = lead_lets(body)
     parts, rest = [], tail
     while len(parts) < len(names) - 1:
         t = split_tuple(rest)
@@ -140,6 +163,14 @@ class Fn:
         for t in tries:
             if t in self.needs:
                 return self.needs[t]
+        for t in tries:
+            for new in self.needs.values():
+                if norm(new) == t:
+                    return new
+        for t in tries:
+            near = [new for new in self.needs.values() if re.fullmatch(re.escape(t) + r'_\d+', norm(new))]
+            if len(near) == 1:
+                return near[0]
         return None
 
     def turn_paths(self, text, roots):
@@ -342,11 +373,11 @@ def put_inside(body, inside):
     root = '(?:' + '|'.join(re.escape(r) for r in sorted(roots)) + ')'
 
     def calls(text, name):
-        return re.search(r'(?<![^\s(){};,@«»←])' + re.escape(name) + r' ' + root + r'(?![^\s(){}.;,@])', text)
+        return re.search(r'(?<![^\s(){};,@«»←])' + re.escape(name) + r' ' + root + r'(?![^\s(){};,@])', text)
 
     def drop(text, name):
         text = re.sub(r'\(' + re.escape(name) + r' ' + root + r'\)', name, text)
-        return re.sub(r'(?<![^\s(){};,@«»←])' + re.escape(name) + r' ' + root + r'(?![^\s(){}.;,@])', name, text)
+        return re.sub(r'(?<![^\s(){};,@«»←])' + re.escape(name) + r' ' + root + r'(?![^\s(){};,@])', name, text)
     wanted = body
     for name, kind, inner, unf in reversed(inside):
         if calls(wanted, name):

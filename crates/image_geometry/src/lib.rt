@@ -1,6 +1,7 @@
 // Sizes of a layout: the memories that a swizzle gives and their depths, the bits that select among chunks, and the walk over the bits of a
 // row number.
 #![tactic(auto)]
+
 ghost use Rattle.std.specs.Prelude.{◌≡◌, true, List, ℕ, ◌+◌, ◌-◌, ◌*◌, ◌^◌, ◌≤◌, ◌<◌, ltb, length};
 ghost use Rattle.rules.specs.Limits.{addr_bits, max_row};
 ghost use Rattle.rules.specs.Numbers.{ceil_div, top_bits};

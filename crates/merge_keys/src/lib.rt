@@ -1,6 +1,7 @@
 // Equal keys are kept once, in order of first appearance. A key is two words, one of each column; `merge` keeps the keys of two columns and gives
 // each its place among them.
 #![tactic(auto)]
+
 ghost use Rattle.std.specs.Prelude.{◌≡◌, ◌+◌, ◌-◌, ◌<◌, max, length, take, get_or, set, eqb};
 ghost use Rattle.std.proofs.lemmas.List.Edits.{sets};
 ghost use Rattle.lists.specs.Choice.{if◌then◌else◌};

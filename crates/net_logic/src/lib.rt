@@ -1,5 +1,6 @@
 // logic.rs: trits and constants. A constant is a slice of trit codes: 0, 1, and 2 for X.
 #![tactic(auto)]
+
 ghost use Rattle.std.specs.Prelude.{◌≡◌, ◌≤◌, max, length};
 ghost use Rattle.std.proofs.lemmas.List.Edits.{sets};
 ghost use Rattle.rules.specs.Logic.{trit_of, code_of, trit_not, trit_and, trit_or, const_not, tritwise, are_trits, is_undef};

@@ -1,5 +1,6 @@
 // The sizes of the memories that a swizzle gives and a record holds: the rules on them, and how many trits they take.
 #![tactic(auto)]
+
 ghost use Rattle.std.specs.Prelude.{◌≡◌, false, ◌&&◌, not, ◌+◌, ◌*◌, ◌≤◌, min, eqb, ltb, leb};
 ghost use Rattle.rules.specs.Limits.{max_columns, max_image};
 ghost use Rattle.rules.specs.Record.{size_mems, size_trits, record_image};

@@ -1,0 +1,27 @@
+-- `merge_keys::merge` meets its contract.
+use mathlib.Core.Path.{◌≡◌, ap, ◌∙◌}
+use Prim.Native.Nat.{min}
+use mathlib.Core.List.{List}
+use lib.ListN.{length}
+use Rattle.merge_keys.proofs.Turn.{merging_first}
+use Rattle.merge_keys.specs.Keys.{firsts, seconds}
+use Rattle.lists.specs.Distinct.{kept, places}
+use Rattle.rules.specs.Merge.{Key2, same2}
+use Rattle.rules.specs.Limits.{max_merge}
+use lib.Seq.{sets}
+use Rattle.merge_keys.proofs.merge.Goals as goal
+
+pub returns : goal.returns
+returns c =
+    let v = c.args in
+    let q = c.merge_first in
+    let n = c.smaller-n.result in
+    let size : n ≡ min (min max_merge (min (length v.kx.now) (min (length v.ky.now) (length v.at.now)))) (min (length v.x.now) (length v.y.now)) =
+    c.smaller-n.ensures ∙ rw (c.smaller-2.ensures, c.smaller-3.ensures, c.smaller-lent.ensures, c.smaller.ensures) in
+    let e = merging_first v.x.now v.y.now v.kx.now v.ky.now v.at.now n size in
+    record {
+      value = q.ensures.value ∙ ap (λ (ps : List Key2). length (kept same2 ps)) e;
+      kx_after = q.ensures.kx_after ∙ ap (λ (ps : List Key2). sets v.kx.now 0 (firsts (kept same2 ps))) e;
+      ky_after = q.ensures.ky_after ∙ ap (λ (ps : List Key2). sets v.ky.now 0 (seconds (kept same2 ps))) e;
+      at_after = q.ensures.at_after ∙ ap (λ (ps : List Key2). sets v.at.now 0 (places same2 ps)) e;
+    }
