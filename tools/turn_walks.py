@@ -215,6 +215,7 @@ class Fn:
         heads += [re.escape(v) for v, of in re.findall(r'\blet (' + W + r'+) = (' + W + r'+)\.args in\b', text) if of in roots]
         text = re.sub(r'(?<![^\s(){};,@«»←])(' + '|'.join(heads) + r')\.t(\d+)(?![\w-])',
                       lambda m: m.group(1) + '.' + mine[int(m.group(2)) - 1] if int(m.group(2)) <= len(mine) else m.group(0), text)
+        text = re.sub(r'(?<![^\s(){};,@«»←])(' + '|'.join(heads) + r')\.(' + W + r'+)', lambda m: m.group(1) + '.' + (norm(m.group(2)) if norm(m.group(2)) in self.vars else m.group(2)), text)
         # lengths of arrays in a struct by value: omega knows them
         text = re.sub(r', \w+_long (?:' + W + r'|\.)+ _ (?:' + W + r'|\.)+well_formed(?:\.\d)*', '', text)
         look = []
