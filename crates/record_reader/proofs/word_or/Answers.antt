@@ -1,0 +1,14 @@
+-- `record_reader::word_or` meets its contract.
+use mathlib.Core.Path.{sym, ◌∙◌}
+use Rattle.record_reader.proofs.Places.{word_found, word_none}
+use Rattle.record_reader.proofs.word_or.Goals as goal
+
+pub returns-in-Found : goal.returns-in-Found
+returns-in-Found c =
+    let q = c in
+    word_found q.args.bytes.now q.args.at c.in-Found.x (sym q.requires ∙ c.in-Found.is)
+
+pub returns-in-End : goal.returns-in-End
+returns-in-End c =
+    let q = c in
+    word_none q.args.bytes.now q.args.at c.byte_at.result (sym q.requires ∙ c.in-End.is) c.byte_at.ensures
