@@ -14,22 +14,19 @@ loop-j-init c = (omega arith, refl)
 
 pub returns-then-bad_group : goal.returns-then-bad_group
 returns-then-bad_group c =
-    let g = c in
-    let l = g.loop-j in
-    let a = g.args in
-    let p = g.requires in
-    or_stop _ (sym g.bad_group.ensures ∙ c.if-bad_group.true) ∙ sym (bad_step l.left l.j a.ks.now a.vs.now (omega arith) p) ∙ l.invariant.1
+    let l = c.loop-j in
+    let a = c.args in
+    let p = c.requires in
+    or_stop _ (sym c.bad_group.ensures ∙ c.if-bad_group.true) ∙ sym (bad_step l.left l.j a.ks.now a.vs.now (omega arith) p) ∙ l.invariant.1
 
 pub loop-j-preserved : goal.loop-j-preserved
 loop-j-preserved c =
-    let f = c in
-    let g = f in
-    let l = g.loop-j in
-    let a = g.args in
-    let p = g.requires in (
+    let l = c.loop-j in
+    let a = c.args in
+    let p = c.requires in (
       omega arith,
       ap (λ (n : ℕ). bad_by n (bits_of (drop (l.j + 1) a.ks.now)) (bits_of (drop (l.j + 1) a.vs.now))) c.less_eight-left.ensures
-          ∙ or_skip (sym g.bad_group.ensures ∙ f.if-bad_group.false) refl ∙ sym (bad_step l.left l.j a.ks.now a.vs.now (omega arith) p) ∙ l.invariant.1,
+          ∙ or_skip (sym c.bad_group.ensures ∙ c.if-bad_group.false) refl ∙ sym (bad_step l.left l.j a.ks.now a.vs.now (omega arith) p) ∙ l.invariant.1,
     )
 
 pub returns : goal.returns

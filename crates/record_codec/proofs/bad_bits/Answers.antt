@@ -15,12 +15,10 @@ slice_bounds-bad_arrays-start-2 c = cut_in c.args.bytes.now c.requires.0 c.args.
 
 pub bad_arrays-requires : goal.bad_arrays-requires
 bad_arrays-requires c =
-    let s = c in
-    let b = s.args.bytes.now in
-    arrays_alike b s.requires.0 _ _ (cut_known b s.requires.0 s.args.count s.requires.1) (cut_value b s.requires.0 s.args.count s.requires.1)
+    let b = c.args.bytes.now in
+    arrays_alike b c.requires.0 _ _ (cut_known b c.requires.0 c.args.count c.requires.1) (cut_value b c.requires.0 c.args.count c.requires.1)
 
 pub returns : goal.returns
 returns c =
-    let s = c in
-    let b = s.args.bytes.now in
-    c.bad_arrays.ensures ∙ arrays_cong b bad_by _ _ _ s.requires.1 (cut_known b s.requires.0 s.args.count s.requires.1) (cut_value b s.requires.0 s.args.count s.requires.1) ∙ sym (bad_arrays b)
+    let b = c.args.bytes.now in
+    c.bad_arrays.ensures ∙ arrays_cong b bad_by _ _ _ c.requires.1 (cut_known b c.requires.0 c.args.count c.requires.1) (cut_value b c.requires.0 c.args.count c.requires.1) ∙ sym (bad_arrays b)

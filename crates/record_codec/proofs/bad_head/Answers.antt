@@ -17,19 +17,17 @@ returns-then-first-lt-HEAD_BYTES c = or_stop _ (lt-ltb _ _ c.if-first-lt-HEAD_BY
 pub returns-then-word_of-ne-RECORD_MARK : goal.returns-then-word_of-ne-RECORD_MARK
 unfolding bad_head
 returns-then-word_of-ne-RECORD_MARK c =
-    let s = c in
-    let b = s.args.first.now in
+    let b = c.args.first.now in
     let h = c.if-first-lt-HEAD_BYTES.false in
-    let m = c.word_of.ensures ∙ mark_word b h s.args.words s.requires in
+    let m = c.word_of.ensures ∙ mark_word b h c.args.words c.requires in
     or_skip (le-ltb _ _ h) (or_stop _ (not_is_true _ (sym (ap (λ (n : ℕ). eqb n 5) m) ∙ ne_eqb _ _ c.if-word_of-ne-RECORD_MARK.true)))
 
 pub returns : goal.returns
 unfolding bad_head record_bytes
 returns c =
-    let s = c in
-    let b = s.args.first.now in
+    let b = c.args.first.now in
     let h = c.if-first-lt-HEAD_BYTES.false in
-    let m = c.word_of.ensures ∙ mark_word b h s.args.words s.requires in
-    let t = c.trits_of.ensures.0 ∙ ap size_trits (head_words_lem b h s.args.words s.requires) in
+    let m = c.word_of.ensures ∙ mark_word b h c.args.words c.requires in
+    let t = c.trits_of.ensures.0 ∙ ap size_trits (head_words_lem b h c.args.words c.requires) in
     or_skip (le-ltb _ _ h) (or_skip (not_is_false _ (sym (ap (λ (n : ℕ). eqb n 5) m) ∙ eq-eqb _ _ c.if-word_of-ne-RECORD_MARK.false))
-    (ap (λ (n : ℕ). not (eqb s.args.total n)) (c.bytes_for.ensures ∙ ap (λ (n : ℕ). 12 + 2 * array_bytes n) t)))
+    (ap (λ (n : ℕ). not (eqb c.args.total n)) (c.bytes_for.ensures ∙ ap (λ (n : ℕ). 12 + 2 * array_bytes n) t)))

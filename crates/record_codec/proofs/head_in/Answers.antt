@@ -11,8 +11,7 @@ returns-then-n-ne0 c = refused _ _ _ c.read_refusal-n.ensures c.if-n-ne0.true
 
 pub returns : goal.returns
 returns c =
-    let s = c in
-    let b = s.args.bytes.now in
+    let b = c.args.bytes.now in
     let e = sym c.read_refusal-n.ensures ∙ c.if-n-ne0.false in
-    let h = head_there b (length b) (record_good b (read_good b s.args.room e)).0 in
-    accepted _ _ _ e (c.sizes_of.ensures.0 ∙ head_words_lem b h s.args.words s.requires)
+    let h = head_there b (length b) (record_good b (read_good b c.args.room e)).0 in
+    accepted _ _ _ e (c.sizes_of.ensures.0 ∙ head_words_lem b h c.args.words c.requires)

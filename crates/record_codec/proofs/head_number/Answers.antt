@@ -14,17 +14,15 @@ returns-then-bad_head c = hit 16 _ (sym c.bad_head.ensures ∙ c.if-bad_head.tru
 pub returns-then-bad_sizes : goal.returns-then-bad_sizes
 unfolding header_refusal
 returns-then-bad_sizes c =
-    let s = c in
-    let b = s.args.first.now in
+    let b = c.args.first.now in
     let g = sym c.bad_head.ensures ∙ c.if-bad_head.false in
-    let z = c.sizes_of.ensures.0 ∙ head_words_lem b (head_there b s.args.total g) s.args.words s.requires in
+    let z = c.sizes_of.ensures.0 ∙ head_words_lem b (head_there b c.args.total g) c.args.words c.requires in
     miss 16 _ 17 g (hit 17 0 (sym (c.bad_sizes.ensures ∙ ap bad_sizes z) ∙ c.if-bad_sizes.true))
 
 pub returns : goal.returns
 unfolding header_refusal
 returns c =
-    let s = c in
-    let b = s.args.first.now in
+    let b = c.args.first.now in
     let g = sym c.bad_head.ensures ∙ c.if-bad_head.false in
-    let z = c.sizes_of.ensures.0 ∙ head_words_lem b (head_there b s.args.total g) s.args.words s.requires in
+    let z = c.sizes_of.ensures.0 ∙ head_words_lem b (head_there b c.args.total g) c.args.words c.requires in
     miss 16 _ 0 g (miss 17 0 0 (sym (c.bad_sizes.ensures ∙ ap bad_sizes z) ∙ c.if-bad_sizes.false) refl)

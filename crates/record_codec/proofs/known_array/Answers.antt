@@ -11,8 +11,7 @@ pub returns : goal.returns
 returns c =
     let s = c.smaller-start in
     let e = c.smaller-end in
-    let m = c in
-    let b = m.args.bytes.now in
+    let b = c.args.bytes.now in
     let n = array_bytes (size_trits (head_sizes b)) in
-    let p : e.result ≡ min (12 + n) (length b) = e.ensures ∙ ap (λ (k : ℕ). min k (length b)) m.middle_of.ensures.0 in
-    (part-between 12 n s.result e.result b p s.ensures, omega (arith, length-take (e.result - s.result) (drop s.result b), e.ensures, m.middle_of.ensures.1))
+    let p : e.result ≡ min (12 + n) (length b) = e.ensures ∙ ap (λ (k : ℕ). min k (length b)) c.middle_of.ensures.0 in
+    (part-between 12 n s.result e.result b p s.ensures, omega (arith, length-take (e.result - s.result) (drop s.result b), e.ensures, c.middle_of.ensures.1))

@@ -11,18 +11,15 @@ returns-then-n-ne0 c = by_head _ _ c.head_number-n.ensures c.if-n-ne0.true
 
 pub bad_bits-requires : goal.bad_bits-requires
 bad_bits-requires c =
-    let s = c in
-    let b = s.args.bytes.now in
+    let b = c.args.bytes.now in
     let g = (head_good b (sym c.head_number-n.ensures ∙ c.if-n-ne0.false)).0 in
-    let w = head_words_lem b (head_there b (length b) g) s.args.words s.requires in
+    let w = head_words_lem b (head_there b (length b) g) c.args.words c.requires in
     (g, c.trits_of.ensures.0 ∙ ap size_trits w, c.trits_of.ensures.1)
 
 pub returns-then-bad_bits : goal.returns-then-bad_bits
 returns-then-bad_bits c =
-    let h = c in
-    record_18 _ (sym h.head_number-n.ensures ∙ h.if-n-ne0.false) (sym c.bad_bits.ensures ∙ c.if-bad_bits.true)
+    record_18 _ (sym c.head_number-n.ensures ∙ c.if-n-ne0.false) (sym c.bad_bits.ensures ∙ c.if-bad_bits.true)
 
 pub returns : goal.returns
 returns c =
-    let h = c in
-    record_0 _ (sym h.head_number-n.ensures ∙ h.if-n-ne0.false) (sym c.bad_bits.ensures ∙ c.if-bad_bits.false)
+    record_0 _ (sym c.head_number-n.ensures ∙ c.if-n-ne0.false) (sym c.bad_bits.ensures ∙ c.if-bad_bits.false)

@@ -13,28 +13,21 @@ use Rattle.record_codec.proofs.put_record.Goals as goal
 
 pub put_head-requires : goal.put_head-requires
 put_head-requires c =
-    let b = c in
-    let f = fits _ _ _ b.requires in
-    (words b.args.s f.sizes, head_room (view_sizes b.args.s) _ f.room_fits)
+    let f = fits _ _ _ c.requires in
+    (words c.args.s f.sizes, head_room (view_sizes c.args.s) _ f.room_fits)
 
 pub bytes_for-requires : goal.bytes_for-requires
 bytes_for-requires c =
-    let i = c in
-    let b = i in
-    let f = fits _ _ _ b.requires in
-    let z = view_sizes b.args.s in
-    omega (arith, ap length i.image_of-ts.ensures ∙ image_length z b.args.image.now f.whole, (kept z f.sizes).trits_max)
+    let f = fits _ _ _ c.requires in
+    let z = view_sizes c.args.s in
+    omega (arith, ap length c.image_of-ts.ensures ∙ image_length z c.args.image.now f.whole, (kept z f.sizes).trits_max)
 
 pub returns : goal.returns
 returns c =
-    let p = c in
-    let i = p in
-    let h = i in
-    let b = h in
-    let f = fits _ _ _ b.requires in
-    let z = view_sizes b.args.s in
-    let e = i.image_of-ts.ensures in (
-      bytes_are z _ c.bytes_for.result (ap length e ∙ image_length z b.args.image.now f.whole) c.bytes_for.ensures,
-      stored z b.args.out.now h.put_head.new.out p.put_arrays.new.out _ h.put_head.ensures p.put_arrays.ensures
-          ∙ ap (λ (ts : List ℕ). sets b.args.out.now 0 (encode_record z ts)) e,
+    let f = fits _ _ _ c.requires in
+    let z = view_sizes c.args.s in
+    let e = c.image_of-ts.ensures in (
+      bytes_are z _ c.bytes_for.result (ap length e ∙ image_length z c.args.image.now f.whole) c.bytes_for.ensures,
+      stored z c.args.out.now c.put_head.new.out c.put_arrays.new.out _ c.put_head.ensures c.put_arrays.ensures
+          ∙ ap (λ (ts : List ℕ). sets c.args.out.now 0 (encode_record z ts)) e,
     )

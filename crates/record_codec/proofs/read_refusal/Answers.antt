@@ -12,18 +12,14 @@ returns-then-n-ne0 c = by_record _ _ _ c.number_by-n.ensures c.if-n-ne0.true
 
 pub returns-then-room-trits_of : goal.returns-then-room-trits_of
 returns-then-room-trits_of c =
-    let s = c in
-    let b = s.args.bytes.now in
-    let h = c in
-    let e = sym h.number_by-n.ensures ∙ h.if-n-ne0.false in
-    let t = c.trits_of.ensures.0 ∙ ap size_trits (head_words_lem b (head_there b (length b) (record_good b e).0) s.args.words s.requires) in
+    let b = c.args.bytes.now in
+    let e = sym c.number_by-n.ensures ∙ c.if-n-ne0.false in
+    let t = c.trits_of.ensures.0 ∙ ap size_trits (head_words_lem b (head_there b (length b) (record_good b e).0) c.args.words c.requires) in
     read_20 _ _ e (omega (arith, t))
 
 pub returns : goal.returns
 returns c =
-    let s = c in
-    let b = s.args.bytes.now in
-    let h = c in
-    let e = sym h.number_by-n.ensures ∙ h.if-n-ne0.false in
-    let t = c.trits_of.ensures.0 ∙ ap size_trits (head_words_lem b (head_there b (length b) (record_good b e).0) s.args.words s.requires) in
+    let b = c.args.bytes.now in
+    let e = sym c.number_by-n.ensures ∙ c.if-n-ne0.false in
+    let t = c.trits_of.ensures.0 ∙ ap size_trits (head_words_lem b (head_there b (length b) (record_good b e).0) c.args.words c.requires) in
     read_0 _ _ e (omega (arith, t))

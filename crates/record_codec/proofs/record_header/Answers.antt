@@ -13,8 +13,7 @@ returns-then-n-ne0 c = refused _ _ _ c.head_number-n.ensures c.if-n-ne0.true
 pub returns : goal.returns
 unfolding header_call
 returns c =
-    let s = c in
-    let b = s.args.first.now in
+    let b = c.args.first.now in
     let e = sym c.head_number-n.ensures ∙ c.if-n-ne0.false in
-    let h = head_there b s.args.total (header_head b s.args.total e) in
+    let h = head_there b c.args.total (header_head b c.args.total e) in
     accepted _ _ _ e (c.sizes_of.ensures.0 ∙ head_words_lem b h c.head_words-words.result c.head_words-words.ensures)

@@ -11,8 +11,7 @@ use Rattle.record_codec.proofs.value_array.Goals as goal
 pub returns : goal.returns
 returns c =
     let s = c.smaller-start in
-    let m = c in
-    let b = m.args.bytes.now in
+    let b = c.args.bytes.now in
     let n = array_bytes (size_trits (head_sizes b)) in
     take_all (length b - s.result) (drop s.result b) (omega (arith, length-drop s.result b))
-    ∙ ap (λ (k : ℕ). drop k b) (s.ensures ∙ ap (λ (k : ℕ). min k (length b)) m.middle_of.ensures.0) ∙ drop_most (12 + n) b
+    ∙ ap (λ (k : ℕ). drop k b) (s.ensures ∙ ap (λ (k : ℕ). min k (length b)) c.middle_of.ensures.0) ∙ drop_most (12 + n) b

@@ -14,7 +14,5 @@ returns-then-n-ne0 c =
 pub returns : goal.returns
 unfolding write_record_call filled
 returns c =
-    let p = c in
-    let h = p in
-    let e = sym h.write_refusal-n.ensures ∙ h.if-n-ne0.false in
-    (accepted _ _ _ e p.put_record.ensures.0, p.put_record.ensures.1 ∙ sym (leaves_accepted _ _ _ e))
+    let e = sym c.write_refusal-n.ensures ∙ c.if-n-ne0.false in
+    (accepted _ _ _ e c.put_record.ensures.0, c.put_record.ensures.1 ∙ sym (leaves_accepted _ _ _ e))

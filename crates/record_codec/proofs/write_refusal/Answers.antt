@@ -11,48 +11,31 @@ use Rattle.record_codec.proofs.write_refusal.Goals as goal
 
 pub returns-then-not-trits_good : goal.returns-then-not-trits_good
 returns-then-not-trits_good c =
-    let g = c in
-    write_4 _ _ _ (bad_trits_lem _ true _ _ g.image_of.ensures g.trits_good.ensures (ap not c.if-not-trits_good.true))
+    write_4 _ _ _ (bad_trits_lem _ true _ _ c.image_of.ensures c.trits_good.ensures (ap not c.if-not-trits_good.true))
 
 pub returns-then-bad_sizes : goal.returns-then-bad_sizes
 returns-then-bad_sizes c =
-    let f = c in
-    let g = f in
-    write_17 _ _ _ (bad_trits_lem _ false _ _ g.image_of.ensures g.trits_good.ensures (ap not f.if-not-trits_good.false)) (sym c.bad_sizes.ensures ∙ c.if-bad_sizes.true)
+    write_17 _ _ _ (bad_trits_lem _ false _ _ c.image_of.ensures c.trits_good.ensures (ap not c.if-not-trits_good.false)) (sym c.bad_sizes.ensures ∙ c.if-bad_sizes.true)
 
 pub returns-then-image-count : goal.returns-then-image-count
 returns-then-image-count c =
-    let w = c in
-    let e = w in
-    let f = e in
-    let g = f in
-    let z = view_sizes g.args.s in
-    let s = sym e.bad_sizes.ensures ∙ e.if-bad_sizes.false in
-    write_short _ z _ (bad_trits_lem _ false _ _ g.image_of.ensures g.trits_good.ensures (ap not f.if-not-trits_good.false)) s (omega (arith, all-trits z w.trits_within-count.result s w.trits_within-count.ensures))
+    let z = view_sizes c.args.s in
+    let s = sym c.bad_sizes.ensures ∙ c.if-bad_sizes.false in
+    write_short _ z _ (bad_trits_lem _ false _ _ c.image_of.ensures c.trits_good.ensures (ap not c.if-not-trits_good.false)) s (omega (arith, all-trits z c.trits_within-count.result s c.trits_within-count.ensures))
 
 pub bytes_for-requires : goal.bytes_for-requires
 bytes_for-requires c = omega (arith, c.trits_within-count.ensures)
 
 pub returns-then-room-bytes_for : goal.returns-then-room-bytes_for
 returns-then-room-bytes_for c =
-    let d = c in
-    let w = d in
-    let e = w in
-    let f = e in
-    let g = f in
-    let z = view_sizes g.args.s in
-    let s = sym e.bad_sizes.ensures ∙ e.if-bad_sizes.false in
-    let n = all-trits z w.trits_within-count.result s w.trits_within-count.ensures in
-    write_full _ z _ (bad_trits_lem _ false _ _ g.image_of.ensures g.trits_good.ensures (ap not f.if-not-trits_good.false)) s (omega arith) (omega (arith, bytes_are z w.trits_within-count.result c.bytes_for.result n c.bytes_for.ensures))
+    let z = view_sizes c.args.s in
+    let s = sym c.bad_sizes.ensures ∙ c.if-bad_sizes.false in
+    let n = all-trits z c.trits_within-count.result s c.trits_within-count.ensures in
+    write_full _ z _ (bad_trits_lem _ false _ _ c.image_of.ensures c.trits_good.ensures (ap not c.if-not-trits_good.false)) s (omega arith) (omega (arith, bytes_are z c.trits_within-count.result c.bytes_for.result n c.bytes_for.ensures))
 
 pub returns : goal.returns
 returns c =
-    let d = c in
-    let w = d in
-    let e = w in
-    let f = e in
-    let g = f in
-    let z = view_sizes g.args.s in
-    let s = sym e.bad_sizes.ensures ∙ e.if-bad_sizes.false in
-    let n = all-trits z w.trits_within-count.result s w.trits_within-count.ensures in
-    write_0 _ z _ (bad_trits_lem _ false _ _ g.image_of.ensures g.trits_good.ensures (ap not f.if-not-trits_good.false)) s (omega arith) (omega (arith, bytes_are z w.trits_within-count.result c.bytes_for.result n c.bytes_for.ensures))
+    let z = view_sizes c.args.s in
+    let s = sym c.bad_sizes.ensures ∙ c.if-bad_sizes.false in
+    let n = all-trits z c.trits_within-count.result s c.trits_within-count.ensures in
+    write_0 _ z _ (bad_trits_lem _ false _ _ c.image_of.ensures c.trits_good.ensures (ap not c.if-not-trits_good.false)) s (omega arith) (omega (arith, bytes_are z c.trits_within-count.result c.bytes_for.result n c.bytes_for.ensures))

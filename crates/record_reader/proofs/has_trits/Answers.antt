@@ -22,7 +22,5 @@ returns-then-count-gt-MANY c =
 
 pub returns : goal.returns
 returns c =
-    let d = c in
-    let b = d in
-    let a = b.args in
-    rw (le-leb 12 a.at b.if-at-lt-HEAD_BYTES.false, eq-eqb ((a.at - 12) % 8) 0 d.if-at-ne0.false, le-leb a.count many_trits d.if-count-gt-MANY.false) (ap (λ (n : ℕ). eqb (length a.bytes.now) (12 + 2 * n)) c.array_bytes.ensures.0)
+    let a = c.args in
+    rw (le-leb 12 a.at c.if-at-lt-HEAD_BYTES.false, eq-eqb ((a.at - 12) % 8) 0 c.if-at-ne0.false, le-leb a.count many_trits c.if-count-gt-MANY.false) (ap (λ (n : ℕ). eqb (length a.bytes.now) (12 + 2 * n)) c.array_bytes.ensures.0)

@@ -15,19 +15,17 @@ loop-j-init c = (omega arith, refl, refl)
 
 pub loop-j-preserved : goal.loop-j-preserved
 loop-j-preserved c =
-    let q = c in
-    let l = q.loop-j in
-    let s = q in
-    let a = s.args in
+    let l = c.loop-j in
+    let a = c.args in
     let ks = a.ks.now in
     let vs = a.vs.now in
     let rest = trits_by (l.left - 8) (bits_of (drop (l.j + 1) ks)) (bits_of (drop (l.j + 1) vs)) in (
       omega arith,
-      q.spread.auto.image ∙ l.invariant.1,
-      ap (λ (n : ℕ). sets q.spread.new.image (8 * (l.j + 1)) (trits_by n (bits_of (drop (l.j + 1) ks)) (bits_of (drop (l.j + 1) vs)))) c.less_eight-left.ensures
-          ∙ ap (λ (m : List ℕ). sets m (8 * (l.j + 1)) rest) q.spread.ensures
+      c.spread.auto.image ∙ l.invariant.1,
+      ap (λ (n : ℕ). sets c.spread.new.image (8 * (l.j + 1)) (trits_by n (bits_of (drop (l.j + 1) ks)) (bits_of (drop (l.j + 1) vs)))) c.less_eight-left.ensures
+          ∙ ap (λ (m : List ℕ). sets m (8 * (l.j + 1)) rest) c.spread.ensures
           ∙ put_next l.image l.left l.j (get_or ks l.j 0) (get_or vs l.j 0) (bits_of (drop (l.j + 1) ks)) (bits_of (drop (l.j + 1) vs))
-          ∙ ap (sets l.image (8 * l.j)) (sym (trits-step l.left l.j ks vs (omega arith) s.requires.0))
+          ∙ ap (sets l.image (8 * l.j)) (sym (trits-step l.left l.j ks vs (omega arith) c.requires.0))
           ∙ l.invariant.2,
     )
 

@@ -5,10 +5,8 @@ use Rattle.record_reader.proofs.word_or.Goals as goal
 
 pub returns-in-Found : goal.returns-in-Found
 returns-in-Found c =
-    let q = c in
-    word_found q.args.bytes.now q.args.at c.in-Found.x (sym q.requires ∙ c.in-Found.is)
+    word_found c.args.bytes.now c.args.at c.in-Found.x (sym c.requires ∙ c.in-Found.is)
 
 pub returns-in-End : goal.returns-in-End
 returns-in-End c =
-    let q = c in
-    word_none q.args.bytes.now q.args.at c.byte_at.result (sym q.requires ∙ c.in-End.is) c.byte_at.ensures
+    word_none c.args.bytes.now c.args.at c.byte_at.result (sym c.requires ∙ c.in-End.is) c.byte_at.ensures
