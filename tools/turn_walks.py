@@ -233,7 +233,7 @@ class Fn:
                 if len({o[0] for o in options}) > 1:
                     look.append(f'{rest} may be one of {[o[0] for o in options]}')
                 parts = self.clause(parts, callee)
-                parts = self.kept(parts, callee)
+                parts = [{'type-inv': 'type_inv', 'well-formed': 'well_formed'}.get(x, x) for x in self.kept(parts, callee)]
                 parts = [parts[0]] + [norm(x) if norm(x) in self.vars else x for x in parts[1:]]
                 if new.startswith('if-not-') and len(parts) == 2 and parts[1] in ('true', 'false'):
                     return '(ap not ' + root + '.' + '.'.join(parts) + ')'
@@ -262,7 +262,7 @@ class Fn:
 
     def kept(self, parts, callee):
         """.new.1.0 -> .new.NAME"""
-        ms = (SLICES if parts[1:2] == ['auto'] else self.muts).get(callee, [])
+        ms = self.row['params'].get(callee) or MINE.get(callee, [])
         if len(parts) < 3 or parts[1] not in ('new', 'auto') or not parts[2].isdigit():
             return parts
         rest, k = parts[2:], 0
@@ -394,7 +394,8 @@ def has(text, n):
 def placed_helper(body):
     """A lemma whose first argument is a place, as (name, type, body over c, its unfolding words)."""
     code = '\n'.join(l for l in body.split('\n') if not l.startswith('--'))
-    m = re.match(r'(?:pub )?(\S+) : \(c : goal\.\S+\) →\s*', code)
+    at = r'goal\.[^\s()]+(?: (?:invariant|decreases)-[^\s()]+)*'
+    m = re.match(r'(?:abbrev )?(?:pub )?(\S+) : (?:\(c : ' + at + r'\)|' + at + r') →\s*', code)
     if not m:
         return None
     name = m.group(1)
