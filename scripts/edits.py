@@ -48,7 +48,7 @@ def said_fault(said):
 def fault(told):
     """Why an edit of which the log says this does not count, or None where a fact was refused."""
     if not told.startswith(REFUSED):
-        return told
+        return told or 'the log says nothing of it'
     rest = told[len(REFUSED):]
     return said_fault(rest[2:]) if rest.startswith(': ') else f'it was refused{rest or " with no error"}'
 
@@ -62,9 +62,9 @@ def main(given):
     edits = sorted(glob.glob('crates/*/must-fail/*.edit'))
     for edit in edits:
         crate, label = edit.split('/')[1], os.path.basename(edit)[:-len('.edit')]
-        words = told.get((crate, label))
-        why = 'the log says nothing of it' if words is None else fault(words)
-        goals += bool(words and GOAL.search(words[len(REFUSED) + 2:]))
+        words = told.get((crate, label), '')
+        why = fault(words)
+        goals += bool(GOAL.search(words[len(REFUSED) + 2:]))
         if why:
             print(f'edits: {crate}/{label}: {why}')
             failed += 1
