@@ -4,7 +4,7 @@
 In README.md, CONTRIBUTING.md and docs/*.md (docs/SCOPE.md, which is given, is left out) these are looked up:
 
     crate::name             a function, struct, enum or constant of that crate's sources
-    tablegoose_name         a word of callers/tablegoose.h
+    tablegoose_name         a word of callers/tablegoose.h, or a crate
     `crate/name.edit`       a must-fail edit of that crate
     `crate/specs/File.antt#name`, `crate/proofs/File.antt#name`
                             a definition, record or theorem of that file
@@ -108,7 +108,7 @@ def text_faults(here, path, text):
         if fault:
             yield f'{path}: {crate}::{name}: {fault}'
     for name in re.findall(r'\btablegoose_[a-z_0-9]+\b(?!\.\.)', text):
-        if not re.search(rf'\b{name}\b', here.header) and not name.endswith('_'):
+        if not re.search(rf'\b{name}\b', here.header) and name not in here.crates and not name.endswith('_'):
             yield f'{path}: {name} is not in {HEADER}'
 
 
