@@ -201,6 +201,9 @@ class Fn:
             roots |= more
         root = '(?:' + '|'.join(re.escape(r) for r in sorted(roots)) + ')'
         text = re.sub(r'(?<![^\s(){};,@«»←])(' + root + r')(?:\.before)+(?![\w-])', r'\1', text)
+        for m in list(re.finditer(r'\blet (' + W + r'+) = (' + root + r'(?:\.' + W + r'+)+\.given) in\s*', text)):
+            text = text.replace(m.group(0), '')
+            text = re.sub(r'(?<![^\s(){};,@«»←])' + re.escape(m.group(1)) + r'(?=\.)', m.group(2), text)
         mine = MINE.get(f'{self.crate}::' + self.path.replace('/', '::').replace('+', ''), [])
         heads = [r'(?:' + '|'.join(re.escape(r) for r in sorted(roots)) + r')\.args']
         heads += [re.escape(v) for v, of in re.findall(r'\blet (' + W + r'+) = (' + W + r'+)\.args in\b', text) if of in roots]
@@ -546,6 +549,9 @@ def convert(crate, path, fn, everything):
                     body = r
                 elif body.strip() not in TRIVIAL:
                     looks.append(f'{new}: not a tuple of {len(names)} clauses')
+            if re.search(r'(?:array|slice)-(?:share|relend|lend)\S* c(?![\w.])', body) or re.search(r'_long c\.', body):
+                looks.append(f'{new} left to Rattle: {body[:80]!r}')
+                continue
             args = [a for a in args if a != 'κs']
             body, more = put_inside(body, inside)
             for u in more:
@@ -647,7 +653,7 @@ def main(argv):
         key = f'Rattle-{crate}-proofs.{path.replace("/", ".")}.Lts'
         row = table.get(key)
         if row is None:
-            close = [k for k in table if k.split('.')[-2].strip('+') == path.split('/')[-1].strip('+')]
+            close = [k for k in table if k.count('.') > 1 and k.split('.')[-2].strip('+') == path.split('/')[-1].strip('+')]
             said(f'look: {crate}::{path}: no names under {key}; near: {close}')
             continue
         try:
