@@ -1,5 +1,5 @@
 #!/usr/bin/env python3
-"""exports.py [--check]: writes the crate tablegoose_c, the static library for callers in C and Rust, from the sources of the crates c_.
+"""exports.py [--check | --only CRATE ..]: writes the crate tablegoose_c, the static library for callers in C and Rust, from the sources of the crates c_.
 
 A crate is a library or a static library, and not both. So the functions `tablegoose_..` of the crates c_, which use one another, are those of libraries, and
 crates/tablegoose_c has for each of them one exported function of the same name, parameters and clauses, which only calls it. A file of it stands for a file
@@ -93,10 +93,15 @@ def module_of(crate, name):
     return '_'.join([crate.removeprefix('c_')] + ([name] if name else [])) + '_calls'
 
 
-def made():
+def those():
+    """The crates c_."""
+    return [name for name in listed() if name.startswith('c_')]
+
+
+def made(crates):
     """Each file of the static library, before it is laid out, and the names of its functions."""
     files, functions = {}, []
-    for crate in (name for name in listed() if name.startswith('c_')):
+    for crate in crates:
         for name, text in sources(crate):
             path = f'{crate}::{name}' if name else crate
             of = f'`{name}` of ' if name else ''
@@ -136,7 +141,7 @@ def line_of(files):
 
 def faults(files, functions):
     """What is not as this script makes it."""
-    declared = [name for crate in listed() if crate.startswith('c_') for name in re.findall(r'\bfn (tablegoose_\w+)', '\n'.join(
+    declared = [name for crate in those() for name in re.findall(r'\bfn (tablegoose_\w+)', '\n'.join(
         read(os.path.join(at, name)) for at, _, names in os.walk(f'crates/{crate}/src') for name in names))]
     yield from (f'{name} has no exported function' for name in sorted(set(declared) - set(functions)))
     yield from (f'{name} stands {declared.count(name)} times' for name in sorted(set(declared)) if declared.count(name) != 1)
@@ -148,7 +153,7 @@ def faults(files, functions):
 
 
 def main(given):
-    raw, functions = made()
+    raw, functions = made(given[1:] if given[:1] == ['--only'] else those())
     files = laid_out(raw)
     if given != ['--check']:
         lines = read('crates.txt')
