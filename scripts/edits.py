@@ -22,9 +22,9 @@ SHAPE = re.compile(
     r'not in scope|no proof: expected|that can be named|takes only names|has no (?:field|function|module|`)|is not a function|'
     r'more than .* takes|was not admitted|not declared|unexpected|syntax|parse')
 
-# What it says where a fact does not hold: another type than the goal's, an arithmetic goal that fails, a rewriting that does not close.
+# What it says where a fact does not hold: another type than the goal's, two terms that differ, an arithmetic goal that fails, a rewriting that does not close.
 FACT = re.compile(
-    r'the two (?:types|values|sides)|expected type|the goal does not follow|`omega`|`cc`|`search`|`grind`|'
+    r'` ≟ `|the two (?:types|values|sides)|expected type|the goal does not follow|`omega`|`cc`|`search`|`grind`|'
     r'give a proof of that as the last argument|must be a path whose two ends are equal|`rw`|`simp`')
 
 

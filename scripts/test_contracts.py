@@ -106,6 +106,7 @@ FACTS = [
     PROOF + 'as printed, the two types differ only where one has `has no field` (expected) and the other has `b` (found)',
     PROOF + '`omega`: the goal does not follow from what it read. It did not look at every field',
     PROOF + 'give a proof of that as the last argument, `rw L t`',
+    PROOF + '`slice_refusal start end size` ≟ `when b then 15 else 0`',
     SAID + 'note: src/lib.rt:7:1: it is not proved that what the function ensures holds when it returns (`returns`); the facts known there allow va',
 ]
 # The same of edits that do not count: another reason, no refusal, an error outside proofs, an error of no known kind.
