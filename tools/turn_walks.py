@@ -215,7 +215,7 @@ class Fn:
         heads += [re.escape(v) for v, of in re.findall(r'\blet (' + W + r'+) = (' + W + r'+)\.args in\b', text) if of in roots]
         text = re.sub(r'(?<![^\s(){};,@«»←])(' + '|'.join(heads) + r')\.t(\d+)(?![\w-])',
                       lambda m: m.group(1) + '.' + mine[int(m.group(2)) - 1] if int(m.group(2)) <= len(mine) else m.group(0), text)
-        text = re.sub(r'(?<![^\s(){};,@«»←])(' + '|'.join(heads) + r')\.(' + W + r'+)', lambda m: m.group(1) + '.' + (norm(m.group(2)) if norm(m.group(2)) in self.vars else m.group(2)), text)
+        text = re.sub(r'(?<![^\s(){};,@«»←])(' + '|'.join(heads) + r')\.(' + W + r'+)', lambda m: m.group(1) + '.' + self.var(m.group(2)), text)
         # lengths of arrays in a struct by value: omega knows them
         text = re.sub(r', \w+_long (?:' + W + r'|\.)+ _ (?:' + W + r'|\.)+well_formed(?:\.\d)*', '', text)
         look = []
@@ -240,7 +240,7 @@ class Fn:
             if step == 'requires' and len(self.own[1]) > 1 and len(parts) > 1:
                 return root + '.' + '.'.join(self.by_clause(parts[:1], parts[1:], self.own[1]))
             if step in ('args', 'requires', 'ranges', 'type_inv'):
-                return root + '.' + '.'.join([parts[0]] + [norm(x) if norm(x) in self.vars else x for x in parts[1:]])
+                return root + '.' + '.'.join([parts[0]] + [self.var(x) for x in parts[1:]])
             if step == 'measure' or step == 'auto':
                 return m.group(0)
             if step in self.steps:
@@ -251,7 +251,7 @@ class Fn:
                     look.append(f'{rest} may be one of {[o[0] for o in options]}')
                 parts = self.clause(parts, callee)
                 parts = [{'type-inv': 'type_inv', 'well-formed': 'well_formed'}.get(x, x) for x in self.kept(parts, callee)]
-                parts = [parts[0]] + [norm(x) if norm(x) in self.vars else x for x in parts[1:]]
+                parts = [parts[0]] + [self.var(x) for x in parts[1:]]
                 if new.startswith('if-not-') and len(parts) == 2 and parts[1] in ('true', 'false'):
                     return '(ap not ' + root + '.' + '.'.join(parts) + ')'
                 return root + '.' + '.'.join(parts)
@@ -317,6 +317,13 @@ class Fn:
                 return head + whole
             rest = rest[1:]
         return head + [names[k]] + list(rest)
+
+    def var(self, x):
+        n = norm(x)
+        if n in self.vars:
+            return n
+        short = re.sub('_(lem|of)$', '', n)
+        return short if short in self.vars and short != n and n not in self.vars else x
 
     def asked_callee(self, old):
         m = re.fullmatch(r'(.*)_requires(?:_(\d+))?', norm(old))
