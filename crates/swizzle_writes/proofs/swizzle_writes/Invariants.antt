@@ -11,7 +11,7 @@ use Rattle.swizzle_writes.proofs.Steps.{Going}
 use Rattle.swizzle_writes.proofs.swizzle_writes.Given as goal
 
 abbrev pub invariant-loop-j : goal.invariant-loop-j
-invariant-loop-j l =     (length l.log ≡ length l.initial.log) × (length l.to ≡ length l.initial.to)
+invariant-loop-j l = (length l.log ≡ length l.initial.log) × (length l.to ≡ length l.initial.to)
     × ((trits : List ℕ) → Going (memory_of l.m l.nets trits) (layout_by l.q l.entries) l.mems l.m.write_ports (take (min max_ports l.m.write_count) l.wide) (record { room = l.initial.to; at = l.initial.at; ports = l.initial.ports }) (lent l.initial.state l.initial.log) l.j (record { room = l.to; at = l.at; ports = l.ports }) (lent l.state l.log))
 
 abbrev pub decreases-loop-j : goal.decreases-loop-j
