@@ -230,8 +230,14 @@ class Fn:
             step = norm(parts[0])
             if step not in self.steps and re.search('_(lem|of)$', step) and re.sub('_(lem|of)$', '', step) in self.steps:
                 step = re.sub('_(lem|of)$', '', step)
+            if step == 'type_size' and 'size_of' in self.steps:
+                step = 'size_of'
             if step not in self.steps and step.lower() in self.steps:
                 step = step.lower()
+            if step not in self.steps and re.sub('^is', '', step.lower()) in self.steps:
+                step = re.sub('^is', '', step.lower())
+            if step not in self.steps and re.sub(r'\d$', '', step) in self.steps and step[-1:].isdigit():
+                step = step[:-1]
             for st, path, arm, new in self.arms:
                 if st == step and [norm(x) for x in parts[1:1 + len(path)]] == [norm(x) for x in path] and path:
                     return root + '.' + '.'.join([arm, new] + parts[1 + len(path):])
@@ -388,7 +394,7 @@ def inv(fn, body, args, which):
         elif w in ')]}' and len(w) == 1:
             deep -= 1
             bound = [b for b in bound if b[0] <= deep]
-        elif re.fullmatch(W + '+', w) and (not out or out[-1] != '.') and w in known and not any(w in b[1] for b in bound):
+        elif re.fullmatch(W + '+', w) and (not out or out[-1] != '.') and not (re.match(r'\s=\s', body[at:]) and re.search(r'[{;]\s*$', ''.join(out[-3:]))) and w in known and not any(w in b[1] for b in bound):
             w = known[w]
         out.append(w)
     return ''.join(out), look

@@ -35,7 +35,7 @@ loop-i-preserved c =
     let n = length_in v.m v.nets.now v.trits.now (read_ports_length v.m _ c.well_formed.1.1.1.1.1.1.1.0) in
     let l : h.i < length (in_ports v.m v.nets.now v.trits.now) = omega (arith, n, c.ports_used-count.ensures.0, c.loop-i-test.true) in
     let b : h.i < min max_ports v.m.read_count = omega (arith, c.ports_used-count.ensures.0, c.loop-i-test.true) in
-    (p.auto.log ∙ h.invariant.0, p.auto.nets_to ∙ h.invariant.1, p.auto.trits_to ∙ h.invariant.2, p.auto.scratch ∙ h.invariant.3, omega (arith, c.loop-i-test.true), omega (arith, h.invariant.5, c.read_data_len-at.ensures.upper_bound), ports_turn (layout_by v.p v.entries.now) (length v.scratch.now) (in_ports v.m v.nets.now v.trits.now) v.wide.now v.output.now h.i h.at (going_of h.g h.log h.nets-to h.trits-to) _ h.invariant.6 (port_of v.m v.nets.now v.trits.now h.i) c.read_data_len-at.result (going_of p.result p.new.log p.new.nets_to p.new.trits_to) l (port_in v.m v.nets.now v.trits.now h.i b) (len_at v.m v.nets.now v.trits.now h.i b c.read_data_len-at.result (c.read_data_len-at.ensures.by_index v.nets.now v.trits.now)) (p.ensures.trits_to_after ∙ (λ j. port_if (layout_by v.p v.entries.now) (h.invariant.3 j) h.i (port_of v.m v.nets.now v.trits.now h.i) (get_or v.wide.now h.i 0) (part h.at (sym (len_at v.m v.nets.now v.trits.now h.i b c.read_data_len-at.result (c.read_data_len-at.ensures.by_index v.nets.now v.trits.now)) j) v.output.now) (going_of h.g h.log h.nets-to h.trits-to))), kept_turn (layout_by v.p v.entries.now) (in_ports v.m v.nets.now v.trits.now) v.wide.now h.i (port_of v.m v.nets.now v.trits.now h.i) v.scratch.now h.scratch p.new.scratch l (port_in v.m v.nets.now v.trits.now h.i b) h.invariant.7 p.ensures.scratch_kept)
+    (p.auto.log ∙ h.invariant.0, p.auto.nets_to ∙ h.invariant.1, p.auto.trits_to ∙ h.invariant.2, p.auto.scratch ∙ h.invariant.3, omega (arith, c.loop-i-test.true), omega (arith, h.invariant.5, c.read_data_len-at.ensures.upper_bound), ports_turn (layout_by v.p v.entries.now) (length v.scratch.now) (in_ports v.m v.nets.now v.trits.now) v.wide.now v.output.now h.i h.at (going_of h.g h.log h.nets_to h.trits_to) _ h.invariant.6 (port_of v.m v.nets.now v.trits.now h.i) c.read_data_len-at.result (going_of p.result p.new.log p.new.nets_to p.new.trits_to) l (port_in v.m v.nets.now v.trits.now h.i b) (len_at v.m v.nets.now v.trits.now h.i b c.read_data_len-at.result (c.read_data_len-at.ensures.by_index v.nets.now v.trits.now)) (p.ensures.trits_to_after ∙ (λ j. port_if (layout_by v.p v.entries.now) (h.invariant.3 j) h.i (port_of v.m v.nets.now v.trits.now h.i) (get_or v.wide.now h.i 0) (part h.at (sym (len_at v.m v.nets.now v.trits.now h.i b c.read_data_len-at.result (c.read_data_len-at.ensures.by_index v.nets.now v.trits.now)) j) v.output.now) (going_of h.g h.log h.nets_to h.trits_to))), kept_turn (layout_by v.p v.entries.now) (in_ports v.m v.nets.now v.trits.now) v.wide.now h.i (port_of v.m v.nets.now v.trits.now h.i) v.scratch.now h.scratch p.new.scratch l (port_in v.m v.nets.now v.trits.now h.i b) h.invariant.7 p.ensures.scratch_kept)
 
 pub shape_of-log : goal.shape_of-log
 shape_of-log c = c.loop-i.invariant.0
@@ -54,4 +54,4 @@ returns c =
     let v = c.args in
     let h = c.loop-i in
     let n = length_in v.m v.nets.now v.trits.now (read_ports_length v.m _ c.well_formed.1.1.1.1.1.1.1.0) in
-    record { trits_to_after = ports_end (layout_by v.p v.entries.now) (length v.scratch.now) (in_ports v.m v.nets.now v.trits.now) v.wide.now v.output.now h.i h.at (going_of h.g h.log h.nets-to h.trits-to) _ h.invariant.6 (omega (arith, n, c.ports_used-count.ensures.0, c.loop-i-test.false)); all_kept = h.invariant.7 }
+    record { trits_to_after = ports_end (layout_by v.p v.entries.now) (length v.scratch.now) (in_ports v.m v.nets.now v.trits.now) v.wide.now v.output.now h.i h.at (going_of h.g h.log h.nets_to h.trits_to) _ h.invariant.6 (omega (arith, n, c.ports_used-count.ensures.0, c.loop-i-test.false)); all_kept = h.invariant.7 }

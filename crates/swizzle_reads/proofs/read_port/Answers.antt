@@ -34,7 +34,7 @@ returns-then-not-fits c =
     let s = c.in-Accepted.s in
     let gv = gives_port v.p v.entries.now v.new v.r v.nets.now o.result c.usize_of_u32.result c.wide_log-old.result _ (replicate 32 0) o.new.hw (replicate 32 0) o.new.mux c.read_addr_of-addr.ensures c.wide_log-old.ensures.0 c.usize_of_u32.ensures.0 (o.ensures v.entries.now) s c.in-Accepted.is in
     let sa = same_by (layout_by v.p v.entries.now) (wide_log2 v.p.width v.r.data_len) v.new (part 0 v.r.addr_len v.nets.now) (replicate 32 0) o.new.hw (replicate 32 0) o.new.mux s s.hw_len s.mux_len gv refl refl refl refl in
-    record { trits_to_after = port_not v.p v.entries.now v.new v.r v.nets.now v.trits.now (length v.scratch.now) v.i v.output.now (going_of v.g v.log.now v.nets_to.now v.trits_to.now) v.z (take s.hw_len o.new.hw) (take s.mux_len o.new.mux) s c.requires.0 sa gv.can (sym c.fits2.ensures ∙ not-true _ (ap not c.if-not-fits.true)); scratch_kept = λ k h. refl }
+    record { trits_to_after = port_not v.p v.entries.now v.new v.r v.nets.now v.trits.now (length v.scratch.now) v.i v.output.now (going_of v.g v.log.now v.nets_to.now v.trits_to.now) v.z (take s.hw_len o.new.hw) (take s.mux_len o.new.mux) s c.requires.0 sa gv.can (sym c.fits.ensures ∙ not-true _ (ap not c.if-not-fits.true)); scratch_kept = λ k h. refl }
 
 pub slice_bounds-hw-end : goal.slice_bounds-hw-end
 slice_bounds-hw-end c =
@@ -75,7 +75,7 @@ read_split-requires c =
     let s = c.in-Accepted.s in
     let gv = gives_port v.p v.entries.now v.new v.r v.nets.now o.result c.usize_of_u32.result c.wide_log-old.result _ (replicate 32 0) o.new.hw (replicate 32 0) o.new.mux c.read_addr_of-addr.ensures c.wide_log-old.ensures.0 c.usize_of_u32.ensures.0 (o.ensures v.entries.now) s c.in-Accepted.is in
     let sa = same_by (layout_by v.p v.entries.now) (wide_log2 v.p.width v.r.data_len) v.new (part 0 v.r.addr_len v.nets.now) (replicate 32 0) o.new.hw (replicate 32 0) o.new.mux s c.usize_of_u32-h.result c.usize_of_u32-k.result gv refl refl c.usize_of_u32-h.ensures.0 c.usize_of_u32-k.ensures.0 in
-    splitting v.p v.entries.now v.new v.r v.nets.now v.trits.now (length v.scratch.now) v.i v.output.now (going_of v.g v.log.now v.nets_to.now v.trits_to.now) v.z (take c.usize_of_u32-h.result o.new.hw) (take c.usize_of_u32-k.result o.new.mux) s c.requires.0 sa gv.can (sym c.fits2.ensures ∙ not-false _ (ap not c.if-not-fits.false)) c.requires.1
+    splitting v.p v.entries.now v.new v.r v.nets.now v.trits.now (length v.scratch.now) v.i v.output.now (going_of v.g v.log.now v.nets_to.now v.trits_to.now) v.z (take c.usize_of_u32-h.result o.new.hw) (take c.usize_of_u32-k.result o.new.mux) s c.requires.0 sa gv.can (sym c.fits.ensures ∙ not-false _ (ap not c.if-not-fits.false)) c.requires.1
 
 pub returns : goal.returns
 returns c =
@@ -86,4 +86,4 @@ returns c =
     let sa = same_by (layout_by v.p v.entries.now) (wide_log2 v.p.width v.r.data_len) v.new (part 0 v.r.addr_len v.nets.now) (replicate 32 0) o.new.hw (replicate 32 0) o.new.mux s c.usize_of_u32-h.result c.usize_of_u32-k.result gv refl refl c.usize_of_u32-h.ensures.0 c.usize_of_u32-k.ensures.0 in
     let r = c.read_split in
     let ck = c.clock_of-c.ensures v.r v.trits.now in
-    record { trits_to_after = port_done_lem v.p v.entries.now v.new v.r v.nets.now v.trits.now (length v.scratch.now) v.i v.output.now (going_of v.g v.log.now v.nets_to.now v.trits_to.now) v.z (take c.usize_of_u32-h.result o.new.hw) (take c.usize_of_u32-k.result o.new.mux) s c.requires.0 sa gv.can (sym c.fits2.ensures ∙ not-false _ (ap not c.if-not-fits.false)) c.clock_of-c.result v.scratch.now refl ck (going_of r.result r.new.log r.new.nets_to r.new.trits_to) r.ensures.trits_to_after; scratch_kept = port_kept v.p v.entries.now v.new v.r v.nets.now v.trits.now (length v.scratch.now) v.i v.output.now (going_of v.g v.log.now v.nets_to.now v.trits_to.now) v.z (take c.usize_of_u32-h.result o.new.hw) (take c.usize_of_u32-k.result o.new.mux) s c.requires.0 sa gv.can (sym c.fits2.ensures ∙ not-false _ (ap not c.if-not-fits.false)) c.clock_of-c.result v.scratch.now refl ck r.new.scratch r.ensures.scratch_after }
+    record { trits_to_after = port_done_lem v.p v.entries.now v.new v.r v.nets.now v.trits.now (length v.scratch.now) v.i v.output.now (going_of v.g v.log.now v.nets_to.now v.trits_to.now) v.z (take c.usize_of_u32-h.result o.new.hw) (take c.usize_of_u32-k.result o.new.mux) s c.requires.0 sa gv.can (sym c.fits.ensures ∙ not-false _ (ap not c.if-not-fits.false)) c.clock_of-c.result v.scratch.now refl ck (going_of r.result r.new.log r.new.nets_to r.new.trits_to) r.ensures.trits_to_after; scratch_kept = port_kept v.p v.entries.now v.new v.r v.nets.now v.trits.now (length v.scratch.now) v.i v.output.now (going_of v.g v.log.now v.nets_to.now v.trits_to.now) v.z (take c.usize_of_u32-h.result o.new.hw) (take c.usize_of_u32-k.result o.new.mux) s c.requires.0 sa gv.can (sym c.fits.ensures ∙ not-false _ (ap not c.if-not-fits.false)) c.clock_of-c.result v.scratch.now refl ck r.new.scratch r.ensures.scratch_after }
