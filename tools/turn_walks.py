@@ -227,6 +227,8 @@ class Fn:
             parts = [p for p in rest.split('.') if p]
             if not parts:
                 return m.group(0)
+            if parts[0] == 'pre':
+                parts[0] = 'requires'
             step = norm(parts[0])
             if step not in self.steps and re.search('_(lem|of)$', step) and re.sub('_(lem|of)$', '', step) in self.steps:
                 step = re.sub('_(lem|of)$', '', step)
@@ -598,7 +600,7 @@ def convert(crate, path, fn, everything):
                     body = r
                 elif body.strip() not in TRIVIAL:
                     looks.append(f'{new}: not a tuple of {len(names)} clauses')
-            if re.search(r'(?:array|slice)-(?:share|relend|lend)\S* c(?![\w.])', body) or re.search(r'_long c\.', body):
+            if re.search(r'(?:array|slice)-(?:share|relend|lend)\S* c(?![\w.])', body) or new.startswith('slice_bounds') and re.search(r'_long c\.', body):
                 looks.append(f'{new} left to Rattle: {body[:80]!r}')
                 continue
             args = [a for a in args if a != 'κs']
