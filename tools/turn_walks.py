@@ -272,7 +272,7 @@ class Fn:
                 v = m.group(1)
                 text = re.sub(r'(?<![^\s(){};,@«»←])' + re.escape(v) + r'((?:\.[^\s(){}.;,@"]+)+)',
                               lambda k: '.'.join(self.by_clause([v], k.group(1)[1:].split('.'), self.own[1])), text)
-        for m in re.finditer(r'\blet (' + W + r'+) = c\.(' + W + r'+)\.ensures in\b', text):
+        for m in re.finditer(r'\blet (' + W + r'+) = ' + root + r'\.(' + W + r'+)\.ensures in\b', text):
             callee = next((ca for ops in self.steps.values() for (n, ca, _) in ops if n == m.group(2)), None)
             names = self.clauses.get(callee, ([], []))[0]
             if len(names) > 1:
@@ -280,7 +280,7 @@ class Fn:
                 text = re.sub(r'(?<![^\s(){};,@«»←])' + re.escape(v) + r'((?:\.[^\s(){}.;,@"]+)+)',
                               lambda k: '.'.join(self.by_clause([v], k.group(1)[1:].split('.'), names)), text)
         # an alias of a step: let q = c.STEP in .. q.ensures.1.0
-        for m in re.finditer(r'\blet (' + W + r'+) = c\.(' + W + r'+) in\b', text):
+        for m in re.finditer(r'\blet (' + W + r'+) = ' + root + r'\.(' + W + r'+) in\b', text):
             callee = next((ca for ops in self.steps.values() for (n, ca, _) in ops if n == m.group(2)), None)
             if callee:
                 v = m.group(1)
