@@ -145,7 +145,7 @@ def by_parts(body, names, fn=None):
         theirs = fn.clauses.get(callee, ([], []))[0]
         if len(theirs) == len(names):
             return f'{lead}record {{ ' + '; '.join(f'{n} = {tail}.{t}' for n, t in zip(names, theirs)) + ' }'
-    if re.match(r'(rw|simp|omega|search|cc|elim|grind|absurd|first_of|λ|\()(?![\w-])', tail) or '\n' in tail and ' ∙ ' in tail:
+    if re.match(r'(rw|simp|omega|search|cc|elim|grind|absurd|first_of|λ|\()(?![\w-])', tail):
         return None
     parts = []
     for i, n in enumerate(names):
