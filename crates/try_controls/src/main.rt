@@ -12,6 +12,7 @@ use try_kit::numbered;
 use try_kit::numbered::Tally;
 use try_kit::paint::{paint_words, same};
 use try_kit::words::{both, minus, net_above, plus, word};
+use std::io;
 
 // A control in plain numbers.
 #[derive(Clone, Copy)]
@@ -392,31 +393,30 @@ fn remap_cases(log: &mut [u32], want: &mut [u32]) -> Tally {
     t
 }
 
-fn count(name: &[u8], n: u32) {
-    io::write_all(libc::STDOUT_FILENO, name);
-    io::print_decimal(libc::STDOUT_FILENO, n as u64);
+fn count(rt: &impl Print, name: &str, n: u32) -> io::Result<()> {
+    print!(rt; "{name}{n}")
 }
 
 // The rest of a line, after a group's name: its counts.
-fn report(t: Tally) {
-    count(b" ", t.right);
-    count(b" of ", t.made);
-    count(b": accepted ", t.accepted);
-    count(b", 1: ", t.large);
-    count(b", 2: ", t.unequal);
-    count(b", 4: ", t.bad);
-    count(b", 20: ", t.full);
-    count(b", 21: ", t.netless);
-    io::write_all(libc::STDOUT_FILENO, b"\n");
+fn report(rt: &impl Print, t: Tally) -> io::Result<()> {
+    count(rt, " ", t.right)?;
+    count(rt, " of ", t.made)?;
+    count(rt, ": accepted ", t.accepted)?;
+    count(rt, ", 1: ", t.large)?;
+    count(rt, ", 2: ", t.unequal)?;
+    count(rt, ", 4: ", t.bad)?;
+    count(rt, ", 20: ", t.full)?;
+    count(rt, ", 21: ", t.netless)?;
+    rt.print("\n")
 }
 
-fn main() {
+fn main(rt: HostRuntime) -> io::Result<()> {
     let mut log = [0u32; 48];
     let mut want = [0u32; 48];
     let t = pos_cases(&mut log, &mut want);
-    io::write_all(libc::STDOUT_FILENO, b"into_pos:");
-    report(t);
+    rt.print("into_pos:")?;
+    report(&rt, t)?;
     let u = remap_cases(&mut log, &mut want);
-    io::write_all(libc::STDOUT_FILENO, b"remap_reset_over_enable:");
-    report(u);
+    rt.print("remap_reset_over_enable:")?;
+    report(&rt, u)
 }

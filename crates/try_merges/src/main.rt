@@ -13,6 +13,7 @@ use try_kit::numbered::Tally;
 use try_kit::paint::{paint_words, same};
 use try_kit::spoilt::{CONTROL, FIRST, NOTHING, SECOND, of_what, select_in};
 use try_kit::words::{both, minus, net_above, plus, word};
+use std::io;
 
 // The nets and the words that a buffer has room for.
 const NETS: usize = 4100;
@@ -482,33 +483,32 @@ fn cases(bitwise: bool) -> Tally {
     t
 }
 
-fn count(name: &[u8], n: u32) {
-    io::write_all(libc::STDOUT_FILENO, name);
-    io::print_decimal(libc::STDOUT_FILENO, n as u64);
+fn count(rt: &impl Print, name: &str, n: u32) -> io::Result<()> {
+    print!(rt; "{name}{n}")
 }
 
 // The rest of a line, after a group's name: its counts.
-fn report(t: Tally) {
-    count(b" ", t.right);
-    count(b" of ", t.made);
-    count(b": accepted ", t.accepted);
-    report_numbers(t);
-    io::write_all(libc::STDOUT_FILENO, b"\n");
+fn report(rt: &impl Print, t: Tally) -> io::Result<()> {
+    count(rt, " ", t.right)?;
+    count(rt, " of ", t.made)?;
+    count(rt, ": accepted ", t.accepted)?;
+    report_numbers(rt, t)?;
+    rt.print("\n")
 }
 
-fn report_numbers(t: Tally) {
-    count(b", 1: ", t.large);
-    count(b", 2: ", t.unequal);
-    count(b", 4: ", t.bad);
-    count(b", 20: ", t.full);
-    count(b", 21: ", t.netless);
+fn report_numbers(rt: &impl Print, t: Tally) -> io::Result<()> {
+    count(rt, ", 1: ", t.large)?;
+    count(rt, ", 2: ", t.unequal)?;
+    count(rt, ", 4: ", t.bad)?;
+    count(rt, ", 20: ", t.full)?;
+    count(rt, ", 21: ", t.netless)
 }
 
-fn main() {
+fn main(rt: HostRuntime) -> io::Result<()> {
     let t = cases(false);
-    io::write_all(libc::STDOUT_FILENO, b"add_dedup_mux:");
-    report(t);
+    rt.print("add_dedup_mux:")?;
+    report(&rt, t)?;
     let u = cases(true);
-    io::write_all(libc::STDOUT_FILENO, b"add_bitwise_mux:");
-    report(u);
+    rt.print("add_bitwise_mux:")?;
+    report(&rt, u)
 }
