@@ -1,5 +1,6 @@
 // Lists the memories of the record that standard input holds, or the number that refuses it.
 #![tactic(auto)]
+
 ghost use Rattle.std.specs.Prelude.{◌≤◌, IfOk};
 ghost use Rattle.rules.specs.Limits.{max_record};
 

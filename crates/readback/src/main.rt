@@ -1,8 +1,9 @@
 // Reads a header line, a record and, where there is more, a table from standard input. Writes the record's rows as a table, or the rows in which it differs
 // from the table; where the text is refused, nothing, and the line and the reason to standard error.
 #![tactic(auto)]
-use table_readback::Answer;
+
 use std::io;
+use table_readback::Answer;
 
 // A header line of up to 4,096 bytes, the longest record and the longest table, and a byte more. An input that fills it may be longer, and is refused.
 const ROOM: usize = 1085453;

@@ -1,7 +1,8 @@
 // Writes the image record of the table whose text standard input holds; where the text is refused, nothing, and the line and the reason to standard error.
 #![tactic(auto)]
-use table_record::Answer;
+
 use std::io;
+use table_record::Answer;
 
 // One byte more than the longest text, so that a longer one is seen.
 const ROOM: usize = 1048577;

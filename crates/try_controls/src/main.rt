@@ -1,18 +1,19 @@
 // Tries into_pos and remap_reset_over_enable, over controls that are constants, cells, inverses and bad ones, four rooms and six next free nets.
 // Every lent word holds a pattern before a call, and every word of log, state and result is compared after it with what a plain computation expects.
 #![tactic(auto)]
+
 use lists::copy_u32;
 use log_entries::LogState;
 use log_requests::{ControlsAnswer, NetAnswer};
 use net_flip_flop::Controls;
 use net_value::{ControlNet, Net};
 use rules::{FIRST_CELL, MAX_NETS, NET_X};
+use std::io;
 use try_kit::borders::{next_at, room_at, state_number};
 use try_kit::numbered;
 use try_kit::numbered::Tally;
 use try_kit::paint::{paint_words, same};
 use try_kit::words::{both, minus, net_above, plus, word};
-use std::io;
 
 // A control in plain numbers.
 #[derive(Clone, Copy)]

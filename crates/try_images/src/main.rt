@@ -1,6 +1,7 @@
 // Lays out document 01's examples and some others, patches rows and reads them back. Every buffer starts as a pattern and is printed or compared
 // whole, after refused calls too.
 #![tactic(auto)]
+
 use std::io;
 
 fn number(rt: &impl Print, n: u64) -> io::Result<()> {
@@ -80,7 +81,10 @@ fn sizes(rt: &impl Print, p: image_geometry::Params, entries: &[u32]) -> io::Res
 fn tests(rt: &impl Print, p: image_geometry::Params, entries: &[u32]) -> io::Result<()> {
     text(rt, "tests")?;
     number(rt, image_check::entries_number(p.width, entries) as u64)?;
-    number(rt, image_geometry::soft_mask_number(p.depth, p.soft_mask) as u64)?;
+    number(
+        rt,
+        image_geometry::soft_mask_number(p.depth, p.soft_mask) as u64,
+    )?;
     number(rt, image_geometry::result_number(p, entries) as u64)?;
     line(rt)
 }
@@ -95,7 +99,13 @@ fn depths(rt: &impl Print, p: image_geometry::Params, entries: &[u32]) -> io::Re
 }
 
 // The place of an entry.
-fn place(rt: &impl Print, p: image_geometry::Params, entries: &[u32], row: u32, entry: usize) -> io::Result<()> {
+fn place(
+    rt: &impl Print,
+    p: image_geometry::Params,
+    entries: &[u32],
+    row: u32,
+    entry: usize,
+) -> io::Result<()> {
     text(rt, "place")?;
     number(rt, row as u64)?;
     number(rt, entry as u64)?;
@@ -120,7 +130,10 @@ fn read(rt: &impl Print, laid: image_state::Laid, image: &[u8], row: u32) -> io:
     let mut room = [9u8; 6];
     text(rt, "read")?;
     number(rt, row as u64)?;
-    number(rt, image_state::read_row(&mut room, laid, image, row) as u64)?;
+    number(
+        rt,
+        image_state::read_row(&mut room, laid, image, row) as u64,
+    )?;
     text(rt, " |")?;
     trits(rt, &room)
 }
@@ -160,12 +173,24 @@ fn read_short(rt: &impl Print, laid: image_state::Laid, row: u32) -> io::Result<
     read(rt, laid, &image, row)
 }
 
-fn read_whole(rt: &impl Print, laid: image_state::Laid, image: &[u8; 40], row: u32) -> io::Result<()> {
+fn read_whole(
+    rt: &impl Print,
+    laid: image_state::Laid,
+    image: &[u8; 40],
+    row: u32,
+) -> io::Result<()> {
     read(rt, laid, image, row)
 }
 
 // A patch of a copy of the image: its number, how many bytes it changed, and how many of them past the image's trits.
-fn patch(rt: &impl Print, image: &mut [u8; 40], laid: image_state::Laid, size: usize, row: u32, with: &[u8]) -> io::Result<()> {
+fn patch(
+    rt: &impl Print,
+    image: &mut [u8; 40],
+    laid: image_state::Laid,
+    size: usize,
+    row: u32,
+    with: &[u8],
+) -> io::Result<()> {
     let before = *image;
     let n = image_state::patch(image, laid, row, with);
     text(rt, "patch")?;
@@ -178,7 +203,12 @@ fn patch(rt: &impl Print, image: &mut [u8; 40], laid: image_state::Laid, size: u
 }
 
 // The places of a row's entries.
-fn row_places(rt: &impl Print, p: image_geometry::Params, entries: &[u32], row: u32) -> io::Result<()> {
+fn row_places(
+    rt: &impl Print,
+    p: image_geometry::Params,
+    entries: &[u32],
+    row: u32,
+) -> io::Result<()> {
     let mut i: usize = 0;
     while i < entries.len() {
         place(rt, p, entries, row, i)?;
@@ -233,7 +263,14 @@ fn bad_codes(rt: &impl Print, laid: image_state::Laid) -> io::Result<()> {
     lay_short(rt, laid, &[1u8, 0, 2, 1, 0, 0])
 }
 
-fn params(rt: &impl Print, depth: u32, width: u32, mask: u32, hard: u32, unit: u32) -> io::Result<image_geometry::Params> {
+fn params(
+    rt: &impl Print,
+    depth: u32,
+    width: u32,
+    mask: u32,
+    hard: u32,
+    unit: u32,
+) -> io::Result<image_geometry::Params> {
     text(rt, "layout")?;
     number(rt, depth as u64)?;
     number(rt, width as u64)?;
@@ -300,7 +337,8 @@ fn mixed(rt: &impl Print) -> io::Result<()> {
     show(rt, p, &entries)?;
     let laid = image_state::laid_out(p, &entries);
     record_sizes(rt, laid)?;
-    let mut image = lay(rt,
+    let mut image = lay(
+        rt,
         laid,
         &[0u8, 1, 2, 1, 0, 2, 2, 2, 0, 1, 1, 0, 0, 0, 1, 2, 1, 1],
     )?;
@@ -319,22 +357,39 @@ fn seven_calls() -> [u32; 28] {
 }
 
 // The rows laid out and the calls: the answer, the numbers and the image.
-fn list(rt: &impl Print, image: &mut [u8; 40], numbers: &mut [u32], laid: image_state::Laid, rows: &[u8]) -> io::Result<()> {
+fn list(
+    rt: &impl Print,
+    image: &mut [u8; 40],
+    numbers: &mut [u32],
+    laid: image_state::Laid,
+    rows: &[u8],
+) -> io::Result<()> {
     let calls = seven_calls();
     let all = [1u8, 1, 1, 0, 2, 0, 2, 1, 0, 0, 0, 0];
     text(rt, "list")?;
-    number(rt, image_patches::fill_and_patch(image, numbers, laid, rows, &calls, &all) as u64)?;
+    number(
+        rt,
+        image_patches::fill_and_patch(image, numbers, laid, rows, &calls, &all) as u64,
+    )?;
     text(rt, " |")?;
     words(rt, numbers)?;
     all_trits(rt, image)
 }
 
 // The calls alone.
-fn calls(rt: &impl Print, image: &mut [u8; 40], numbers: &mut [u32], laid: image_state::Laid) -> io::Result<()> {
+fn calls(
+    rt: &impl Print,
+    image: &mut [u8; 40],
+    numbers: &mut [u32],
+    laid: image_state::Laid,
+) -> io::Result<()> {
     let calls = seven_calls();
     let all = [1u8, 1, 1, 0, 2, 0, 2, 1, 0, 0, 0, 0];
     text(rt, "calls")?;
-    number(rt, image_patches::patch_all(image, numbers, laid, &calls, &all) as u64)?;
+    number(
+        rt,
+        image_patches::patch_all(image, numbers, laid, &calls, &all) as u64,
+    )?;
     text(rt, " |")?;
     words(rt, numbers)?;
     all_trits(rt, image)
@@ -352,7 +407,8 @@ fn lists_of_calls(rt: &impl Print) -> io::Result<()> {
     list(rt, &mut image, &mut [77u32; 9], laid, &[2u8; 17])?;
     list(rt, &mut image, &mut [77u32; 6], laid, &[3u8; 18])?;
     calls(rt, &mut [7u8; 40], &mut [77u32; 7], laid)?;
-    list(rt,
+    list(
+        rt,
         &mut image,
         &mut [77u32; 6],
         image_state::unset(),
@@ -394,11 +450,13 @@ fn numbers(rt: &impl Print) -> io::Result<()> {
     tests(rt, params(rt, 2, 0, 0, 1, 2)?, &[rules::NO_BIT])?;
     tests(rt, params(rt, 6, 1, 1, 2, 1)?, &[0u32])?;
     tests(rt, params(rt, 5, 1, 1, 2, 1)?, &[0u32])?;
-    tests(rt,
+    tests(
+        rt,
         params(rt, 32768, 1, 0, 15, 1)?,
         &[0u32, rules::NO_BIT, rules::NO_BIT, rules::NO_BIT],
     )?;
-    tests(rt,
+    tests(
+        rt,
         params(rt, 32768, 1, 0, 15, 1)?,
         &[
             0u32,

@@ -1,13 +1,14 @@
 // Tries the functions of logic and value at normal and border inputs. Each lent buffer is filled with a pattern before the call, and every
 // word of it is compared after the call, whether the call is refused or accepted.
 #![tactic(auto)]
+
 mod consts;
 mod nets;
 mod values;
 
+use std::io;
 use try_kit::tally;
 use try_kit::tally::Tally;
-use std::io;
 
 // A line with a group's name and its counts.
 fn report(rt: &impl Print, name: &str, t: Tally) -> io::Result<()> {
@@ -17,15 +18,24 @@ fn report(rt: &impl Print, name: &str, t: Tally) -> io::Result<()> {
 fn try_logic(rt: &impl Print) -> io::Result<()> {
     report(rt, "trit codes", consts::codes(tally::start()))?;
     report(rt, "trit tables", consts::tables(tally::start()))?;
-    report(rt, "undef tests of constants", consts::undefs(tally::start()))?;
+    report(
+        rt,
+        "undef tests of constants",
+        consts::undefs(tally::start()),
+    )?;
     report(rt, "const_slice", consts::slices(tally::start()))?;
     report(rt, "const_not", consts::nots(tally::start()))?;
     report(rt, "const_and and const_or", consts::pairs(tally::start()))?;
-    report(rt,
+    report(
+        rt,
         "const_and and const_or refused",
         consts::pairs_refused(tally::start()),
     )?;
-    report(rt, "constants into no room", consts::no_room(tally::start()))
+    report(
+        rt,
+        "constants into no room",
+        consts::no_room(tally::start()),
+    )
 }
 
 fn try_nets(rt: &impl Print) -> io::Result<()> {

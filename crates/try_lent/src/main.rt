@@ -2,13 +2,14 @@
 // after it the answer, the state and every word of the log and of the room for results are compared with those of the same request by value, for
 // accepted and for refused calls.
 #![tactic(auto)]
+
 mod calls;
 mod cases;
 mod got;
 mod lent;
 
-use try_kit::numbered::Tally;
 use std::io;
+use try_kit::numbered::Tally;
 
 const KINDS: u32 = 15;
 

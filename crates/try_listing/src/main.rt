@@ -1,5 +1,6 @@
 // Lists records and prints each length, and whether the text is the one that is wanted. The lent array is painted before and compared after, also past the text.
 #![tactic(auto)]
+
 use record_listing::Listed;
 use record_sizes::Sizes;
 use std::io;
@@ -9,11 +10,7 @@ fn say(rt: &impl Print, text: &str) -> io::Result<()> {
 }
 
 fn say_if(rt: &impl Print, test: bool, yes: &str, no: &str) -> io::Result<()> {
-    if test {
-        say(rt, yes)
-    } else {
-        say(rt, no)
-    }
+    if test { say(rt, yes) } else { say(rt, no) }
 }
 
 fn refused(rt: &impl Print, n: u32, kept: bool) -> io::Result<()> {
@@ -50,7 +47,14 @@ fn list(rt: &impl Print, out: &mut [u8], name: &str, bytes: &[u8], want: &[u8]) 
 }
 
 // An input of which only the first bytes are stored.
-fn list_long(rt: &impl Print, out: &mut [u8], name: &str, first: &[u8], total: usize, want: &[u8]) -> io::Result<()> {
+fn list_long(
+    rt: &impl Print,
+    out: &mut [u8],
+    name: &str,
+    first: &[u8],
+    total: usize,
+    want: &[u8],
+) -> io::Result<()> {
     let before = try_kit::sums::sum_of(first);
     try_kit::paint::paint(out);
     say(rt, name)?;
@@ -62,7 +66,13 @@ fn list_long(rt: &impl Print, out: &mut [u8], name: &str, first: &[u8], total: u
 }
 
 // A text that is too long to be written out here: its sum.
-fn list_sum(rt: &impl Print, out: &mut [u8], name: &str, bytes: &[u8], want: u64) -> io::Result<()> {
+fn list_sum(
+    rt: &impl Print,
+    out: &mut [u8],
+    name: &str,
+    bytes: &[u8],
+    want: u64,
+) -> io::Result<()> {
     let before = try_kit::sums::sum_of(bytes);
     try_kit::paint::paint(out);
     say(rt, name)?;
@@ -75,7 +85,8 @@ fn list_sum(rt: &impl Print, out: &mut [u8], name: &str, bytes: &[u8], want: u64
 
 fn told_sum(rt: &impl Print, out: &[u8], n: usize, want: u64) -> io::Result<()> {
     rt.print(n)?;
-    say_if(rt,
+    say_if(
+        rt,
         try_kit::sums::sum_of(lists::part_u8(out, 0, n)) == want,
         " same",
         " DIFFERENT",
@@ -85,7 +96,8 @@ fn told_sum(rt: &impl Print, out: &[u8], n: usize, want: u64) -> io::Result<()> 
 
 fn list_cases(rt: &impl Print, out: &mut [u8]) -> io::Result<()> {
     let text = b"memories 2 trits 6\n0 2 3 2 load\n1 1 2 0 blank\n";
-    list(rt,
+    list(
+        rt,
         out,
         "the first ",
         b"\x05\x00\x02\x00\x01\x00\x02\x00\x01\x00\x01\x00\x3B\x09",
@@ -95,13 +107,15 @@ fn list_cases(rt: &impl Print, out: &mut [u8]) -> io::Result<()> {
 }
 
 fn list_refused(rt: &impl Print, out: &mut [u8]) -> io::Result<()> {
-    list(rt,
+    list(
+        rt,
         out,
         "sizes ",
         b"\x05\x00\x00\x00\x01\x00\x02\x00\x01\x00\x01\x00",
         b"refused 17\n",
     )?;
-    list(rt,
+    list(
+        rt,
         out,
         "a spare bit ",
         b"\x05\x00\x02\x00\x01\x00\x02\x00\x01\x00\x01\x00\x3B\x49",
@@ -110,7 +124,8 @@ fn list_refused(rt: &impl Print, out: &mut [u8]) -> io::Result<()> {
 }
 
 fn list_none(rt: &impl Print, out: &mut [u8]) -> io::Result<()> {
-    list(rt,
+    list(
+        rt,
         out,
         "no memories ",
         b"\x05\x00\x01\x00\x00\x00\x00\x00\x00\x00\x00\x00",
@@ -120,13 +135,21 @@ fn list_none(rt: &impl Print, out: &mut [u8]) -> io::Result<()> {
 
 fn list_short(rt: &impl Print, out: &mut [u8]) -> io::Result<()> {
     list(rt, out, "into a short room ", b"", b"")?;
-    list(rt,
+    list(
+        rt,
         out,
         "a record into a short room ",
         b"\x05\x00\x02\x00\x01\x00\x02\x00\x01\x00\x01\x00\x3B\x09",
         b"",
     )?;
-    list_long(rt, out, "a long input into a short room ", b"\x05", 70000, b"")
+    list_long(
+        rt,
+        out,
+        "a long input into a short room ",
+        b"\x05",
+        70000,
+        b"",
+    )
 }
 
 fn list_exact(rt: &impl Print, out: &mut [u8]) -> io::Result<()> {
@@ -185,7 +208,8 @@ fn list_deep(rt: &impl Print, out: &mut [u8]) -> io::Result<()> {
     let mut bytes = bytes_room();
     try_kit::paint::fill_trits(&mut image);
     record_codec::write_record(&mut bytes, deep_sizes(), &image);
-    list(rt,
+    list(
+        rt,
         out,
         "the deepest ",
         &bytes,

@@ -1,10 +1,11 @@
 // Tries every request of one entry at border lengths, rooms and next free nets. Every lent word holds a pattern before a call, and every word of log,
 // state and result is compared after it with what a plain computation here expects, for accepted and for refused calls.
 #![tactic(auto)]
+
 mod cells;
 
-use try_kit::numbered::Tally;
 use std::io;
+use try_kit::numbered::Tally;
 
 fn say(rt: &impl Print, s: &str) -> io::Result<()> {
     rt.print(s)

@@ -1,13 +1,14 @@
 // Tries the test of a memory and the calls that only look at one, at the borders of the numbers 1 to 4 and 15.
 #![tactic(auto)]
+
 mod calls;
 mod case;
 mod look_cases;
 mod numbers;
 
+use std::io;
 use try_kit::tally;
 use try_kit::tally::Tally;
-use std::io;
 
 // A line with a group's name and its counts.
 fn report(rt: &impl Print, name: &str, t: Tally) -> io::Result<()> {
@@ -15,7 +16,8 @@ fn report(rt: &impl Print, name: &str, t: Tally) -> io::Result<()> {
 }
 
 fn try_sizes(rt: &impl Print) -> io::Result<()> {
-    report(rt,
+    report(
+        rt,
         "lengths that a memory says",
         numbers::totals(tally::start()),
     )?;

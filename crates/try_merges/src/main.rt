@@ -2,10 +2,12 @@
 // bad select, with a room for results that is one net short, and with one value a bit longer than the other. Every lent word holds a pattern before a call, and every word of log, state and result is compared after it with what a plain computation
 // expects, which finds the distinct pairs by a plain search.
 #![tactic(auto)]
+
 use lists::{copy_u32, put_u32};
 use log_entries::LogState;
 use log_requests::Answer;
 use rules::{FIRST_CELL, MAX_MERGE, MAX_NETS};
+use std::io;
 use try_kit::borders::{length_at, room_at, state_number};
 use try_kit::nets::{fill_nets, net_at, spoil};
 use try_kit::numbered;
@@ -13,7 +15,6 @@ use try_kit::numbered::Tally;
 use try_kit::paint::{paint_words, same};
 use try_kit::spoilt::{CONTROL, FIRST, NOTHING, SECOND, of_what, select_in};
 use try_kit::words::{both, minus, net_above, plus, word};
-use std::io;
 
 // The nets and the words that a buffer has room for.
 const NETS: usize = 4100;

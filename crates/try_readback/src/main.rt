@@ -1,7 +1,8 @@
 // Tries texts of a header line, a record and a table: what refuses each, and what is written for those that are accepted.
 #![tactic(auto)]
-use table_readback::Answer;
+
 use std::io;
+use table_readback::Answer;
 
 fn write_text(rt: &impl Print, text: &str) -> io::Result<()> {
     rt.print(text)
@@ -58,43 +59,82 @@ fn try_room(rt: &impl Print, text: &[u8]) -> io::Result<()> {
 
 // Header lines.
 fn try_headers(rt: &impl Print) -> io::Result<()> {
-    tried(rt, b"3 2 plain 0\n\x05\x00\x02\x00\x01\x00\x02\x00\x01\x00\x01\x00;\x09")?;
-    tried(rt, b"3 2 plain 0 1 0\n\x05\x00\x02\x00\x01\x00\x02\x00\x01\x00\x01\x00;\x09")?;
+    tried(
+        rt,
+        b"3 2 plain 0\n\x05\x00\x02\x00\x01\x00\x02\x00\x01\x00\x01\x00;\x09",
+    )?;
+    tried(
+        rt,
+        b"3 2 plain 0 1 0\n\x05\x00\x02\x00\x01\x00\x02\x00\x01\x00\x01\x00;\x09",
+    )?;
     tried(rt, b"")?;
     tried(rt, b"3 2 plain 0 1 2\n")
 }
 
 // Records.
 fn try_records(rt: &impl Print) -> io::Result<()> {
-    tried(rt, b"3 2 plain 0 1 2\n\x05\x00\x02\x00\x01\x00\x02\x00\x01\x00\x01\x00;\x09")?;
-    tried(rt, b"3 2 1,0 0 1 2 \x0d\n\x05\x00\x02\x00\x01\x00\x02\x00\x01\x00\x01\x00;\x09")?;
-    tried(rt, b"3 2 plain 0 1 2\n\x05\x00\x02\x00\x01\x00\x02\x00\x01\x00\x01\x00;")?;
-    tried(rt, b"3 2 plain 0 1 2\n\x06\x00\x02\x00\x01\x00\x02\x00\x01\x00\x01\x00;\x09")?;
-    tried(rt, b"3 2 plain 0 1 1\n\x05\x00\x02\x00\x01\x00\x02\x00\x01\x00\x01\x00;\x09")?;
-    tried(rt, b"3 1 plain 0 1 2\n\x05\x00\x02\x00\x01\x00\x02\x00\x01\x00\x01\x00;\x09")?;
-    tried(rt, b"3 2 plain 0 1 2\n\x05\x00\x02\x00\x01\x00\x02\x00\x01\x00\x01\x00\xbb\x09")?;
-    tried(rt, b"3 2 plain 0 1 2\n\x05\x00\x02\x00\x01\x00\x02\x00\x01\x00\x01\x00:\x09")
+    tried(
+        rt,
+        b"3 2 plain 0 1 2\n\x05\x00\x02\x00\x01\x00\x02\x00\x01\x00\x01\x00;\x09",
+    )?;
+    tried(
+        rt,
+        b"3 2 1,0 0 1 2 \x0d\n\x05\x00\x02\x00\x01\x00\x02\x00\x01\x00\x01\x00;\x09",
+    )?;
+    tried(
+        rt,
+        b"3 2 plain 0 1 2\n\x05\x00\x02\x00\x01\x00\x02\x00\x01\x00\x01\x00;",
+    )?;
+    tried(
+        rt,
+        b"3 2 plain 0 1 2\n\x06\x00\x02\x00\x01\x00\x02\x00\x01\x00\x01\x00;\x09",
+    )?;
+    tried(
+        rt,
+        b"3 2 plain 0 1 1\n\x05\x00\x02\x00\x01\x00\x02\x00\x01\x00\x01\x00;\x09",
+    )?;
+    tried(
+        rt,
+        b"3 1 plain 0 1 2\n\x05\x00\x02\x00\x01\x00\x02\x00\x01\x00\x01\x00;\x09",
+    )?;
+    tried(
+        rt,
+        b"3 2 plain 0 1 2\n\x05\x00\x02\x00\x01\x00\x02\x00\x01\x00\x01\x00\xbb\x09",
+    )?;
+    tried(
+        rt,
+        b"3 2 plain 0 1 2\n\x05\x00\x02\x00\x01\x00\x02\x00\x01\x00\x01\x00:\x09",
+    )
 }
 
 // Tables behind the record.
 fn try_tables(rt: &impl Print) -> io::Result<()> {
-    tried(rt,
+    tried(
+        rt,
         b"3 2 plain 0 1 2\n\x05\x00\x02\x00\x01\x00\x02\x00\x01\x00\x01\x00;\x093 2 plain 0 1 2\n01 1x 00",
     )?;
-    tried(rt,
+    tried(
+        rt,
         b"3 2 plain 0 1 2\n\x05\x00\x02\x00\x01\x00\x02\x00\x01\x00\x01\x00;\x093 2 1,0 0 0 4\n01\n@2 00 // row 1 is X",
     )?;
-    tried(rt,
+    tried(
+        rt,
         b"3 2 plain 0 1 2\n\x05\x00\x02\x00\x01\x00\x02\x00\x01\x00\x01\x00;\x094 2 plain 0 1 2\n",
     )?;
-    tried(rt,
+    tried(
+        rt,
         b"3 2 plain 0 1 2\n\x05\x00\x02\x00\x01\x00\x02\x00\x01\x00\x01\x00;\x093 1 plain 0 1 2\n",
     )?;
-    tried(rt,
+    tried(
+        rt,
         b"3 2 plain 0 1 2\n\x05\x00\x02\x00\x01\x00\x02\x00\x01\x00\x01\x00;\x093 2 plain 0 1 2\n01\n1y\n",
     )?;
-    tried(rt, b"3 2 plain 0 1 2\n\x05\x00\x02\x00\x01\x00\x02\x00\x01\x00\x01\x00;\x09\n")?;
-    tried(rt,
+    tried(
+        rt,
+        b"3 2 plain 0 1 2\n\x05\x00\x02\x00\x01\x00\x02\x00\x01\x00\x01\x00;\x09\n",
+    )?;
+    tried(
+        rt,
         b"3 2 plain 0 1 2\n\x05\x00\x02\x00\x01\x00\x02\x00\x01\x00\x01\x00;\x093 2 plain 0 1 2\n10 10 10",
     )
 }
@@ -103,5 +143,8 @@ fn main(rt: HostRuntime) -> io::Result<()> {
     try_headers(&rt)?;
     try_records(&rt)?;
     try_tables(&rt)?;
-    try_room(&rt, b"3 2 plain 0 1 2\n\x05\x00\x02\x00\x01\x00\x02\x00\x01\x00\x01\x00;\x09")
+    try_room(
+        &rt,
+        b"3 2 plain 0 1 2\n\x05\x00\x02\x00\x01\x00\x02\x00\x01\x00\x01\x00;\x09",
+    )
 }

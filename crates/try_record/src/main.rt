@@ -1,6 +1,7 @@
 // Runs the calls on records over cases and prints each answer. Every lent array is painted before and compared after, also past the part that is used, and so
 // is what the calls are given to read.
 #![tactic(auto)]
+
 use record_codec::{Head, Written};
 use record_listing::summary::{Summarized, Summary};
 use record_reader::TritFound;
@@ -14,11 +15,7 @@ fn say(rt: &impl Print, text: &str) -> io::Result<()> {
 }
 
 fn say_if(rt: &impl Print, test: bool, yes: &str, no: &str) -> io::Result<()> {
-    if test {
-        say(rt, yes)
-    } else {
-        say(rt, no)
-    }
+    if test { say(rt, yes) } else { say(rt, no) }
 }
 
 fn refused(rt: &impl Print, n: u32, kept: bool) -> io::Result<()> {
@@ -52,13 +49,21 @@ fn same_sizes(a: Sizes, b: Sizes) -> bool {
 
 // ---- the calls
 
-fn write(rt: &impl Print, out: &mut [u8], name: &str, s: Sizes, image: &[u8], want: &[u8]) -> io::Result<()> {
+fn write(
+    rt: &impl Print,
+    out: &mut [u8],
+    name: &str,
+    s: Sizes,
+    image: &[u8],
+    want: &[u8],
+) -> io::Result<()> {
     let before = try_kit::sums::sum_of(image);
     say(rt, name)?;
     try_kit::paint::paint(out);
     match record_codec::write_record(out, s, image) {
         Written::Refused(n) => refused(rt, n, try_kit::paint::painted(out, 0))?,
-        Written::Accepted(n) => done(rt,
+        Written::Accepted(n) => done(
+            rt,
             n,
             try_kit::paint::starts(out, want),
             try_kit::paint::painted(out, n),
@@ -75,7 +80,14 @@ fn given(rt: &impl Print, before: u64, input: &[u8]) -> io::Result<()> {
     Ok(())
 }
 
-fn read(rt: &impl Print, image: &mut [u8], name: &str, bytes: &[u8], s: Sizes, want: &[u8]) -> io::Result<()> {
+fn read(
+    rt: &impl Print,
+    image: &mut [u8],
+    name: &str,
+    bytes: &[u8],
+    s: Sizes,
+    want: &[u8],
+) -> io::Result<()> {
     let before = try_kit::sums::sum_of(bytes);
     say(rt, name)?;
     try_kit::paint::paint(image);
@@ -88,7 +100,8 @@ fn read(rt: &impl Print, image: &mut [u8], name: &str, bytes: &[u8], s: Sizes, w
 
 fn read_done(rt: &impl Print, same: bool, image: &[u8], want: &[u8]) -> io::Result<()> {
     if same {
-        done(rt,
+        done(
+            rt,
             want.len(),
             try_kit::paint::starts(image, want),
             try_kit::paint::painted(image, want.len()),
@@ -213,7 +226,8 @@ fn write_more(rt: &impl Print, out: &mut [u8]) -> io::Result<()> {
 }
 
 fn write_none(rt: &impl Print, out: &mut [u8]) -> io::Result<()> {
-    write(rt,
+    write(
+        rt,
         out,
         "write no memories",
         no_sizes(),
@@ -228,7 +242,8 @@ fn write_short(rt: &impl Print, out: &mut [u8]) -> io::Result<()> {
 }
 
 fn read_first(rt: &impl Print, image: &mut [u8], name: &str, bytes: &[u8]) -> io::Result<()> {
-    read(rt,
+    read(
+        rt,
         image,
         name,
         bytes,
@@ -238,7 +253,8 @@ fn read_first(rt: &impl Print, image: &mut [u8], name: &str, bytes: &[u8]) -> io
 }
 
 fn read_cases(rt: &impl Print, image: &mut [u8]) -> io::Result<()> {
-    read_first(rt,
+    read_first(
+        rt,
         image,
         "read the first",
         b"\x05\x00\x02\x00\x01\x00\x02\x00\x01\x00\x01\x00\x3B\x09",
@@ -247,12 +263,14 @@ fn read_cases(rt: &impl Print, image: &mut [u8]) -> io::Result<()> {
 }
 
 fn read_lengths(rt: &impl Print, image: &mut [u8]) -> io::Result<()> {
-    read_first(rt,
+    read_first(
+        rt,
         image,
         "read a short one",
         b"\x05\x00\x02\x00\x01\x00\x02\x00\x01\x00\x01\x00\x3B",
     )?;
-    read_first(rt,
+    read_first(
+        rt,
         image,
         "read a long one",
         b"\x05\x00\x02\x00\x01\x00\x02\x00\x01\x00\x01\x00\x3B\x09\x00",
@@ -260,12 +278,14 @@ fn read_lengths(rt: &impl Print, image: &mut [u8]) -> io::Result<()> {
 }
 
 fn read_words(rt: &impl Print, image: &mut [u8]) -> io::Result<()> {
-    read_first(rt,
+    read_first(
+        rt,
         image,
         "read another first word",
         b"\x04\x00\x02\x00\x01\x00\x02\x00\x01\x00\x01\x00\x3B\x09",
     )?;
-    read_first(rt,
+    read_first(
+        rt,
         image,
         "read sizes",
         b"\x05\x00\x00\x00\x01\x00\x02\x00\x01\x00\x01\x00",
@@ -273,12 +293,14 @@ fn read_words(rt: &impl Print, image: &mut [u8]) -> io::Result<()> {
 }
 
 fn read_bits(rt: &impl Print, image: &mut [u8]) -> io::Result<()> {
-    read_first(rt,
+    read_first(
+        rt,
         image,
         "read a value bit alone",
         b"\x05\x00\x02\x00\x01\x00\x02\x00\x01\x00\x01\x00\x3A\x09",
     )?;
-    read_first(rt,
+    read_first(
+        rt,
         image,
         "read a spare known bit",
         b"\x05\x00\x02\x00\x01\x00\x02\x00\x01\x00\x01\x00\x7B\x09",
@@ -286,12 +308,14 @@ fn read_bits(rt: &impl Print, image: &mut [u8]) -> io::Result<()> {
 }
 
 fn read_spare(rt: &impl Print, image: &mut [u8]) -> io::Result<()> {
-    read_first(rt,
+    read_first(
+        rt,
         image,
         "read a spare value bit",
         b"\x05\x00\x02\x00\x01\x00\x02\x00\x01\x00\x01\x00\x3B\x49",
     )?;
-    read_first(rt,
+    read_first(
+        rt,
         image,
         "read two spare bits",
         b"\x05\x00\x02\x00\x01\x00\x02\x00\x01\x00\x01\x00\xBB\x89",
@@ -299,7 +323,8 @@ fn read_spare(rt: &impl Print, image: &mut [u8]) -> io::Result<()> {
 }
 
 fn read_none(rt: &impl Print, image: &mut [u8]) -> io::Result<()> {
-    read(rt,
+    read(
+        rt,
         image,
         "read no memories",
         b"\x05\x00\x01\x00\x00\x00\x00\x00\x00\x00\x00\x00",
@@ -309,12 +334,14 @@ fn read_none(rt: &impl Print, image: &mut [u8]) -> io::Result<()> {
 }
 
 fn read_short(rt: &impl Print, image: &mut [u8]) -> io::Result<()> {
-    read_first(rt,
+    read_first(
+        rt,
         image,
         "read into a short room",
         b"\x05\x00\x02\x00\x01\x00\x02\x00\x01\x00\x01\x00\x3B\x09",
     )?;
-    read_first(rt,
+    read_first(
+        rt,
         image,
         "read a value bit alone, room",
         b"\x05\x00\x02\x00\x01\x00\x02\x00\x01\x00\x01\x00\x3A\x09",
@@ -329,19 +356,22 @@ fn head_cases(rt: &impl Print) -> io::Result<()> {
 
 fn head_more(rt: &impl Print) -> io::Result<()> {
     let largest = b"\x05\x00\xFF\xFF\xFF\xFF\xFF\xFF\xFF\xFF\xFF\xFF";
-    head(rt,
+    head(
+        rt,
         "head of the largest words",
         largest,
         140731046002700,
         no_sizes(),
     )?;
-    head(rt,
+    head(
+        rt,
         "head of the largest words, length",
         largest,
         2700,
         no_sizes(),
     )?;
-    head(rt,
+    head(
+        rt,
         "head of eleven bytes",
         b"\x05\x00\x02\x00\x01\x00\x02\x00\x01\x00\x01",
         14,
@@ -351,30 +381,36 @@ fn head_more(rt: &impl Print) -> io::Result<()> {
 
 // Two trits, one, and none because the sizes give none or the bytes end in the arrays or in the head.
 fn trit_cases(rt: &impl Print) -> io::Result<()> {
-    take_two(rt,
+    take_two(
+        rt,
         "trits of the first",
         b"\x05\x00\x02\x00\x01\x00\x02\x00\x01\x00\x01\x00\x3B\x09",
     )?;
-    take_two(rt,
+    take_two(
+        rt,
         "trits of two, the first unknown",
         b"\x05\x00\x02\x00\x01\x00\x01\x00\x00\x00\x00\x00\x02\x02",
     )?;
-    take_two(rt,
+    take_two(
+        rt,
         "trits of one",
         b"\x05\x00\x01\x00\x01\x00\x01\x00\x00\x00\x00\x00\x01\x01",
     )
 }
 
 fn trit_ends(rt: &impl Print) -> io::Result<()> {
-    take_two(rt,
+    take_two(
+        rt,
         "trits of no memories",
         b"\x05\x00\x01\x00\x00\x00\x00\x00\x00\x00\x00\x00",
     )?;
-    take_two(rt,
+    take_two(
+        rt,
         "trits of a short one",
         b"\x05\x00\x02\x00\x01\x00\x02\x00\x01\x00\x01\x00\x3B",
     )?;
-    take_two(rt,
+    take_two(
+        rt,
         "trits of eleven bytes",
         b"\x05\x00\x02\x00\x01\x00\x02\x00\x01\x00\x01",
     )?;
@@ -451,11 +487,18 @@ fn whole_record(rt: &impl Print, bytes: &[u8]) -> io::Result<()> {
     say_if(rt, sum == LARGEST_SUM, " same\n", " DIFFERENT\n")
 }
 
-fn largest(rt: &impl Print, image: &mut [u8], bytes: &mut [u8], back: &mut [u8], s: Sizes) -> io::Result<()> {
+fn largest(
+    rt: &impl Print,
+    image: &mut [u8],
+    bytes: &mut [u8],
+    back: &mut [u8],
+    s: Sizes,
+) -> io::Result<()> {
     try_kit::paint::fill_trits(image);
     write(rt, bytes, "write the largest", s, image, b"\x05\x00")?;
     whole_record(rt, bytes)?;
-    read(rt,
+    read(
+        rt,
         back,
         b"read the largest",
         lists::part_u8(bytes, 0, rules::MAX_RECORD),

@@ -1,10 +1,11 @@
 // Runs the swizzle of a small memory, 8 rows of 2 bits with a write port and a clocked read port, over soft and hard bits and an entry of None, and prints
 // what it gives and leaves. The stored output is the Rust's answer to the same call: number, log, nets, trits and image; what lies behind the image is kept.
 #![tactic(auto)]
+
 use log_entries::LogState;
+use std::io;
 use swizzle_plan::MemorySwizzle;
 use try_kit::samples;
-use std::io;
 
 fn say(rt: &impl Print, n: u32) -> io::Result<()> {
     rt.print(n)?;

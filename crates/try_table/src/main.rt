@@ -1,7 +1,8 @@
 // Tries texts of tables: what refuses each, and the length of the record of those that are accepted.
 #![tactic(auto)]
-use table_record::Answer;
+
 use std::io;
+use table_record::Answer;
 
 fn write_text(rt: &impl Print, text: &str) -> io::Result<()> {
     rt.print(text)

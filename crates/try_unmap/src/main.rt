@@ -1,12 +1,13 @@
 // Tries unmap_read_dff. Every lent word holds a pattern before a call; after it the answer, the memory, the outputs and every word of the log are
 // compared, for accepted and for refused calls.
 #![tactic(auto)]
+
 mod cases;
 mod sample;
 
+use std::io;
 use try_kit::tally;
 use try_kit::tally::Tally;
-use std::io;
 
 // A line with a group's name and its counts.
 fn report(rt: &impl Print, name: &str, t: Tally) -> io::Result<()> {
