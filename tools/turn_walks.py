@@ -14,7 +14,7 @@ import subprocess
 import sys
 
 TOP = os.getcwd()
-MUTS = {}
+MUTS, MINE = {}, {}
 W = r'[^\s(){}.;,@"«»]'
 WORD = re.compile(W + '+')
 
@@ -43,6 +43,7 @@ def clause_names(top):
             ens = re.findall(r'\bensures\*?(?: (\w+))? \{', head)
             req = re.findall(r'\brequires\*?(?: (\w+))? \{', head)
             out[f'{crate}::{mod}{m.group(1)}'] = (ens, req)
+            MINE[f'{crate}::{mod}{m.group(1)}'] = re.findall(r'(\w+): ', head.split('ensures')[0])
             MUTS[f'{crate}::{mod}{m.group(1)}'] = re.findall(r'(\w+): &mut ', head.split(')')[0] if '(' in head else '')
     return out
 
@@ -133,11 +134,13 @@ def last_tuple(body, names):
 
 class Fn:
     def __init__(self, crate, path, row, clauses):
+        self.own = clauses.get(f'{crate}::' + path.replace('/', '::').replace('+', ''), ([], []))
         self.crate, self.path, self.row = crate, path, row
         self.needs = {norm(a): b for a, b in row['needs']}
         self.need_list = row['needs']
         self.clauses = clauses
         self.muts = MUTS
+        self.vars = {v for l in row['loops'] for v in l[1]} | {norm(p) for ps in [MINE.get(f'{crate}::' + path.replace('/', '::').replace('+', ''), [])] for p in ps}
         self.steps, self.places = {}, {}
         self.parent = {}
         for (place, parent, (old, new), callee, more), new_place in zip(row['places'], row['places_by_name']):
@@ -194,13 +197,17 @@ class Fn:
             step = norm(parts[0])
             if step not in self.steps and re.search('_(lem|of)$', step) and re.sub('_(lem|of)$', '', step) in self.steps:
                 step = re.sub('_(lem|of)$', '', step)
+            if step not in self.steps and step.lower() in self.steps:
+                step = step.lower()
             for st, path, arm, new in self.arms:
                 if st == step and [norm(x) for x in parts[1:1 + len(path)]] == [norm(x) for x in path] and path:
                     return root + '.' + '.'.join([arm, new] + parts[1 + len(path):])
             if step == 'well_formed':
                 return root + '.' + '.'.join(['well_formed'] + parts[1:])
+            if step == 'requires' and len(self.own[1]) > 1 and len(parts) > 1:
+                return root + '.' + '.'.join(self.by_clause(parts[:1], parts[1:], self.own[1]))
             if step in ('args', 'requires', 'ranges', 'type_inv'):
-                return m.group(0)
+                return root + '.' + '.'.join([parts[0]] + [norm(x) if norm(x) in self.vars else x for x in parts[1:]])
             if step == 'measure' or step == 'auto':
                 return m.group(0)
             if step in self.steps:
@@ -210,11 +217,8 @@ class Fn:
                 if len({o[0] for o in options}) > 1:
                     look.append(f'{rest} may be one of {[o[0] for o in options]}')
                 parts = self.clause(parts, callee)
-                if len(parts) > 2 and parts[1] == 'new' and parts[2].isdigit() and callee in self.muts:
-                    ms = self.muts[callee]
-                    k = int(parts[2])
-                    if k < len(ms):
-                        parts[2] = ms[k]
+                parts = self.kept(parts, callee)
+                parts = [parts[0]] + [norm(x) if norm(x) in self.vars else x for x in parts[1:]]
                 if new.startswith('if-not-') and len(parts) == 2 and parts[1] in ('true', 'false'):
                     return '(ap not ' + root + '.' + '.'.join(parts) + ')'
                 return root + '.' + '.'.join(parts)
@@ -222,6 +226,11 @@ class Fn:
             return m.group(0)
 
         text = re.sub(r'(?<![^\s(){};,@«»←])(' + W + r'+)((?:\.[^\s(){}.;,@"]+)+)', one, text)
+        for m in re.finditer(r'\blet (' + W + r'+) = (' + W + r'+)\.requires in\b', text):
+            if m.group(2) in roots and len(self.own[1]) > 1:
+                v = m.group(1)
+                text = re.sub(r'(?<![^\s(){};,@«»←])' + re.escape(v) + r'((?:\.[^\s(){}.;,@"]+)+)',
+                              lambda k: '.'.join(self.by_clause([v], k.group(1)[1:].split('.'), self.own[1])), text)
         # an alias of a step: let q = c.STEP in .. q.ensures.1.0
         for m in re.finditer(r'\blet (' + W + r'+) = c\.(' + W + r'+) in\b', text):
             callee = next((ca for ops in self.steps.values() for (n, ca, _) in ops if n == m.group(2)), None)
@@ -233,8 +242,18 @@ class Fn:
 
     def behind(self, parts, callee):
         parts = self.clause(parts, callee)
-        if len(parts) > 2 and parts[1] == 'new' and parts[2].isdigit() and int(parts[2]) < len(self.muts.get(callee, [])):
-            parts[2] = self.muts[callee][int(parts[2])]
+        return self.kept(parts, callee)
+
+    def kept(self, parts, callee):
+        """.new.1.0 -> .new.NAME"""
+        ms = self.muts.get(callee, [])
+        if len(parts) < 3 or parts[1] not in ('new', 'auto') or not parts[2].isdigit():
+            return parts
+        rest, k = parts[2:], 0
+        while rest and rest[0] == '1' and k < len(ms) - 1:
+            rest, k = rest[1:], k + 1
+        if rest and rest[0] == '0' and k < len(ms):
+            return parts[:2] + [ms[k]] + rest[1:]
         return parts
 
     def clause(self, parts, callee):
@@ -245,16 +264,27 @@ class Fn:
         if len(names) < 2 or any(not n for n in names):
             return parts
         i = parts.index('ensures')
-        rest, k = parts[i + 1:], 0
+        return self.by_clause(parts[:i + 1], parts[i + 1:], names)
+
+    def by_clause(self, head, rest, names):
+        whole, k = list(rest), 0
+        if not rest or rest[0] not in ('0', '1') or any(not n for n in names):
+            return head + whole
         while rest and rest[0] == '1' and k < len(names) - 1:
             rest, k = rest[1:], k + 1
         if k < len(names) - 1:
             if not rest or rest[0] != '0':
-                return parts
+                return head + whole
             rest = rest[1:]
-        elif rest and rest[0] == '0' and len(parts) > i + 1 + k and False:
-            rest = rest[1:]
-        return parts[:i + 1] + [names[k]] + rest
+        return head + [names[k]] + list(rest)
+
+    def asked_callee(self, old):
+        m = re.fullmatch(r'(.*)_requires(?:_(\d+))?', norm(old))
+        if not m:
+            return None
+        step = m.group(1) + (m.group(2) or '')
+        ops = self.steps.get(step) or self.steps.get(m.group(1)) or []
+        return ops[0][1] if ops else None
 
 
 def paragraphs(text):
@@ -328,6 +358,10 @@ def imports(uses, text, own=()):
         have = set(re.split(r'[{},\s]+', ' '.join(out)))
         out += [line for w, line in BROUGHT.items() if w not in have]
     return out
+
+
+def clauses_of(fn, callee):
+    return fn.clauses.get(callee, ([], []))[1]
 
 
 TRIVIAL = {'search rules', 'omega arith', 'search needs', 'refl', 'tt'}
@@ -472,6 +506,14 @@ def convert(crate, path, fn, everything):
                     body = r
                 elif body.strip() not in TRIVIAL:
                     looks.append(f'{new}: not a tuple of {len(own[0])} clauses')
+            callee = fn.asked_callee(m.group(2)) if '-requires' in new else None
+            if callee and len(clauses_of(fn, callee)) > 1:
+                names = clauses_of(fn, callee)
+                r = into_record(body, names) or last_tuple(body, names)
+                if r:
+                    body = r
+                elif body.strip() not in TRIVIAL:
+                    looks.append(f'{new}: not a tuple of {len(names)} clauses')
             args = [a for a in args if a != 'κs']
             body, more = put_inside(body, inside)
             for u in more:

@@ -1,5 +1,6 @@
 // Tests of a plan: each bit of the width named exactly once (number 7), and the test of a laid-out state behind number 23.
 #![tactic(auto)]
+
 ghost use Rattle.std.specs.Prelude.{◌≡◌, not, ◌+◌, ◌-◌, ◌≤◌, ◌<◌, eqb, get_or, replicate};
 ghost use Rattle.lists.specs.Lists.{any, up_from};
 ghost use Rattle.rules.specs.Limits.{max_width};

@@ -1,5 +1,6 @@
 // value.rs: nets, cells, control nets and values. A value is a slice of net numbers.
 #![tactic(auto)]
+
 ghost use Rattle.std.specs.Prelude.{◌≡◌};
 ghost use Rattle.std.proofs.lemmas.List.Edits.{sets};
 ghost use Rattle.lists.specs.Lists.{all};

@@ -1,5 +1,6 @@
 // The columns of a wide port, memory after memory: where the pieces of its old rows start, their stores, and a read port's trits.
 #![tactic(auto)]
+
 ghost use Rattle.std.specs.Prelude.{◌≡◌, ◌+◌, ◌-◌, ◌*◌, ◌<◌, ◌≤◌, min, length, get_or, replicate, eqb};
 ghost use Rattle.std.proofs.lemmas.List.Edits.{sets};
 ghost use Rattle.lists.specs.Choice.{if◌then◌else◌};
