@@ -500,7 +500,7 @@ fn largest(
     read(
         rt,
         back,
-        b"read the largest",
+        "read the largest",
         lists::part_u8(bytes, 0, rules::MAX_RECORD),
         s,
         lists::part_u8(image, 0, rules::MAX_IMAGE as usize),
