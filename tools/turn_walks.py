@@ -14,7 +14,7 @@ import subprocess
 import sys
 
 TOP = os.getcwd()
-MUTS, MINE = {}, {}
+MUTS, MINE, SLICES = {}, {}, {}
 W = r'[^\s(){}.;,@"«»]'
 WORD = re.compile(W + '+')
 
@@ -44,7 +44,10 @@ def clause_names(top):
             req = re.findall(r'\brequires\*?(?: (\w+))? \{', head)
             out[f'{crate}::{mod}{m.group(1)}'] = (ens, req)
             MINE[f'{crate}::{mod}{m.group(1)}'] = re.findall(r'(\w+): ', head.split('ensures')[0])
-            MUTS[f'{crate}::{mod}{m.group(1)}'] = re.findall(r'(\w+): &mut ', head.split(')')[0] if '(' in head else '')
+            params = head[:head.index('\n{')] if '\n{' in head else head
+            params = re.split(r'\n    (?:requires|ensures)|\)\s*->', params)[0]
+            MUTS[f'{crate}::{mod}{m.group(1)}'] = re.findall(r'(\w+): (?:&mut |(?:\w+::)*[A-Z])', params)
+            SLICES[f'{crate}::{mod}{m.group(1)}'] = re.findall(r'(\w+): &mut \[', params)
     return out
 
 
@@ -132,6 +135,19 @@ def last_tuple(body, names):
     return b[:i] + '(' + r + ')' if r else None
 
 
+def by_parts(body, names):
+    """`lemma a b` that gives all clauses, as a record of its parts."""
+    lead, tail = lead_lets(body)
+    tail = tail.strip()
+    if re.match(r'(rw|simp|omega|search|cc|elim|grind|absurd|first_of|λ|\()(?![\w-])', tail) or '\n' in tail and ' ∙ ' in tail:
+        return None
+    parts = []
+    for i, n in enumerate(names):
+        path = '.1' * i + ('.0' if i < len(names) - 1 else '')
+        parts.append(f'{n} = whole{path}')
+    return f'{lead}let whole = {tail} in\n    record {{ ' + '; '.join(parts) + ' }'
+
+
 class Fn:
     def __init__(self, crate, path, row, clauses):
         self.own = clauses.get(f'{crate}::' + path.replace('/', '::').replace('+', ''), ([], []))
@@ -217,7 +233,7 @@ class Fn:
                 if len({o[0] for o in options}) > 1:
                     look.append(f'{rest} may be one of {[o[0] for o in options]}')
                 parts = self.clause(parts, callee)
-                parts = self.kept(parts, callee)
+                parts = [{'type-inv': 'type_inv', 'well-formed': 'well_formed'}.get(x, x) for x in self.kept(parts, callee)]
                 parts = [parts[0]] + [norm(x) if norm(x) in self.vars else x for x in parts[1:]]
                 if new.startswith('if-not-') and len(parts) == 2 and parts[1] in ('true', 'false'):
                     return '(ap not ' + root + '.' + '.'.join(parts) + ')'
@@ -246,7 +262,7 @@ class Fn:
 
     def kept(self, parts, callee):
         """.new.1.0 -> .new.NAME"""
-        ms = self.muts.get(callee, [])
+        ms = self.row['params'].get(callee) or MINE.get(callee, [])
         if len(parts) < 3 or parts[1] not in ('new', 'auto') or not parts[2].isdigit():
             return parts
         rest, k = parts[2:], 0
@@ -367,10 +383,19 @@ def clauses_of(fn, callee):
 TRIVIAL = {'search rules', 'omega arith', 'search needs', 'refl', 'tt'}
 
 
+def named(h):
+    return re.findall(r'(?m)^(?:  )?(?:(?:pub|abbrev|unfoldable) )*(' + W + r'+)(?: ' + W + r'+)* :', re.sub(r'(?m)^--.*$', '', h))
+
+
+def has(text, n):
+    return re.search(r'(?<![^\s(){}.;,])' + re.escape(n) + r'(?![^\s(){}.;,])', text)
+
+
 def placed_helper(body):
     """A lemma whose first argument is a place, as (name, type, body over c, its unfolding words)."""
     code = '\n'.join(l for l in body.split('\n') if not l.startswith('--'))
-    m = re.match(r'(?:pub )?(\S+) : \(c : goal\.\S+\) →\s*', code)
+    at = r'goal\.[^\s()]+(?: (?:invariant|decreases)-[^\s()]+)*'
+    m = re.match(r'(?:abbrev )?(?:pub )?(\S+) : (?:\(c : ' + at + r'\)|' + at + r') →\s*', code)
     if not m:
         return None
     name = m.group(1)
@@ -501,7 +526,7 @@ def convert(crate, path, fn, everything):
             body, look = fn.turn_paths(body, {'c'})
             looks += [f'{new}: {l}' for l in look]
             if new.startswith('returns') and len(own[0]) > 1:
-                r = into_record(body, own[0]) or last_tuple(body, own[0])
+                r = into_record(body, own[0]) or last_tuple(body, own[0]) or by_parts(body, own[0])
                 if r:
                     body = r
                 elif body.strip() not in TRIVIAL:
@@ -509,7 +534,7 @@ def convert(crate, path, fn, everything):
             callee = fn.asked_callee(m.group(2)) if '-requires' in new else None
             if callee and len(clauses_of(fn, callee)) > 1:
                 names = clauses_of(fn, callee)
-                r = into_record(body, names) or last_tuple(body, names)
+                r = into_record(body, names) or last_tuple(body, names) or by_parts(body, names)
                 if r:
                     body = r
                 elif body.strip() not in TRIVIAL:
@@ -522,7 +547,7 @@ def convert(crate, path, fn, everything):
             nl = '\n' in body or len(body) > 110
             whole = '\n'.join(comment + [f'pub {new} : goal.{new}'] + unf + [f'{new} {" ".join(args)} ={chr(10) + "    " if nl else " "}{body}'])
             kept[new] = whole
-            if (body.strip() in TRIVIAL - {'refl', 'tt'} or new in fn.row.get('settled', [])) and not everything:
+            if (body.strip() in TRIVIAL - {'refl', 'tt'} and not unf or new in fn.row.get('settled', [])) and not everything:
                 continue
             answers.append(whole)
             continue
@@ -548,9 +573,17 @@ def convert(crate, path, fn, everything):
         helpers.append('\n'.join(comment + [body]))
     made = []
     inv_text = '\n\n'.join(invs)
+    given = []
     if invs:
         # helpers that the invariants name go there too
         f = os.path.join(folder, 'Invariants.antt')
+        for h in reversed(list(helpers)):
+            names = named(h)
+            if any(has(inv_text, n) for n in names):
+                h2 = re.sub(r'(?m)^(?!pub |abbrev pub |unfoldable pub |--)((?:abbrev |unfoldable )?)(' + W + r'+ :)', r'\1pub \2', h, count=1)
+                inv_text = h2 + '\n\n' + inv_text
+                helpers.remove(h)
+                given += names
         lines = imports(uses, inv_text)
         with open(f, 'w', encoding='utf-8') as it:
             it.write(f'-- The invariants of `{crate}::{path.replace("/", "::")}`.\n' + '\n'.join(lines + [f'use Rattle.{crate}.proofs.{dotted}.Given as goal']) + '\n\n' + inv_text + '\n')
@@ -560,13 +593,16 @@ def convert(crate, path, fn, everything):
         text = '\n\n'.join(answers)
         stay = []
         for h in reversed(helpers):
-            names = re.findall(r'(?m)^(?:  )?(?:(?:pub|abbrev|unfoldable) )*(' + W + r'+)(?: ' + W + r'+)* :', re.sub(r'(?m)^--.*$', '', h))
-            if any(re.search(r'(?<![^\s(){}.;,])' + re.escape(n) + r'(?![^\s(){}.;,])', text) for n in names) or h.lstrip('-').startswith(('module', 'open', 'use', 'infix')):
+            names = named(h)
+            if any(has(text, n) for n in names) or h.lstrip('-').startswith(('module', 'open', 'use', 'infix')):
                 stay.insert(0, h)
                 text = h + '\n\n' + text
         body = '\n\n'.join(stay + answers)
         f = os.path.join(folder, 'Answers.antt')
         lines = imports(uses, body)
+        mine = [n for n in given if has(body, n)]
+        if mine:
+            lines.append(f'use Rattle.{crate}.proofs.{dotted}.Invariants.{{' + ', '.join(mine) + '}')
         with open(f, 'w', encoding='utf-8') as it:
             it.write(f'-- `{crate}::{path.replace("/", "::")}` meets its contract.\n' + '\n'.join(lines + [f'use Rattle.{crate}.proofs.{dotted}.Goals as goal']) + '\n\n' + body + '\n')
         made.append('Answers')

@@ -3,6 +3,7 @@
 // Emission asks nothing: what lies past the log's end is not stored, and the state's numbers stop where `specs/Emission.antt` says. So a dry run
 // is the same function on an empty part of the log.
 #![tactic(auto)]
+
 ghost use Rattle.std.specs.Prelude.{◌≡◌, ◌∷◌, ◌++◌, ◌+◌, ◌-◌, ◌<◌, ◌≤◌, min, length};
 ghost use Rattle.std.proofs.lemmas.List.Edits.{sets};
 ghost use Rattle.rules.specs.Limits.{max_words};

@@ -1,3 +1,2 @@
 -- Laws of the table of a text.
 pub mod Tables
-pub mod Fields

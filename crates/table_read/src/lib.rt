@@ -1,5 +1,6 @@
 // The table of a text: the layout of its header line and its rows, or the line and the reason that refuse it.
 #![tactic(auto)]
+
 ghost use Rattle.std.specs.Prelude.{◌≡◌, not, ◌∷◌, [], ◌++◌, ◌-◌, ◌≤◌, length, take, get_or, drop};
 ghost use Rattle.rules.specs.Limits.{max_width, max_row};
 ghost use Rattle.rules.specs.Conditions.{bad_layout};

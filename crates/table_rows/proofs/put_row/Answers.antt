@@ -1,0 +1,14 @@
+-- `table_rows::put_row` meets its contract.
+use lib.Seq.{sets}
+use Rattle.image_geometry.specs.View.{layout_by}
+use Rattle.table_rows.proofs.Reading.{row_is}
+use mathlib.Core.Path.{ap, ◌∙◌}
+use Rattle.table_rows.proofs.put_row.Goals as goal
+
+pub returns : goal.returns
+returns c =
+    let a = c.args in
+    let q = layout_by a.p a.entries.now in
+    let pre = c.requires in
+    c.copy_u8.ensures
+    ∙ ap (sets a.room.now a.at) (c.part_u8.ensures.0 ∙ row_is q pre.0 a.image.now pre.1 a.row pre.2 _ _ _ c.read_row.ensures c.usize_of_u32.ensures.0)
