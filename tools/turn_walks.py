@@ -201,6 +201,13 @@ class Fn:
             roots |= more
         root = '(?:' + '|'.join(re.escape(r) for r in sorted(roots)) + ')'
         text = re.sub(r'(?<![^\s(){};,@«»←])(' + root + r')(?:\.before)+(?![\w-])', r'\1', text)
+        mine = MINE.get(f'{self.crate}::' + self.path.replace('/', '::').replace('+', ''), [])
+        heads = [r'(?:' + '|'.join(re.escape(r) for r in sorted(roots)) + r')\.args']
+        heads += [re.escape(v) for v, of in re.findall(r'\blet (' + W + r'+) = (' + W + r'+)\.args in\b', text) if of in roots]
+        text = re.sub(r'(?<![^\s(){};,@«»←])(' + '|'.join(heads) + r')\.t(\d+)(?![\w-])',
+                      lambda m: m.group(1) + '.' + mine[int(m.group(2)) - 1] if int(m.group(2)) <= len(mine) else m.group(0), text)
+        # lengths of arrays in a struct by value: omega knows them
+        text = re.sub(r', \w+_long (?:' + W + r'|\.)+ _ (?:' + W + r'|\.)+well_formed(?:\.\d)*', '', text)
         look = []
 
         def one(m):

@@ -1,4 +1,3 @@
 -- Laws that the proofs of the functions cite.
 pub mod Laying
-pub mod Fields
 pub mod Counting

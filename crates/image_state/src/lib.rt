@@ -1,5 +1,6 @@
 // Images: the state that a swizzle hands on, and by it an image laid out from rows, a row patched, a row read back and the record's sizes.
 #![tactic(auto)]
+
 ghost use Rattle.std.specs.Prelude.{◌≡◌, false, List, ℕ, ◌≤◌, min, length};
 ghost use Rattle.std.proofs.Math.Option.{none};
 ghost use Rattle.rules.specs.Limits.{max_row};

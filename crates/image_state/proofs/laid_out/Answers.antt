@@ -1,0 +1,23 @@
+-- `image_state::laid_out` meets its contract.
+use mathlib.Core.Path.{sym, ◌∙◌}
+use Rattle.image_state.proofs.Laying.{long_none, laid_made, made_long, made_short}
+use native.Mathlib.Omega.{arith}
+use lib.ListN.{length}
+use Rattle.rules.specs.Limits.{max_row}
+use borrow.Author.Tests.{ltb-true, ltb-false}
+use Rattle.image_state.proofs.laid_out.Goals as goal
+
+pub returns-then-row_bad : goal.returns-then-row_bad
+returns-then-row_bad c =
+    let a = c.args in
+    let l = ltb-true _ _ (sym c.row_bad.ensures ∙ c.if-row_bad.true) in
+    record { value = c.unset.ensures.value ∙ made_long a.p a.entries.now l; result_value = c.unset.ensures.result_value ∙ sym (long_none a.p a.entries.now l) }
+
+pub returns : goal.returns
+returns c =
+    let a = c.args in
+    let h = ltb-false _ _ (sym c.row_bad.ensures ∙ c.if-row_bad.false) in
+    record { value = made_short a.p a.entries.now _ h c.copy_u32.ensures; result_value = laid_made a.p a.entries.now _ h c.copy_u32.ensures }
+
+pub overflow_cast-result : goal.overflow_cast-result
+overflow_cast-result c = omega (arith, ltb-false max_row (length c.args.entries.now) (sym c.row_bad.ensures ∙ c.if-row_bad.false))
