@@ -201,6 +201,9 @@ class Fn:
             roots |= more
         root = '(?:' + '|'.join(re.escape(r) for r in sorted(roots)) + ')'
         text = re.sub(r'(?<![^\s(){};,@«»←])(' + root + r')(?:\.before)+(?![\w-])', r'\1', text)
+        for m in list(re.finditer(r'\blet (' + W + r'+) = (' + root + r'(?:\.' + W + r'+)+\.given) in\s*', text)):
+            text = text.replace(m.group(0), '')
+            text = re.sub(r'(?<![^\s(){};,@«»←])' + re.escape(m.group(1)) + r'(?=\.)', m.group(2), text)
         mine = MINE.get(f'{self.crate}::' + self.path.replace('/', '::').replace('+', ''), [])
         heads = [r'(?:' + '|'.join(re.escape(r) for r in sorted(roots)) + r')\.args']
         heads += [re.escape(v) for v, of in re.findall(r'\blet (' + W + r'+) = (' + W + r'+)\.args in\b', text) if of in roots]

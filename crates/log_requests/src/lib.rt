@@ -1,5 +1,6 @@
 // The requests of a design, each logged as one entry: the cores, which take the log state by value. A refused request changes nothing.
 #![tactic(auto)]
+
 ghost use Rattle.std.specs.Prelude.{◌≡◌, ◌∷◌, [], ◌+◌, ◌*◌, ◌<◌, ◌≤◌, length, false, ◌||◌};
 ghost use Rattle.lists.specs.Choice.{◌or_else◌};
 ghost use Rattle.lists.specs.Lists.{up_from};

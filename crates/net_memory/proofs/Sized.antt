@@ -17,10 +17,10 @@ use Rattle.net_memory.specs.contracts.MemoryReadPort
 
 module _ (m : spec.Memory) (vs : List Val) (g : Is (declared.row Memory.the_type) m vs) where
   pub write_ports_8 : length m.write_ports ≡ 8
-  write_ports_8 = sym (length-map m.write_ports _) ∙ g.1.1.1.1.1.1.1.0.1.0.1
+  write_ports_8 = g.1.1.1.1.1.1.1.0.1.0.1
 
   pub read_ports_8 : length m.read_ports ≡ 8
-  read_ports_8 = sym (length-map m.read_ports _) ∙ g.1.1.1.1.1.1.1.1.0.1.0.1
+  read_ports_8 = g.1.1.1.1.1.1.1.1.0.1.0.1
 
   pub write_ports_length : length (write_ports_of m) ≡ min max_ports m.write_count
   write_ports_length = omega (arith, length-take (min max_ports m.write_count) m.write_ports, write_ports_8)
@@ -37,4 +37,4 @@ module _ (m : spec.Memory) (vs : List Val) (g : Is (declared.row Memory.the_type
       length_views addr_size trit_size read_by (read_ports_of m) (drop (reads_start m) nets) (drop m.init_len trits) ∙ read_ports_length
 
 pub relations_8 : (p : port.MemoryReadPort) (vs : List Val) → Is (declared.row MemoryReadPort.the_type) p vs → length p.relations ≡ 8
-relations_8 p vs g = sym (length-map p.relations _) ∙ g.1.1.1.1.1.1.1.1.0.1.0.1
+relations_8 p vs g = g.1.1.1.1.1.1.1.1.0.1.0.1

@@ -1,5 +1,6 @@
 // cell/memory.rs: a memory by value, with its nets and trits in two lent arrays, and the parts of them that belong to each port.
 #![tactic(auto)]
+
 ghost use Rattle.std.specs.Prelude.{◌≡◌, ℕ, ◌+◌, ◌*◌, ◌<◌, ◌≤◌, min, List, [], length};
 ghost use Rattle.lists.specs.Lists.{part};
 ghost use Rattle.rules.specs.Limits.{max_ports};

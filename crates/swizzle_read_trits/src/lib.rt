@@ -1,5 +1,6 @@
 // The trits of a clocked read port of a swizzle: clear, reset and init of all memories, one after the other in lent room.
 #![tactic(auto)]
+
 ghost use Rattle.std.specs.Prelude.{◌≡◌, ◌+◌, ◌≤◌, leb, length};
 ghost use Rattle.swizzle_read_trits.specs.Trits.{put_trits, three_trits};
 

@@ -1,0 +1,29 @@
+-- `log_requests::add_mux` meets its contract.
+use mathlib.Core.Path.{sym}
+use Prim.Native.Nat.{◌+◌}
+use lib.ListN.{length}
+use Rattle.log_entries.specs.View.{state_of}
+use Rattle.net_value.specs.View.{control_of}
+use Rattle.log_requests.proofs.Answers.{request_refused, request_accepted}
+use Rattle.rules.specs.Refusals.{mux_number, add_mux_refusal}
+use Rattle.rules.specs.Answers.{add_mux_call}
+use Rattle.rules.proofs.Counted.{counted_mux}
+use Rattle.rules.specs.Log.{add_mux_of}
+use Rattle.lists.specs.Lists.{up_from}
+use Rattle.rules.proofs.Entries.{value_mux}
+use Rattle.log_requests.proofs.Numbers.{mux_lens}
+use Rattle.log_requests.proofs.add_mux.Goals as goal
+
+pub returns-then-n-ne0 : goal.returns-then-n-ne0
+unfolding add_mux_call add_mux_refusal
+returns-then-n-ne0 c =
+    let v = c.args in
+    request_refused (up_from v.st.next (length v.a.now)) (add_mux_of (control_of v.select) v.a.now v.b.now) (5 + (length v.a.now + length v.b.now)) (length v.a.now) (mux_number v.st.next (control_of v.select) v.a.now v.b.now) _ (λ z. counted_mux (control_of v.select) v.a.now v.b.now (mux_lens v.st.next (control_of v.select) v.a.now v.b.now z).0) v.log.now (state_of v.st) c.mux_refusal-n.ensures c.if-n-ne0.true
+
+pub returns : goal.returns
+unfolding add_mux_call add_mux_refusal
+returns c =
+    let v = c.args in
+    let q = c.mux_refusal-n in
+    let p = c.emit_mux-after in
+    request_accepted (up_from v.st.next (length v.a.now)) (add_mux_of (control_of v.select) v.a.now v.b.now) (5 + (length v.a.now + length v.b.now)) (length v.a.now) (mux_number v.st.next (control_of v.select) v.a.now v.b.now) q.result (λ z. counted_mux (control_of v.select) v.a.now v.b.now (mux_lens v.st.next (control_of v.select) v.a.now v.b.now z).0) v.log.now (state_of v.st) q.ensures p.new.log p.result c.if-n-ne0.false (λ z. sym (value_mux (control_of v.select) v.a.now v.b.now v.st.next (mux_lens v.st.next (control_of v.select) v.a.now v.b.now z).0)) p.ensures
