@@ -650,7 +650,7 @@ def main(argv):
         key = f'Rattle-{crate}-proofs.{path.replace("/", ".")}.Lts'
         row = table.get(key)
         if row is None:
-            close = [k for k in table if k.split('.')[-2].strip('+') == path.split('/')[-1].strip('+')]
+            close = [k for k in table if k.count('.') > 1 and k.split('.')[-2].strip('+') == path.split('/')[-1].strip('+')]
             said(f'look: {crate}::{path}: no names under {key}; near: {close}')
             continue
         try:

@@ -1,5 +1,6 @@
 // Lists of patch calls on one image buffer, refused ones among them, with each call's number, and demand 3 of a layout and the calls after it.
 #![tactic(auto)]
+
 ghost use Rattle.std.specs.Prelude.{◌≡◌, ◌+◌, ◌*◌, ◌/◌, ◌<◌, length};
 ghost use Rattle.std.proofs.lemmas.List.Edits.{sets};
 ghost use Rattle.rules.specs.Beside.Shape.{handed_on};
