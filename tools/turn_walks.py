@@ -549,6 +549,9 @@ def convert(crate, path, fn, everything):
                     body = r
                 elif body.strip() not in TRIVIAL:
                     looks.append(f'{new}: not a tuple of {len(names)} clauses')
+            if re.search(r'(?:array|slice)-(?:share|relend|lend)\S* c(?![\w.])', body) or re.search(r'_long c\.', body):
+                looks.append(f'{new} left to Rattle: {body[:80]!r}')
+                continue
             args = [a for a in args if a != 'κs']
             body, more = put_inside(body, inside)
             for u in more:

@@ -1,5 +1,5 @@
 -- The runs of equal neighbours, the first of them first.
-use mathlib.Core.Path.{◌≡◌, refl, sym, ap, ◌∙◌}
+use mathlib.Core.Path.{subst, ◌≡◌, refl, sym, ap, ◌∙◌}
 use Prim.Native.Nat.{ℕ, suc, ◌+◌, ◌<◌, ◌≤◌}
 use native.Mathlib.Numerals.{add-one}
 use native.Mathlib.Omega.{arith}
@@ -30,7 +30,9 @@ runs_two s t l = refl
 joined : (s t : ℕ) (l : List ℕ) → s ≡ t → runs (t ∷ l) ≡ suc (place_in differs t l) ∷ runs (drop (place_in differs t l) l)
     → longer true (runs (t ∷ l)) ≡ suc (place_in differs s (t ∷ l)) ∷ runs (drop (place_in differs s (t ∷ l)) (t ∷ l))
 unfolding longer
-joined s t l e h = rw (h, e, eq-eqb t t refl)
+joined s t l e h =
+    subst (λ (z : ℕ). longer true (runs (t ∷ l)) ≡ suc (place_in differs z (t ∷ l)) ∷ runs (drop (place_in differs z (t ∷ l)) (t ∷ l))) (sym e)
+    (rw (h, eq-eqb t t refl))
 
 parted : (s t : ℕ) (l : List ℕ) → (s ≡ t → ⊥) → longer false (runs (t ∷ l)) ≡ suc (place_in differs s (t ∷ l)) ∷ runs (drop (place_in differs s (t ∷ l)) (t ∷ l))
 unfolding longer

@@ -1,5 +1,6 @@
 // memory/src/lib.rs, add_dedup_mux and add_bitwise_mux with their numbers: a refused call changes neither the log nor the room for the result nets.
 #![tactic(auto)]
+
 ghost use Rattle.std.specs.Prelude.{◌≡◌};
 ghost use Rattle.lists.specs.Choice.{◌or_else◌};
 ghost use Rattle.rules.specs.Merge.{add_dedup_mux_of, add_bitwise_mux_of};

@@ -1,5 +1,6 @@
 // The test of a memory: which of the numbers 1 to 4 refuses it.
 #![tactic(auto)]
+
 ghost use Rattle.std.specs.Prelude.{◌≡◌, false, not, ◌||◌, List, [], ℕ, ◌*◌, length, get_or, eqb};
 ghost use Rattle.lists.specs.Choice.{least};
 ghost use Rattle.lists.specs.Lists.{any, least_by, part};

@@ -2,6 +2,7 @@
 //
 // Values stand in lent scratch of as many nets as a merge takes; where the emission overflowed the scratch is left open.
 #![tactic(auto)]
+
 ghost use Rattle.std.specs.Prelude.{◌≡◌, List, ℕ, ◌-◌, ◌<◌, ◌≤◌, max, length, take, drop};
 ghost use Rattle.std.proofs.Math.Option.{Option, some};
 ghost use Rattle.std.proofs.lemmas.List.Edits.{sets};

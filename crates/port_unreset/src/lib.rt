@@ -1,5 +1,6 @@
 // The struct and the trits of unmap_read_init_reset_transparency: whether a port has something to unmap, and the port without it.
 #![tactic(auto)]
+
 ghost use Rattle.std.specs.Prelude.{◌≡◌, Bool, not, List, [], ℕ, ◌<◌, ◌≤◌};
 ghost use Rattle.lists.specs.Choice.{if◌then◌else◌};
 ghost use Rattle.rules.specs.Cell.{transparent_from};

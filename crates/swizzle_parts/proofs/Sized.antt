@@ -14,10 +14,10 @@ use Rattle.swizzle_result.specs.contracts.WideMemory
 
 module _ (g : spec.WideMemory) (vs : List Val) (h : Is (declared.row WideMemory.the_type) g vs) where
   pub write_ports_8 : length g.write_ports ≡ 8
-  write_ports_8 = sym (length-map g.write_ports _) ∙ h.1.1.1.1.1.1.1.1.1.0.1.0.1
+  write_ports_8 = h.1.1.1.1.1.1.1.1.1.0.1.0.1
 
   pub read_ports_8 : length g.read_ports ≡ 8
-  read_ports_8 = sym (length-map g.read_ports _) ∙ h.1.1.1.1.1.1.1.1.1.1.0.1.0.1
+  read_ports_8 = h.1.1.1.1.1.1.1.1.1.1.0.1.0.1
 
   pub write_ports_length : length (write_ports_of g) ≡ min max_ports g.write_count
   write_ports_length = omega (arith, length-take (min max_ports g.write_count) g.write_ports, write_ports_8)

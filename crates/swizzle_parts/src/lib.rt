@@ -2,6 +2,7 @@
 //
 // A struct whose numbers pass the limits of a swizzle, which no swizzle gives, holds no memory.
 #![tactic(auto)]
+
 ghost use Rattle.std.specs.Prelude.{◌≡◌, List, ℕ, ◌+◌, ◌*◌, ◌<◌, ◌≤◌, min, get_or};
 ghost use Rattle.lists.specs.Lists.{all, part};
 ghost use Rattle.rules.specs.Limits.{max_ports, max_wide, max_unit, max_columns, max_nets};

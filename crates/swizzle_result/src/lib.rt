@@ -1,5 +1,6 @@
 // The memories that a swizzle gives, by value: they share ports, whose nets and trits stand in lent arrays, memory after memory.
 #![tactic(auto)]
+
 ghost use Rattle.std.specs.Prelude.{◌≡◌, ◌*◌};
 ghost use Rattle.swizzle_result.specs.View.{mems_of};
 

@@ -1,0 +1,17 @@
+-- `net_check::init_number` meets its contract.
+use mathlib.Core.Path.{ap, ◌∙◌}
+use Prim.Native.Nat.{◌-◌}
+use mathlib.Core.Bool.{false, not}
+use lib.ListN.{length}
+use lib.Dec.{eqb}
+use Rattle.lists.specs.Lists.{part}
+use Rattle.rules.specs.Conditions.{bad_trits}
+use Rattle.rules.specs.Logic.{are_trits}
+use Rattle.rules.specs.Refusals.{number_by_of}
+use Rattle.net_check.proofs.init_number.Goals as goal
+
+pub returns : goal.returns
+unfolding bad_trits
+returns c =
+    let i = c.part_u8-init.ensures.0 ∙ (λ k. part 0 (c.usize_of_u32.ensures.0 k) c.args.trits.now) in
+    c.number_by.ensures ∙ (λ k. number_by_of (not (eqb (length (i k)) (c.product.ensures k))) false (not ((c.trits_good.ensures ∙ ap are_trits i) k)))

@@ -1,0 +1,14 @@
+-- `net_check::relations_bad` meets its contract.
+use mathlib.Core.Path.{sym, ap, ◌∙◌}
+use Prim.Native.Nat.{◌-◌}
+use mathlib.Core.Bool.{not}
+use Rattle.lists.specs.Lists.{part}
+use Rattle.net_check.proofs.Tests.{relations_trits}
+use Rattle.rules.specs.Logic.{are_trits}
+use Rattle.net_check.proofs.relations_bad.Goals as goal
+
+pub returns : goal.returns
+returns c =
+    ap not c.trits_good.ensures
+    ∙ (λ k. not (are_trits ((c.part_u8-named.ensures.0 ∙ (λ j. part 0 (c.usize_of_u32.ensures.0 j) c.args.p.relations)) k)))
+    ∙ sym (relations_trits _)

@@ -1,0 +1,38 @@
+#!/usr/bin/env python3
+"""Spells this repository's own choice `if◌then◌else◌` as `when◌then◌else◌`, since `rt ci` keeps the first name for the library's, whose precedence is another.
+
+usage: rename_choice.py     at the top of the repository: .antt files, the clauses and `ghost use` lines of .rt files, and must-fail edits of specs/"""
+import glob
+import os
+import re
+import sys
+
+sys.path.insert(0, os.path.dirname(os.path.abspath(__file__)))
+import respell
+
+WORD = re.compile(r'(?<![^\s(){}\[\];,λ.]|(?<=\w)\.)if(?=\s)')
+ROW = {'if◌then◌else◌': 'when◌then◌else◌', 'if': 'when'}
+
+
+def main():
+    n = 0
+    for f in respell.antt_files():
+        t = respell.read(f)
+        n += respell.write(f, respell.antt(t, ROW), t)
+    for f in respell.rt_files():
+        t = respell.read(f)
+        n += respell.write(f, respell.rt(t, ROW), t)
+    for f in sorted(glob.glob('crates/*/must-fail/*.edit')):
+        t = respell.read(f)
+        out, antt = [], False
+        for line in t.split('\n'):
+            if line.startswith('file: '):
+                antt = line.endswith('.antt')
+            if line.startswith(('old: ', 'new: ')) and (antt or re.match(r'(?:old|new): +(?:requires|ensures)', line)):
+                line = line[:5] + respell.words(line[5:], ROW)
+            out.append(line)
+        n += respell.write(f, '\n'.join(out), t)
+    print(n, 'files')
+
+
+main()
