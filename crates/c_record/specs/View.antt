@@ -1,5 +1,4 @@
 -- The structs of the rules' answers; a refused one's values are 0.
-use Rattle.std.specs.Prelude.{ℕ}
 use Rattle.rules.specs.Record as rules
 use Rattle.rules.specs.Lister as lister
 use Rattle.rules.specs.Answers.{Answer, Refused, Accepted}

@@ -1,5 +1,6 @@
 // Image records for callers in C and Rust: writing and reading one, its head, its summaries and the lister's text.
 #![tactic(auto)]
+
 ghost use Rattle.std.specs.Prelude.{◌≡◌, length};
 ghost use Rattle.rules.specs.Record.{record_bytes};
 ghost use Rattle.rules.specs.Refusals.{write_record_refusal};

@@ -1,7 +1,7 @@
 -- A record read by one reader: the words of its head, the numbers, and its trits from the head's end on.
 use mathlib.Core.Path.{◌≡◌, refl, sym, ap, ◌∙◌}
 use mathlib.Core.Logic.{◌≢◌}
-use Prim.Native.Nat.{ℕ, ◌≤◌, min}
+use Prim.Native.Nat.{ℕ, ◌≤◌}
 use native.Mathlib.Omega.{arith}
 use mathlib.Core.Bool.{Bool, true, false}
 use mathlib.Core.List.{List}
@@ -11,9 +11,9 @@ use lib.Seq.{sets}
 use borrow.Author.Tests.{eqb-true, eqb-false}
 use Rattle.lists.proofs.Choice.{leaves_refused, leaves_accepted}
 use Rattle.rules.specs.Limits.{max_image}
-use Rattle.rules.specs.Record.{Sizes, size_trits, head_sizes, decode_image}
-use Rattle.rules.specs.Refusals.{record_number, read_record_refusal}
-use Rattle.rules.specs.Answers.{Answer, answer_of, read_record_call}
+use Rattle.rules.specs.Record.{size_trits, head_sizes}
+use Rattle.rules.specs.Refusals.{read_record_refusal}
+use Rattle.rules.specs.Answers.{answer_of, read_record_call}
 use Rattle.rules.proofs.Answers.{answer_refused, answer_accepted}
 use Rattle.rules.proofs.Headers.{kept}
 use Rattle.record_reader.specs.Reading.{place_after_head, trits_there}

@@ -91,7 +91,7 @@ words s g =
     record {
       unit_word = omega (arith, k.unit_max);
       full_word = omega (arith, k.full_max);
-      full_depth-word = omega (arith, k.full_depth_max);
+      full_depth_word = omega (arith, k.full_depth_max);
       partial_word = omega (arith, k.partial_max);
       partial_depth_word = omega (arith, k.partial_depth_max);
     }

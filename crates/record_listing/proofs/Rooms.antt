@@ -10,13 +10,11 @@ use borrow.Author.Tests.{lt-ltb, le-ltb}
 use Rattle.lists.proofs.Choice.{leaves_refused, leaves_accepted}
 use Rattle.rules.specs.Conditions.{no_room_of}
 use Rattle.rules.specs.Refusals.{lent_refusal}
-use Rattle.rules.specs.Lister.{lister}
-use Rattle.rules.specs.Answers.{Answer, Refused, Accepted, listed_in, list_record_call}
+use Rattle.rules.specs.Answers.{Refused, Accepted, listed_in, list_record_call}
 use Rattle.rules.specs.Beside.Stored.{lister_stored, list_input_call}
 use Rattle.rules.proofs.Answers.{answer_refused, answer_accepted}
 use Rattle.record_listing.specs.Put.{Put}
 use Rattle.record_listing.specs.Text.{listed_as}
-use Rattle.record_listing.specs.declared.Listed.{Listed}
 use Rattle.record_listing.specs.declared.Listed.TheVariants.{Refused as NotListed, Accepted as IsListed}
 use Rattle.record_listing.proofs.Puts.{stored_whole}
 

@@ -1,5 +1,6 @@
 // The lister's text for a record, as bytes in a lent array. The inner functions store what fits and count all: a run on one byte gives the length.
 #![tactic(auto)]
+
 ghost use Rattle.std.specs.Prelude.{◌≡◌, ◌∷◌, ◌+◌, ◌*◌, ◌<◌, ◌≤◌, length, drop};
 ghost use Rattle.lists.specs.Lists.{sum_by, part, concat_map};
 ghost use Rattle.lists.specs.Choice.{if◌then◌else◌, ◌or_else◌};

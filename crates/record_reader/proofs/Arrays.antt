@@ -1,6 +1,6 @@
 -- The trits of a record's two arrays: a byte of each at a time, and all that are left from a byte on.
 use mathlib.Core.Path.{◌≡◌, refl, sym, ap, ◌∙◌}
-use mathlib.Core.Bool.{Bool, true, false, ◌&&◌}
+use mathlib.Core.Bool.{Bool, true, false}
 use Prim.Native.Nat.{ℕ, zero, suc, ◌+◌, ◌-◌, ◌*◌, ◌/◌, ◌%◌, ◌<◌, ◌≤◌}
 use native.Mathlib.Numerals.{add-one}
 use native.Mathlib.Omega.{arith}
@@ -8,7 +8,7 @@ use mathlib.Core.List.{List, [], ◌∷◌, ◌++◌, map, append-nil}
 use lib.Dec.{eqb, leb}
 use lib.ListN.{length, take, drop, get_or, length-take, length-drop, length-map, drop_of_length-le}
 use lib.Seq.{sets, drop-cons, drop-drop, length-take-le, take_all, take-nil, drop-nil}
-use borrow.Author.Tests.{le-leb, lt-leb, eq-eqb, eqb-true, leb-true}
+use borrow.Author.Tests.{le-leb, eq-eqb, eqb-true, leb-true}
 use Rattle.lists.specs.Lists.{pairs}
 use Rattle.lists.proofs.Choice.{and_true, cases_le}
 use Rattle.lists.proofs.Joined.{drop_joined, map_drop}

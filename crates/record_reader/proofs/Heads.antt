@@ -22,7 +22,7 @@ five u f d p q hu hf hd hp hq =
 module _ (s : Sizes) (w : Words s) where
   pub words-trits : rules.size_trits (view_sizes s) ≤ 1125899906842624
   unfolding rules.size_trits
-  words-trits = five _ _ _ _ _ w.unit_word w.full_word w.full_depth-word w.partial_word w.partial_depth_word
+  words-trits = five _ _ _ _ _ w.unit_word w.full_word w.full_depth_word w.partial_word w.partial_depth_word
 
   pub words-all : (n : ℕ) → n ≡ min (rules.size_trits (view_sizes s)) 1125899906842624 → n ≡ rules.size_trits (view_sizes s)
   words-all n e = omega (arith, words-trits)

@@ -19,7 +19,7 @@ use Rattle.rules.specs.Record.{size_trits, word_at, array_bytes, trit_by, head_s
 use Rattle.rules.specs.Conditions.{bad_head}
 use Rattle.rules.proofs.Written.{length_bits}
 use Rattle.record_bits.proofs.Arrays.{bits_at}
-use Rattle.record_reader.specs.Reading.{reader_at, has_word, word_there, has_trit, has_trit_at, trit_numbered, trit_there, place_after_trit}
+use Rattle.record_reader.specs.Reading.{has_word, word_there, has_trit_at, trit_numbered, trit_there, place_after_trit}
 use Rattle.record_reader.specs.declared.Word.TheVariants.{Found, End}
 use Rattle.record_reader.specs.declared.TritFound.TheVariants.{Code, End as NoTrit}
 

@@ -124,6 +124,6 @@ many_bytes = 2305843009213693952
 pub record Words (s : Sizes) : Type 0 where
   pub unit_word : s.unit < 65536
   pub full_word : s.full < 65536
-  pub full_depth-word : s.full_depth < 65536
+  pub full_depth_word : s.full_depth < 65536
   pub partial_word : s.partial < 65536
   pub partial_depth_word : s.partial_depth < 65536

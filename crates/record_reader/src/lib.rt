@@ -1,6 +1,7 @@
 // A reader holds a record's bytes and a place in them, which counts bytes in the head and trits behind it: after six words it stands at trit 0. Few
 // functions are over it; each takes it apart.
 #![tactic(auto)]
+
 ghost use Rattle.std.specs.Prelude.{◌≡◌, ◌-◌, ◌≤◌, length, get_or};
 ghost use Rattle.std.proofs.lemmas.List.Edits.{sets};
 ghost use Rattle.rules.specs.Record.{size_trits, word_at, array_bytes, bits_of, head_sizes};

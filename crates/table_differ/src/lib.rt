@@ -1,5 +1,6 @@
 // The rows in which two tables differ, as text. The inner functions store what fits and count all: a run on one byte gives the length.
 #![tactic(auto)]
+
 ghost use Rattle.std.specs.Prelude.{◌≡◌, [], ◌+◌, ◌*◌, ◌≤◌, length, drop};
 ghost use Rattle.std.proofs.lemmas.List.Edits.{sets};
 ghost use Rattle.lists.specs.Lists.{same_list};

@@ -1,7 +1,6 @@
 -- The header line reads back: the machine over the digits of a number, over what ends one, and over the entries.
 use mathlib.Core.Path.{◌≡◌, refl, sym, ap, ◌∙◌}
-use mathlib.Core.Logic.{◌≢◌}
-use mathlib.Core.Bool.{Bool, true, false, ◌&&◌}
+use mathlib.Core.Bool.{Bool, true, false}
 use mathlib.Core.List.{List, [], ◌∷◌, ◌++◌}
 use Prim.Native.Nat.{ℕ, zero, suc, ◌+◌, ◌-◌, ◌*◌, ◌/◌, ◌%◌, ◌≤◌, ◌<◌}
 use native.Mathlib.Numerals.{add-one}
@@ -9,15 +8,14 @@ use native.Mathlib.Omega.{arith}
 use native.Mathlib.Nat.{add-zero}
 use lib.ListN.{length, set, get_or}
 use lib.Seq.{sets}
-use lib.Dec.{eqb, ltb, leb}
-use borrow.Author.Tests.{lt-ltb, le-ltb, le-leb, lt-leb, eq-eqb, ne_eqb, eqb-true, eqb-false}
+use lib.Dec.{eqb}
+use borrow.Author.Tests.{lt-ltb, le-ltb, le-leb, ne_eqb, eqb-true}
 use Rattle.lists.specs.Choice.{if◌then◌else◌}
 use Rattle.lists.proofs.Choice.{cases_le}
 use Rattle.rules.specs.Limits.{None}
 use Rattle.rules.specs.Lister.{digits_from}
-use Rattle.table_text.specs.declared.head.Head.{Head}
-use Rattle.table_text.specs.Bytes.{bump, more, is_blank, is_digit_of, letter_of, low_word}
-use Rattle.table_text.specs.Head.{head_as, HeadEnd, number_end, head_blank, head_comma, head_break, head_digit, head_entry, head_letter, head_word, head_step_of, is_stop, head_stored, head_run}
+use Rattle.table_text.specs.Bytes.{bump, is_blank, is_digit_of, letter_of}
+use Rattle.table_text.specs.Head.{head_as, number_end, head_blank, head_comma, head_break, head_digit, head_entry, head_letter, head_word, head_step_of, is_stop, head_stored, head_run}
 use Rattle.table_text.proofs.Runs.{head_stop}
 use Rattle.rules.specs.Geometry.{Layout}
 use Rattle.lists.proofs.Store.{sets_at}

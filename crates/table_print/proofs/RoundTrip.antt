@@ -5,9 +5,9 @@ use mathlib.Core.Bool.{Bool, true, false}
 use mathlib.Core.List.{List, [], ◌∷◌, ◌++◌}
 use Prim.Native.Nat.{ℕ, zero, suc, ◌+◌, ◌-◌, ◌*◌, ◌/◌, ◌%◌, ◌≤◌, ◌<◌}
 use native.Mathlib.Omega.{arith}
-use lib.ListN.{length, take, drop, get_or, replicate, length-append, length-replicate}
+use lib.ListN.{length, take, get_or, replicate, length-append, length-replicate}
 use lib.Seq.{sets, get_or-take, get_or-append-add, take_at, take_all}
-use lib.Dec.{eqb, ltb, leb}
+use lib.Dec.{eqb, leb}
 use borrow.Author.Tests.{leb-true, le-ltb, ltb-false, eq-eqb, ne_eqb, eqb-true, eqb-false}
 use Rattle.lists.specs.Choice.{if◌then◌else◌}
 use Rattle.lists.specs.Lists.{part, up_from, all}
@@ -17,14 +17,14 @@ use Rattle.lists.proofs.Parts.{same_middle, same_front}
 use Rattle.rules.specs.Limits.{trit_x, max_bits, max_mask, None}
 use Rattle.rules.specs.Logic.{are_trits}
 use Rattle.rules.specs.Geometry.{Layout, row_len_of}
-use Rattle.rules.specs.Conditions.{times, bad_entries, bad_layout}
+use Rattle.rules.specs.Conditions.{times, bad_layout}
 use Rattle.rules.specs.Lister.{digits_from}
 use Rattle.rules.proofs.GoodLayouts.{good, good_small, named}
 use Rattle.rules.proofs.Named.{once}
 use Rattle.table_text.specs.Bytes.{max_text}
 use Rattle.table_text.specs.Head.{head_as, HeadEnd, head_run}
-use Rattle.table_text.specs.Scan.{scan_as, ScanEnd, scan_run}
-use Rattle.table_read.specs.Table.{Table, Parsed, NoTable, IsTable, max_words, entries_read, layout_read, head_number, table_of, rows_table, layout_table, head_table, parse_table}
+use Rattle.table_text.specs.Scan.{scan_as, scan_run}
+use Rattle.table_read.specs.Table.{Table, IsTable, max_words, entries_read, layout_read, head_number, table_of, rows_table, layout_table, head_table, parse_table}
 use Rattle.table_print.specs.Rows.{rows_from}
 use Rattle.table_print.specs.Header.{number_text, entry_text, more_entries, entries_text, header_text, print_table}
 use Rattle.table_print.proofs.Back.{rows_append, RowsBack, rows_back}

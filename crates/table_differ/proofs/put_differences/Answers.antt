@@ -1,0 +1,31 @@
+-- `table_differ::put_differences` meets its contract.
+use Rattle.table_differ.proofs.Lines.{diff_deep, diff_wide, diff_all}
+use Rattle.table_differ.specs.Differ.{diff_text}
+use Rattle.record_listing.proofs.Puts.{put_then, put_as}
+use lib.Seq.{sets}
+use mathlib.Core.Path.{ap}
+use native.Mathlib.Omega.{arith}
+use lib.ListN.{length}
+use Rattle.table_differ.proofs.put_differences.Goals as goal
+
+pub returns-then-depth-gt-MAX_DEPTH : goal.returns-then-depth-gt-MAX_DEPTH
+returns-then-depth-gt-MAX_DEPTH c =
+    let a = c.args in
+    let e = diff_deep a.depth a.width a.a.now a.b.now c.if-depth-gt-MAX_DEPTH.true in
+    (ap (sets a.out.now 0) e, ap length e)
+
+pub returns-then-width-gt-MAX_WIDTH : goal.returns-then-width-gt-MAX_WIDTH
+returns-then-width-gt-MAX_WIDTH c =
+    let a = c.args in
+    let e = diff_wide a.depth a.width a.a.now a.b.now c.if-depth-gt-MAX_DEPTH.false c.if-width-gt-MAX_WIDTH.true in
+    (ap (sets a.out.now 0) e, ap length e)
+
+pub put_last-requires : goal.put_last-requires
+put_last-requires c = omega (arith, c.put_all-s.ensures.2, c.if-depth-gt-MAX_DEPTH.false)
+
+pub returns : goal.returns
+returns c =
+    let a = c.args in
+    let e = c.put_all-s.ensures in
+    let w = put_as (diff_text a.depth a.width a.a.now a.b.now) (diff_all a.depth a.width a.a.now a.b.now _ c.if-depth-gt-MAX_DEPTH.false c.if-width-gt-MAX_WIDTH.false e.1) (put_then e.0 c.put_last.ensures) in
+    (w.stored, omega (arith, w.place))
