@@ -1,5 +1,4 @@
 -- `try_log::cells::cases` meets its contract.
-use Prim.Native.Nat.{◌-◌}
 use Rattle.try_log.proofs.cells.cases.Goals as goal
 
 pub start-t-requires : goal.start-t-requires
