@@ -135,10 +135,16 @@ def last_tuple(body, names):
     return b[:i] + '(' + r + ')' if r else None
 
 
-def by_parts(body, names):
+def by_parts(body, names, fn=None):
     """`lemma a b` that gives all clauses, as a record of its parts."""
     lead, tail = lead_lets(body)
     tail = tail.strip()
+    m = re.fullmatch(r'c\.(' + W + r'+)\.ensures', tail)
+    if m and fn is not None:
+        callee = next((ca for ops in fn.steps.values() for (n, ca, _) in ops if n == m.group(1)), None)
+        theirs = fn.clauses.get(callee, ([], []))[0]
+        if len(theirs) == len(names):
+            return f'{lead}record {{ ' + '; '.join(f'{n} = {tail}.{t}' for n, t in zip(names, theirs)) + ' }'
     if re.match(r'(rw|simp|omega|search|cc|elim|grind|absurd|first_of|λ|\()(?![\w-])', tail) or '\n' in tail and ' ∙ ' in tail:
         return None
     parts = []
@@ -209,6 +215,7 @@ class Fn:
         heads += [re.escape(v) for v, of in re.findall(r'\blet (' + W + r'+) = (' + W + r'+)\.args in\b', text) if of in roots]
         text = re.sub(r'(?<![^\s(){};,@«»←])(' + '|'.join(heads) + r')\.t(\d+)(?![\w-])',
                       lambda m: m.group(1) + '.' + mine[int(m.group(2)) - 1] if int(m.group(2)) <= len(mine) else m.group(0), text)
+        text = re.sub(r'(?<![^\s(){};,@«»←])(' + '|'.join(heads) + r')\.(' + W + r'+)', lambda m: m.group(1) + '.' + (norm(m.group(2)) if norm(m.group(2)) in self.vars else m.group(2)), text)
         # lengths of arrays in a struct by value: omega knows them
         text = re.sub(r', \w+_long (?:' + W + r'|\.)+ _ (?:' + W + r'|\.)+well_formed(?:\.\d)*', '', text)
         look = []
@@ -257,6 +264,13 @@ class Fn:
                 v = m.group(1)
                 text = re.sub(r'(?<![^\s(){};,@«»←])' + re.escape(v) + r'((?:\.[^\s(){}.;,@"]+)+)',
                               lambda k: '.'.join(self.by_clause([v], k.group(1)[1:].split('.'), self.own[1])), text)
+        for m in re.finditer(r'\blet (' + W + r'+) = c\.(' + W + r'+)\.ensures in\b', text):
+            callee = next((ca for ops in self.steps.values() for (n, ca, _) in ops if n == m.group(2)), None)
+            names = self.clauses.get(callee, ([], []))[0]
+            if len(names) > 1:
+                v = m.group(1)
+                text = re.sub(r'(?<![^\s(){};,@«»←])' + re.escape(v) + r'((?:\.[^\s(){}.;,@"]+)+)',
+                              lambda k: '.'.join(self.by_clause([v], k.group(1)[1:].split('.'), names)), text)
         # an alias of a step: let q = c.STEP in .. q.ensures.1.0
         for m in re.finditer(r'\blet (' + W + r'+) = c\.(' + W + r'+) in\b', text):
             callee = next((ca for ops in self.steps.values() for (n, ca, _) in ops if n == m.group(2)), None)
@@ -347,8 +361,30 @@ def inv(fn, body, args, which):
             look.append(f'{a} read as {order[k]}')
         elif a != '_':
             look.append(f'no variable {a}')
-    text = re.sub(r'(?<![^\s(){};,@«»])' + W + '+', lambda m: known.get(m.group(0), m.group(0)), body)
-    return text, look
+    out, deep, bound, at = [], 0, [], 0
+    token = re.compile(r'[(\[{]|[)\]}]|λ\s*|' + W + '+|\\s+|.', re.S)
+    while at < len(body):
+        m = token.match(body, at)
+        w = m.group(0)
+        at = m.end()
+        if w.startswith('λ'):
+            end = body.index('. ', at) if '. ' in body[at:] else len(body)
+            binder = body[at:end]
+            names = [n for part in re.findall(r'\(([^()]*?) :', binder) for n in part.split()] or re.findall(W + '+', binder)
+            bound.append((deep, set(names)))
+            # the binder's own text, types turned
+            out.append(w + binder)
+            at = end
+            continue
+        if w in '([{' and len(w) == 1:
+            deep += 1
+        elif w in ')]}' and len(w) == 1:
+            deep -= 1
+            bound = [b for b in bound if b[0] <= deep]
+        elif re.fullmatch(W + '+', w) and (not out or out[-1] != '.') and w in known and not any(w in b[1] for b in bound):
+            w = known[w]
+        out.append(w)
+    return ''.join(out), look
 
 
 BROUGHT = {'ap': 'use mathlib.Core.Path.{ap}', 'not': 'use mathlib.Core.Bool.{not}'}
@@ -536,7 +572,7 @@ def convert(crate, path, fn, everything):
             body, look = fn.turn_paths(body, {'c'})
             looks += [f'{new}: {l}' for l in look]
             if new.startswith('returns') and len(own[0]) > 1:
-                r = into_record(body, own[0]) or last_tuple(body, own[0]) or by_parts(body, own[0])
+                r = into_record(body, own[0]) or last_tuple(body, own[0]) or by_parts(body, own[0], fn)
                 if r:
                     body = r
                 elif body.strip() not in TRIVIAL:

@@ -1,6 +1,7 @@
 // Requests and merges on a lent log for callers in C and Rust. The log state goes in by value and comes back in the answer's struct; a refused call
 // gives it back as it was. Here are the structs and what they are in the library's terms; the exported functions are in `requests` and `merges`.
 #![tactic(auto)]
+
 ghost use Rattle.std.specs.Prelude.{◌≡◌};
 ghost use Rattle.net_flip_flop.specs.View.{controls_of};
 ghost use Rattle.log_requests.specs.Answers.{net_answer_of, controls_answer_of};

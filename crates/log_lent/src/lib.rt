@@ -1,6 +1,7 @@
 // The requests and merges of a design on a lent log and a lent log state: each takes the state by `&mut`, calls the core by value and stores the state
 // after it. A refused one leaves the log, the state and the room for results as they were.
 #![tactic(auto)]
+
 ghost use Rattle.std.specs.Prelude.{◌≡◌, length};
 ghost use Rattle.lists.specs.Lists.{up_from};
 ghost use Rattle.rules.specs.Log.{add_and_of, add_or_of, add_eq_of, add_shl_of, add_ushr_of, replace_value_of};

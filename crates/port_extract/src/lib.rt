@@ -1,5 +1,6 @@
 // memory/src/lib.rs, extract_read_ports: a memory with some of the read ports of another, in the order of a list.
 #![tactic(auto)]
+
 ghost use Rattle.std.specs.Prelude.{◌≡◌, List, ℕ, ◌+◌, ◌<◌, ◌≤◌, length};
 ghost use Rattle.std.proofs.lemmas.List.Edits.{sets};
 ghost use Rattle.lists.specs.Lists.{concat_map};

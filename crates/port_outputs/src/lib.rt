@@ -1,5 +1,6 @@
 // The calls that only look at a memory: the length of its outputs, a port's part of them, and whether a fallback is possible.
 #![tactic(auto)]
+
 ghost use Rattle.std.specs.Prelude.{◌≡◌, List, ℕ, length};
 ghost use Rattle.lists.specs.Lists.{any};
 ghost use Rattle.rules.specs.Value.{same_control};

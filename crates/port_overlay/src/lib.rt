@@ -1,6 +1,7 @@
 // memory/src/lib.rs, unmap_read_dff without its numbers: the port reads at once, the write ports that it is transparent to are laid over what it
 // reads, and the flip-flop stands behind.
 #![tactic(auto)]
+
 ghost use Rattle.std.specs.Prelude.{◌≡◌, false, List, ℕ, ◌+◌, ◌<◌, ◌≤◌, length, take};
 ghost use Rattle.rules.specs.Limits.{max_merge};
 ghost use Rattle.rules.specs.Cell.{write_at, wide_log2};

@@ -1,5 +1,6 @@
 // The numbers of emulate_read_before_write: 1 to 4, 12 and 13 by the clocks and relations of the read ports, and 22.
 #![tactic(auto)]
+
 ghost use Rattle.std.specs.Prelude.{◌≡◌, ◌&&◌, List, ℕ, get_or};
 ghost use Rattle.lists.specs.Choice.{if◌then◌else◌, ◌or_else◌};
 ghost use Rattle.lists.specs.Lists.{any, part};

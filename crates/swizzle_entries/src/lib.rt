@@ -1,5 +1,6 @@
 // memory/src/lib.rs, make_data_swizzle: the entries of a row, padded so that bits whose write masks differ lie in different granules.
 #![tactic(auto)]
+
 ghost use Rattle.std.specs.Prelude.{◌≡◌, ◌||◌, List, [], ◌∷◌, ◌++◌, ℕ, ◌+◌, ◌-◌, ◌%◌, ◌<◌, ◌≤◌, length, get_or, set, replicate, eqb, ltb};
 ghost use Rattle.std.proofs.lemmas.List.Edits.{sets};
 ghost use Rattle.lists.specs.Choice.{if◌then◌else◌};

@@ -1,5 +1,6 @@
 // One read port of a swizzle: its voids, the flip-flop of its mux address, its pieces, their tree and the replace.
 #![tactic(auto)]
+
 ghost use Rattle.std.specs.Prelude.{◌≡◌, ◌+◌, ◌*◌, ◌<◌, ◌≤◌, [], length, drop, leb, ltb, ◌&&◌};
 ghost use Rattle.rules.specs.Logic.{undef};
 ghost use Rattle.rules.specs.Log.{add_dff_of};

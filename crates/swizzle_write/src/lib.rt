@@ -1,6 +1,7 @@
 // memory/src/lib.rs, a write port of swizzle: the row's mask, and for each piece its comparison, its merging mux and its stores. The columns stand
 // memory after memory.
 #![tactic(auto)]
+
 ghost use Rattle.std.specs.Prelude.{◌≡◌, false, ◌<◌, ◌≤◌, length};
 ghost use Rattle.std.proofs.lemmas.List.Edits.{sets};
 ghost use Rattle.lists.specs.Lists.{up_from};
