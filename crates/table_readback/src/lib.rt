@@ -1,5 +1,6 @@
 // The rows of a record as a table's text, or the rows in which they differ from a table: the text has a header line, the record, and the table.
 #![tactic(auto)]
+
 ghost use Rattle.std.specs.Prelude.{◌≡◌, false, ◌++◌, ◌*◌, ◌≤◌, length, take};
 ghost use Rattle.std.proofs.lemmas.List.Edits.{sets};
 ghost use Rattle.rules.specs.Record.{Sizes as LayoutSizes, record_bytes};

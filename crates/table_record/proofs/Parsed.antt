@@ -1,10 +1,10 @@
 -- A table that a text gives is good: its layout passes, and its rows are depth × width trits. So no number refuses its record.
-use mathlib.Core.Path.{◌≡◌, refl, sym, ap, ◌∙◌, subst}
-use mathlib.Core.Bool.{Bool, true, false, ◌&&◌}
-use Prim.Native.Nat.{ℕ, zero, suc, ◌*◌, ◌≤◌, ◌<◌}
+use mathlib.Core.Path.{◌≡◌, refl, ap, ◌∙◌, subst}
+use mathlib.Core.Bool.{Bool, true, false}
+use Prim.Native.Nat.{ℕ, zero, suc, ◌*◌, ◌≤◌}
 use native.Mathlib.Omega.{arith}
 use mathlib.Core.List.{List, [], ◌∷◌, ◌++◌}
-use lib.ListN.{length, take, set, replicate, length-set, length-replicate}
+use lib.ListN.{length, take, set, replicate, length-replicate}
 use lib.Seq.{length-take-le}
 use lib.Dec.{eqb, ltb, leb}
 use borrow.Author.Tests.{ltb-true, le-leb}
@@ -23,7 +23,7 @@ use Rattle.rules.proofs.GoodLayouts.{good_small}
 use Rattle.table_text.specs.declared.scan.Scan.{Scan}
 use Rattle.table_text.specs.Bytes.{max_text, trit_of}
 use Rattle.table_text.specs.Head.{head_start, HeadEnd, head_run}
-use Rattle.table_text.specs.Scan.{scan_start, ScanEnd, scan_step_of, left_of, place_of, is_stored, scan_stored, scan_run}
+use Rattle.table_text.specs.Scan.{scan_start, scan_step_of, place_of, is_stored, scan_stored, scan_run}
 use Rattle.table_text.proofs.Runs.{length_scan_stored}
 use Rattle.table_read.specs.Table.{Table, Parsed, NoTable, IsTable, max_words, layout_read, head_number, table_of, rows_table, layout_table, head_table, parse_table}
 use Rattle.table_record.specs.Split.{record_call, rows_record, SplitEnd, IsSplit, split_by, split_call}

@@ -1,27 +1,24 @@
 -- The steps from a table to its record.
-use mathlib.Core.Path.{◌≡◌, refl, sym, ap, ◌∙◌}
+use mathlib.Core.Path.{◌≡◌, ap}
 use mathlib.Core.Logic.{◌≢◌}
 use Prim.Native.Nat.{ℕ, ◌*◌, ◌≤◌, ◌<◌}
 use native.Mathlib.Nat.{mul-le-mul}
 use native.Mathlib.Omega.{arith}
 use mathlib.Core.List.{List}
 use lib.ListN.{length, replicate, take}
-use lib.Dec.{eqb}
 use borrow.Author.Tests.{eq-eqb, ne_eqb}
-use Rattle.lists.specs.Choice.{if◌then◌else◌}
 use Rattle.rules.specs.Limits.{max_image}
 use Rattle.rules.specs.Geometry.{Layout}
 use Rattle.rules.specs.Image.{Laid}
 use Rattle.rules.specs.Record.{Sizes, record_bytes}
 use Rattle.rules.specs.Refusals.{write_record_refusal}
-use Rattle.rules.specs.Answers.{Answer, Refused, Accepted, answer_of, sizes_call, write_record_call, Filled, Listed}
+use Rattle.rules.specs.Answers.{Answer, Refused, Accepted, answer_of, sizes_call, write_record_call, Listed}
 use Rattle.rules.specs.Beside.Shape.{handed_on}
 use Rattle.rules.specs.Beside.Layouts.{fill_call}
 use Rattle.image_geometry.specs.View.{layout_by}
 use Rattle.table_read.specs.declared.Table.{Table}
-use Rattle.table_read.specs.Table.{Parsed, NoTable, IsTable}
 use Rattle.table_read.specs.View.{parsed_of}
-use Rattle.table_record.specs.Split.{record_call, filled_record, rows_record, Split, IsSplit, BadText, SplitEnd, split_by}
+use Rattle.table_record.specs.Split.{record_call, filled_record, rows_record, IsSplit, BadText, split_by}
 
 -- a product of two words
 pub product : (a b d w : ℕ) → a ≡ d → b ≡ w → a < 4294967296 → b < 4294967296 → a * b ≤ 4294967295 * 4294967295

@@ -8,7 +8,7 @@ use mathlib.Core.List.{List}
 use lib.ListN.{length, replicate, length-replicate}
 use lib.Dec.{eqb, ltb}
 use borrow.Author.Tests.{ltb-false}
-use Rattle.lists.specs.Choice.{if◌then◌else◌, leaves}
+use Rattle.lists.specs.Choice.{if◌then◌else◌}
 use Rattle.lists.proofs.Choice.{or_false, leaves_accepted}
 use Rattle.rules.specs.Limits.{max_columns, max_image}
 use Rattle.rules.specs.Logic.{are_trits}
@@ -21,9 +21,8 @@ use Rattle.rules.specs.Record.{Sizes, sizes_of}
 use Rattle.rules.specs.Conditions.{result_too_large, image_too_large, bad_layout}
 use Rattle.rules.specs.Refusals.{swizzle_refusal}
 use Rattle.rules.specs.Patch.{laid_out}
-use Rattle.rules.specs.Answers.{Answer, Accepted, answer_of, sizes_call, Filled, Listed, SwizzleLent, rooms_of, swizzle_call}
-use Rattle.rules.specs.Beside.Shape.{handed_on}
-use Rattle.rules.specs.Beside.Layouts.{fill_refusal_by, fill_refusal_of, fill_refusal, filled_by, fill_call}
+use Rattle.rules.specs.Answers.{Answer, Accepted, sizes_call, SwizzleLent, rooms_of, swizzle_call}
+use Rattle.rules.specs.Beside.Layouts.{fill_refusal_of, fill_refusal, filled_by, fill_call}
 use Rattle.rules.proofs.GoodLayouts.{good, handed_some}
 use Rattle.rules.proofs.Accepts.{init_len_lem, layout_good, number_zero}
 use Rattle.rules.proofs.Answers.{accepted}

@@ -1,13 +1,12 @@
 -- The record of a table that a text gives is written: no number refuses it in room for the longest record.
 use mathlib.Core.Path.{◌≡◌, refl, sym, ap, ◌∙◌}
-use mathlib.Core.Bool.{Bool, true, false, not}
-use Prim.Native.Nat.{ℕ, zero, suc, ◌+◌, ◌*◌, ◌≤◌}
+use mathlib.Core.Bool.{Bool, true, false}
+use Prim.Native.Nat.{ℕ, zero, suc, ◌*◌, ◌≤◌}
 use native.Mathlib.Omega.{arith}
-use mathlib.Core.List.{List, [], ◌∷◌, ◌++◌}
-use lib.ListN.{length, take, drop, get_or, set, replicate, length-append}
+use mathlib.Core.List.{List, [], ◌∷◌}
+use lib.ListN.{length, drop, get_or, replicate, length-append}
 use lib.Seq.{take_at, sets}
 use lib.Dec.{eqb, leb}
-use borrow.Author.Tests.{le-leb, leb-true}
 use Rattle.lists.specs.Lists.{all, part}
 use Rattle.lists.proofs.Choice.{and_true, not_is_false, leaves_accepted}
 use Rattle.lists.proofs.All.{all_take, all_drop}

@@ -1,5 +1,6 @@
 // The record of rows in a layout, and of a table's text.
 #![tactic(auto)]
+
 ghost use Rattle.std.specs.Prelude.{◌≡◌, ◌*◌};
 ghost use Rattle.image_state.specs.View.{sized_of};
 ghost use Rattle.image_geometry.specs.View.{layout_by};

@@ -1,0 +1,9 @@
+-- `table_readback::read_back` meets its contract.
+use Rattle.table_readback.proofs.Ends.{by_line}
+use Rattle.table_read.specs.View.{parsed_of}
+use Rattle.table_readback.proofs.read_back.Goals as goal
+
+pub returns : goal.returns
+returns c =
+    let a = c.args in
+    by_line a.out.now a.text.now _ _ _ _ (parsed_of c.read_table.result) c.line_end-n.ensures.0 c.part_u8-line.ensures.0 c.part_u8-after.ensures.0 c.read_table.ensures c.head_end.ensures
