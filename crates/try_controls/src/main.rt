@@ -1,12 +1,14 @@
 // Tries into_pos and remap_reset_over_enable, over controls that are constants, cells, inverses and bad ones, four rooms and six next free nets.
 // Every lent word holds a pattern before a call, and every word of log, state and result is compared after it with what a plain computation expects.
 #![tactic(auto)]
+
 use lists::copy_u32;
 use log_entries::LogState;
 use log_requests::{ControlsAnswer, NetAnswer};
 use net_flip_flop::Controls;
 use net_value::{ControlNet, Net};
 use rules::{FIRST_CELL, MAX_NETS, NET_X};
+use std::io;
 use try_kit::borders::{next_at, room_at, state_number};
 use try_kit::numbered;
 use try_kit::numbered::Tally;
@@ -392,31 +394,30 @@ fn remap_cases(log: &mut [u32], want: &mut [u32]) -> Tally {
     t
 }
 
-fn count(name: &[u8], n: u32) {
-    io::write_all(libc::STDOUT_FILENO, name);
-    io::print_decimal(libc::STDOUT_FILENO, n as u64);
+fn count(rt: &impl Print, name: &str, n: u32) -> io::Result<()> {
+    print!(rt; "{name}{n}")
 }
 
 // The rest of a line, after a group's name: its counts.
-fn report(t: Tally) {
-    count(b" ", t.right);
-    count(b" of ", t.made);
-    count(b": accepted ", t.accepted);
-    count(b", 1: ", t.large);
-    count(b", 2: ", t.unequal);
-    count(b", 4: ", t.bad);
-    count(b", 20: ", t.full);
-    count(b", 21: ", t.netless);
-    io::write_all(libc::STDOUT_FILENO, b"\n");
+fn report(rt: &impl Print, t: Tally) -> io::Result<()> {
+    count(rt, " ", t.right)?;
+    count(rt, " of ", t.made)?;
+    count(rt, ": accepted ", t.accepted)?;
+    count(rt, ", 1: ", t.large)?;
+    count(rt, ", 2: ", t.unequal)?;
+    count(rt, ", 4: ", t.bad)?;
+    count(rt, ", 20: ", t.full)?;
+    count(rt, ", 21: ", t.netless)?;
+    rt.print("\n")
 }
 
-fn main() {
+fn main(rt: HostRuntime) -> io::Result<()> {
     let mut log = [0u32; 48];
     let mut want = [0u32; 48];
     let t = pos_cases(&mut log, &mut want);
-    io::write_all(libc::STDOUT_FILENO, b"into_pos:");
-    report(t);
+    rt.print("into_pos:")?;
+    report(&rt, t)?;
     let u = remap_cases(&mut log, &mut want);
-    io::write_all(libc::STDOUT_FILENO, b"remap_reset_over_enable:");
-    report(u);
+    rt.print("remap_reset_over_enable:")?;
+    report(&rt, u)
 }

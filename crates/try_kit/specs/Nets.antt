@@ -1,5 +1,5 @@
 -- Nets that are good below a next free net, and one that is not.
-use Rattle.std.specs.Prelude.{ℕ, ◌+◌, ◌-◌, ◌%◌, min, max, Bool, true, false, List, [], ◌∷◌, ltb, get_or, set}
+use Rattle.std.specs.Prelude.{ℕ, ◌+◌, ◌-◌, ◌%◌, min, max, Bool, List, [], ◌∷◌, ltb, get_or, set}
 use Rattle.lists.specs.Choice.{if◌then◌else◌}
 use Rattle.rules.specs.Limits.{max_nets, X}
 use Rattle.rules.specs.Value.{first_cell}

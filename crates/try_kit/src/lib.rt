@@ -1,5 +1,6 @@
 // What the programs that try calls share: tallies, sums that ask nothing, patterned buffers, border sizes, and nets and memories to call with.
 #![tactic(auto)]
+
 pub mod borders;
 pub mod nets;
 pub mod numbered;

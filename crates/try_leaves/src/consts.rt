@@ -75,7 +75,7 @@ pub(crate) fn undefs(t: Tally) -> Tally {
 fn slice_case(t: Tally, start: usize, end: usize, number: u32, want: &[u8]) -> Tally {
     let a = [0u8, 1, 2, 1, 0];
     let t = add(t, net_logic::slice_refusal(start, end, 5) == number);
-    add(t, check::same(net_logic::const_slice(&a, start, end), want))
+    add(t, net_logic::const_slice(&a, start, end) == want)
 }
 
 pub(crate) fn slices(t: Tally) -> Tally {
@@ -91,7 +91,7 @@ pub(crate) fn slices(t: Tally) -> Tally {
 
 // The whole room after a call.
 fn holds(room: &[u8; 10], want: &[u8]) -> bool {
-    check::same(room, want)
+    room.as_slice() == want
 }
 
 fn not_case(t: Tally, a: &[u8], number: u32, want: &[u8]) -> Tally {

@@ -1,156 +1,180 @@
 // Lists records and prints each length, and whether the text is the one that is wanted. The lent array is painted before and compared after, also past the text.
 #![tactic(auto)]
-use libc::STDOUT_FILENO;
+
 use record_listing::Listed;
 use record_sizes::Sizes;
+use std::io;
 
-fn say(text: &[u8]) {
-    io::write_all(STDOUT_FILENO, text);
+fn say(rt: &impl Print, text: &str) -> io::Result<()> {
+    rt.print(text)
 }
 
-fn say_if(test: bool, yes: &[u8], no: &[u8]) {
-    if test {
-        say(yes);
-    } else {
-        say(no);
-    }
+fn say_if(rt: &impl Print, test: bool, yes: &str, no: &str) -> io::Result<()> {
+    if test { say(rt, yes) } else { say(rt, no) }
 }
 
-fn refused(n: u32, kept: bool) {
-    say(b"refused ");
-    io::print_decimal(STDOUT_FILENO, n as u64);
-    say_if(kept, b" kept\n", b" CHANGED\n");
+fn refused(rt: &impl Print, n: u32, kept: bool) -> io::Result<()> {
+    say(rt, "refused ")?;
+    rt.print(n)?;
+    say_if(rt, kept, " kept\n", " CHANGED\n")
 }
 
 // The text is the one that is wanted, to its end, and what lies past it is kept.
-fn told(out: &[u8], n: usize, want: &[u8]) {
-    io::print_decimal(STDOUT_FILENO, n as u64);
-    say_if(n == want.len(), b"", b" OTHER LENGTH");
-    say_if(try_kit::paint::starts(out, want), b" same", b" DIFFERENT");
-    say_if(try_kit::paint::painted(out, n), b" kept\n", b" CHANGED\n");
+fn told(rt: &impl Print, out: &[u8], n: usize, want: &[u8]) -> io::Result<()> {
+    rt.print(n)?;
+    say_if(rt, n == want.len(), "", " OTHER LENGTH")?;
+    say_if(rt, try_kit::paint::starts(out, want), " same", " DIFFERENT")?;
+    say_if(rt, try_kit::paint::painted(out, n), " kept\n", " CHANGED\n")
 }
 
 // What a call was given to read is as it was.
-fn given(before: u64, input: &[u8]) {
+fn given(rt: &impl Print, before: u64, input: &[u8]) -> io::Result<()> {
     if try_kit::sums::sum_of(input) != before {
-        say(b"INPUT CHANGED\n");
+        say(rt, "INPUT CHANGED\n")?;
     }
+    Ok(())
 }
 
-fn list(out: &mut [u8], name: &[u8], bytes: &[u8], want: &[u8]) {
+fn list(rt: &impl Print, out: &mut [u8], name: &str, bytes: &[u8], want: &[u8]) -> io::Result<()> {
     let before = try_kit::sums::sum_of(bytes);
     try_kit::paint::paint(out);
-    say(name);
+    say(rt, name)?;
     match record_listing::list_record(out, bytes) {
-        Listed::Refused(n) => refused(n, try_kit::paint::painted(out, 0)),
-        Listed::Accepted(n) => told(out, n, want),
+        Listed::Refused(n) => refused(rt, n, try_kit::paint::painted(out, 0))?,
+        Listed::Accepted(n) => told(rt, out, n, want)?,
     }
-    given(before, bytes);
+    given(rt, before, bytes)
 }
 
 // An input of which only the first bytes are stored.
-fn list_long(out: &mut [u8], name: &[u8], first: &[u8], total: usize, want: &[u8]) {
+fn list_long(
+    rt: &impl Print,
+    out: &mut [u8],
+    name: &str,
+    first: &[u8],
+    total: usize,
+    want: &[u8],
+) -> io::Result<()> {
     let before = try_kit::sums::sum_of(first);
     try_kit::paint::paint(out);
-    say(name);
+    say(rt, name)?;
     match record_listing::list_input(out, first, total) {
-        Listed::Refused(n) => refused(n, try_kit::paint::painted(out, 0)),
-        Listed::Accepted(n) => told(out, n, want),
+        Listed::Refused(n) => refused(rt, n, try_kit::paint::painted(out, 0))?,
+        Listed::Accepted(n) => told(rt, out, n, want)?,
     }
-    given(before, first);
+    given(rt, before, first)
 }
 
 // A text that is too long to be written out here: its sum.
-fn list_sum(out: &mut [u8], name: &[u8], bytes: &[u8], want: u64) {
+fn list_sum(
+    rt: &impl Print,
+    out: &mut [u8],
+    name: &str,
+    bytes: &[u8],
+    want: u64,
+) -> io::Result<()> {
     let before = try_kit::sums::sum_of(bytes);
     try_kit::paint::paint(out);
-    say(name);
+    say(rt, name)?;
     match record_listing::list_record(out, bytes) {
-        Listed::Refused(n) => refused(n, try_kit::paint::painted(out, 0)),
-        Listed::Accepted(n) => told_sum(out, n, want),
+        Listed::Refused(n) => refused(rt, n, try_kit::paint::painted(out, 0))?,
+        Listed::Accepted(n) => told_sum(rt, out, n, want)?,
     }
-    given(before, bytes);
+    given(rt, before, bytes)
 }
 
-fn told_sum(out: &[u8], n: usize, want: u64) {
-    io::print_decimal(STDOUT_FILENO, n as u64);
+fn told_sum(rt: &impl Print, out: &[u8], n: usize, want: u64) -> io::Result<()> {
+    rt.print(n)?;
     say_if(
+        rt,
         try_kit::sums::sum_of(lists::part_u8(out, 0, n)) == want,
-        b" same",
-        b" DIFFERENT",
-    );
-    say_if(try_kit::paint::painted(out, n), b" kept\n", b" CHANGED\n");
+        " same",
+        " DIFFERENT",
+    )?;
+    say_if(rt, try_kit::paint::painted(out, n), " kept\n", " CHANGED\n")
 }
 
-fn list_cases(out: &mut [u8]) {
+fn list_cases(rt: &impl Print, out: &mut [u8]) -> io::Result<()> {
     let text = b"memories 2 trits 6\n0 2 3 2 load\n1 1 2 0 blank\n";
     list(
+        rt,
         out,
-        b"the first ",
+        "the first ",
         b"\x05\x00\x02\x00\x01\x00\x02\x00\x01\x00\x01\x00\x3B\x09",
         text,
-    );
-    list(out, b"nothing ", b"", b"refused 16\n");
+    )?;
+    list(rt, out, "nothing ", b"", b"refused 16\n")
 }
 
-fn list_refused(out: &mut [u8]) {
+fn list_refused(rt: &impl Print, out: &mut [u8]) -> io::Result<()> {
     list(
+        rt,
         out,
-        b"sizes ",
+        "sizes ",
         b"\x05\x00\x00\x00\x01\x00\x02\x00\x01\x00\x01\x00",
         b"refused 17\n",
-    );
+    )?;
     list(
+        rt,
         out,
-        b"a spare bit ",
+        "a spare bit ",
         b"\x05\x00\x02\x00\x01\x00\x02\x00\x01\x00\x01\x00\x3B\x49",
         b"refused 18\n",
-    );
+    )
 }
 
-fn list_none(out: &mut [u8]) {
+fn list_none(rt: &impl Print, out: &mut [u8]) -> io::Result<()> {
     list(
+        rt,
         out,
-        b"no memories ",
+        "no memories ",
         b"\x05\x00\x01\x00\x00\x00\x00\x00\x00\x00\x00\x00",
         b"memories 0 trits 0\n",
-    );
+    )
 }
 
-fn list_short(out: &mut [u8]) {
-    list(out, b"into a short room ", b"", b"");
+fn list_short(rt: &impl Print, out: &mut [u8]) -> io::Result<()> {
+    list(rt, out, "into a short room ", b"", b"")?;
     list(
+        rt,
         out,
-        b"a record into a short room ",
+        "a record into a short room ",
         b"\x05\x00\x02\x00\x01\x00\x02\x00\x01\x00\x01\x00\x3B\x09",
         b"",
-    );
-    list_long(out, b"a long input into a short room ", b"\x05", 70000, b"");
+    )?;
+    list_long(
+        rt,
+        out,
+        "a long input into a short room ",
+        b"\x05",
+        70000,
+        b"",
+    )
 }
 
-fn list_exact(out: &mut [u8]) {
-    list(out, b"into exact room ", b"", b"refused 16\n");
+fn list_exact(rt: &impl Print, out: &mut [u8]) -> io::Result<()> {
+    list(rt, out, "into exact room ", b"", b"refused 16\n")
 }
 
-fn list_inputs(out: &mut [u8]) {
+fn list_inputs(rt: &impl Print, out: &mut [u8]) -> io::Result<()> {
     let first = b"\x05\x00\x00\x01\x80\x00\x08\x00\x00\x00\x00\x00";
-    list_long(out, b"too many trits ", first, 65548, b"refused 17\n");
-    list_long(out, b"another length ", first, 65549, b"refused 16\n");
+    list_long(rt, out, "too many trits ", first, 65548, b"refused 17\n")?;
+    list_long(rt, out, "another length ", first, 65549, b"refused 16\n")
 }
 
-fn small_cases() {
+fn small_cases(rt: &impl Print) -> io::Result<()> {
     let mut room = [0u8; 80];
-    list_cases(&mut room);
-    list_refused(&mut room);
-    list_none(&mut room);
-    list_inputs(&mut room);
+    list_cases(rt, &mut room)?;
+    list_refused(rt, &mut room)?;
+    list_none(rt, &mut room)?;
+    list_inputs(rt, &mut room)
 }
 
-fn short_case() {
+fn short_case(rt: &impl Print) -> io::Result<()> {
     let mut room = [0u8; 10];
-    list_short(&mut room);
+    list_short(rt, &mut room)?;
     let mut exact = [0u8; 11];
-    list_exact(&mut exact);
+    list_exact(rt, &mut exact)
 }
 
 // ---- the largest image
@@ -179,17 +203,18 @@ fn many_sizes() -> Sizes {
 }
 
 // Lists the record of an image of the largest size.
-fn list_deep(out: &mut [u8]) {
+fn list_deep(rt: &impl Print, out: &mut [u8]) -> io::Result<()> {
     let mut image = image_room();
     let mut bytes = bytes_room();
     try_kit::paint::fill_trits(&mut image);
     record_codec::write_record(&mut bytes, deep_sizes(), &image);
     list(
+        rt,
         out,
-        b"the deepest ",
+        "the deepest ",
         &bytes,
         b"memories 1 trits 131072\n0 32768 87382 43691 load\n",
-    );
+    )
 }
 
 // The sum of the longest of these texts and its bytes, which another program gave.
@@ -197,12 +222,12 @@ const MOST_SUM: u64 = 4196023880;
 
 const MOST_BYTES: usize = 545974;
 
-fn list_most(out: &mut [u8], name: &[u8]) {
+fn list_most(rt: &impl Print, out: &mut [u8], name: &str) -> io::Result<()> {
     let mut image = image_room();
     let mut bytes = bytes_room();
     try_kit::paint::fill_trits(&mut image);
     record_codec::write_record(&mut bytes, many_sizes(), &image);
-    list_sum(out, name, &bytes, MOST_SUM);
+    list_sum(rt, out, name, &bytes, MOST_SUM)
 }
 
 fn image_room() -> [u8; IMAGE_ROOM] {
@@ -228,22 +253,22 @@ fn short_room() -> [u8; MOST_BYTES - 1] {
     [0u8; MOST_BYTES - 1]
 }
 
-fn large_room() {
+fn large_room(rt: &impl Print) -> io::Result<()> {
     let mut text = text_room();
-    list_deep(&mut text);
-    list_most(&mut text, b"the most ");
+    list_deep(rt, &mut text)?;
+    list_most(rt, &mut text, "the most ")
 }
 
-fn small_rooms() {
+fn small_rooms(rt: &impl Print) -> io::Result<()> {
     let mut exact = exact_room();
-    list_most(&mut exact, b"the most into exact room ");
+    list_most(rt, &mut exact, "the most into exact room ")?;
     let mut short = short_room();
-    list_most(&mut short, b"the most into a short room ");
+    list_most(rt, &mut short, "the most into a short room ")
 }
 
-fn main() {
-    small_cases();
-    short_case();
-    large_room();
-    small_rooms();
+fn main(rt: HostRuntime) -> io::Result<()> {
+    small_cases(&rt)?;
+    short_case(&rt)?;
+    large_room(&rt)?;
+    small_rooms(&rt)
 }

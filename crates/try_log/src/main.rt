@@ -1,49 +1,51 @@
 // Tries every request of one entry at border lengths, rooms and next free nets. Every lent word holds a pattern before a call, and every word of log,
 // state and result is compared after it with what a plain computation here expects, for accepted and for refused calls.
 #![tactic(auto)]
+
 mod cells;
 
+use std::io;
 use try_kit::numbered::Tally;
 
-fn say(s: &[u8]) {
-    io::write_all(libc::STDOUT_FILENO, s);
+fn say(rt: &impl Print, s: &str) -> io::Result<()> {
+    rt.print(s)
 }
 
-fn count(name: &[u8], n: u32) {
-    io::write_all(libc::STDOUT_FILENO, name);
-    io::print_decimal(libc::STDOUT_FILENO, n as u64);
+fn count(rt: &impl Print, name: &str, n: u32) -> io::Result<()> {
+    print!(rt; "{name}{n}")
 }
 
 // The rest of a line, after a group's name: its counts.
-fn report(t: Tally) {
-    count(b" ", t.right);
-    count(b" of ", t.made);
-    count(b": accepted ", t.accepted);
-    report_numbers(t);
-    io::write_all(libc::STDOUT_FILENO, b"\n");
+fn report(rt: &impl Print, t: Tally) -> io::Result<()> {
+    count(rt, " ", t.right)?;
+    count(rt, " of ", t.made)?;
+    count(rt, ": accepted ", t.accepted)?;
+    report_numbers(rt, t)?;
+    rt.print("\n")
 }
 
-fn report_numbers(t: Tally) {
-    count(b", 1: ", t.large);
-    count(b", 2: ", t.unequal);
-    count(b", 4: ", t.bad);
-    count(b", 20: ", t.full);
-    count(b", 21: ", t.netless);
+fn report_numbers(rt: &impl Print, t: Tally) -> io::Result<()> {
+    count(rt, ", 1: ", t.large)?;
+    count(rt, ", 2: ", t.unequal)?;
+    count(rt, ", 4: ", t.bad)?;
+    count(rt, ", 20: ", t.full)?;
+    count(rt, ", 21: ", t.netless)
 }
 
-fn name_of(kind: u32) {
-    say(b"kind ");
-    io::print_decimal(libc::STDOUT_FILENO, kind as u64);
-    say(b":");
+fn name_of(rt: &impl Print, kind: u32) -> io::Result<()> {
+    say(rt, "kind ")?;
+    rt.print(kind)?;
+    say(rt, ":")
 }
 
 // The kinds of entries: void, not, and, or, mux, eq, shl, ushr, flip-flop and replace.
-fn main() {
+fn main(rt: HostRuntime) -> io::Result<()> {
     let mut kind: u32 = 1;
     while kind < 11 {
         let t = cells::cases(kind);
-        name_of(kind);
-        report(t);
+        name_of(&rt, kind)?;
+        report(&rt, t)?;
         kind += 1;
     }
+    Ok(())
 }

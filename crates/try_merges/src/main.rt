@@ -2,10 +2,12 @@
 // bad select, with a room for results that is one net short, and with one value a bit longer than the other. Every lent word holds a pattern before a call, and every word of log, state and result is compared after it with what a plain computation
 // expects, which finds the distinct pairs by a plain search.
 #![tactic(auto)]
+
 use lists::{copy_u32, put_u32};
 use log_entries::LogState;
 use log_requests::Answer;
 use rules::{FIRST_CELL, MAX_MERGE, MAX_NETS};
+use std::io;
 use try_kit::borders::{length_at, room_at, state_number};
 use try_kit::nets::{fill_nets, net_at, spoil};
 use try_kit::numbered;
@@ -482,33 +484,32 @@ fn cases(bitwise: bool) -> Tally {
     t
 }
 
-fn count(name: &[u8], n: u32) {
-    io::write_all(libc::STDOUT_FILENO, name);
-    io::print_decimal(libc::STDOUT_FILENO, n as u64);
+fn count(rt: &impl Print, name: &str, n: u32) -> io::Result<()> {
+    print!(rt; "{name}{n}")
 }
 
 // The rest of a line, after a group's name: its counts.
-fn report(t: Tally) {
-    count(b" ", t.right);
-    count(b" of ", t.made);
-    count(b": accepted ", t.accepted);
-    report_numbers(t);
-    io::write_all(libc::STDOUT_FILENO, b"\n");
+fn report(rt: &impl Print, t: Tally) -> io::Result<()> {
+    count(rt, " ", t.right)?;
+    count(rt, " of ", t.made)?;
+    count(rt, ": accepted ", t.accepted)?;
+    report_numbers(rt, t)?;
+    rt.print("\n")
 }
 
-fn report_numbers(t: Tally) {
-    count(b", 1: ", t.large);
-    count(b", 2: ", t.unequal);
-    count(b", 4: ", t.bad);
-    count(b", 20: ", t.full);
-    count(b", 21: ", t.netless);
+fn report_numbers(rt: &impl Print, t: Tally) -> io::Result<()> {
+    count(rt, ", 1: ", t.large)?;
+    count(rt, ", 2: ", t.unequal)?;
+    count(rt, ", 4: ", t.bad)?;
+    count(rt, ", 20: ", t.full)?;
+    count(rt, ", 21: ", t.netless)
 }
 
-fn main() {
+fn main(rt: HostRuntime) -> io::Result<()> {
     let t = cases(false);
-    io::write_all(libc::STDOUT_FILENO, b"add_dedup_mux:");
-    report(t);
+    rt.print("add_dedup_mux:")?;
+    report(&rt, t)?;
     let u = cases(true);
-    io::write_all(libc::STDOUT_FILENO, b"add_bitwise_mux:");
-    report(u);
+    rt.print("add_bitwise_mux:")?;
+    report(&rt, u)
 }

@@ -1,107 +1,150 @@
 // Tries texts of a header line, a record and a table: what refuses each, and what is written for those that are accepted.
 #![tactic(auto)]
-use libc::STDOUT_FILENO;
+
+use std::io;
 use table_readback::Answer;
 
-fn write_text(text: &[u8]) {
-    io::write_all(STDOUT_FILENO, text);
+fn write_text(rt: &impl Print, text: &str) -> io::Result<()> {
+    rt.print(text)
 }
 
-fn write_number(n: u64) {
-    io::print_decimal(STDOUT_FILENO, n);
+fn write_number(rt: &impl Print, n: u64) -> io::Result<()> {
+    rt.print(n)
 }
 
-fn write_fault(line: u32, reason: u32) {
-    write_text(b"line ");
-    write_number(line as u64);
-    write_text(b" reason ");
-    write_number(reason as u64);
-    write_text(b"\n");
+fn write_fault(rt: &impl Print, line: u32, reason: u32) -> io::Result<()> {
+    write_text(rt, "line ")?;
+    write_number(rt, line as u64)?;
+    write_text(rt, " reason ")?;
+    write_number(rt, reason as u64)?;
+    write_text(rt, "\n")
 }
 
-fn write_table_fault(line: u32, reason: u32) {
-    write_text(b"table ");
-    write_fault(line, reason);
+fn write_table_fault(rt: &impl Print, line: u32, reason: u32) -> io::Result<()> {
+    write_text(rt, "table ")?;
+    write_fault(rt, line, reason)
 }
 
-fn write_refused(n: u32) {
-    write_text(b"refused ");
-    write_number(n as u64);
-    write_text(b"\n");
+fn write_refused(rt: &impl Print, n: u32) -> io::Result<()> {
+    write_text(rt, "refused ")?;
+    write_number(rt, n as u64)?;
+    write_text(rt, "\n")
 }
 
-fn write_front(out: &[u8], size: usize) {
-    write_text(lists::part_u8(out, 0, size));
+fn write_front(rt: &impl Print, out: &[u8], size: usize) -> io::Result<()> {
+    rt.write_all(lists::part_u8(out, 0, size))
 }
 
-fn write_answer(out: &[u8], answer: Answer) {
+fn write_answer(rt: &impl Print, out: &[u8], answer: Answer) -> io::Result<()> {
     match answer {
-        Answer::BadText(line, reason) => write_fault(line, reason),
-        Answer::BadTable(line, reason) => write_table_fault(line, reason),
-        Answer::Refused(n) => write_refused(n),
-        Answer::Accepted(size) => write_front(out, size),
+        Answer::BadText(line, reason) => write_fault(rt, line, reason),
+        Answer::BadTable(line, reason) => write_table_fault(rt, line, reason),
+        Answer::Refused(n) => write_refused(rt, n),
+        Answer::Accepted(size) => write_front(rt, out, size),
     }
 }
 
-fn tried(text: &[u8]) {
+fn tried(rt: &impl Print, text: &[u8]) -> io::Result<()> {
     let mut out = [0u8; 256];
     let answer = table_readback::read_back(&mut out, text);
-    write_answer(&out, answer);
+    write_answer(rt, &out, answer)
 }
 
 // In room for one byte less than the text.
-fn try_room(text: &[u8]) {
+fn try_room(rt: &impl Print, text: &[u8]) -> io::Result<()> {
     let mut out = [0u8; 24];
     let answer = table_readback::read_back(&mut out, text);
-    write_answer(&out, answer);
+    write_answer(rt, &out, answer)
 }
 
 // Header lines.
-fn try_headers() {
-    tried(b"3 2 plain 0\n\x05\x00\x02\x00\x01\x00\x02\x00\x01\x00\x01\x00;\x09");
-    tried(b"3 2 plain 0 1 0\n\x05\x00\x02\x00\x01\x00\x02\x00\x01\x00\x01\x00;\x09");
-    tried(b"");
-    tried(b"3 2 plain 0 1 2\n");
+fn try_headers(rt: &impl Print) -> io::Result<()> {
+    tried(
+        rt,
+        b"3 2 plain 0\n\x05\x00\x02\x00\x01\x00\x02\x00\x01\x00\x01\x00;\x09",
+    )?;
+    tried(
+        rt,
+        b"3 2 plain 0 1 0\n\x05\x00\x02\x00\x01\x00\x02\x00\x01\x00\x01\x00;\x09",
+    )?;
+    tried(rt, b"")?;
+    tried(rt, b"3 2 plain 0 1 2\n")
 }
 
 // Records.
-fn try_records() {
-    tried(b"3 2 plain 0 1 2\n\x05\x00\x02\x00\x01\x00\x02\x00\x01\x00\x01\x00;\x09");
-    tried(b"3 2 1,0 0 1 2 \x0d\n\x05\x00\x02\x00\x01\x00\x02\x00\x01\x00\x01\x00;\x09");
-    tried(b"3 2 plain 0 1 2\n\x05\x00\x02\x00\x01\x00\x02\x00\x01\x00\x01\x00;");
-    tried(b"3 2 plain 0 1 2\n\x06\x00\x02\x00\x01\x00\x02\x00\x01\x00\x01\x00;\x09");
-    tried(b"3 2 plain 0 1 1\n\x05\x00\x02\x00\x01\x00\x02\x00\x01\x00\x01\x00;\x09");
-    tried(b"3 1 plain 0 1 2\n\x05\x00\x02\x00\x01\x00\x02\x00\x01\x00\x01\x00;\x09");
-    tried(b"3 2 plain 0 1 2\n\x05\x00\x02\x00\x01\x00\x02\x00\x01\x00\x01\x00\xbb\x09");
-    tried(b"3 2 plain 0 1 2\n\x05\x00\x02\x00\x01\x00\x02\x00\x01\x00\x01\x00:\x09");
+fn try_records(rt: &impl Print) -> io::Result<()> {
+    tried(
+        rt,
+        b"3 2 plain 0 1 2\n\x05\x00\x02\x00\x01\x00\x02\x00\x01\x00\x01\x00;\x09",
+    )?;
+    tried(
+        rt,
+        b"3 2 1,0 0 1 2 \x0d\n\x05\x00\x02\x00\x01\x00\x02\x00\x01\x00\x01\x00;\x09",
+    )?;
+    tried(
+        rt,
+        b"3 2 plain 0 1 2\n\x05\x00\x02\x00\x01\x00\x02\x00\x01\x00\x01\x00;",
+    )?;
+    tried(
+        rt,
+        b"3 2 plain 0 1 2\n\x06\x00\x02\x00\x01\x00\x02\x00\x01\x00\x01\x00;\x09",
+    )?;
+    tried(
+        rt,
+        b"3 2 plain 0 1 1\n\x05\x00\x02\x00\x01\x00\x02\x00\x01\x00\x01\x00;\x09",
+    )?;
+    tried(
+        rt,
+        b"3 1 plain 0 1 2\n\x05\x00\x02\x00\x01\x00\x02\x00\x01\x00\x01\x00;\x09",
+    )?;
+    tried(
+        rt,
+        b"3 2 plain 0 1 2\n\x05\x00\x02\x00\x01\x00\x02\x00\x01\x00\x01\x00\xbb\x09",
+    )?;
+    tried(
+        rt,
+        b"3 2 plain 0 1 2\n\x05\x00\x02\x00\x01\x00\x02\x00\x01\x00\x01\x00:\x09",
+    )
 }
 
 // Tables behind the record.
-fn try_tables() {
+fn try_tables(rt: &impl Print) -> io::Result<()> {
     tried(
+        rt,
         b"3 2 plain 0 1 2\n\x05\x00\x02\x00\x01\x00\x02\x00\x01\x00\x01\x00;\x093 2 plain 0 1 2\n01 1x 00",
-    );
+    )?;
     tried(
+        rt,
         b"3 2 plain 0 1 2\n\x05\x00\x02\x00\x01\x00\x02\x00\x01\x00\x01\x00;\x093 2 1,0 0 0 4\n01\n@2 00 // row 1 is X",
-    );
+    )?;
     tried(
+        rt,
         b"3 2 plain 0 1 2\n\x05\x00\x02\x00\x01\x00\x02\x00\x01\x00\x01\x00;\x094 2 plain 0 1 2\n",
-    );
+    )?;
     tried(
+        rt,
         b"3 2 plain 0 1 2\n\x05\x00\x02\x00\x01\x00\x02\x00\x01\x00\x01\x00;\x093 1 plain 0 1 2\n",
-    );
+    )?;
     tried(
+        rt,
         b"3 2 plain 0 1 2\n\x05\x00\x02\x00\x01\x00\x02\x00\x01\x00\x01\x00;\x093 2 plain 0 1 2\n01\n1y\n",
-    );
-    tried(b"3 2 plain 0 1 2\n\x05\x00\x02\x00\x01\x00\x02\x00\x01\x00\x01\x00;\x09\n");
+    )?;
     tried(
+        rt,
+        b"3 2 plain 0 1 2\n\x05\x00\x02\x00\x01\x00\x02\x00\x01\x00\x01\x00;\x09\n",
+    )?;
+    tried(
+        rt,
         b"3 2 plain 0 1 2\n\x05\x00\x02\x00\x01\x00\x02\x00\x01\x00\x01\x00;\x093 2 plain 0 1 2\n10 10 10",
-    );
+    )
 }
 
-fn main() {
-    try_headers();
-    try_records();
-    try_tables();
-    try_room(b"3 2 plain 0 1 2\n\x05\x00\x02\x00\x01\x00\x02\x00\x01\x00\x01\x00;\x09");
+fn main(rt: HostRuntime) -> io::Result<()> {
+    try_headers(&rt)?;
+    try_records(&rt)?;
+    try_tables(&rt)?;
+    try_room(
+        &rt,
+        b"3 2 plain 0 1 2\n\x05\x00\x02\x00\x01\x00\x02\x00\x01\x00\x01\x00;\x09",
+    )
 }

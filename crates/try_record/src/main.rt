@@ -1,37 +1,34 @@
 // Runs the calls on records over cases and prints each answer. Every lent array is painted before and compared after, also past the part that is used, and so
 // is what the calls are given to read.
 #![tactic(auto)]
-use libc::STDOUT_FILENO;
+
 use record_codec::{Head, Written};
 use record_listing::summary::{Summarized, Summary};
 use record_reader::TritFound;
 use record_sizes::Sizes;
+use std::io;
 
 // ---- answers
 
-fn say(text: &[u8]) {
-    io::write_all(STDOUT_FILENO, text);
+fn say(rt: &impl Print, text: &str) -> io::Result<()> {
+    rt.print(text)
 }
 
-fn say_if(test: bool, yes: &[u8], no: &[u8]) {
-    if test {
-        say(yes);
-    } else {
-        say(no);
-    }
+fn say_if(rt: &impl Print, test: bool, yes: &str, no: &str) -> io::Result<()> {
+    if test { say(rt, yes) } else { say(rt, no) }
 }
 
-fn refused(n: u32, kept: bool) {
-    say(b" refused ");
-    io::print_decimal(STDOUT_FILENO, n as u64);
-    say_if(kept, b" kept\n", b" CHANGED\n");
+fn refused(rt: &impl Print, n: u32, kept: bool) -> io::Result<()> {
+    say(rt, " refused ")?;
+    rt.print(n)?;
+    say_if(rt, kept, " kept\n", " CHANGED\n")
 }
 
-fn done(n: usize, same: bool, kept: bool) {
-    say(b" gives ");
-    io::print_decimal(STDOUT_FILENO, n as u64);
-    say_if(same, b" same", b" DIFFERENT");
-    say_if(kept, b" kept\n", b" CHANGED\n");
+fn done(rt: &impl Print, n: usize, same: bool, kept: bool) -> io::Result<()> {
+    say(rt, " gives ")?;
+    rt.print(n)?;
+    say_if(rt, same, " same", " DIFFERENT")?;
+    say_if(rt, kept, " kept\n", " CHANGED\n")
 }
 
 fn same_sizes(a: Sizes, b: Sizes) -> bool {
@@ -52,101 +49,118 @@ fn same_sizes(a: Sizes, b: Sizes) -> bool {
 
 // ---- the calls
 
-fn write(out: &mut [u8], name: &[u8], s: Sizes, image: &[u8], want: &[u8]) {
+fn write(
+    rt: &impl Print,
+    out: &mut [u8],
+    name: &str,
+    s: Sizes,
+    image: &[u8],
+    want: &[u8],
+) -> io::Result<()> {
     let before = try_kit::sums::sum_of(image);
-    say(name);
+    say(rt, name)?;
     try_kit::paint::paint(out);
     match record_codec::write_record(out, s, image) {
-        Written::Refused(n) => refused(n, try_kit::paint::painted(out, 0)),
+        Written::Refused(n) => refused(rt, n, try_kit::paint::painted(out, 0))?,
         Written::Accepted(n) => done(
+            rt,
             n,
             try_kit::paint::starts(out, want),
             try_kit::paint::painted(out, n),
-        ),
+        )?,
     }
-    given(before, image);
+    given(rt, before, image)
 }
 
 // What a call was given to read is as it was.
-fn given(before: u64, input: &[u8]) {
+fn given(rt: &impl Print, before: u64, input: &[u8]) -> io::Result<()> {
     if try_kit::sums::sum_of(input) != before {
-        say(b"INPUT CHANGED\n");
+        say(rt, "INPUT CHANGED\n")?;
     }
+    Ok(())
 }
 
-fn read(image: &mut [u8], name: &[u8], bytes: &[u8], s: Sizes, want: &[u8]) {
+fn read(
+    rt: &impl Print,
+    image: &mut [u8],
+    name: &str,
+    bytes: &[u8],
+    s: Sizes,
+    want: &[u8],
+) -> io::Result<()> {
     let before = try_kit::sums::sum_of(bytes);
-    say(name);
+    say(rt, name)?;
     try_kit::paint::paint(image);
     match record_codec::read_record(image, bytes) {
-        Head::Refused(n) => refused(n, try_kit::paint::painted(image, 0)),
-        Head::Accepted(z) => read_done(same_sizes(z, s), image, want),
+        Head::Refused(n) => refused(rt, n, try_kit::paint::painted(image, 0))?,
+        Head::Accepted(z) => read_done(rt, same_sizes(z, s), image, want)?,
     }
-    given(before, bytes);
+    given(rt, before, bytes)
 }
 
-fn read_done(same: bool, image: &[u8], want: &[u8]) {
+fn read_done(rt: &impl Print, same: bool, image: &[u8], want: &[u8]) -> io::Result<()> {
     if same {
         done(
+            rt,
             want.len(),
             try_kit::paint::starts(image, want),
             try_kit::paint::painted(image, want.len()),
-        );
+        )
     } else {
-        say(b" OTHER SIZES\n");
+        say(rt, " OTHER SIZES\n")
     }
 }
 
-fn head(name: &[u8], first: &[u8], total: usize, s: Sizes) {
+fn head(rt: &impl Print, name: &str, first: &[u8], total: usize, s: Sizes) -> io::Result<()> {
     let before = try_kit::sums::sum_of(first);
-    say(name);
+    say(rt, name)?;
     match record_codec::record_header(first, total) {
-        Head::Refused(n) => refused(n, true),
-        Head::Accepted(z) => done(total, same_sizes(z, s), true),
+        Head::Refused(n) => refused(rt, n, true)?,
+        Head::Accepted(z) => done(rt, total, same_sizes(z, s), true)?,
     }
-    given(before, first);
+    given(rt, before, first)
 }
 
-fn summarize(name: &[u8], s: Sizes, image: &[u8], index: usize) {
+fn summarize(rt: &impl Print, name: &str, s: Sizes, image: &[u8], index: usize) -> io::Result<()> {
     let before = try_kit::sums::sum_of(image);
-    say(name);
+    say(rt, name)?;
     match record_listing::summary::memory_summary(s, image, index) {
-        Summarized::Refused(n) => refused(n, true),
-        Summarized::Accepted(y) => show(y),
+        Summarized::Refused(n) => refused(rt, n, true)?,
+        Summarized::Accepted(y) => show(rt, y)?,
     }
-    given(before, image);
+    given(rt, before, image)
 }
 
-fn show_number(n: usize) {
-    say(b" ");
-    io::print_decimal(STDOUT_FILENO, n as u64);
+fn show_number(rt: &impl Print, n: usize) -> io::Result<()> {
+    say(rt, " ")?;
+    rt.print(n)
 }
 
-fn show(y: Summary) {
-    show_number(y.index);
-    show_number(y.depth);
-    show_number(y.known);
-    show_number(y.ones);
-    say(b"\n");
+fn show(rt: &impl Print, y: Summary) -> io::Result<()> {
+    show_number(rt, y.index)?;
+    show_number(rt, y.depth)?;
+    show_number(rt, y.known)?;
+    show_number(rt, y.ones)?;
+    say(rt, "\n")
 }
 
-fn show_trit(t: TritFound) {
+fn show_trit(rt: &impl Print, t: TritFound) -> io::Result<()> {
     match t {
-        TritFound::Code(c) => show_number(c as usize),
-        TritFound::End => say(b" end"),
+        TritFound::Code(c) => show_number(rt, c as usize),
+        TritFound::End => say(rt, " end"),
     }
 }
 
-fn take_two(name: &[u8], bytes: &[u8]) {
+fn take_two(rt: &impl Print, name: &str, bytes: &[u8]) -> io::Result<()> {
     let before = try_kit::sums::sum_of(bytes);
-    say(name);
+    say(rt, name)?;
     let taken = record_reader::first_trits(bytes);
     let first = taken.first;
     let second = taken.second;
-    show_trit(first);
-    show_trit(second);
-    say(b"\n");
-    given(before, bytes);
+    show_trit(rt, first)?;
+    show_trit(rt, second)?;
+    say(rt, "\n")?;
+    given(rt, before, bytes)
 }
 
 // ---- small cases: document 01's record, and records that break one rule
@@ -192,234 +206,257 @@ fn huge_sizes() -> Sizes {
     }
 }
 
-fn write_cases(out: &mut [u8]) {
+fn write_cases(rt: &impl Print, out: &mut [u8]) -> io::Result<()> {
     let image = b"\x01\x00\x02\x01\x00\x00\x01\x00\x07";
     let record = b"\x05\x00\x02\x00\x01\x00\x02\x00\x01\x00\x01\x00\x3B\x09";
-    write(out, b"write the first", first_sizes(), image, record);
-    write(out, b"write sizes", bad_sizes(), image, record);
+    write(rt, out, "write the first", first_sizes(), image, record)?;
+    write(rt, out, "write sizes", bad_sizes(), image, record)
 }
 
-fn write_bad(out: &mut [u8]) {
+fn write_bad(rt: &impl Print, out: &mut [u8]) -> io::Result<()> {
     let bad = b"\x01\x00\x02\x01\x03\x00\x01\x00";
-    write(out, b"write a bad trit", first_sizes(), bad, bad);
-    write(out, b"write a bad trit, sizes", bad_sizes(), bad, bad);
+    write(rt, out, "write a bad trit", first_sizes(), bad, bad)?;
+    write(rt, out, "write a bad trit, sizes", bad_sizes(), bad, bad)
 }
 
-fn write_more(out: &mut [u8]) {
+fn write_more(rt: &impl Print, out: &mut [u8]) -> io::Result<()> {
     let image = b"\x01\x00\x02\x01\x00";
-    write(out, b"write huge sizes", huge_sizes(), image, image);
-    write(out, b"write a short image", first_sizes(), image, image);
+    write(rt, out, "write huge sizes", huge_sizes(), image, image)?;
+    write(rt, out, "write a short image", first_sizes(), image, image)
 }
 
-fn write_none(out: &mut [u8]) {
+fn write_none(rt: &impl Print, out: &mut [u8]) -> io::Result<()> {
     write(
+        rt,
         out,
-        b"write no memories",
+        "write no memories",
         no_sizes(),
         b"\x09",
         b"\x05\x00\x01\x00\x00\x00\x00\x00\x00\x00\x00\x00",
-    );
+    )
 }
 
-fn write_short(out: &mut [u8]) {
+fn write_short(rt: &impl Print, out: &mut [u8]) -> io::Result<()> {
     let image = b"\x01\x00\x02\x01\x00\x00";
-    write(out, b"write a short room", first_sizes(), image, image);
+    write(rt, out, "write a short room", first_sizes(), image, image)
 }
 
-fn read_first(image: &mut [u8], name: &[u8], bytes: &[u8]) {
+fn read_first(rt: &impl Print, image: &mut [u8], name: &str, bytes: &[u8]) -> io::Result<()> {
     read(
+        rt,
         image,
         name,
         bytes,
         first_sizes(),
         b"\x01\x00\x02\x01\x00\x00",
-    );
+    )
 }
 
-fn read_cases(image: &mut [u8]) {
+fn read_cases(rt: &impl Print, image: &mut [u8]) -> io::Result<()> {
     read_first(
+        rt,
         image,
-        b"read the first",
+        "read the first",
         b"\x05\x00\x02\x00\x01\x00\x02\x00\x01\x00\x01\x00\x3B\x09",
-    );
-    read_first(image, b"read nothing", b"");
+    )?;
+    read_first(rt, image, "read nothing", b"")
 }
 
-fn read_lengths(image: &mut [u8]) {
+fn read_lengths(rt: &impl Print, image: &mut [u8]) -> io::Result<()> {
     read_first(
+        rt,
         image,
-        b"read a short one",
+        "read a short one",
         b"\x05\x00\x02\x00\x01\x00\x02\x00\x01\x00\x01\x00\x3B",
-    );
+    )?;
     read_first(
+        rt,
         image,
-        b"read a long one",
+        "read a long one",
         b"\x05\x00\x02\x00\x01\x00\x02\x00\x01\x00\x01\x00\x3B\x09\x00",
-    );
+    )
 }
 
-fn read_words(image: &mut [u8]) {
+fn read_words(rt: &impl Print, image: &mut [u8]) -> io::Result<()> {
     read_first(
+        rt,
         image,
-        b"read another first word",
+        "read another first word",
         b"\x04\x00\x02\x00\x01\x00\x02\x00\x01\x00\x01\x00\x3B\x09",
-    );
+    )?;
     read_first(
+        rt,
         image,
-        b"read sizes",
+        "read sizes",
         b"\x05\x00\x00\x00\x01\x00\x02\x00\x01\x00\x01\x00",
-    );
+    )
 }
 
-fn read_bits(image: &mut [u8]) {
+fn read_bits(rt: &impl Print, image: &mut [u8]) -> io::Result<()> {
     read_first(
+        rt,
         image,
-        b"read a value bit alone",
+        "read a value bit alone",
         b"\x05\x00\x02\x00\x01\x00\x02\x00\x01\x00\x01\x00\x3A\x09",
-    );
+    )?;
     read_first(
+        rt,
         image,
-        b"read a spare known bit",
+        "read a spare known bit",
         b"\x05\x00\x02\x00\x01\x00\x02\x00\x01\x00\x01\x00\x7B\x09",
-    );
+    )
 }
 
-fn read_spare(image: &mut [u8]) {
+fn read_spare(rt: &impl Print, image: &mut [u8]) -> io::Result<()> {
     read_first(
+        rt,
         image,
-        b"read a spare value bit",
+        "read a spare value bit",
         b"\x05\x00\x02\x00\x01\x00\x02\x00\x01\x00\x01\x00\x3B\x49",
-    );
+    )?;
     read_first(
+        rt,
         image,
-        b"read two spare bits",
+        "read two spare bits",
         b"\x05\x00\x02\x00\x01\x00\x02\x00\x01\x00\x01\x00\xBB\x89",
-    );
+    )
 }
 
-fn read_none(image: &mut [u8]) {
+fn read_none(rt: &impl Print, image: &mut [u8]) -> io::Result<()> {
     read(
+        rt,
         image,
-        b"read no memories",
+        "read no memories",
         b"\x05\x00\x01\x00\x00\x00\x00\x00\x00\x00\x00\x00",
         no_sizes(),
         b"",
-    );
+    )
 }
 
-fn read_short(image: &mut [u8]) {
+fn read_short(rt: &impl Print, image: &mut [u8]) -> io::Result<()> {
     read_first(
+        rt,
         image,
-        b"read into a short room",
+        "read into a short room",
         b"\x05\x00\x02\x00\x01\x00\x02\x00\x01\x00\x01\x00\x3B\x09",
-    );
+    )?;
     read_first(
+        rt,
         image,
-        b"read a value bit alone, room",
+        "read a value bit alone, room",
         b"\x05\x00\x02\x00\x01\x00\x02\x00\x01\x00\x01\x00\x3A\x09",
-    );
+    )
 }
 
-fn head_cases() {
+fn head_cases(rt: &impl Print) -> io::Result<()> {
     let first = b"\x05\x00\x02\x00\x01\x00\x02\x00\x01\x00\x01\x00";
-    head(b"head of the first", first, 14, first_sizes());
-    head(b"head of another length", first, 15, first_sizes());
+    head(rt, "head of the first", first, 14, first_sizes())?;
+    head(rt, "head of another length", first, 15, first_sizes())
 }
 
-fn head_more() {
+fn head_more(rt: &impl Print) -> io::Result<()> {
     let largest = b"\x05\x00\xFF\xFF\xFF\xFF\xFF\xFF\xFF\xFF\xFF\xFF";
     head(
-        b"head of the largest words",
+        rt,
+        "head of the largest words",
         largest,
         140731046002700,
         no_sizes(),
-    );
+    )?;
     head(
-        b"head of the largest words, length",
+        rt,
+        "head of the largest words, length",
         largest,
         2700,
         no_sizes(),
-    );
+    )?;
     head(
-        b"head of eleven bytes",
+        rt,
+        "head of eleven bytes",
         b"\x05\x00\x02\x00\x01\x00\x02\x00\x01\x00\x01",
         14,
         first_sizes(),
-    );
+    )
 }
 
 // Two trits, one, and none because the sizes give none or the bytes end in the arrays or in the head.
-fn trit_cases() {
+fn trit_cases(rt: &impl Print) -> io::Result<()> {
     take_two(
-        b"trits of the first",
+        rt,
+        "trits of the first",
         b"\x05\x00\x02\x00\x01\x00\x02\x00\x01\x00\x01\x00\x3B\x09",
-    );
+    )?;
     take_two(
-        b"trits of two, the first unknown",
+        rt,
+        "trits of two, the first unknown",
         b"\x05\x00\x02\x00\x01\x00\x01\x00\x00\x00\x00\x00\x02\x02",
-    );
+    )?;
     take_two(
-        b"trits of one",
+        rt,
+        "trits of one",
         b"\x05\x00\x01\x00\x01\x00\x01\x00\x00\x00\x00\x00\x01\x01",
-    );
+    )
 }
 
-fn trit_ends() {
+fn trit_ends(rt: &impl Print) -> io::Result<()> {
     take_two(
-        b"trits of no memories",
+        rt,
+        "trits of no memories",
         b"\x05\x00\x01\x00\x00\x00\x00\x00\x00\x00\x00\x00",
-    );
+    )?;
     take_two(
-        b"trits of a short one",
+        rt,
+        "trits of a short one",
         b"\x05\x00\x02\x00\x01\x00\x02\x00\x01\x00\x01\x00\x3B",
-    );
+    )?;
     take_two(
-        b"trits of eleven bytes",
+        rt,
+        "trits of eleven bytes",
         b"\x05\x00\x02\x00\x01\x00\x02\x00\x01\x00\x01",
-    );
-    take_two(b"trits of nothing", b"");
+    )?;
+    take_two(rt, "trits of nothing", b"")
 }
 
-fn summary_cases() {
+fn summary_cases(rt: &impl Print) -> io::Result<()> {
     let image = b"\x01\x00\x02\x01\x00\x00\x09";
-    summarize(b"memory 0", first_sizes(), image, 0);
-    summarize(b"memory 1", first_sizes(), image, 1);
-    summarize(b"memory 2", first_sizes(), image, 2);
+    summarize(rt, "memory 0", first_sizes(), image, 0)?;
+    summarize(rt, "memory 1", first_sizes(), image, 1)?;
+    summarize(rt, "memory 2", first_sizes(), image, 2)
 }
 
-fn summary_more() {
-    summarize(b"memory 2, trit", first_sizes(), b"\x03", 2);
-    summarize(b"memory 0, room", first_sizes(), b"\x01\x00", 0);
+fn summary_more(rt: &impl Print) -> io::Result<()> {
+    summarize(rt, "memory 2, trit", first_sizes(), b"\x03", 2)?;
+    summarize(rt, "memory 0, room", first_sizes(), b"\x01\x00", 0)
 }
 
-fn summary_sizes() {
-    summarize(b"memory 2, sizes", bad_sizes(), b"", 2);
-    summarize(b"memory 0, sizes", bad_sizes(), b"", 0);
+fn summary_sizes(rt: &impl Print) -> io::Result<()> {
+    summarize(rt, "memory 2, sizes", bad_sizes(), b"", 2)?;
+    summarize(rt, "memory 0, sizes", bad_sizes(), b"", 0)
 }
 
 // ---- rooms for the small cases
 
-fn writes(room: &mut [u8]) {
-    write_cases(room);
-    write_bad(room);
-    write_more(room);
-    write_none(room);
+fn writes(rt: &impl Print, room: &mut [u8]) -> io::Result<()> {
+    write_cases(rt, room)?;
+    write_bad(rt, room)?;
+    write_more(rt, room)?;
+    write_none(rt, room)
 }
 
-fn reads(room: &mut [u8]) {
-    read_cases(room);
-    read_lengths(room);
-    read_words(room);
-    read_bits(room);
-    read_spare(room);
-    read_none(room);
+fn reads(rt: &impl Print, room: &mut [u8]) -> io::Result<()> {
+    read_cases(rt, room)?;
+    read_lengths(rt, room)?;
+    read_words(rt, room)?;
+    read_bits(rt, room)?;
+    read_spare(rt, room)?;
+    read_none(rt, room)
 }
 
-fn short_rooms() {
+fn short_rooms(rt: &impl Print) -> io::Result<()> {
     let mut room = [0u8; 13];
     let mut trits = [0u8; 5];
-    write_short(&mut room);
-    read_short(&mut trits);
+    write_short(rt, &mut room)?;
+    read_short(rt, &mut trits)
 }
 
 // ---- the largest image
@@ -444,23 +481,30 @@ fn deep_sizes() -> Sizes {
 }
 
 // All its bytes are those that are wanted.
-fn whole_record(bytes: &[u8]) {
+fn whole_record(rt: &impl Print, bytes: &[u8]) -> io::Result<()> {
     let sum = try_kit::sums::sum_of(lists::part_u8(bytes, 0, rules::MAX_RECORD));
-    say(b"its bytes");
-    say_if(sum == LARGEST_SUM, b" same\n", b" DIFFERENT\n");
+    say(rt, "its bytes")?;
+    say_if(rt, sum == LARGEST_SUM, " same\n", " DIFFERENT\n")
 }
 
-fn largest(image: &mut [u8], bytes: &mut [u8], back: &mut [u8], s: Sizes) {
+fn largest(
+    rt: &impl Print,
+    image: &mut [u8],
+    bytes: &mut [u8],
+    back: &mut [u8],
+    s: Sizes,
+) -> io::Result<()> {
     try_kit::paint::fill_trits(image);
-    write(bytes, b"write the largest", s, image, b"\x05\x00");
-    whole_record(bytes);
+    write(rt, bytes, "write the largest", s, image, b"\x05\x00")?;
+    whole_record(rt, bytes)?;
     read(
+        rt,
         back,
-        b"read the largest",
+        "read the largest",
         lists::part_u8(bytes, 0, rules::MAX_RECORD),
         s,
         lists::part_u8(image, 0, rules::MAX_IMAGE as usize),
-    );
+    )
 }
 
 fn image_room() -> [u8; IMAGE_ROOM] {
@@ -471,24 +515,24 @@ fn bytes_room() -> [u8; RECORD_ROOM] {
     [0u8; RECORD_ROOM]
 }
 
-fn largest_case() {
+fn largest_case(rt: &impl Print) -> io::Result<()> {
     let mut image = image_room();
     let mut back = image_room();
     let mut bytes = bytes_room();
-    largest(&mut image, &mut bytes, &mut back, deep_sizes());
+    largest(rt, &mut image, &mut bytes, &mut back, deep_sizes())
 }
 
-fn main() {
+fn main(rt: HostRuntime) -> io::Result<()> {
     let mut room = [0u8; 40];
-    writes(&mut room);
-    reads(&mut room);
-    short_rooms();
-    head_cases();
-    head_more();
-    trit_cases();
-    trit_ends();
-    summary_cases();
-    summary_more();
-    summary_sizes();
-    largest_case();
+    writes(&rt, &mut room)?;
+    reads(&rt, &mut room)?;
+    short_rooms(&rt)?;
+    head_cases(&rt)?;
+    head_more(&rt)?;
+    trit_cases(&rt)?;
+    trit_ends(&rt)?;
+    summary_cases(&rt)?;
+    summary_more(&rt)?;
+    summary_sizes(&rt)?;
+    largest_case(&rt)
 }

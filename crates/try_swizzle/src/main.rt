@@ -1,47 +1,49 @@
 // Runs the swizzle of a small memory, 8 rows of 2 bits with a write port and a clocked read port, over soft and hard bits and an entry of None, and prints
 // what it gives and leaves. The stored output is the Rust's answer to the same call: number, log, nets, trits and image; what lies behind the image is kept.
 #![tactic(auto)]
+
 use log_entries::LogState;
+use std::io;
 use swizzle_plan::MemorySwizzle;
 use try_kit::samples;
 
-fn say(n: u32) {
-    io::print_decimal(libc::STDOUT_FILENO, n as u64);
-    io::write_all(libc::STDOUT_FILENO, b" ");
+fn say(rt: &impl Print, n: u32) -> io::Result<()> {
+    rt.print(n)?;
+    rt.print(" ")
 }
 
-fn say_size(n: usize) {
-    io::print_decimal(libc::STDOUT_FILENO, n as u64);
-    io::write_all(libc::STDOUT_FILENO, b" ");
+fn say_size(rt: &impl Print, n: usize) -> io::Result<()> {
+    rt.print(n)?;
+    rt.print(" ")
 }
 
-fn line() {
-    io::write_all(libc::STDOUT_FILENO, b"\n");
+fn line(rt: &impl Print) -> io::Result<()> {
+    rt.print("\n")
 }
 
 // The first n words, on a line.
-fn words(l: &[u32], n: usize) {
+fn words(rt: &impl Print, l: &[u32], n: usize) -> io::Result<()> {
     let some = lists::part_u32(l, 0, n);
     let mut i: usize = 0;
     while i < some.len() {
-        say(some[i]);
+        say(rt, some[i])?;
         i += 1;
     }
-    line();
+    line(rt)
 }
 
 // The first n trits.
-fn trits_of(l: &[u8], n: usize) {
+fn trits_of(rt: &impl Print, l: &[u8], n: usize) -> io::Result<()> {
     let some = lists::part_u8(l, 0, n);
     let mut i: usize = 0;
     while i < some.len() {
-        say(lists::u32_of_u8(some[i]));
+        say(rt, lists::u32_of_u8(some[i]))?;
         i += 1;
     }
-    line();
+    line(rt)
 }
 
-fn main() {
+fn main(rt: HostRuntime) -> io::Result<()> {
     let w = samples::write_by(3, 2, 2, samples::pos(16));
     let f = samples::controls(
         samples::pos(16),
@@ -89,19 +91,19 @@ fn main() {
     let made = x.made;
     let state = made.state;
     let g = made.memory;
-    say(x.refusal);
-    line();
-    say_size(state.used);
-    say(state.next);
-    line();
-    words(&log, state.used);
-    say(g.mems);
-    say(g.full);
-    say(g.full_depth);
-    say(g.part_depth);
-    say(g.unit);
-    line();
-    words(&nets_to, made.nets_at);
-    trits_of(&trits_to, made.trits_at);
-    trits_of(&image, 64);
+    say(&rt, x.refusal)?;
+    line(&rt)?;
+    say_size(&rt, state.used)?;
+    say(&rt, state.next)?;
+    line(&rt)?;
+    words(&rt, &log, state.used)?;
+    say(&rt, g.mems)?;
+    say(&rt, g.full)?;
+    say(&rt, g.full_depth)?;
+    say(&rt, g.part_depth)?;
+    say(&rt, g.unit)?;
+    line(&rt)?;
+    words(&rt, &nets_to, made.nets_at)?;
+    trits_of(&rt, &trits_to, made.trits_at)?;
+    trits_of(&rt, &image, 64)
 }

@@ -1,0 +1,11 @@
+-- The invariants of `try_controls::pos_cases`.
+use mathlib.Core.Path.{◌≡◌}
+use Prim.Native.Nat.{◌-◌}
+use lib.ListN.{length}
+use Rattle.try_controls.proofs.pos_cases.Given as goal
+
+abbrev pub invariant-loop-k : goal.invariant-loop-k
+invariant-loop-k l = (length l.log ≡ length l.initial.log) × (length l.want ≡ length l.initial.want)
+
+abbrev pub decreases-loop-k : goal.decreases-loop-k
+decreases-loop-k l = 144 - l.k
