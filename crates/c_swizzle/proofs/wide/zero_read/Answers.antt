@@ -3,12 +3,7 @@ use mathlib.Core.Path.{ap}
 use lib.ListN.{replicate}
 use Rattle.c_net.specs.declared.Control.{Control}
 use Rattle.c_swizzle.specs.declared.WideReadPort.{WideReadPort}
-use borrow.Author.Rules.{rules}
-use Rattle.c_swizzle.proofs.wide.zero_read.Statement.{statement}
-use Rattle.c_swizzle.proofs.wide.zero_read.Tie as tie
-
-zero-control-requires : tie.Need-zero-control-requires
-zero-control-requires c κs = search rules
+use Rattle.c_swizzle.proofs.wide.zero_read.Goals as goal
 
 abbrev of_control : Control → WideReadPort
 of_control x = record {
@@ -25,8 +20,5 @@ of_control x = record {
   reset_over_enable = 0;
 }
 
-returns : tie.Need-returns
-returns c = ap of_control c.zero-control.ensures
-
-pub zero-read-spec : {M : Type 1} → statement M
-zero-read-spec = tie.close (tie.spec zero-control-requires returns)
+pub returns : goal.returns
+returns c = ap of_control c.zero_control-none.ensures
