@@ -1,8 +1,8 @@
 #!/usr/bin/env python3
 """Fails where a public function of a library crate promises too little, as far as its text shows: exports count as public.
 
-Each has an `ensures` and no `requires`; its clauses name the result and what each `&mut` parameter holds at exit, not only in a
-premise; no clause says that a thing equals itself, and none has a premise that cannot hold. `test_contracts.py` tries this script.
+Each has an `ensures` and no `requires`; its clauses name the result and what each `&mut` parameter holds after the call, not only in
+a premise; no clause says that a thing equals itself, and none has a premise that cannot hold. `test_contracts.py` tries this script.
 """
 import glob
 import os
@@ -35,7 +35,7 @@ EXPORTED = re.compile(r'#\[[^\]]*\bno_mangle\b[^\]]*\](?:\s*#\[[^\]]*\])*\s*(?:p
 QUOTED = re.compile(r'''b?r(#*)".*?"\1|"(?:\\.|[^"\\])*"|b?'(?:\\(?:x..|.)|[^'\\\n])\'''', re.S)
 MUT = re.compile(r"&\s*(?:'\w+\s*)?mut\b")
 TOKEN = re.compile(r'«[^»]*»|\.[^\s(){}.;,@"«»]+|[(){}.;,@"]|[^\s(){}.;,@"«»]+')
-CLOSES = {'(': ')', '{': '}', '⌜': '⌝'}
+CLOSES = {'(': ')', '{': '}'}
 ARROWS = {'→', '→ₛ', '-∗'}
 JOINS = {'×', '∗', '∧ₛ', '×ₛ', ',', ';'}
 CHOICES = {'⊎', '∨₁', '∨ₛ'}
@@ -43,8 +43,8 @@ RELATIONS = {'≡', '≢', '<', '>', '≤', '≥'}
 TRUE = {'⊤', '⊤ₛ', 'Unit', 'True'}
 FALSE = {'⊥', '⊥ₛ', 'Empty', 'False'}
 # Signs that a contract reads by, and the one module that each may come from; the others are there without a `use`.
-HOMES = {'_≡_': 'mathlib.Core.Path', '_≤_': 'Prim.Native.Nat', '_<_': 'Prim.Native.Nat', '_≥_': 'Prim.Native.Nat',
-         '_>_': 'Prim.Native.Nat', '_≢_': '', '_×_': '', 'now': '', '⌜_⌝': '', '_→_': '', '¬_': ''}
+PRELUDE = 'Rattle.std.specs.Prelude'
+HOMES = {**dict.fromkeys(['◌≡◌', '◌≤◌', '◌<◌', '◌≥◌', '◌>◌', '◌≢◌'], PRELUDE), **dict.fromkeys(['◌×◌', '◌→◌', '¬◌', 'result'], '')}
 
 
 # ---- the text of a function
@@ -157,8 +157,8 @@ def plain(token):
 
 
 def tree(clause):
-    """The clause's tokens, nested by parentheses, braces and ⌜ ⌝."""
-    tokens = TOKEN.findall(re.sub('([⌜⌝])', r' \1 ', clause))
+    """The clause's tokens, nested by parentheses and braces."""
+    tokens = TOKEN.findall(clause)
     stack = [([], None)]
     for token in map(plain, tokens):
         if token in CLOSES:
@@ -336,28 +336,18 @@ def empty(items):
             yield from empty(item)
 
 
-def read(clause):
-    """A clause's variable for the result, if it has one, and its body."""
-    m = re.match(r'\s*λ\s*([^.]*)\.(.*)', clause, re.S)
-    if not m:
-        return None, tree(clause)
-    names = re.findall(r'[^\s():]+', m.group(1))
-    name = plain(names[0]) if names else '_'
-    return (None if name == '_' else name), tree(m.group(2))
-
-
 # ---- the faults
 
 def clause_faults(clause, params):
-    """The faults of one `ensures`, and what it names: the result and parameters at exit."""
+    """The faults of one `ensures`, and what it names: the result and parameters after the call."""
     found = ['has a comment in a clause'] if re.search(r'--\s|--$|\{-', clause) else []
-    name, body = read(clause)
+    body = tree(clause)
     found += sorted(set(empty(body)))
-    again = bound(body) & ({name} | set(params))
+    again = bound(body) & ({'result'} | set(params))
     found += [f'binds {x} anew in a clause' for x in sorted(again)]
     words = said(body)
-    named = {'result'} if name in words else set()
-    named |= {x for x, y in zip(words, words[1:]) if y == '.exit'}
+    named = {'result'} & set(words)
+    named |= {x for x, y in zip(words, words[1:]) if y == '.new'}
     return found, named
 
 
@@ -409,7 +399,7 @@ def text_faults(text, path='', left_open=None, holding=()):
         scratch = left_open.get(f'{path} {name}', ())
         for x in missing:
             if x not in scratch:
-                what = 'its result' if x == 'result' else f'{x} at exit'
+                what = 'its result' if x == 'result' else f'{x} after the call'
                 yield f'{path}:{line}: no clause of {name} says {what}'
         for x in scratch:
             if x not in missing:

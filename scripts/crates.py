@@ -5,7 +5,7 @@ import sys
 
 listed = set()
 for line in open('crates.txt', encoding='utf-8'):
-    name = line.split('#')[0].split(':')[0].strip()
+    name = ''.join(line.split('#')[0].split(':')[0].split()[:1])
     if name:
         listed.add(name)
 there = {name for name in os.listdir('crates') if os.path.isdir(os.path.join('crates', name))}

@@ -4,13 +4,13 @@
 In README.md, CONTRIBUTING.md and docs/*.md (docs/SCOPE.md, which is given, is left out) these are looked up:
 
     crate::name             a function, struct, enum or constant of that crate's sources
-    tablegoose_name         a word of callers/tablegoose.h
+    tablegoose_name         a word of callers/tablegoose.h, or a crate
     `crate/name.edit`       a must-fail edit of that crate
     `crate/specs/File.antt#name`, `crate/proofs/File.antt#name`
                             a definition, record or theorem of that file
-    `someName`              a definition of the crates' specs, where a word has a capital letter inside
+    `some_name`             a definition, theorem, function, field or constant of the crates, a crate with or without its prefix, or a name of the callers' or the oracle's Rust
     `a/path`                a file or folder of the repository
-A command `target/bin/NAME < FILE` that is shown with its output: FILE is what crates/NAME is run on, and the output what is stored there.
+A command `crates/NAME/out/NAME < FILE` that is shown with its output: FILE is what crates/NAME is run on, and the output what is stored there.
 docs/CALLING.md's list of ops is compared with oracle/OPS and with its own section of ops.
 """
 import glob
@@ -23,8 +23,10 @@ HEADER, OPS, CALLING = 'callers/tablegoose.h', 'oracle/OPS', 'docs/CALLING.md'
 ALONE = 'An op that `oracle/OPS` does not list is answered by the oracle alone.'
 # prefixes of `::` that are not crates of this repository: the oracle's library, the kit's crates, the Rust crate's module, and `crate` for any
 OTHERS = {'oracle', 'check', 'io', 'libc', 'ffi', 'std', 'crate'}
+# a method of the Rust, which is not here
+NOT_OURS = {'replace_net'}
 # folders of the Rust, and what a run makes
-ELSEWHERE = ('memory/', 'netlist/', 'target/', 'crate/', 'crates/NAME')
+ELSEWHERE = ('memory/', 'netlist/', 'target/', 'crate/', 'crates/NAME', 'out/')
 # a path that is said from within a crate
 WITHIN = ('specs/', 'proofs/', 'src/', 'must-fail/', 'declared/')
 
@@ -35,8 +37,13 @@ class Here:
     def __init__(self):
         self.crates = {name: '\n'.join(map(read, glob.glob(f'crates/{name}/src/*.rt'))) for name in os.listdir('crates')}
         specs = '\n'.join(map(read, glob.glob('crates/*/specs/**/*.antt', recursive=True)))
-        self.definitions = set(re.findall(r'^\s*(?:(?:unfoldable|abbrev) )?(?:pub )?(\S+) :', specs, re.M))
+        proofs = '\n'.join(map(read, glob.glob('crates/*/proofs/**/*.antt', recursive=True)))
+        rust = '\n'.join(map(read, glob.glob('callers/**/*.rs', recursive=True) + glob.glob('oracle/**/*.rs', recursive=True)))
         self.header = read(HEADER)
+        self.names = set(re.findall(r'^\s*(?:(?:unfoldable|abbrev) )?(?:pub )?(\S+) :', specs + '\n' + proofs, re.M))
+        self.names |= set(re.findall(r'\b(?:fn|struct|enum|const|mod) (\w+)', '\n'.join(self.crates.values())))
+        self.names |= set(re.findall(r'\b(\w+):(?!:)', '\n'.join(self.crates.values())))
+        self.names |= set(re.findall(r'\w+', rust)) | {part for name in self.crates for part in (name, name.partition('_')[2])}
         self.ops = [int(op) for op in read(OPS).split(',')]
 
     def text(self, path):
@@ -76,8 +83,8 @@ def token_fault(here, token):
     """What is wrong with a text in backticks, or None."""
     if token.startswith(ELSEWHERE):
         return None
-    if re.fullmatch(r'[a-z]+[A-Z][A-Za-z0-9]*', token):
-        return None if token in here.definitions else f'no specs define {token}'
+    if re.fullmatch(r'[a-z]+[A-Z][A-Za-z0-9]*|[a-z][a-z0-9]*(?:_[a-z0-9]+)+', token) and not token.startswith('tablegoose_'):
+        return None if token in here.names | NOT_OURS else f'nothing is called {token}'
     cited = re.fullmatch(r'([a-z_0-9]+)/((?:specs|proofs)/\S+\.antt)#(\S+)', token)
     if cited:
         return antt_fault(here, *cited.groups())
@@ -101,7 +108,7 @@ def text_faults(here, path, text):
         if fault:
             yield f'{path}: {crate}::{name}: {fault}'
     for name in re.findall(r'\btablegoose_[a-z_0-9]+\b(?!\.\.)', text):
-        if not re.search(rf'\b{name}\b', here.header) and not name.endswith('_'):
+        if not re.search(rf'\b{name}\b', here.header) and name not in here.crates and not name.endswith('_'):
             yield f'{path}: {name} is not in {HEADER}'
 
 
@@ -128,7 +135,7 @@ def ops_faults(here, text):
 
 def shown_faults(here, path, text):
     """Commands with their output."""
-    for name, given, output in re.findall(r'^    \$ [^\n]*target/bin/(\w+) < (\S+)[^\n]*\n((?:    [^$\n][^\n]*\n)+)', text, re.M):
+    for name, given, output in re.findall(r'^    \$ [^\n]*crates/\w+/out/(\w+) < (\S+)[^\n]*\n((?:    [^$\n][^\n]*\n)+)', text, re.M):
         if here.bytes(given) != here.bytes(f'crates/{name}/stdin'):
             yield f'{path}: {given} is not what crates/{name} is run on'
         if re.sub('^    ', '', output, flags=re.M).encode() != here.bytes(f'crates/{name}/stdout'):

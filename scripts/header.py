@@ -1,5 +1,5 @@
 #!/usr/bin/env python3
-"""Checks callers/tablegoose.h and callers/rust/src/ffi.rs against the sources of the crates c_ and against target/libtablegoose.a.
+"""Checks callers/tablegoose.h and callers/rust/src/ffi.rs against the exported functions of crates/tablegoose_c and against target/libtablegoose.a.
 
     scripts/archive && python3 scripts/header.py
 
@@ -65,8 +65,8 @@ IN_FFI = {source: name for source, _, name in STRUCTS}
 
 NUMBERS = {'bool': ('bool', 1), 'u8': ('uint8_t', 1), 'u32': ('uint32_t', 4), 'u64': ('uint64_t', 8), 'usize': ('size_t', 8)}
 
-FUNCTION = re.compile(r'#\[no_mangle\]\s*pub extern "C" fn (\w+)(?:<[^>]*>)?\((.*?)\)\s*(?:->\s*([\w:]+))?\s*(?:ensures|\{)', re.S)
-STRUCT = re.compile(r'#\[repr\(C\)\]\s*pub struct (\w+) \{(.*?)\n\}', re.S)
+FUNCTION = re.compile(r'#\[unsafe\(no_mangle\)\]\s*pub extern "C" fn (\w+)(?:<[^>]*>)?\((.*?)\)\s*(?:->\s*([\w:]+))?\s*(?:ensures|\{)', re.S)
+STRUCT = re.compile(r'#\[repr\(C\)\]\s*(?:#\[derive[^\n]*\s*)?pub struct (\w+) \{(.*?)\n\}', re.S)
 
 
 def uncommented(text):
@@ -100,8 +100,9 @@ class Sources:
         for crate, text in texts:
             text = uncommented(text)
             uses = self.uses.setdefault(crate, {})
-            for path, name in re.findall(r'^use ([\w:]+)::(\w+);', text, re.M):
-                uses.setdefault(name, set()).add(path.split('::')[0])
+            for path, names in re.findall(r'^use ([\w:]+)::\{?([\w,\s]+)\}?;', text, re.M):
+                for name in re.findall(r'\w+', names):
+                    uses.setdefault(name, set()).add(path.split('::')[0])
             for name, fields in STRUCT.findall(text):
                 self.structs[f'{crate}::{name}'] = [(f.removeprefix('pub ').strip(), t) for f, t in named(fields)]
             for name, given, result in FUNCTION.findall(text):
@@ -267,7 +268,7 @@ def all_faults(header, ffi, symbols, sources):
 
 
 def sources_here():
-    crates = re.findall(r'^(\w+):', open('crates.txt').read(), re.M)
+    crates = re.findall(r'^(\w+)(?: staticlib)?:', open('crates.txt').read(), re.M)
     return Sources([(c, open(path).read()) for c in crates for path in sorted(glob.glob(f'crates/{c}/src/**/*.rt', recursive=True))])
 
 

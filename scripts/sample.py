@@ -26,11 +26,10 @@ ADDED = 'scripts/sample_cases.txt'
 MANY = 16
 
 
-def module_of(path, own):
-    """A spec file's module, as the crate `own` names it."""
+def module_of(path):
+    """A spec file's module."""
     parts = path[:-5].split('/')
-    crate, names = parts[1], '.'.join(parts[3:])
-    return f'Rattle·{crate}·specs.specs.{names}' if crate == own else f'Rattle·{crate}.specs.{names}'
+    return f'Rattle.{parts[1]}.specs.{".".join(parts[3:])}'
 
 
 def definitions():
@@ -41,7 +40,7 @@ def definitions():
         parts = re.split(r'^\s*(abbrev|unfoldable) pub (\S+) :', text, flags=re.M)
         for kind, what, body in zip(parts[1::3], parts[2::3], parts[3::3]):
             words = set(re.findall(r"[^\s(){}\[\],;.|]+", body))
-            if what in found and what != '_>>=_':
+            if what in found and what != '◌>>=◌':
                 sys.exit(f'sample: {what} stands in {found[what][0]} and in {path}')
             found.setdefault(what, (path, kind, words))
     return found
@@ -50,7 +49,7 @@ def definitions():
 def reached(start, table):
     """The unfoldable names that a definition reaches, in the order of the spec files."""
     seen, todo = set(), [start]
-    operators = {n.strip('_'): n for n in table if n.startswith('_') or n.endswith('_')}
+    operators = {n.strip('◌'): n for n in table if '◌' in n}
     while todo:
         name = todo.pop()
         if name in seen:
@@ -63,11 +62,11 @@ def reached(start, table):
     return [n for n in table if n in seen and table[n][1] == 'unfoldable']
 
 
-def uses(names, table, own):
+def uses(names, table):
     """The `use` lines of some names."""
     groups = {}
     for name in names:
-        groups.setdefault(module_of(table[name][0], own), []).append(name)
+        groups.setdefault(module_of(table[name][0]), []).append(name)
     return groups
 
 
@@ -91,27 +90,27 @@ def words_of(text):
 
 def trial_text(op, cases, table):
     names = list(dict.fromkeys(reached(f'op{op}', table) + ['agrees', 'agree']))
-    groups = uses(names, table, 'rules_trial')
-    groups.setdefault('Rattle·rules_trial·specs.specs.Wire', []).extend(['Case', 'case'])
+    groups = uses(names, table)
+    groups.setdefault('Rattle.rules_trial.specs.Wire', []).extend(['Case', 'case'])
     lines = [f'-- Calls {op} of the call format, which the rules answer as the Rust does. Made by scripts/sample.py.']
-    lines += ['use Prim.Native.Nat.{ℕ}', 'use mathlib.Core.Path.{_≡_, refl}', 'use mathlib.Core.Bool.{true}']
+    lines += ['use Prim.Native.Nat.{ℕ}', 'use mathlib.Core.Path.{◌≡◌, refl}', 'use mathlib.Core.Bool.{true}']
     shown = [f'    case ({numerals(given)}) ({numerals(answer)})\n    ∷' for given, answer in cases]
     many = any('replicate' in one for one in shown)
-    lines += ['use mathlib.Core.List.{List, [], _∷_, _++_}', 'use lib.ListN.{replicate}'] if many else ['use mathlib.Core.List.{List, [], _∷_}']
+    lines += ['use mathlib.Core.List.{List, [], ◌∷◌, ◌++◌}', 'use lib.ListN.{replicate}'] if many else ['use mathlib.Core.List.{List, [], ◌∷◌}']
     lines += [f'use {module}.{{{", ".join(group)}}}' for module, group in groups.items()]
     lines += ['', 'abbrev pub cases : List Case', 'cases ='] + shown + ['    []']
-    binds = 'Rattle·rules_trial·specs.specs.Read._>>=_'
+    binds = 'Rattle.rules_trial.specs.Read.◌>>=◌'
     lines += ['', f'pub agreed : agree op{op} cases ≡ true', 'unfolding ' + ' '.join(names + [binds]), 'agreed = refl', '']
     return '\n'.join(lines)
 
 
 def starred_text(table):
     table = {n: d for n, d in table.items() if '/rules_trial/' not in d[0]}
-    names = list(dict.fromkeys(reached('holds', table) + ['allHold', 'starred']))
+    names = list(dict.fromkeys(reached('holds', table) + ['all_hold', 'starred']))
     lines = ['-- The starred examples hold, all of them: one sentence, which antt computes. Made by scripts/sample.py.']
-    lines += ['use mathlib.Core.Path.{_≡_, refl}', 'use mathlib.Core.Bool.{true}']
-    lines += [f'use {module}.{{{", ".join(group)}}}' for module, group in uses(names, table, 'rules').items()]
-    lines += ['', 'pub starred-hold : allHold starred ≡ true', 'unfolding ' + ' '.join(names), 'starred-hold = refl', '']
+    lines += ['use mathlib.Core.Path.{◌≡◌, refl}', 'use mathlib.Core.Bool.{true}']
+    lines += [f'use {module}.{{{", ".join(group)}}}' for module, group in uses(names, table).items()]
+    lines += ['', 'pub starred_hold : all_hold starred ≡ true', 'unfolding ' + ' '.join(names), 'starred_hold = refl', '']
     return '\n'.join(lines)
 
 

@@ -7,69 +7,70 @@ import contracts  # noqa: E402
 import edits  # noqa: E402
 import stdouts  # noqa: E402
 
-EQUATION = '{ λ r. ⌜ r ≡ sum (now (a .entry)) ⌝ }'
-FILLED = '{ λ r. ⌜ filledWith r (now (out .exit)) ≡ fillCall (now (out .entry)) n ⌝ }'
+EQUATION = '{ result ≡ sum a.old }'
+FILLED = '{ filled_with result out.new ≡ fill_call out.old n }'
 
 # A function with scratch: found, unless the list has it.
-WITH_SCRATCH = 'pub fn f(out: &mut [u8], n: u32) -> u32 ensures { λ r. ⌜ r ≡ n ⌝ } { n }'
+WITH_SCRATCH = 'pub fn f(out: &mut [u8], n: u32) -> u32 ensures { result ≡ n } { n }'
 
 # A function's text, and a part of what contracts.py must say of it.
 TRICKS = [
     ('pub fn f(x: u32) -> u32 { x }', 'has no ensures'),
-    ('pub fn f(x: u32) -> u32\n    // ensures { λ r. ⌜ r ≡ x ⌝ }\n{ x }', 'has no ensures'),
-    ('pub fn f(x: u32) -> u32\n    /* ensures { λ r. ⌜ r ≡ x ⌝ } */\n{ x }', 'has no ensures'),
-    ('pub fn f(x: u32) -> u32\n    /* /* */ ensures { λ r. ⌜ r ≡ x ⌝ } */\n{ x }', 'has no ensures'),
+    ('pub fn f(x: u32) -> u32\n    // ensures { result ≡ x }\n{ x }', 'has no ensures'),
+    ('pub fn f(x: u32) -> u32\n    /* ensures { result ≡ x } */\n{ x }', 'has no ensures'),
+    ('pub fn f(x: u32) -> u32\n    /* /* */ ensures { result ≡ x } */\n{ x }', 'has no ensures'),
     ('pub fn f(x: u32) -> u32 { g(b"ensures"); x }', 'has no ensures'),
-    ('pub const fn f(x: u32) -> u32 requires { ⌜ x < 9 ⌝ } ensures { λ r. ⌜ r ≡ x ⌝ } { x }', 'has a requires'),
-    ('pub extern "C" fn f(x: u32) -> u32 requires { ⌜ x < 9 ⌝ } ensures { λ r. ⌜ r ≡ x ⌝ } { x }', 'has a requires'),
-    ('pub unsafe fn f(x: u32) -> u32 ensures { λ r. ⌜ r ≡ x ⌝ } requires { ⌜ x < 9 ⌝ } { x }', 'has a requires'),
+    ('pub const fn f(x: u32) -> u32 requires { x < 9 } ensures { result ≡ x } { x }', 'has a requires'),
+    ('pub extern "C" fn f(x: u32) -> u32 requires { x < 9 } ensures { result ≡ x } { x }', 'has a requires'),
+    ('pub unsafe fn f(x: u32) -> u32 ensures { result ≡ x } requires { x < 9 } { x }', 'has a requires'),
     ('pub const unsafe extern "C" fn f<\'a>(a: &\'a [u32]) -> u32 { 0 }', 'has no ensures'),
     ('impl S { pub fn f(self) -> u32 { 0 } }', 'has no ensures'),
     ('fn g() {} pub fn f() -> u32 { 0 }', 'has no ensures'),
-    ('#[no_mangle] extern "C" fn f() -> u32 { 0 }', 'has no ensures'),
-    ('#[no_mangle]\npub(crate) extern "C" fn f() -> u32 { 0 }', 'has no ensures'),
-    ('pub fn f(x: u32) -> u32 ensures { λ _. ⌜ x ≡ x ⌝ } { x }', 'equals itself'),
-    ('pub fn f(x: u32) -> u32 ensures { λ r. ⌜ r ≡ x ⌝ } ensures { λ r. ⌜ r ≡ r ⌝ } { x }', 'equals itself'),
-    ('pub fn f(x: u32) -> u32 ensures { λ r. ⌜ (r ≡ x) × ((x) ≡ x) ⌝ } { x }', 'equals itself'),
-    ('pub fn f(x: u32) -> u32 ensures { λ r. ⌜ ((n : ℕ) → r + (n) ≡ (r) + n) ⌝ } { x }', 'equals itself'),
-    ('pub fn f(x: u32) -> u32 ensures { λ r. ⌜ r ≤ r ⌝ } { x }', 'always holds'),
-    ('pub fn f(x: u32) -> u32 ensures { λ r. ⌜ (r ≡ 0 → ⊤) ⌝ } { x }', 'always holds'),
-    ('pub fn f(x: u32) -> u32 ensures { λ r. ⌜ (r ≡ x → r ≡ x) ⌝ } { x }', 'conclusion as a premise'),
-    ('pub fn f(x: u32) -> u32 ensures { λ r. ⌜ (⊥ → r ≡ 7) ⌝ } { x }', 'cannot hold'),
-    ('pub fn f(x: u32) -> u32 ensures { λ r. ⌜ (0 ≡ 1 → r ≡ 7) ⌝ } { x }', 'cannot hold'),
-    ('pub fn f(x: u32) -> u32 ensures { λ r. ⌜ (0x10 ≡ 15 → r ≡ 7) ⌝ } { x }', 'cannot hold'),
-    ('pub fn f(x: u32) -> u32 ensures { λ r. ⌜ (true ≡ false → r ≡ 7) ⌝ } { x }', 'cannot hold'),
-    ('pub fn f(x: u32) -> u32 ensures { λ r. ⌜ (x < x → r ≡ 7) ⌝ } { x }', 'cannot hold'),
-    ('pub fn f(x: u32) -> u32 ensures { λ r. ⌜ (x < 0 → r ≡ 7) ⌝ } { x }', 'cannot hold'),
-    ('pub fn f(x: u32) -> u32 ensures { λ r. ⌜ (5 ≤ 4 → r ≡ 7) ⌝ } { x }', 'cannot hold'),
-    ('pub fn f(x: u32) -> u32 ensures { λ r. ⌜ (x ≡ x + 1 → r ≡ 7) ⌝ } { x }', 'cannot hold'),
-    ('pub fn f(x: u32) -> u32 ensures { λ r. ⌜ (suc x ≡ 0 → r ≡ 7) ⌝ } { x }', 'cannot hold'),
-    ('pub fn f(x: u32) -> u32 ensures { λ r. ⌜ (¬ (x ≡ x) → r ≡ 7) ⌝ } { x }', 'cannot hold'),
-    ('pub fn f(x: u32) -> u32 ensures { λ r. ⌜ ((h : ⊥) → r ≡ 7) ⌝ } { x }', 'cannot hold'),
-    ('pub fn f(x: u32) -> u32 ensures { λ r. ⌜ ((n : ℕ) → n < n → r ≡ 7) ⌝ } { x }', 'cannot hold'),
-    ('pub fn f(x: u32) -> u32 ensures { λ r. ⌜ ((x ≡ 0) × (x ≡ 1) → r ≡ 7) ⌝ } { x }', 'cannot hold'),
-    ('pub fn f(x: u32) -> u32 ensures { λ r. ⌜ (x ≡ 0 → x ≡ 1 → r ≡ 7) ⌝ } { x }', 'cannot hold'),
-    ('pub fn f(x: u32) -> u32 ensures { λ r. ⌜ 0 ≡ 1 ⌝ →ₛ ⌜ r ≡ 7 ⌝ } { x }', 'cannot hold'),
-    ('pub fn f(x: u32) -> u32 ensures { λ _. ⌜ x ≡ 3 ⌝ } { x }', 'says its result'),
+    ('#[unsafe(no_mangle)] extern "C" fn f() -> u32 { 0 }', 'has no ensures'),
+    ('#[unsafe(no_mangle)]\npub(crate) extern "C" fn f() -> u32 { 0 }', 'has no ensures'),
+    ('pub fn f(x: u32) -> u32 ensures { x ≡ x } { x }', 'equals itself'),
+    ('pub fn f(x: u32) -> u32 ensures value { result ≡ x } ensures more { result ≡ result } { x }', 'equals itself'),
+    ('pub fn f(x: u32) -> u32 ensures { (result ≡ x) × ((x) ≡ x) } { x }', 'equals itself'),
+    ('pub fn f(x: u32) -> u32 ensures { ((n : ℕ) → result + (n) ≡ (result) + n) } { x }', 'equals itself'),
+    ('pub fn f(x: u32) -> u32 ensures { result ≤ result } { x }', 'always holds'),
+    ('pub fn f(x: u32) -> u32 ensures { (result ≡ 0 → ⊤) } { x }', 'always holds'),
+    ('pub fn f(x: u32) -> u32 ensures { (result ≡ x → result ≡ x) } { x }', 'conclusion as a premise'),
+    ('pub fn f(x: u32) -> u32 ensures { (⊥ → result ≡ 7) } { x }', 'cannot hold'),
+    ('pub fn f(x: u32) -> u32 ensures { (0 ≡ 1 → result ≡ 7) } { x }', 'cannot hold'),
+    ('pub fn f(x: u32) -> u32 ensures { (0x10 ≡ 15 → result ≡ 7) } { x }', 'cannot hold'),
+    ('pub fn f(x: u32) -> u32 ensures { (true ≡ false → result ≡ 7) } { x }', 'cannot hold'),
+    ('pub fn f(x: u32) -> u32 ensures { (x < x → result ≡ 7) } { x }', 'cannot hold'),
+    ('pub fn f(x: u32) -> u32 ensures { (x < 0 → result ≡ 7) } { x }', 'cannot hold'),
+    ('pub fn f(x: u32) -> u32 ensures { (5 ≤ 4 → result ≡ 7) } { x }', 'cannot hold'),
+    ('pub fn f(x: u32) -> u32 ensures { (x ≡ x + 1 → result ≡ 7) } { x }', 'cannot hold'),
+    ('pub fn f(x: u32) -> u32 ensures { (suc x ≡ 0 → result ≡ 7) } { x }', 'cannot hold'),
+    ('pub fn f(x: u32) -> u32 ensures { (¬ (x ≡ x) → result ≡ 7) } { x }', 'cannot hold'),
+    ('pub fn f(x: u32) -> u32 ensures { ((h : ⊥) → result ≡ 7) } { x }', 'cannot hold'),
+    ('pub fn f(x: u32) -> u32 ensures { ((n : ℕ) → n < n → result ≡ 7) } { x }', 'cannot hold'),
+    ('pub fn f(x: u32) -> u32 ensures { ((x ≡ 0) × (x ≡ 1) → result ≡ 7) } { x }', 'cannot hold'),
+    ('pub fn f(x: u32) -> u32 ensures { (x ≡ 0 → x ≡ 1 → result ≡ 7) } { x }', 'cannot hold'),
+    ('pub fn f(x: u32) -> u32 ensures { 0 ≡ 1 →ₛ result ≡ 7 } { x }', 'cannot hold'),
+    ('pub fn f(x: u32) -> u32 ensures { x ≡ 3 } { x }', 'says its result'),
     ('pub fn f(x: u32) -> u32 ensures { Good } { x }', 'says its result'),
-    ('pub fn f(x: u32) -> u32 ensures { λ r. ⌜ (r ≡ 0 → x ≡ 0) ⌝ } { x }', 'says its result'),
-    ('pub fn f(x: u32) -> u32 ensures { λ r. ⌜ r ≤ 9 ⌝ } { x }', 'says its result'),
-    ('pub fn f(x: u32) -> u32 ensures { λ r. ⌜ ((r : ℕ) → r ≡ g r) ⌝ } { x }', 'binds r anew'),
-    ('pub fn f(x: u32) -> u32 ensures { λ r. ⌜ Each (λ r. r ≡ g x) l ⌝ } { x }', 'binds r anew'),
-    ('pub fn f(x: u32) -> u32 ensures { λ r. let r = x in ⌜ r ≡ x ⌝ } { x }', 'binds r anew'),
-    ('pub fn f(x: u32) -> u32 ensures { λ r. ⌜ x ≡ 3 ⌝ -- r ≡ 3\n } { x }', 'comment in a clause'),
-    ('pub fn f(x: u32) -> u32 ensures { λ r. ⌜ x ≡ "r" ⌝ } { x }', 'says its result'),
-    (WITH_SCRATCH, 'says out at exit'),
-    ('pub fn f(out: &mut [u8], n: u32) ensures { λ _. ⌜ now (out .entry) ≡ g n ⌝ } { }', 'says out at exit'),
-    ('pub fn f(out: &mut [u8]) ensures { λ _. ⌜ length (now (out .exit)) ≡ length (now (out .entry)) ⌝ } { }', 'says out at exit'),
-    ('pub fn f(a: &mut [u8], b: &\'a mut S) ensures { λ _. ⌜ now (a .exit) ≡ g ⌝ } { }', 'says b at exit'),
-    ('pub struct W<\'a> { out: &\'a mut [u8] } pub fn f<\'a>(w: W<\'a>) ensures { λ _. ⌜ g ≡ 3 ⌝ } { }', 'says w at exit'),
-    ('type Room<\'a> = &\'a mut [u8]; pub fn f<\'a>(to: Room<\'a>) ensures { λ _. ⌜ g ≡ 3 ⌝ } { }', 'says to at exit'),
-    ('pub fn f(&mut self) ensures { λ _. ⌜ g ≡ 3 ⌝ } { }', 'says self at exit'),
-    ('pub fn f(n: [u8; 4], out: &mut [u8; 4]) ensures { λ _. ⌜ n ≡ g ⌝ } { }', 'says out at exit'),
-    ('pub fn f(x: u32) -> u32 ensures { λ r. ⌜ r ≡ x ⌝ } trusted { 1 } { x }', 'clause of another kind'),
-    ('ghost use specs.Lies.{_≡_};', 'another module'),
-    ('ghost use specs.Lies.{same as _≡_};', 'another module'),
+    ('pub fn f(x: u32) -> u32 ensures { (result ≡ 0 → x ≡ 0) } { x }', 'says its result'),
+    ('pub fn f(x: u32) -> u32 ensures { result ≤ 9 } { x }', 'says its result'),
+    ('pub fn f(x: u32) -> u32 ensures { ((result : ℕ) → result ≡ g result) } { x }', 'binds result anew'),
+    ('pub fn f(x: u32) -> u32 ensures { Each (λ result. result ≡ g x) l } { x }', 'binds result anew'),
+    ('pub fn f(x: u32) -> u32 ensures { let result = x in result ≡ x } { x }', 'binds result anew'),
+    ('pub fn f(x: u32) -> u32 ensures { x ≡ 3 -- result ≡ 3\n } { x }', 'comment in a clause'),
+    ('pub fn f(x: u32) -> u32 ensures { x ≡ "result" } { x }', 'says its result'),
+    (WITH_SCRATCH, 'says out after the call'),
+    ('pub fn f(out: &mut [u8], n: u32) ensures { out.old ≡ g n } { }', 'says out after the call'),
+    ('pub fn f(out: &mut [u8]) ensures { length out.new ≡ length out.old } { }', 'says out after the call'),
+    ('pub fn f(a: &mut [u8], b: &\'a mut S) ensures { a.new ≡ g } { }', 'says b after the call'),
+    ('pub struct W<\'a> { out: &\'a mut [u8] } pub fn f<\'a>(w: W<\'a>) ensures { g ≡ 3 } { }', 'says w after the call'),
+    ('type Room<\'a> = &\'a mut [u8]; pub fn f<\'a>(to: Room<\'a>) ensures { g ≡ 3 } { }', 'says to after the call'),
+    ('pub fn f(&mut self) ensures { g ≡ 3 } { }', 'says self after the call'),
+    ('pub fn f(n: [u8; 4], out: &mut [u8; 4]) ensures { n ≡ g } { }', 'says out after the call'),
+    ('pub fn f(x: u32) -> u32 ensures { result ≡ x } trusted { 1 } { x }', 'clause of another kind'),
+    ('ghost use specs.Lies.{◌≡◌};', 'another module'),
+    ('ghost use specs.Lies.{same as ◌≡◌};', 'another module'),
+    ('ghost use Rattle.rules.specs.Lies.{result};', 'another module'),
 ]
 
 # Texts in which contracts.py must find nothing.
@@ -77,19 +78,19 @@ GOOD = [
     f'pub fn f(a: &[u32]) -> u32 ensures {EQUATION} {{ 0 }}',
     f'pub fn f<\'a>(a: &\'a [u32]) -> u32 ensures named {EQUATION} {{ 0 }}',
     f'pub fn f(out: &mut [u8], n: u32) -> u32\n    ensures {FILLED}\n{{ n }}',
-    f'#[no_mangle]\npub extern "C" fn f(out: &mut [u8], n: u32) -> u32 ensures {FILLED} {{ n }}',
-    'pub fn f(m: M) -> u32 ensures { λ r. ⌜ ((nets trits : List ℕ) → r ≡ readAt (memoryOf m nets trits)) ⌝ } ensures { λ r. ⌜ r < 9 ⌝ } { 0 }',
-    'pub fn f(out: &mut [u8]) -> R ensures { λ r. ⌜ Record n r (now (out .exit)) ⌝ } { 0 }',
-    'pub fn f(room_nets: &mut [u8]) ensures { λ _. ⌜ now («room_nets» .exit) ≡ g ⌝ } { }',
-    'pub fn f(x: u32) -> u32 ensures { λ r. ⌜ r ≡ x ⌝ } ensures { λ _. ⌜ g x ≡ h ⌝ } { x }',
-    'pub fn f(x: u32) -> u32 ensures { λ r. ⌜ (isWhole x ≡ false → r ≡ 0) ⌝ } ensures { λ r. ⌜ Put x r ⌝ } { x }',
-    'pub fn f(x: u32) -> u32 ensures { λ r. let y = g x in ⌜ r ≡ map (λ z. z + y) x ⌝ } { x }',
-    'fn f(x: u32) -> u32 requires { ⌜ x < 9 ⌝ } { x }',
-    'pub(crate) fn f(x: u32) -> u32 requires { ⌜ x < 9 ⌝ } { x }',
+    f'#[unsafe(no_mangle)]\npub extern "C" fn f(out: &mut [u8], n: u32) -> u32 ensures {FILLED} {{ n }}',
+    'pub fn f(m: M) -> u32 ensures value { ((nets trits : List ℕ) → result ≡ read_at_of (memory_of m nets trits)) } ensures more { result < 9 } { 0 }',
+    'pub fn f(out: &mut [u8]) -> R ensures { Record n result out.new } { 0 }',
+    'pub fn f(room_nets: &mut [u8]) ensures { «room_nets».new ≡ g } { }',
+    'pub fn f(x: u32) -> u32 ensures value { result ≡ x } ensures more { g x ≡ h } { x }',
+    'pub fn f(x: u32) -> u32 ensures value { (is_whole x ≡ false → result ≡ 0) } ensures more { Put x result } { x }',
+    'pub fn f(x: u32) -> u32 ensures { let y = g x in result ≡ map (λ z. z + y) x } { x }',
+    'fn f(x: u32) -> u32 requires { x < 9 } { x }',
+    'pub(crate) fn f(x: u32) -> u32 requires { x < 9 } { x }',
     '// pub fn f(x: u32) -> u32 { x }\n/* pub fn g() {} */',
     'pub struct S { pub a: u32 } fn f() -> S { 0 }',
     'pub const N: usize = 4;\nfn f() -> u32 { 0 }',
-    'ghost use mathlib.Core.Path.{_≡_};',
+    'ghost use Rattle.std.specs.Prelude.{◌≡◌};',
 ]
 
 # Stored output with a fault, and without.
@@ -97,30 +98,35 @@ WRONG_OUTPUT = ['nets: 9 compared, 3 wrong', 'kind 1: 7 of 8: accepted 3', 'nets
                 'write the first gives 14 DIFFERENT kept', 'read nothing refused 16 CHANGED', 'patch 1 0 changed 2 1', '']
 RIGHT_OUTPUT = ['nets: 9 compared, 0 wrong', 'kind 1: 8 of 8: accepted 3, 1: 0', 'read nothing refused 16 kept', 'patch 1 0 changed 2 0']
 
-AT = '/x/target/must-fail/c/e/'
-PROOF = AT + 'proofs/f/Proof.antt:14:15: error: `returns`: '
-REFUSED = '\nlogic=not-proved functions=1\n'
-# Logs of edits that a fact refused.
-FACT_LOGS = [
-    PROOF + 'expected type `columns three ≡ 4`, but this has type `columns three ≡ columns three`' + REFUSED,
-    PROOF + 'as printed, the two types differ only where one has `has no field`\n  (expected) and the other has `b` (found)' + REFUSED,
-    PROOF + '`omega`: the goal does not follow from what it read. It did not look at every field' + REFUSED,
-    'note: a text\n' + PROOF + 'give a proof of that as the last argument, `rw L t`\n  `rw` has no last argument' + REFUSED,
+SAID = 'refused, as it must be: '
+PROOF = SAID + './proofs/f/Answers.antt:14:15: error: `returns`: '
+# What `rt ci` says of edits that a fact refused.
+FACTS = [
+    PROOF + 'expected type `columns three ≡ 4`, but this has type `columns three ≡ columns three`',
+    PROOF + 'as printed, the two types differ only where one has `has no field` (expected) and the other has `b` (found)',
+    PROOF + '`omega`: the goal does not follow from what it read. It did not look at every field',
+    PROOF + 'give a proof of that as the last argument, `rw L t`',
+    PROOF + '`slice_refusal start end size` ≟ `when b then 15 else 0`',
+    SAID + 'note: src/lib.rt:7:1: it is not proved that what the function ensures holds when it returns (`returns`); the facts known there allow va',
 ]
-# Logs of edits that do not count: another reason, no refusal, an error outside proofs, an error of no known kind.
-SHAPE_LOGS = [
-    PROOF + 'module `T` has no `Need-returns-3` that can be named from here' + REFUSED,
-    PROOF + 'record `T.Else2` has no field `if1`' + REFUSED,
-    PROOF + 'record `T.Else2`\n  has no field `if1`\n  expected type `a`' + REFUSED,
-    PROOF + 'this is applied to an argument but has type `a`\n  which is not a function or extension (path) type' + REFUSED,
-    AT + 'proofs/f/Proof.antt: error: `c` has no function `f` for this file to be the proof of' + REFUSED,
-    PROOF + '`x` is not in scope' + REFUSED,
-    PROOF + 'no proof: expected a file' + REFUSED,
-    PROOF + 'something else' + REFUSED,
-    AT + 'src/lib.rt:3:4: error: the two types differ' + REFUSED,
-    AT + 'src/lib.rt:3:4: error: not a type\n' + PROOF + 'expected type `a`' + REFUSED,
-    PROOF + 'expected type `a`',
-    'fn f: proved\nlogic=proved functions=1\n',
+# The same of edits that do not count: another reason, no refusal, an error outside proofs, an error of no known kind.
+SHAPES = [
+    PROOF + 'module `T` has no `returns-3` that can be named from here',
+    PROOF + 'record `T.Else2` has no field `if1`',
+    PROOF + 'this is applied to an argument but has type `a`, which is not a function or extension (path) type',
+    PROOF + '`x` is not in scope',
+    PROOF + 'no proof: expected a file',
+    PROOF + 'something else',
+    SAID + './proofs/f/Answers.antt: error: `c` has no function `f` for this file to be the proof of',
+    SAID + 'src/lib.rt:3:4: error: the two types differ',
+    SAID + 'note: to see how far a `search` got, write `search rules`',
+    'refused, as it must be (only because a proof file names what the edit took away, so this says little of the contract: change a value and keep the '
+    'names): ./proofs/f/Answers.antt:14:15: error: `returns`: expected type `a`',
+    'refused, as it must be (only by a limit of the prover, which gave no verdict, so this says less of the contract: choose a change that it refuses sooner)',
+    'refused, as it must be',
+    'BAD EDIT: an \'old:\' text is in src/lib.rt 0 times, and not once',
+    'NOT REFUSED: the crate is still proved with this edit',
+    'NOT TRIED: its check was killed, most likely for memory',
     '',
 ]
 
@@ -140,8 +146,8 @@ def main():
         failed.append(f'scratch: {left_open}, {needless}')
     failed += [f'output passes: {text!r}' for text in WRONG_OUTPUT if not list(stdouts.text_faults(text))]
     failed += [f'output fails: {text!r}' for text in RIGHT_OUTPUT if list(stdouts.text_faults(text))]
-    failed += [f'edit does not count: {log!r}' for log in FACT_LOGS if edits.fault(log, 'target/must-fail/c/e')]
-    failed += [f'edit counts: {log!r}' for log in SHAPE_LOGS if not edits.fault(log, 'target/must-fail/c/e')]
+    failed += [f'edit does not count: {told!r}' for told in FACTS if edits.fault(told)]
+    failed += [f'edit counts: {told!r}' for told in SHAPES if not edits.fault(told)]
     for fault in failed:
         print('test_contracts:', fault)
     return 1 if failed else 0

@@ -1,31 +1,27 @@
 #!/usr/bin/env python3
-"""times.py LOG: writes the check's times into docs/PERFORMANCE.md, from the output of a whole run of .ci/run.
+"""times.py LOG: writes the check's time into docs/PERFORMANCE.md, from the output of a whole run of .ci/run.
 
-Of each crate the seconds of its proof, of all must-fail edits their sum, and what the whole gate took. The part of the document between its heading
-'## Times of the check' and the next heading is made anew.
+What the whole gate took, and how much of it `rt ci` did in that run. The part of the document between its heading '## Times of the check' and the next
+heading is made anew.
 """
+import os
 import re
 import sys
 
 DOCUMENT = 'docs/PERFORMANCE.md'
 HEADING = '## Times of the check'
-PROVED = re.compile(r'^rt: (\w+) proved \((\d+) s\)', re.M)
-EDIT = re.compile(r'^rt: must-fail (\w+)/\w+: refused.*; (\d+) s\)', re.M)
 WHOLE = re.compile(r'^gate: all checks passed in (.*)$', re.M)
+SHARE = re.compile(r'^rt: ok; .*; (?:done in this run: (.*?); the others are kept|(every proof and must-fail edit))', re.M)
 
 
 def section(log):
     """The text of the section."""
-    proved = [(crate, int(seconds)) for crate, seconds in PROVED.findall(log)]
-    edits = [int(seconds) for _, seconds in EDIT.findall(log)]
-    whole = WHOLE.search(log)
-    if not proved or not edits or not whole:
+    whole, share = WHOLE.search(log), SHARE.search(log)
+    if not whole or not share:
         sys.exit('times: this is not the output of a whole run of .ci/run')
-    slow = sorted(proved, key=lambda pair: (-pair[1], pair[0]))
-    rows = ', '.join(f'{crate} {seconds}' for crate, seconds in slow)
-    return (f'{HEADING}\n\nOne run of `.ci/run` on two cores: {whole.group(1)}. The proofs of {len(proved)} crates took '
-            f'{sum(s for _, s in proved)} s together, {len(edits)} must-fail edits {sum(edits)} s, two at a time.\n'
-            f'`scripts/times.py` writes this from the output of the run.\n\nSeconds of each crate: {rows}.\n')
+    last = log.strip().splitlines()[-1]
+    return (f'{HEADING}\n\nOne run of `.ci/run` on {len(os.sched_getaffinity(0))} processors: {whole.group(1)}. `rt ci` did in it: {share.group(1) or share.group(2)}; {last}.\n'
+            '`scripts/times.py` writes this section anew from the output of a run.\n')
 
 
 def main():

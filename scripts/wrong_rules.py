@@ -1,7 +1,7 @@
 #!/usr/bin/env python3
 """Makes each rule of scripts/wrong_rules.txt wrong in a copy of the project and fails where the crate that promises the call still proves.
 
-The copy has no target/, so everything below the crates is proved anew, with the wrong rules. A refusal counts only where a fact is refused.
+The copy has no out/ folders, so what stands on the wrong rules is proved anew. A refusal counts only where a fact is refused (scripts/edits.py).
 """
 import os
 import re
@@ -10,46 +10,52 @@ import subprocess
 import sys
 import tempfile
 
+import edits
 from wrong import entries, make_wrong
 
 LIST = 'scripts/wrong_rules.txt'
-# what the checker says where a file's shape is refused, not a fact
-SHAPE = re.compile(r'has no `?Need-|not in scope|takes only names|that can be named from here|no proof: expected')
+# an error or a note at a place of a file, and one that only says that a proof file names what is not there
+TOLD = re.compile(r'(?:note: \S+:\d+:\d+: |\S+:\d+:\d+: error)')
+NAMES = re.compile(r'(?:note: )?(?:\./)?proofs/.*(?:has no field|is not in scope|has no `|was not admitted)')
 
 
-def first_error(root, crate):
-    path = os.path.join(root, 'target', 'log', crate + '.out')
-    for line in open(path, encoding='utf-8'):
-        if ' error: ' in line:
-            return line.split(f'crates/{crate}/')[-1].strip()
-    return ''
+def first_told(said):
+    """The first error or note that is more than a lost name, as `rt ci` says it of a must-fail edit."""
+    return next((line for line in said.splitlines() if TOLD.match(line) and not NAMES.match(line)), '')
+
+
+def check(root, crate):
+    """What `rt check` says in a crate's folder: the status, and the words of the crate itself, after those of the crates below."""
+    done = subprocess.run(['rt', 'check'], cwd=f'{root}/crates/{crate}', stdout=subprocess.PIPE, stderr=subprocess.STDOUT, text=True)
+    return done.returncode, done.stdout.split('rt: chose --jobs')[-1], done.stdout
 
 
 def main():
     wrong = entries(LIST)
-    crates = [e['by'] for e in wrong]
     root = tempfile.mkdtemp(prefix='wrong_rules.')
     try:
         shutil.copy('crates.txt', root)
-        shutil.copytree('crates', os.path.join(root, 'crates'))
+        shutil.copytree('crates', os.path.join(root, 'crates'), ignore=shutil.ignore_patterns('out'))
         for entry in wrong:
             make_wrong(root, entry)
-        said = subprocess.run(['rt', 'check', *crates], cwd=root, capture_output=True, text=True).stdout
-        if not re.search(r'^rt: rules proved', said, re.M):
+        status, _, said = check(root, 'rules')
+        if status:
             sys.exit('wrong_rules: the rules themselves do not prove:\n' + said[-3000:])
         failed = 0
         for entry in wrong:
             crate = entry['by']
-            if not re.search(rf'^rt: {crate} NOT PROVED \(exit 1', said, re.M):
-                print(f"wrong_rules: '{entry['comment']}': {crate} was not refused")
+            status, own, said = check(root, crate)
+            if status != 1 or not re.search(r'^logic=not-proved', own, re.M) or re.search(r'^rt: the library \w+ did not build', said, re.M):
+                print(f"wrong_rules: '{entry['comment']}': {crate} was not refused: {said.strip().splitlines()[-1][:200]}")
                 failed += 1
                 continue
-            error = first_error(root, crate)
-            if not error.startswith('proofs/') or SHAPE.search(error):
-                print(f"wrong_rules: '{entry['comment']}': {crate} was refused for its shape: {error[:200]}")
+            told = first_told(own)
+            why = edits.said_fault(told[:400])
+            if why:
+                print(f"wrong_rules: '{entry['comment']}': {crate}: {why[:200]}")
                 failed += 1
                 continue
-            print(f"wrong_rules: '{entry['comment']}': refused by {crate}, first at {error.split(' error: ')[0].rstrip(':')}")
+            print(f"wrong_rules: '{entry['comment']}': refused by {crate}, first at {told.removeprefix('note: ').split(': ')[0]}")
         sys.exit(1 if failed else 0)
     finally:
         shutil.rmtree(root, ignore_errors=True)

@@ -5,7 +5,6 @@ An entry is `refused by` the files of some sentences, each OpN of crates/rules_t
 copy with the wrong rule the files are made anew (scripts/sample.py), and these say `≡ false`, which must then be proved: a sentence that no longer
 computes, or a rule that is no definition any more, counts for nothing. With TEXT only the entries whose comment has it are tried.
 """
-import glob
 import os
 import re
 import shutil
@@ -22,24 +21,24 @@ SENTENCE = re.compile(r'^(pub \S+ : .*) ≡ true$', re.M)
 
 
 def make_base(root):
-    """The three crates alone; `lists` need not be proved again where the project has proved it."""
+    """The three crates alone, with `lists` and what checks of `rules` kept."""
     lines = [line for line in open('crates.txt', encoding='utf-8') if line.split(':')[0] in CRATES]
     with open(os.path.join(root, 'crates.txt'), 'w', encoding='utf-8') as out:
         out.writelines(lines)
     for crate in CRATES:
-        shutil.copytree(f'crates/{crate}', f'{root}/crates/{crate}', ignore=shutil.ignore_patterns('must-fail'))
+        shutil.copytree(f'crates/{crate}', f'{root}/crates/{crate}', ignore=shutil.ignore_patterns('must-fail', 'out'))
     os.mkdir(f'{root}/scripts')
     for name in ('sample.py', 'sample.txt', 'sample_cases.txt'):
         shutil.copy(f'scripts/{name}', f'{root}/scripts')
-    if os.path.exists('target/stamp/lists'):
-        shutil.copytree('target/rlib/lists.rlib', f'{root}/target/rlib/lists.rlib')
-        for folder in ('stamp', 'log'):
-            os.makedirs(f'{root}/target/{folder}')
-            for path in glob.glob(f'target/{folder}/lists*'):
-                shutil.copy2(path, f'{root}/target/{folder}')
-    said = subprocess.run(['rt', 'check', 'lists'], cwd=root, capture_output=True, text=True)
+    keep_only(f'{root}/crates/rules/proofs', [])
+    said = rt(root, 'rules', 'lib')
     if said.returncode != 0:
-        sys.exit('wrong_trial: lists is not proved:\n' + said.stdout[-2000:])
+        sys.exit('wrong_trial: lists and rules are not proved:\n' + said.stdout[-2000:])
+
+
+def rt(root, crate, verb):
+    """A run of rt in a crate's folder."""
+    return subprocess.run(['rt', verb, '--jobs', '1'], cwd=f'{root}/crates/{crate}', stdout=subprocess.PIPE, stderr=subprocess.STDOUT, text=True)
 
 
 def keep_only(folder, names):
@@ -64,13 +63,11 @@ def turn_round(path):
 
 
 def copy_of(base):
-    """A copy, which takes `lists` from the base."""
-    root = tempfile.mkdtemp(prefix='entry.', dir=base)
-    for name in ('crates', 'scripts', 'target/stamp', 'target/log'):
+    """A copy, which takes from the base what was proved there."""
+    root = tempfile.mkdtemp(prefix='entry.', dir=os.path.dirname(base))
+    for name in ('crates', 'scripts'):
         shutil.copytree(f'{base}/{name}', f'{root}/{name}')
     shutil.copy2(f'{base}/crates.txt', root)
-    os.mkdir(f'{root}/target/rlib')
-    os.symlink(f'{base}/target/rlib/lists.rlib', f'{root}/target/rlib/lists.rlib')
     return root
 
 
@@ -88,15 +85,15 @@ def tried_in(root, names):
     made = subprocess.run([sys.executable, 'scripts/sample.py'], cwd=root, capture_output=True, text=True)
     if made.returncode != 0:
         return made.stderr
-    keep_only(f'{root}/crates/rules/proofs', [])
+    keep_only(f'{root}/crates/rules/proofs', [])  # sample.py makes one of them
     keep_only(f'{root}/crates/rules_trial/proofs', names)
     for name in names:
         turn_round(f'{root}/crates/rules_trial/proofs/{name}.antt')
-    said = subprocess.run(['rt', 'check', 'rules_trial'], cwd=root, capture_output=True, text=True)
-    if said.returncode == 0 and re.search(r'^rt: rules_trial proved', said.stdout, re.M):
+    said = rt(root, 'rules_trial', 'check')
+    if said.returncode == 0 and re.search(r'^logic=proved ', said.stdout, re.M):
         return ''
-    errors = [line for line in (said.stdout + said.stderr).splitlines() if ' error: ' in line]
-    return (errors[0].split('/crates/')[-1] if errors else said.stdout[-500:])[:300]
+    errors = [line for line in said.stdout.splitlines() if ' error: ' in line]
+    return (errors[0] if errors else said.stdout[-500:])[:300]
 
 
 def main():
@@ -106,10 +103,12 @@ def main():
         wrong_text('.', entry)
     # the script itself: with no rule wrong a sentence is not false
     right = {'comment': 'no rule wrong', 'by': 'Op28', 'file': 'crates/rules/specs/Limits.antt', 'pairs': []}
-    base = tempfile.mkdtemp(prefix='wrong_trial.')
+    top = tempfile.mkdtemp(prefix='wrong_trial.')
+    base = f'{top}/base'
     try:
+        os.mkdir(base)
         make_base(base)
-        with ThreadPoolExecutor(2) as pool:
+        with ThreadPoolExecutor(len(os.sched_getaffinity(0))) as pool:
             faults = pool.map(lambda e: tried(base, e), [right] + wrong)
             if 'error: `agreed`' not in next(faults):
                 sys.exit('wrong_trial: a sentence is false, or not tried, with no rule wrong')
@@ -120,7 +119,7 @@ def main():
         print(f'wrong_trial: {len(wrong) - failed} of {len(wrong)} wrong rules are contradicted')
         sys.exit(1 if failed else 0)
     finally:
-        shutil.rmtree(base, ignore_errors=True)
+        shutil.rmtree(top, ignore_errors=True)
 
 
 main()

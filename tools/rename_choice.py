@@ -1,7 +1,7 @@
 #!/usr/bin/env python3
 """Spells this repository's own choice `if◌then◌else◌` as `when◌then◌else◌`, since `rt ci` keeps the first name for the library's, whose precedence is another.
 
-usage: rename_choice.py     at the top of the repository: .antt files, the clauses and `ghost use` lines of .rt files, and must-fail edits of specs/"""
+usage: rename_choice.py     at the top of the repository: .antt files, the clauses and `ghost use` lines of .rt files, must-fail edits of specs/, and the rules made wrong"""
 import glob
 import os
 import re
@@ -32,6 +32,9 @@ def main():
                 line = line[:5] + respell.words(line[5:], ROW)
             out.append(line)
         n += respell.write(f, '\n'.join(out), t)
+    for f in glob.glob('scripts/wrong_*.txt'):
+        t = respell.read(f)
+        n += respell.write(f, re.sub(r'(?m)^((?:old|new): )(.*)$', lambda m: m.group(1) + re.sub(r'(?<![\w.])if(?= )|(?<=\\n)if(?= )', 'when', m.group(2)), t), t)
     print(n, 'files')
 
 

@@ -145,7 +145,7 @@ def by_parts(body, names, fn=None):
         theirs = fn.clauses.get(callee, ([], []))[0]
         if len(theirs) == len(names):
             return f'{lead}record {{ ' + '; '.join(f'{n} = {tail}.{t}' for n, t in zip(names, theirs)) + ' }'
-    if re.match(r'(rw|simp|omega|search|cc|elim|grind|absurd|first_of|λ|\()(?![\w-])', tail) or '\n' in tail and ' ∙ ' in tail:
+    if re.match(r'(rw|simp|omega|search|cc|elim|grind|absurd|first_of|λ|\()(?![\w-])', tail):
         return None
     parts = []
     for i, n in enumerate(names):
@@ -215,7 +215,7 @@ class Fn:
         heads += [re.escape(v) for v, of in re.findall(r'\blet (' + W + r'+) = (' + W + r'+)\.args in\b', text) if of in roots]
         text = re.sub(r'(?<![^\s(){};,@«»←])(' + '|'.join(heads) + r')\.t(\d+)(?![\w-])',
                       lambda m: m.group(1) + '.' + mine[int(m.group(2)) - 1] if int(m.group(2)) <= len(mine) else m.group(0), text)
-        text = re.sub(r'(?<![^\s(){};,@«»←])(' + '|'.join(heads) + r')\.(' + W + r'+)', lambda m: m.group(1) + '.' + (norm(m.group(2)) if norm(m.group(2)) in self.vars else m.group(2)), text)
+        text = re.sub(r'(?<![^\s(){};,@«»←])(' + '|'.join(heads) + r')\.(' + W + r'+)', lambda m: m.group(1) + '.' + self.var(m.group(2)), text)
         # lengths of arrays in a struct by value: omega knows them
         text = re.sub(r', \w+_long (?:' + W + r'|\.)+ _ (?:' + W + r'|\.)+well_formed(?:\.\d)*', '', text)
         look = []
@@ -227,11 +227,19 @@ class Fn:
             parts = [p for p in rest.split('.') if p]
             if not parts:
                 return m.group(0)
+            if parts[0] == 'pre':
+                parts[0] = 'requires'
             step = norm(parts[0])
             if step not in self.steps and re.search('_(lem|of)$', step) and re.sub('_(lem|of)$', '', step) in self.steps:
                 step = re.sub('_(lem|of)$', '', step)
+            if step == 'type_size' and 'size_of' in self.steps:
+                step = 'size_of'
             if step not in self.steps and step.lower() in self.steps:
                 step = step.lower()
+            if step not in self.steps and re.sub('^is', '', step.lower()) in self.steps:
+                step = re.sub('^is', '', step.lower())
+            if step not in self.steps and re.sub(r'\d$', '', step) in self.steps and step[-1:].isdigit():
+                step = step[:-1]
             for st, path, arm, new in self.arms:
                 if st == step and [norm(x) for x in parts[1:1 + len(path)]] == [norm(x) for x in path] and path:
                     return root + '.' + '.'.join([arm, new] + parts[1 + len(path):])
@@ -240,7 +248,7 @@ class Fn:
             if step == 'requires' and len(self.own[1]) > 1 and len(parts) > 1:
                 return root + '.' + '.'.join(self.by_clause(parts[:1], parts[1:], self.own[1]))
             if step in ('args', 'requires', 'ranges', 'type_inv'):
-                return root + '.' + '.'.join([parts[0]] + [norm(x) if norm(x) in self.vars else x for x in parts[1:]])
+                return root + '.' + '.'.join([parts[0]] + [self.var(x) for x in parts[1:]])
             if step == 'measure' or step == 'auto':
                 return m.group(0)
             if step in self.steps:
@@ -251,7 +259,7 @@ class Fn:
                     look.append(f'{rest} may be one of {[o[0] for o in options]}')
                 parts = self.clause(parts, callee)
                 parts = [{'type-inv': 'type_inv', 'well-formed': 'well_formed'}.get(x, x) for x in self.kept(parts, callee)]
-                parts = [parts[0]] + [norm(x) if norm(x) in self.vars else x for x in parts[1:]]
+                parts = [parts[0]] + [self.var(x) for x in parts[1:]]
                 if new.startswith('if-not-') and len(parts) == 2 and parts[1] in ('true', 'false'):
                     return '(ap not ' + root + '.' + '.'.join(parts) + ')'
                 return root + '.' + '.'.join(parts)
@@ -264,7 +272,7 @@ class Fn:
                 v = m.group(1)
                 text = re.sub(r'(?<![^\s(){};,@«»←])' + re.escape(v) + r'((?:\.[^\s(){}.;,@"]+)+)',
                               lambda k: '.'.join(self.by_clause([v], k.group(1)[1:].split('.'), self.own[1])), text)
-        for m in re.finditer(r'\blet (' + W + r'+) = c\.(' + W + r'+)\.ensures in\b', text):
+        for m in re.finditer(r'\blet (' + W + r'+) = ' + root + r'\.(' + W + r'+)\.ensures in\b', text):
             callee = next((ca for ops in self.steps.values() for (n, ca, _) in ops if n == m.group(2)), None)
             names = self.clauses.get(callee, ([], []))[0]
             if len(names) > 1:
@@ -272,7 +280,7 @@ class Fn:
                 text = re.sub(r'(?<![^\s(){};,@«»←])' + re.escape(v) + r'((?:\.[^\s(){}.;,@"]+)+)',
                               lambda k: '.'.join(self.by_clause([v], k.group(1)[1:].split('.'), names)), text)
         # an alias of a step: let q = c.STEP in .. q.ensures.1.0
-        for m in re.finditer(r'\blet (' + W + r'+) = c\.(' + W + r'+) in\b', text):
+        for m in re.finditer(r'\blet (' + W + r'+) = ' + root + r'\.(' + W + r'+) in\b', text):
             callee = next((ca for ops in self.steps.values() for (n, ca, _) in ops if n == m.group(2)), None)
             if callee:
                 v = m.group(1)
@@ -317,6 +325,13 @@ class Fn:
                 return head + whole
             rest = rest[1:]
         return head + [names[k]] + list(rest)
+
+    def var(self, x):
+        n = norm(x)
+        if n in self.vars:
+            return n
+        short = re.sub('_(lem|of)$', '', n)
+        return short if short in self.vars and short != n and n not in self.vars else x
 
     def asked_callee(self, old):
         m = re.fullmatch(r'(.*)_requires(?:_(\d+))?', norm(old))
@@ -381,7 +396,7 @@ def inv(fn, body, args, which):
         elif w in ')]}' and len(w) == 1:
             deep -= 1
             bound = [b for b in bound if b[0] <= deep]
-        elif re.fullmatch(W + '+', w) and (not out or out[-1] != '.') and w in known and not any(w in b[1] for b in bound):
+        elif re.fullmatch(W + '+', w) and (not out or out[-1] != '.') and not (re.match(r'\s=\s', body[at:]) and re.search(r'[{;]\s*$', ''.join(out[-3:]))) and w in known and not any(w in b[1] for b in bound):
             w = known[w]
         out.append(w)
     return ''.join(out), look
@@ -585,7 +600,7 @@ def convert(crate, path, fn, everything):
                     body = r
                 elif body.strip() not in TRIVIAL:
                     looks.append(f'{new}: not a tuple of {len(names)} clauses')
-            if re.search(r'(?:array|slice)-(?:share|relend|lend)\S* c(?![\w.])', body) or re.search(r'_long c\.', body):
+            if re.search(r'(?:array|slice)-(?:share|relend|lend)\S* c(?![\w.])', body) or new.startswith('slice_bounds') and re.search(r'_long c\.', body):
                 looks.append(f'{new} left to Rattle: {body[:80]!r}')
                 continue
             args = [a for a in args if a != 'κs']

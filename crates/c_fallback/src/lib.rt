@@ -1,5 +1,6 @@
 // The fallback for callers in C and Rust: numbers, slices and `repr(C)` structs, no enums. A refused call gives state and lent arrays back as they were.
 #![tactic(auto)]
+
 ghost use Rattle.std.specs.Prelude.{◌≡◌};
 ghost use Rattle.rules.specs.Answers.{lower_fallback_call};
 ghost use Rattle.rules.specs.Fallback.{fallback_scratch};
@@ -26,8 +27,7 @@ fn lowered_struct(x: Lowered) -> Logged
 }
 
 // A memory as flip-flops and muxes: a register for each row.
-#[unsafe(no_mangle)]
-pub extern "C" fn tablegoose_lower_fallback(
+pub fn tablegoose_lower_fallback(
     log: &mut [u32],
     st: LogState,
     scratch: &mut [u32],

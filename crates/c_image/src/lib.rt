@@ -1,5 +1,6 @@
 // Layouts, images, patches and places for callers in C and Rust: by a layout's numbers and entries, and by the state that a swizzle hands on.
 #![tactic(auto)]
+
 ghost use Rattle.std.specs.Prelude.{◌≡◌, length};
 ghost use Rattle.std.proofs.Math.Option.{none};
 ghost use Rattle.rules.specs.Patch.{Demanded};
@@ -93,42 +94,28 @@ pub fn sizes_result(a: Sized) -> Head
 // ---- by a layout's numbers and entries
 
 // The shape of a layout: how many memories, their depths, columns and trits.
-#[unsafe(no_mangle)]
-pub extern "C" fn tablegoose_measure(p: Params, entries: &[u32]) -> MeasuredResult
+pub fn tablegoose_measure(p: Params, entries: &[u32]) -> MeasuredResult
     ensures { result ≡ measured_struct (shape_call (layout_by p entries.now)) }
 {
     measured_result(image_geometry::measure(p, entries))
 }
 
 // Where an entry of a row goes.
-#[unsafe(no_mangle)]
-pub extern "C" fn tablegoose_place_of(
-    p: Params,
-    entries: &[u32],
-    row: u32,
-    entry: usize,
-) -> PlacedResult
+pub fn tablegoose_place_of(p: Params, entries: &[u32], row: u32, entry: usize) -> PlacedResult
     ensures { result ≡ placed_struct (place_call (layout_by p entries.now) row entry) }
 {
     placed_result(image_rows::place_of(p, entries, row, entry))
 }
 
 // Lays rows out in an image.
-#[unsafe(no_mangle)]
-pub extern "C" fn tablegoose_fill_rows(
-    image: &mut [u8],
-    p: Params,
-    entries: &[u32],
-    rows: &[u8],
-) -> u32
+pub fn tablegoose_fill_rows(image: &mut [u8], p: Params, entries: &[u32], rows: &[u8]) -> u32
     ensures { filled_with result image.new ≡ fill_call (handed_on (layout_by p entries.now)) rows.now image.old }
 {
     image_rows::fill_rows(image, p, entries, rows)
 }
 
 // Exchanges one row of an image.
-#[unsafe(no_mangle)]
-pub extern "C" fn tablegoose_patch_row(
+pub fn tablegoose_patch_row(
     image: &mut [u8],
     p: Params,
     entries: &[u32],
@@ -141,8 +128,7 @@ pub extern "C" fn tablegoose_patch_row(
 }
 
 // Reads one row of an image back.
-#[unsafe(no_mangle)]
-pub extern "C" fn tablegoose_read_row(
+pub fn tablegoose_read_row(
     room: &mut [u8],
     p: Params,
     entries: &[u32],
@@ -155,8 +141,7 @@ pub extern "C" fn tablegoose_read_row(
 }
 
 // The calls of a list, in order, each with its number.
-#[unsafe(no_mangle)]
-pub extern "C" fn tablegoose_patch_each(
+pub fn tablegoose_patch_each(
     buffer: &mut [u8],
     numbers: &mut [u32],
     p: Params,
@@ -170,8 +155,7 @@ pub extern "C" fn tablegoose_patch_each(
 }
 
 // Lays rows out and makes the calls of a list: demand 3.
-#[unsafe(no_mangle)]
-pub extern "C" fn tablegoose_fill_then_patch(
+pub fn tablegoose_fill_then_patch(
     buffer: &mut [u8],
     numbers: &mut [u32],
     p: Params,
@@ -189,53 +173,42 @@ pub extern "C" fn tablegoose_fill_then_patch(
 // ---- by the state that a swizzle hands on
 
 // The state before any swizzle is accepted.
-#[unsafe(no_mangle)]
-pub extern "C" fn tablegoose_unset() -> Laid
+pub fn tablegoose_unset() -> Laid
     ensures { (result ≡ unset_laid) × (laid_of result ≡ none) }
 {
     image_state::unset()
 }
 
 // The state of a layout.
-#[unsafe(no_mangle)]
-pub extern "C" fn tablegoose_laid_out(p: Params, entries: &[u32]) -> Laid
+pub fn tablegoose_laid_out(p: Params, entries: &[u32]) -> Laid
     ensures { (result ≡ laid_by p entries.now) × (laid_of result ≡ handed_on (layout_by p entries.now)) }
 {
     image_state::laid_out(p, entries)
 }
 
 // Lays rows out in the image of a swizzle.
-#[unsafe(no_mangle)]
-pub extern "C" fn tablegoose_fill(image: &mut [u8], laid: Laid, rows: &[u8]) -> u32
+pub fn tablegoose_fill(image: &mut [u8], laid: Laid, rows: &[u8]) -> u32
     ensures { filled_with result image.new ≡ fill_call (laid_of laid) rows.now image.old }
 {
     image_state::fill(image, laid, rows)
 }
 
 // Exchanges one row of the last accepted swizzle.
-#[unsafe(no_mangle)]
-pub extern "C" fn tablegoose_patch(image: &mut [u8], laid: Laid, row: u32, trits: &[u8]) -> u32
+pub fn tablegoose_patch(image: &mut [u8], laid: Laid, row: u32, trits: &[u8]) -> u32
     ensures { filled_with result image.new ≡ patch_call (laid_of laid) (record { row = row; trits = trits.now; room = length image.old }) image.old }
 {
     image_state::patch(image, laid, row, trits)
 }
 
 // Reads one row of the last accepted swizzle's image back.
-#[unsafe(no_mangle)]
-pub extern "C" fn tablegoose_read_laid_row(
-    room: &mut [u8],
-    laid: Laid,
-    image: &[u8],
-    row: u32,
-) -> u32
+pub fn tablegoose_read_laid_row(room: &mut [u8], laid: Laid, image: &[u8], row: u32) -> u32
     ensures { filled_with result room.new ≡ read_row_call (laid_of laid) room.old image.now row }
 {
     image_state::read_row(room, laid, image, row)
 }
 
 // The calls of a list on the image of the last accepted swizzle, each with its number.
-#[unsafe(no_mangle)]
-pub extern "C" fn tablegoose_patch_all(
+pub fn tablegoose_patch_all(
     buffer: &mut [u8],
     numbers: &mut [u32],
     laid: Laid,
@@ -248,8 +221,7 @@ pub extern "C" fn tablegoose_patch_all(
 }
 
 // Lays rows out in the image of a swizzle and makes the calls of a list: demand 3.
-#[unsafe(no_mangle)]
-pub extern "C" fn tablegoose_fill_and_patch(
+pub fn tablegoose_fill_and_patch(
     buffer: &mut [u8],
     numbers: &mut [u32],
     laid: Laid,
@@ -264,8 +236,7 @@ pub extern "C" fn tablegoose_fill_and_patch(
 }
 
 // The record's sizes for the images of the last accepted swizzle.
-#[unsafe(no_mangle)]
-pub extern "C" fn tablegoose_sizes_of(laid: Laid) -> Head
+pub fn tablegoose_sizes_of(laid: Laid) -> Head
     ensures { result ≡ head_struct (sizes_call (laid_of laid)) }
 {
     sizes_result(image_state::sizes_of(laid))

@@ -12,8 +12,7 @@ use c_net::Control;
 use log_entries::LogState;
 
 // A mux in which equal bits are kept once.
-#[unsafe(no_mangle)]
-pub extern "C" fn tablegoose_add_dedup_mux(
+pub fn tablegoose_add_dedup_mux(
     log: &mut [u32],
     st: LogState,
     out: &mut [u32],
@@ -29,8 +28,7 @@ pub extern "C" fn tablegoose_add_dedup_mux(
 }
 
 // A merging mux for each run of equal neighbouring selects.
-#[unsafe(no_mangle)]
-pub extern "C" fn tablegoose_add_bitwise_mux(
+pub fn tablegoose_add_bitwise_mux(
     log: &mut [u32],
     st: LogState,
     out: &mut [u32],
@@ -45,8 +43,7 @@ pub extern "C" fn tablegoose_add_bitwise_mux(
 }
 
 // A flip-flop in which equal bits are kept once.
-#[unsafe(no_mangle)]
-pub extern "C" fn tablegoose_add_dedup_dff(
+pub fn tablegoose_add_dedup_dff(
     log: &mut [u32],
     st: LogState,
     out: &mut [u32],

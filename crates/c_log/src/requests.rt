@@ -13,8 +13,7 @@ use c_net::Control;
 use log_entries::LogState;
 
 // Kind 1: so many new nets.
-#[unsafe(no_mangle)]
-pub extern "C" fn tablegoose_add_void(log: &mut [u32], st: LogState, width: u32) -> Logged
+pub fn tablegoose_add_void(log: &mut [u32], st: LogState, width: u32) -> Logged
     ensures { left_by (up_from st.next width) result log.new ≡ lent_call (state_of st) (add_void_call log.old (state_of st) width) }
 {
     let r = log_requests::add_void(log, st, width);
@@ -22,8 +21,7 @@ pub extern "C" fn tablegoose_add_void(log: &mut [u32], st: LogState, width: u32)
 }
 
 // Kind 2: the inverse of each net.
-#[unsafe(no_mangle)]
-pub extern "C" fn tablegoose_add_not(log: &mut [u32], st: LogState, a: &[u32]) -> Logged
+pub fn tablegoose_add_not(log: &mut [u32], st: LogState, a: &[u32]) -> Logged
     ensures { left_by (up_from st.next (length a.now)) result log.new ≡ lent_call (state_of st) (add_not_call log.old (state_of st) a.now) }
 {
     let r = log_requests::add_not(log, st, a);
@@ -31,8 +29,7 @@ pub extern "C" fn tablegoose_add_not(log: &mut [u32], st: LogState, a: &[u32]) -
 }
 
 // Kind 3: net by net.
-#[unsafe(no_mangle)]
-pub extern "C" fn tablegoose_add_and(log: &mut [u32], st: LogState, a: &[u32], b: &[u32]) -> Logged
+pub fn tablegoose_add_and(log: &mut [u32], st: LogState, a: &[u32], b: &[u32]) -> Logged
     ensures { left_by (up_from st.next (length a.now)) result log.new ≡ lent_call (state_of st) (add_pair_call add_and_of log.old (state_of st) a.now b.now) }
 {
     let r = log_requests::add_and(log, st, a, b);
@@ -40,8 +37,7 @@ pub extern "C" fn tablegoose_add_and(log: &mut [u32], st: LogState, a: &[u32], b
 }
 
 // Kind 4: net by net.
-#[unsafe(no_mangle)]
-pub extern "C" fn tablegoose_add_or(log: &mut [u32], st: LogState, a: &[u32], b: &[u32]) -> Logged
+pub fn tablegoose_add_or(log: &mut [u32], st: LogState, a: &[u32], b: &[u32]) -> Logged
     ensures { left_by (up_from st.next (length a.now)) result log.new ≡ lent_call (state_of st) (add_pair_call add_or_of log.old (state_of st) a.now b.now) }
 {
     let r = log_requests::add_or(log, st, a, b);
@@ -49,8 +45,7 @@ pub extern "C" fn tablegoose_add_or(log: &mut [u32], st: LogState, a: &[u32], b:
 }
 
 // Kind 5: a mux.
-#[unsafe(no_mangle)]
-pub extern "C" fn tablegoose_add_mux(
+pub fn tablegoose_add_mux(
     log: &mut [u32],
     st: LogState,
     select: Control,
@@ -65,8 +60,7 @@ pub extern "C" fn tablegoose_add_mux(
 }
 
 // Kind 6: whether two values are equal, in one net.
-#[unsafe(no_mangle)]
-pub extern "C" fn tablegoose_add_eq(log: &mut [u32], st: LogState, a: &[u32], b: &[u32]) -> Logged
+pub fn tablegoose_add_eq(log: &mut [u32], st: LogState, a: &[u32], b: &[u32]) -> Logged
     ensures { left_by st.next result log.new ≡ lent_call (state_of st) (add_pair_call add_eq_of log.old (state_of st) a.now b.now) }
 {
     let r = log_requests::add_eq(log, st, a, b);
@@ -74,8 +68,7 @@ pub extern "C" fn tablegoose_add_eq(log: &mut [u32], st: LogState, a: &[u32], b:
 }
 
 // Kind 7: a value moved up by select times stride.
-#[unsafe(no_mangle)]
-pub extern "C" fn tablegoose_add_shl(
+pub fn tablegoose_add_shl(
     log: &mut [u32],
     st: LogState,
     stride: u32,
@@ -89,8 +82,7 @@ pub extern "C" fn tablegoose_add_shl(
 }
 
 // Kind 8: down.
-#[unsafe(no_mangle)]
-pub extern "C" fn tablegoose_add_ushr(
+pub fn tablegoose_add_ushr(
     log: &mut [u32],
     st: LogState,
     stride: u32,
@@ -104,8 +96,7 @@ pub extern "C" fn tablegoose_add_ushr(
 }
 
 // Kind 9: a flip-flop of controls, data, and clear, reset and init trits.
-#[unsafe(no_mangle)]
-pub extern "C" fn tablegoose_add_dff(
+pub fn tablegoose_add_dff(
     log: &mut [u32],
     st: LogState,
     c: Controls,
@@ -122,13 +113,7 @@ pub extern "C" fn tablegoose_add_dff(
 }
 
 // Kind 10: each net of a value replaced by another's. It makes no nets.
-#[unsafe(no_mangle)]
-pub extern "C" fn tablegoose_replace_value(
-    log: &mut [u32],
-    st: LogState,
-    from: &[u32],
-    to: &[u32],
-) -> Logged
+pub fn tablegoose_replace_value(log: &mut [u32], st: LogState, from: &[u32], to: &[u32]) -> Logged
     ensures { left_by ([]) result log.new ≡ lent_call (state_of st) (add_pair_call replace_value_of log.old (state_of st) from.now to.now) }
 {
     let r = log_requests::replace_value(log, st, from, to);
@@ -136,8 +121,7 @@ pub extern "C" fn tablegoose_replace_value(
 }
 
 // A net that is the control.
-#[unsafe(no_mangle)]
-pub extern "C" fn tablegoose_into_pos(log: &mut [u32], st: LogState, c: Control) -> NetLogged
+pub fn tablegoose_into_pos(log: &mut [u32], st: LogState, c: Control) -> NetLogged
     ensures value { result ≡ net_struct st (into_pos_call log.old (state_of st) (given_control c)).answer }
     ensures log_after { log.new ≡ (into_pos_call log.old (state_of st) (given_control c)).log }
 {
@@ -147,8 +131,7 @@ pub extern "C" fn tablegoose_into_pos(log: &mut [u32], st: LogState, c: Control)
 }
 
 // Of a flip-flop's controls or of a read port's.
-#[unsafe(no_mangle)]
-pub extern "C" fn tablegoose_remap_reset_over_enable(
+pub fn tablegoose_remap_reset_over_enable(
     log: &mut [u32],
     st: LogState,
     c: Controls,

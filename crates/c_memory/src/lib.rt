@@ -1,5 +1,6 @@
 // A memory for callers in C and Rust, and the calls on its ports: numbers, slices and `repr(C)` structs, no enums.
 #![tactic(auto)]
+
 ghost use Rattle.std.specs.Prelude.{◌≡◌};
 ghost use Rattle.rules.specs.Refusals.{mem_refusal};
 ghost use Rattle.rules.specs.Answers.{wide_log2_call, output_len_call, output_slice_call, can_lower_fallback_call, extract_read_ports_call};
@@ -211,29 +212,25 @@ fn extracted_struct(e: port_extract::Extracted) -> Extracted
     }
 }
 
-#[unsafe(no_mangle)]
-pub extern "C" fn tablegoose_wide_log2(width: u32, size: usize) -> c_net::Result
+pub fn tablegoose_wide_log2(width: u32, size: usize) -> c_net::Result
     ensures { result ≡ value_result (wide_log2_call width size) }
 {
     wide_result(net_memory::wide::wide_log2(width, size))
 }
 
-#[unsafe(no_mangle)]
-pub extern "C" fn tablegoose_memory_refusal(m: Memory, nets: &[u32], trits: &[u8]) -> u32
+pub fn tablegoose_memory_refusal(m: Memory, nets: &[u32], trits: &[u8]) -> u32
     ensures { result ≡ mem_refusal (given_of (given_memory m) nets.now trits.now) }
 {
     net_check::memory_refusal(memory_of(m), nets, trits)
 }
 
-#[unsafe(no_mangle)]
-pub extern "C" fn tablegoose_output_len(m: Memory, nets: &[u32], trits: &[u8]) -> Count
+pub fn tablegoose_output_len(m: Memory, nets: &[u32], trits: &[u8]) -> Count
     ensures { result ≡ count_struct (output_len_call (given_of (given_memory m) nets.now trits.now)) }
 {
     len_result(port_outputs::output_len(memory_of(m), nets, trits))
 }
 
-#[unsafe(no_mangle)]
-pub extern "C" fn tablegoose_read_port_output_slice(
+pub fn tablegoose_read_port_output_slice(
     m: Memory,
     nets: &[u32],
     trits: &[u8],
@@ -245,19 +242,13 @@ pub extern "C" fn tablegoose_read_port_output_slice(
 }
 
 // The value is 1 where all write ports have one clock.
-#[unsafe(no_mangle)]
-pub extern "C" fn tablegoose_can_lower_fallback(
-    m: Memory,
-    nets: &[u32],
-    trits: &[u8],
-) -> c_net::Result
+pub fn tablegoose_can_lower_fallback(m: Memory, nets: &[u32], trits: &[u8]) -> c_net::Result
     ensures { result ≡ flag_result (can_lower_fallback_call (given_of (given_memory m) nets.now trits.now)) }
 {
     fallback_result(port_outputs::can_lower_fallback(memory_of(m), nets, trits))
 }
 
-#[unsafe(no_mangle)]
-pub extern "C" fn tablegoose_extract_read_ports(
+pub fn tablegoose_extract_read_ports(
     room_nets: &mut [u32],
     room_trits: &mut [u8],
     room_output: &mut [u32],

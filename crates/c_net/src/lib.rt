@@ -1,6 +1,7 @@
 // Trits, constants, nets and controls for callers in C and Rust: numbers, slices and `repr(C)` structs, no enums.
 // Here are the structs and what they are in the library's terms; the exported functions are in `logic` and `value`.
 #![tactic(auto)]
+
 ghost use Rattle.std.specs.Prelude.{◌≡◌};
 ghost use Rattle.net_logic.specs.View.{bool_answer};
 ghost use Rattle.net_value.specs.View.{control_of, control_answer, net_answer};

@@ -43,8 +43,7 @@ fn code_result(number: u32, code: u8) -> Result
     }
 }
 
-#[unsafe(no_mangle)]
-pub extern "C" fn tablegoose_trit_not(a: u8) -> Result
+pub fn tablegoose_trit_not(a: u8) -> Result
     ensures { result ≡ value_result (trit_not_call a) }
 {
     let n = trit_refusal(a);
@@ -52,8 +51,7 @@ pub extern "C" fn tablegoose_trit_not(a: u8) -> Result
     code_result(n, net_logic::trit_code(t))
 }
 
-#[unsafe(no_mangle)]
-pub extern "C" fn tablegoose_trit_and(a: u8, b: u8) -> Result
+pub fn tablegoose_trit_and(a: u8, b: u8) -> Result
     ensures { result ≡ value_result (trit_pair_call trit_and a b) }
 {
     let n = pair_refusal(a, b);
@@ -63,8 +61,7 @@ pub extern "C" fn tablegoose_trit_and(a: u8, b: u8) -> Result
     code_result(n, net_logic::trit_code(t))
 }
 
-#[unsafe(no_mangle)]
-pub extern "C" fn tablegoose_trit_or(a: u8, b: u8) -> Result
+pub fn tablegoose_trit_or(a: u8, b: u8) -> Result
     ensures { result ≡ value_result (trit_pair_call trit_or a b) }
 {
     let n = pair_refusal(a, b);
@@ -74,37 +71,32 @@ pub extern "C" fn tablegoose_trit_or(a: u8, b: u8) -> Result
     code_result(n, net_logic::trit_code(t))
 }
 
-#[unsafe(no_mangle)]
-pub extern "C" fn tablegoose_const_is_undef(a: &[u8]) -> Result
+pub fn tablegoose_const_is_undef(a: &[u8]) -> Result
     ensures { result ≡ flag_result (const_is_undef_call a.now) }
 {
     crate::flag_result(net_logic::const_is_undef(a))
 }
 
-#[unsafe(no_mangle)]
-pub extern "C" fn tablegoose_const_not(out: &mut [u8], a: &[u8]) -> u32
+pub fn tablegoose_const_not(out: &mut [u8], a: &[u8]) -> u32
     ensures { filled_with result out.new ≡ const_not_call out.old a.now }
 {
     net_logic::const_not(out, a)
 }
 
-#[unsafe(no_mangle)]
-pub extern "C" fn tablegoose_const_and(out: &mut [u8], a: &[u8], b: &[u8]) -> u32
+pub fn tablegoose_const_and(out: &mut [u8], a: &[u8], b: &[u8]) -> u32
     ensures { filled_with result out.new ≡ const_and_call out.old a.now b.now }
 {
     net_logic::const_and(out, a, b)
 }
 
-#[unsafe(no_mangle)]
-pub extern "C" fn tablegoose_const_or(out: &mut [u8], a: &[u8], b: &[u8]) -> u32
+pub fn tablegoose_const_or(out: &mut [u8], a: &[u8], b: &[u8]) -> u32
     ensures { filled_with result out.new ≡ const_or_call out.old a.now b.now }
 {
     net_logic::const_or(out, a, b)
 }
 
 // const_slice and value_slice: a caller takes the part of its own array, from start to end, where this gives 0.
-#[unsafe(no_mangle)]
-pub extern "C" fn tablegoose_slice_refusal(start: usize, end: usize, size: usize) -> u32
+pub fn tablegoose_slice_refusal(start: usize, end: usize, size: usize) -> u32
     ensures { result ≡ slice_refusal start end size }
 {
     net_logic::slice_refusal(start, end, size)

@@ -10,15 +10,13 @@ ghost use Rattle.c_net.specs.Calls.{narrower_select_in};
 use crate::{Constant, Control, ControlResult, Count, Driver, Result};
 use net_value::{AsConst, CellIndex, Net};
 
-#[unsafe(no_mangle)]
-pub extern "C" fn tablegoose_net_of_cell(cell: u32) -> Result
+pub fn tablegoose_net_of_cell(cell: u32) -> Result
     ensures { result ≡ value_result (net_of_cell_call cell) }
 {
     crate::net_result(net_value::net_of_cell(CellIndex(cell)))
 }
 
-#[unsafe(no_mangle)]
-pub extern "C" fn tablegoose_cell_of_net(net: u32) -> Driver
+pub fn tablegoose_cell_of_net(net: u32) -> Driver
     ensures { result ≡ driver_struct (driver_of net) }
 {
     match net_value::cell_of_net(Net(net)) {
@@ -33,15 +31,13 @@ pub extern "C" fn tablegoose_cell_of_net(net: u32) -> Driver
     }
 }
 
-#[unsafe(no_mangle)]
-pub extern "C" fn tablegoose_net_is_const(net: u32) -> u32
+pub fn tablegoose_net_is_const(net: u32) -> u32
     ensures { result ≡ flag_code (is_const (driver_of net)) }
 {
     net_value::net_is_const(Net(net)) as u32
 }
 
-#[unsafe(no_mangle)]
-pub extern "C" fn tablegoose_net_as_const(net: u32) -> Constant
+pub fn tablegoose_net_as_const(net: u32) -> Constant
     ensures { result ≡ constant_struct (as_const (driver_of net)) }
 {
     match net_value::net_as_const(Net(net)) {
@@ -53,31 +49,27 @@ pub extern "C" fn tablegoose_net_as_const(net: u32) -> Constant
     }
 }
 
-#[unsafe(no_mangle)]
-pub extern "C" fn tablegoose_control_not(c: Control) -> ControlResult
+pub fn tablegoose_control_not(c: Control) -> ControlResult
     ensures { result ≡ control_result (inverse_call (given_control c)) }
 {
     crate::control_result(net_value::control_not(crate::control_net(c)))
 }
 
 // The control is v for ever: v is 0 or 1, and refused by 4 above.
-#[unsafe(no_mangle)]
-pub extern "C" fn tablegoose_control_is_always(c: Control, v: u32) -> Result
+pub fn tablegoose_control_is_always(c: Control, v: u32) -> Result
     ensures { result ≡ flag_result (is_always_call (bool_net (is_set v)) (flagged_control c v)) }
 {
     let given = crate::flagged_control(c, v);
     crate::flag_result(net_value::control_is_always(given, v == 1))
 }
 
-#[unsafe(no_mangle)]
-pub extern "C" fn tablegoose_value_is_undef(v: &[u32]) -> Result
+pub fn tablegoose_value_is_undef(v: &[u32]) -> Result
     ensures { result ≡ flag_result (value_is_undef_call v.now) }
 {
     crate::flag_result(net_value::value_is_undef(v))
 }
 
-#[unsafe(no_mangle)]
-pub extern "C" fn tablegoose_zext(out: &mut [u32], v: &[u32], n: usize) -> u32
+pub fn tablegoose_zext(out: &mut [u32], v: &[u32], n: usize) -> u32
     ensures { filled_with result out.new ≡ zext_call out.old v.now n }
 {
     net_value::zext(out, v, n)
@@ -102,8 +94,7 @@ fn store_list(out: &mut [u32], list: &[u32]) -> Count
 }
 
 // The select bits in lent room: 14, and 20 where they do not fit it.
-#[unsafe(no_mangle)]
-pub extern "C" fn tablegoose_narrower_select<'a>(
+pub fn tablegoose_narrower_select<'a>(
     out: &mut [u32],
     waddr: &'a [u32],
     raddr: &'a [u32],

@@ -1,5 +1,6 @@
 // The calls on a memory and a plan for callers in C and Rust: numbers, slices and `repr(C)` structs, no enums.
 #![tactic(auto)]
+
 ghost use Rattle.std.specs.Prelude.{◌≡◌};
 ghost use Rattle.rules.specs.Answers.{make_data_swizzle_call, swizzle_depths_call, swizzle_mux_bits_call, filled_with};
 ghost use Rattle.net_memory.specs.Given.{given_of};
@@ -31,8 +32,7 @@ fn entries_result(a: DataSwizzle) -> Count
 }
 
 // How many entries, and the entries in the room.
-#[unsafe(no_mangle)]
-pub extern "C" fn tablegoose_make_data_swizzle(
+pub fn tablegoose_make_data_swizzle(
     out: &mut [u32],
     m: Memory,
     nets: &[u32],
@@ -46,8 +46,7 @@ pub extern "C" fn tablegoose_make_data_swizzle(
     entries_result(swizzle_entries::make_data_swizzle(out, g, nets, trits, granularities))
 }
 
-#[unsafe(no_mangle)]
-pub extern "C" fn tablegoose_swizzle_depths(
+pub fn tablegoose_swizzle_depths(
     out: &mut [u32],
     m: Memory,
     nets: &[u32],
@@ -63,8 +62,7 @@ pub extern "C" fn tablegoose_swizzle_depths(
     swizzle_sizes::swizzle_depths(out, g, nets, trits, s, entries, writes, reads)
 }
 
-#[unsafe(no_mangle)]
-pub extern "C" fn tablegoose_swizzle_mux_bits(
+pub fn tablegoose_swizzle_mux_bits(
     m: Memory,
     nets: &[u32],
     trits: &[u8],

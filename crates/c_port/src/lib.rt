@@ -1,6 +1,7 @@
 // Calls on a memory's ports for callers in C and Rust. Memory and log state go in by value and come back in the answer's struct; a refused call gives
 // both back as they were.
 #![tactic(auto)]
+
 ghost use Rattle.std.specs.Prelude.{◌≡◌, [], length, take};
 ghost use Rattle.rules.specs.Answers.{unmap_read_dff_call, unmap_reset_call, emulate_call, transparency_mux_call};
 ghost use Rattle.log_entries.specs.View.{state_of};
@@ -44,8 +45,7 @@ fn driven_struct(m: Memory, d: port_unmap::Driven) -> Driven
     }
 }
 
-#[unsafe(no_mangle)]
-pub extern "C" fn tablegoose_unmap_read_dff(
+pub fn tablegoose_unmap_read_dff(
     log: &mut [u32],
     st: LogState,
     output: &mut [u32],
@@ -64,8 +64,7 @@ pub extern "C" fn tablegoose_unmap_read_dff(
     )
 }
 
-#[unsafe(no_mangle)]
-pub extern "C" fn tablegoose_unmap_read_init_reset_transparency(
+pub fn tablegoose_unmap_read_init_reset_transparency(
     log: &mut [u32],
     st: LogState,
     output: &mut [u32],
@@ -95,8 +94,7 @@ pub extern "C" fn tablegoose_unmap_read_init_reset_transparency(
 }
 
 // The outputs play no part.
-#[unsafe(no_mangle)]
-pub extern "C" fn tablegoose_emulate_read_before_write(
+pub fn tablegoose_emulate_read_before_write(
     log: &mut [u32],
     st: LogState,
     nets: &mut [u32],
@@ -114,8 +112,7 @@ pub extern "C" fn tablegoose_emulate_read_before_write(
 }
 
 // Bits and mask after it go to the rooms; without a mask, `mask` and its room play no part.
-#[unsafe(no_mangle)]
-pub extern "C" fn tablegoose_transparency_mux(
+pub fn tablegoose_transparency_mux(
     log: &mut [u32],
     st: LogState,
     bits_to: &mut [u32],

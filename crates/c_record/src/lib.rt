@@ -95,52 +95,42 @@ fn listed_result(a: Listed) -> Count
 }
 
 // Writes the record of an image; how many bytes it has.
-#[unsafe(no_mangle)]
-pub extern "C" fn tablegoose_write_record(out: &mut [u8], sizes: Sizes, image: &[u8]) -> Count
+pub fn tablegoose_write_record(out: &mut [u8], sizes: Sizes, image: &[u8]) -> Count
     ensures { (result ≡ count_struct (answer_of (write_record_refusal (length out.old) (view_sizes sizes) image.now) (record_bytes (view_sizes sizes)))) × (out.new ≡ (write_record_call out.old (view_sizes sizes) image.now).out) }
 {
     written_result(record_codec::write_record(out, sizes, image))
 }
 
 // Reads a record: its sizes, and its image into lent room.
-#[unsafe(no_mangle)]
-pub extern "C" fn tablegoose_read_record(image: &mut [u8], bytes: &[u8]) -> Head
+pub fn tablegoose_read_record(image: &mut [u8], bytes: &[u8]) -> Head
     ensures { (result ≡ head_struct (read_record_call image.old bytes.now).answer) × (image.new ≡ (read_record_call image.old bytes.now).image) }
 {
     head_result(record_codec::read_record(image, bytes))
 }
 
 // The sizes of a record of `total` bytes whose first are given.
-#[unsafe(no_mangle)]
-pub extern "C" fn tablegoose_record_header(first: &[u8], total: usize) -> Head
+pub fn tablegoose_record_header(first: &[u8], total: usize) -> Head
     ensures { result ≡ head_struct (header_call first.now total) }
 {
     head_result(record_codec::record_header(first, total))
 }
 
 // What stands in a memory of an image.
-#[unsafe(no_mangle)]
-pub extern "C" fn tablegoose_memory_summary(
-    sizes: Sizes,
-    image: &[u8],
-    index: usize,
-) -> SummaryResult
+pub fn tablegoose_memory_summary(sizes: Sizes, image: &[u8], index: usize) -> SummaryResult
     ensures { result ≡ summary_struct (summary_call (view_sizes sizes) image.now index) }
 {
     summary_result(record_listing::summary::memory_summary(sizes, image, index))
 }
 
 // The lister's text for a record; how many bytes it has.
-#[unsafe(no_mangle)]
-pub extern "C" fn tablegoose_list_record(out: &mut [u8], bytes: &[u8]) -> Count
+pub fn tablegoose_list_record(out: &mut [u8], bytes: &[u8]) -> Count
     ensures { (result ≡ count_struct (list_record_call out.old bytes.now).answer) × (out.new ≡ (list_record_call out.old bytes.now).out) }
 {
     listed_result(record_listing::list_record(out, bytes))
 }
 
 // The same for an input of `total` bytes, of which the first are given.
-#[unsafe(no_mangle)]
-pub extern "C" fn tablegoose_list_input(out: &mut [u8], first: &[u8], total: usize) -> Count
+pub fn tablegoose_list_input(out: &mut [u8], first: &[u8], total: usize) -> Count
     ensures { (result ≡ count_struct (list_input_call out.old first.now total).answer) × (out.new ≡ (list_input_call out.old first.now total).out) }
 {
     listed_result(record_listing::list_input(out, first, total))

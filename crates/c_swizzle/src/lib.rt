@@ -1,5 +1,6 @@
 // The swizzle for callers in C and Rust: numbers, slices and `repr(C)` structs, no enums. A refused call gives state and lent arrays back as they were.
 #![tactic(auto)]
+
 ghost use Rattle.std.specs.Prelude.{◌≡◌};
 ghost use Rattle.rules.specs.Answers.{swizzle_call};
 ghost use Rattle.rules.specs.Swizzle.{swizzle_scratch};
@@ -118,8 +119,7 @@ fn patches_struct(x: swizzle_patches::SwizzledPatches) -> SwizzledPatches
 }
 
 // A memory swizzled by a plan.
-#[unsafe(no_mangle)]
-pub extern "C" fn tablegoose_swizzle<'a>(
+pub fn tablegoose_swizzle<'a>(
     log: &mut [u32],
     st: LogState,
     image: &mut [u8],
@@ -148,8 +148,7 @@ pub extern "C" fn tablegoose_swizzle<'a>(
 }
 
 // A swizzle, and the calls of a list on its image; each call's number goes into `numbers`. Where the swizzle is refused no call is made.
-#[unsafe(no_mangle)]
-pub extern "C" fn tablegoose_swizzle_and_patch<'a>(
+pub fn tablegoose_swizzle_and_patch<'a>(
     log: &mut [u32],
     st: LogState,
     image: &mut [u8],

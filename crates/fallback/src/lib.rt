@@ -1,5 +1,6 @@
 // memory/src/lib.rs, lower_fallback: the flip-flops of all read ports are unmapped, the memory is split into rows, and each row becomes a register.
 #![tactic(auto)]
+
 ghost use Rattle.std.specs.Prelude.{◌≡◌, [], ◌+◌, ◌*◌, ◌≤◌, min, length, drop};
 ghost use Rattle.rules.specs.Limits.{max_bits, max_outputs, max_ports, max_row};
 ghost use Rattle.rules.specs.Fallback.{fallback_plan, lower_rows, lower_fallback, fallback_scratch};

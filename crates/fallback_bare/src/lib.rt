@@ -1,5 +1,6 @@
 // A memory whose read ports have no flip-flops: what all unmappings leave.
 #![tactic(auto)]
+
 ghost use Rattle.std.specs.Prelude.{◌≡◌, List, ℕ};
 ghost use Rattle.net_memory.specs.View.{memory_of};
 ghost use Rattle.port_unmap.specs.Call.{without};

@@ -1,5 +1,6 @@
 // How many words and nets the rows of a fallback give, by the masks of its memory: known before anything is stored.
 #![tactic(auto)]
+
 ghost use Rattle.std.specs.Prelude.{◌≡◌, List, [], ℕ, ◌+◌, ◌*◌, ◌^◌, ◌<◌, ◌≤◌};
 ghost use Rattle.lists.specs.Lists.{sum_by};
 ghost use Rattle.rules.specs.Limits.{max_depth};

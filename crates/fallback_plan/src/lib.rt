@@ -1,6 +1,7 @@
 // The plan of a fallback: the entries of a row in order, soft bits up to the largest wide log, no address bits, and a row as the unit, so that each
 // row is a memory.
 #![tactic(auto)]
+
 ghost use Rattle.std.specs.Prelude.{◌≡◌, List, map, ℕ, ◌≤◌, min, max, take, replicate};
 ghost use Rattle.lists.specs.Lists.{up_from};
 ghost use Rattle.rules.specs.Limits.{max_ports};

@@ -1,6 +1,7 @@
 // One row of a memory as a register, by its values: the void nets, a bitwise mux for each write port over them, the flip-flop whose results take
 // their place, and the outputs that they drive. A row of more nets than a merge takes, which no memory has, gives nothing.
 #![tactic(auto)]
+
 ghost use Rattle.std.specs.Prelude.{◌≡◌, ◌≤◌, length, take};
 ghost use Rattle.std.proofs.lemmas.List.Edits.{sets};
 ghost use Rattle.lists.specs.Lists.{up_from};

@@ -1,5 +1,6 @@
 // The rows of a memory as registers: each memory of depth 1 that a struct and the lent arrays hold becomes one, and drives its outputs.
 #![tactic(auto)]
+
 ghost use Rattle.std.specs.Prelude.{◌≡◌, List, [], ℕ, ◌+◌, ◌*◌, ◌≤◌, min, length, take};
 ghost use Rattle.lists.specs.Lists.{up_from};
 ghost use Rattle.rules.specs.Limits.{max_ports, max_unit, max_columns};

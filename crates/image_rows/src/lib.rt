@@ -1,5 +1,6 @@
 // Rows of an image with a given layout: the place of an entry, the rows laid out, a row patched and a row read back.
 #![tactic(auto)]
+
 ghost use Rattle.std.specs.Prelude.{◌≡◌, ◌+◌, ◌-◌, ◌*◌, ◌≤◌, ◌<◌, length};
 ghost use Rattle.rules.specs.Limits.{max_row};
 ghost use Rattle.rules.specs.Image.{put_row, write_row, write_rows, index_of};

@@ -1,6 +1,7 @@
 // memory/src/lib.rs, add_dedup_dff: equal bits of a flip-flop are kept once. A bit's key is its data net and its three trits, packed into one word, so
 // that the merge of two columns serves.
 #![tactic(auto)]
+
 ghost use Rattle.std.specs.Prelude.{◌≡◌, map, ◌<◌, ◌≤◌, min, length};
 ghost use Rattle.std.proofs.lemmas.List.Edits.{sets};
 ghost use Rattle.lists.specs.Choice.{◌or_else◌};

@@ -1,5 +1,6 @@
 // cell/flip_flop.rs: the controls that a flip-flop and a clocked read port share, and the tests and words of a flip-flop's parts.
 #![tactic(auto)]
+
 ghost use Rattle.std.specs.Prelude.{◌≡◌};
 ghost use Rattle.rules.specs.Value.{control_words};
 ghost use Rattle.rules.specs.Log.{flag};

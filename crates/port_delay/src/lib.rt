@@ -1,5 +1,6 @@
 // memory/src/lib.rs, emulate_read_before_write of one write port: flip-flops before its address, data and mask.
 #![tactic(auto)]
+
 ghost use Rattle.std.specs.Prelude.{◌≡◌, Bool, true, [], ◌≤◌, length, take};
 ghost use Rattle.rules.specs.Limits.{max_merge};
 ghost use Rattle.rules.specs.Cell.{plain_controls, new_flip_flop};

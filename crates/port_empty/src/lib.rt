@@ -1,5 +1,6 @@
 // memory/src/lib.rs, the swizzle of a memory of depth 0: its flip-flops are unmapped, and the outputs after are replaced by X.
 #![tactic(auto)]
+
 ghost use Rattle.std.specs.Prelude.{◌≡◌, ◌≤◌, length, take};
 ghost use Rattle.rules.specs.Limits.{max_outputs};
 ghost use Rattle.rules.specs.Value.{x_nets};

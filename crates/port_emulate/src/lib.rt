@@ -1,5 +1,6 @@
 // memory/src/lib.rs, emulate_read_before_write: the number that refuses it, by a run without a log, and the delayed write ports in log, nets and struct.
 #![tactic(auto)]
+
 ghost use Rattle.std.specs.Prelude.{◌≡◌, List, [], ◌++◌, ℕ, ◌≤◌, length, take};
 ghost use Rattle.std.proofs.lemmas.List.Edits.{sets};
 ghost use Rattle.rules.specs.Limits.{max_merge};

@@ -2,6 +2,7 @@
 //
 // The mask stands in lent scratch of as many nets as a merge takes, beside the data; where the emission overflowed the scratch is left open.
 #![tactic(auto)]
+
 ghost use Rattle.std.specs.Prelude.{List, ℕ, take};
 ghost use Rattle.log_entries.specs.View.{lent};
 ghost use Rattle.net_memory.specs.View.{memory_of};

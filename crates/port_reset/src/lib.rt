@@ -1,6 +1,7 @@
 // memory/src/lib.rs, unmap_read_init_reset_transparency: a read port's clear, reset and init, and its Transparent relations where they are to go, become
 // a mask and muxes behind it.
 #![tactic(auto)]
+
 ghost use Rattle.std.specs.Prelude.{◌≡◌, Bool, false, ◌&&◌, List, ℕ, ◌-◌, length};
 ghost use Rattle.lists.specs.Choice.{◌or_else◌};
 ghost use Rattle.lists.specs.Lists.{up_from};

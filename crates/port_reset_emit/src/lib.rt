@@ -1,6 +1,7 @@
 // memory/src/lib.rs, unmap_read_init_reset_transparency without its numbers: the write ports that a port is transparent to are laid over no data, the
 // flip-flops of data and mask stand behind, and muxes choose between them and what the port reads.
 #![tactic(auto)]
+
 ghost use Rattle.std.specs.Prelude.{◌≡◌, Bool, not, List, ℕ, ◌-◌, ◌≤◌, length, take, replicate};
 ghost use Rattle.lists.specs.Lists.{up_from};
 ghost use Rattle.rules.specs.Limits.{max_merge, X};

@@ -1,6 +1,7 @@
 // memory/src/lib.rs, emulate_read_before_write: the struct after it. Write ports that are delayed stand at the other edge of their clock, and relations
 // to them are Undefined.
 #![tactic(auto)]
+
 ghost use Rattle.std.specs.Prelude.{◌≡◌, List, ℕ, ◌<◌, min, get_or, set};
 ghost use Rattle.rules.specs.Limits.{max_ports};
 ghost use Rattle.rules.specs.Cell.{Undefined};

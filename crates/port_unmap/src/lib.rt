@@ -1,5 +1,6 @@
 // memory/src/lib.rs, unmap_read_dff: a read port reads at once, and its flip-flop stands behind it as a cell of its own.
 #![tactic(auto)]
+
 ghost use Rattle.std.specs.Prelude.{◌≡◌, false, List, ℕ, ◌+◌, ◌<◌, min, length, ◌&&◌};
 ghost use Rattle.lists.specs.Lists.{any};
 ghost use Rattle.rules.specs.Limits.{max_ports};

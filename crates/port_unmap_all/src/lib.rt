@@ -1,6 +1,7 @@
 // memory/src/lib.rs: all flip-flops of a memory's read ports unmapped. Each port is emitted from the memory and the outputs as given; the outputs
 // after stand in a room that is lent.
 #![tactic(auto)]
+
 ghost use Rattle.std.specs.Prelude.{◌≡◌, false, List, ℕ, ◌+◌, ◌<◌, ◌≤◌, min};
 ghost use Rattle.std.proofs.Math.Option.{some};
 ghost use Rattle.std.proofs.lemmas.List.Edits.{sets};

@@ -1,5 +1,6 @@
 // The call `swizzle`: all numbers first; then width 0 does nothing, depth 0 unmaps the flip-flops, and rows have their ports made anew.
 #![tactic(auto)]
+
 ghost use Rattle.std.specs.Prelude.{◌≡◌, drop};
 ghost use Rattle.rules.specs.Answers.{swizzle_call};
 ghost use Rattle.log_entries.specs.View.{state_of, lent};

@@ -1,6 +1,7 @@
 // What a swizzle asks for before it stores anything: words and nets of the log, nets and trits of the resulting memories, and scratch, in
 // closed form.
 #![tactic(auto)]
+
 ghost use Rattle.std.specs.Prelude.{◌≡◌, true, [], ◌*◌, ◌^◌, ◌≤◌, length};
 ghost use Rattle.rules.specs.Limits.{max_ports, max_wide, max_width, max_row, max_merge};
 ghost use Rattle.image_geometry.specs.View.{layout_by};

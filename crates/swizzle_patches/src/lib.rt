@@ -1,5 +1,6 @@
 // Demand 3 of the calls themselves: a memory swizzled by a plan, then the patch calls of a list on its image, refused ones among them.
 #![tactic(auto)]
+
 ghost use Rattle.log_entries.specs.View.{state_of};
 ghost use Rattle.net_memory.specs.Given.{given_of};
 ghost use Rattle.swizzle_plan.specs.Calls.{plan_of};

@@ -1,5 +1,6 @@
 // memory/src/lib.rs, MemorySwizzle: a plan and its numbers, alone and with those of the memory that it is for.
 #![tactic(auto)]
+
 ghost use Rattle.std.specs.Prelude.{◌≡◌, false, ◌||◌, List, ℕ, ltb, length};
 ghost use Rattle.lists.specs.Lists.{any};
 ghost use Rattle.rules.specs.Limits.{max_wide};

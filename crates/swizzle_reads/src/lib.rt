@@ -1,5 +1,6 @@
 // The read ports of a swizzle: what they log, their addresses and trits in lent room, and the struct of the memories.
 #![tactic(auto)]
+
 ghost use Rattle.std.specs.Prelude.{◌≡◌, List, ℕ, ◌+◌, ◌*◌, ◌^◌, ◌<◌, ◌≤◌, min, ◌&&◌, length, drop, get_or, leb, ltb};
 ghost use Rattle.rules.specs.Limits.{X, max_ports, max_wide, max_width, max_columns};
 ghost use Rattle.rules.specs.Value.{Value};

@@ -1,5 +1,6 @@
 // The whole refusal of a swizzle, before anything is stored: that of its rows, or for depth 0 that of the unmapping of its flip-flops.
 #![tactic(auto)]
+
 ghost use Rattle.std.specs.Prelude.{◌≡◌};
 ghost use Rattle.rules.specs.Refusals.{swizzle_refusal};
 ghost use Rattle.log_entries.specs.View.{state_of};

@@ -1,6 +1,7 @@
 // The rows of a swizzle: the write ports, then the read ports, and the struct of the memories. What is not refused before is taken for granted
 // by no call: a layout that no accepted swizzle has leaves everything as it is.
 #![tactic(auto)]
+
 ghost use Rattle.std.specs.Prelude.{◌≡◌, length};
 ghost use Rattle.log_entries.specs.View.{lent};
 ghost use Rattle.image_geometry.specs.View.{layout_by};

@@ -1,6 +1,7 @@
 // memory/src/lib.rs, swizzle_depths and swizzle_mux_bits: the depths of the memories that a swizzle would give, and the address bits of each port that
 // it would decode with muxes.
 #![tactic(auto)]
+
 ghost use Rattle.std.specs.Prelude.{◌≡◌, List, map, ℕ, ◌+◌, ◌-◌, ◌≤◌, length};
 ghost use Rattle.lists.specs.Lists.{pairs};
 ghost use Rattle.rules.specs.Geometry.{chunk_mux_bits, soft_bits};

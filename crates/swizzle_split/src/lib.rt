@@ -1,6 +1,7 @@
 // The split of a port's address: which bits go to the result's address and which to the mux address, how many pieces there are, and which bits
 // of a piece's number select a row.
 #![tactic(auto)]
+
 ghost use Rattle.std.specs.Prelude.{◌≡◌, ◌+◌, ◌-◌, ◌*◌, ◌/◌, ◌^◌, ◌<◌, ◌≤◌, length, set, List, ℕ, replicate};
 ghost use Rattle.rules.specs.Swizzle.{role_of};
 ghost use Rattle.swizzle_split.specs.Steps.{start_by, taken, to_row, to_mux, Roomy, Starts, Took, low_by, Fits, Splits, can_split, Answers};

@@ -1,6 +1,7 @@
 // memory/src/lib.rs, the write ports of swizzle: for each its address, then its data and its mask in the order of the memories go to the nets of
 // the result, one port after the other.
 #![tactic(auto)]
+
 ghost use Rattle.std.specs.Prelude.{◌≡◌, List, ℕ, ◌+◌, ◌<◌, ◌≤◌, min, length, take, replicate};
 ghost use Rattle.log_entries.specs.View.{lent};
 ghost use Rattle.net_memory.specs.View.{memory_of};

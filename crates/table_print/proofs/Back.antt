@@ -15,7 +15,7 @@ use Rattle.lists.proofs.Choice.{cases_le}
 use Rattle.rules.specs.Limits.{trit_x}
 use Rattle.table_text.specs.declared.scan.Scan.{Scan}
 use Rattle.table_text.specs.Bytes.{bump, is_blank, is_end, trit_of}
-use Rattle.table_text.specs.Scan.{scan_as, ScanEnd, word_end, ended, between, left_of, place_of, scan_trit, scan_word, scan_plain, scan_step_of, is_stored, scan_stored, scan_run}
+use Rattle.table_text.specs.Scan.{scan_as, word_end, ended, between, left_of, place_of, scan_trit, scan_word, scan_plain, scan_step_of, is_stored, scan_stored, scan_run}
 use Rattle.table_print.specs.Rows.{char_of, bits_text, rows_from}
 
 -- ---- a character
@@ -35,9 +35,6 @@ unfolding is_end is_blank char_of
 char_end t h = three (λ (n : ℕ). is_end (char_of n) ≡ false) t h refl refl refl
 
 module _ (depth width : ℕ) where
-  run : Scan → List ℕ → List ℕ → ScanEnd
-  run s rows text = scan_run depth width s rows text
-
   -- a trit at the start of a word, and one within
   module _ (line row t : ℕ) (h : t ≤ 2) (below : row < depth) (rows after : List ℕ) where
     start_step : (k : ℕ) → width ≡ suc k

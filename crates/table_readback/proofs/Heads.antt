@@ -156,9 +156,6 @@ pub head_line_lem : (body : List ℕ) → OneLine body → HeadLine body
 unfolding head_break
 head_line_lem body e = on (eqb (head_blank h).kind 0 && eqb (head_blank h).field 6) refl
   where
-    room : List ℕ
-    room = replicate max_words 0
-
     h : Head
     h = (onward head_start (replicate max_words 0) body).state
 

@@ -1,0 +1,14 @@
+-- `c_plan::tablegoose_swizzle_depths` meets its contract.
+use mathlib.Core.Path.{ap, ◌∙◌}
+use Rattle.rules.specs.Answers.{swizzle_depths_call}
+use Rattle.net_memory.specs.declared.Memory.{Memory as MachineMemory}
+use Rattle.net_memory.specs.Given.{given_of}
+use Rattle.swizzle_plan.specs.Calls.{plan_of}
+use Rattle.c_plan.proofs.tablegoose_swizzle_depths.Goals as goal
+
+pub returns : goal.returns
+returns c =
+    let x = c in
+    let v = x.args in
+    x.swizzle_depths.ensures
+    ∙ ap (λ (m : MachineMemory). swizzle_depths_call v.out.now (given_of m v.nets.now v.trits.now) (plan_of v.s v.entries.now v.writes.now v.reads.now)) x.memory_of-g.ensures

@@ -1,0 +1,10 @@
+-- `c_swizzle::parts::tablegoose_swizzled_reset` meets its contract.
+use mathlib.Core.Path.{ap, ◌∙◌}
+use Rattle.swizzle_result.specs.declared.WideMemory.{WideMemory}
+use Rattle.swizzle_parts.specs.Parts.{memory_at, reset_at}
+use Rattle.c_swizzle.proofs.parts.tablegoose_swizzled_reset.Goals as goal
+
+pub returns : goal.returns
+returns c =
+    let v = c.args in
+    λ nets trits image. c.reset_part.ensures nets trits image ∙ ap (λ (w : WideMemory). reset_at (memory_at w nets trits image v.n).memory v.i) c.memory_of.ensures

@@ -1,0 +1,12 @@
+-- `fallback::scratch_need` meets its contract.
+use Prim.Native.Nat.{◌*◌}
+use native.Mathlib.Omega.{arith}
+use Rattle.fallback.proofs.Numbers.{need_small}
+use Rattle.fallback.proofs.scratch_need.Goals as goal
+
+pub overflow_mul-result-2 : goal.overflow_mul-result-2
+overflow_mul-result-2 c =
+    omega (arith, need_small c.ports_used.result c.usize_of_u32-cells.result c.ports_used.ensures.1 (omega (arith, c.usize_of_u32-cells.ensures.0, c.requires)))
+
+pub returns : goal.returns
+returns c = λ i. 2 * c.ports_used.ensures.0 i * c.usize_of_u32-cells.ensures.0 i

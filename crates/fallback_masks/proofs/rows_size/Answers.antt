@@ -1,0 +1,46 @@
+-- `fallback_masks::rows_size` meets its contract.
+use Prim.Native.Nat.{◌≤◌}
+use native.Mathlib.Omega.{arith}
+use Rattle.rules.specs.Limits.{max_depth, max_width}
+use Rattle.net_memory.proofs.Sized.{writes_length, reads_length}
+use Rattle.fallback_masks.proofs.Numbers.{deep_size, wide_size, flat_size, size_words_lem, size_nets_lem}
+use Rattle.fallback_masks.proofs.rows_size.Goals as goal
+
+pub returns-then-m-gt-MAX_DEPTH : goal.returns-then-m-gt-MAX_DEPTH
+returns-then-m-gt-MAX_DEPTH c =
+    let v = c.args in
+    record { by_index = λ trits. deep_size v.m v.nets.now trits c.if-m-gt-MAX_DEPTH.true; words_bound = (omega arith, omega arith) }
+
+pub returns-then-m-gt-MAX_WIDTH : goal.returns-then-m-gt-MAX_WIDTH
+returns-then-m-gt-MAX_WIDTH c =
+    let v = c.args in
+    record { by_index = λ trits. wide_size v.m v.nets.now trits c.if-m-gt-MAX_WIDTH.true; words_bound = (omega arith, omega arith) }
+
+pub returns-then-m-eq0 : goal.returns-then-m-eq0
+returns-then-m-eq0 c =
+    let v = c.args in
+    record { by_index = λ trits. flat_size v.m v.nets.now trits c.if-m-eq0.true; words_bound = (omega arith, omega arith) }
+
+pub returns : goal.returns
+returns c =
+    let k = c in
+    let m = k.args.m in
+    let nets = k.args.nets.now in
+    let a : m.depth ≤ max_depth = omega (arith, c.if-m-gt-MAX_DEPTH.false) in
+    let b : m.width ≤ max_width = omega (arith, c.if-m-gt-MAX_WIDTH.false) in
+    let depth = c.usize_of_u32-depth.ensures.0 in
+    let width = c.usize_of_u32-width.ensures.0 in
+    let reads = c.ports_used-reads.ensures.0 in
+    let writes = c.ports_used-writes.ensures.0 in
+    let rows = c.widest_rows.ensures.0 in
+    let runs = c.ports_runs-runs.ensures.0 in
+    let w = c.if-m-eq0.false in
+    let lr = reads_length m _ k.well_formed.0 nets in
+    let lw = writes_length m _ k.well_formed.0 nets in
+    record {
+      by_index = λ trits. (
+        size_words_lem m nets trits _ _ _ _ _ _ depth width reads writes (lr trits) lw (rows trits) runs a b w _ c.words_by.ensures.0,
+        size_nets_lem m nets trits _ _ _ _ _ _ depth width reads writes (lr trits) lw (rows trits) runs a b w _ c.nets_by.ensures.0,
+      );
+      words_bound = (c.words_by.ensures.1, c.nets_by.ensures.1);
+    }

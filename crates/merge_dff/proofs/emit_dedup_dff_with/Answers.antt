@@ -1,0 +1,22 @@
+-- `merge_dff::emit_dedup_dff_with` meets its contract.
+use mathlib.Core.Path.{◌≡◌, ap, ◌∙◌}
+use native.Mathlib.Omega.{arith}
+use lib.ListN.{length}
+use Rattle.rules.specs.Limits.{max_merge}
+use Rattle.rules.specs.Value.{Value}
+use Rattle.rules.specs.Log.{Trace}
+use Rattle.log_entries.specs.Emission.{is_over, run}
+use Rattle.log_entries.specs.View.{state_of, lent}
+use Rattle.net_flip_flop.specs.View.{controls_of}
+use Rattle.merge_mux.specs.Results.{results}
+use Rattle.merge_dff.proofs.Dff.{column, rules_merge}
+use Rattle.merge_dff.proofs.emit_dedup_dff_with.Goals as goal
+
+pub returns : goal.returns
+returns c =
+    let v = c.args in
+    let q = c.pack_trits-n in
+    let p = c.merge_packed in
+    let s : length v.column.now ≡ max_merge = omega arith in
+    let e = rules_merge (controls_of v.c) v.bits.now v.clear.now v.reset.now v.init.now _ q.ensures.bytes (c.part_u32.ensures.0 ∙ column v.column.now q.new.to _ q.result q.ensures.to_after s q.ensures.value) in
+    record { log_after = p.ensures.log_after ∙ ap (λ (t : Trace Value). run t (lent v.st v.log.now)) e; out_after = p.ensures.out_after ∙ ap (λ (t : Trace Value). results (is_over (state_of p.result)) v.out.now 0 (t v.st.next).value) e }

@@ -1,0 +1,21 @@
+-- `port_empty::empty_refusal` meets its contract.
+use native.Mathlib.Omega.{arith}
+use Rattle.log_entries.specs.View.{state_of}
+use Rattle.log_entries.proofs.Emission.{dry_called}
+use Rattle.net_memory.specs.View.{memory_of}
+use Rattle.net_memory.proofs.Sized.{reads_length}
+use Rattle.port_unmap_all.proofs.Short.{reads_are}
+use Rattle.port_empty.specs.Empty.{emptied_if}
+use Rattle.port_empty.proofs.Empty.{chains_empty}
+use Rattle.port_empty.proofs.Bounds.{empty_below}
+use Rattle.port_empty.proofs.empty_refusal.Goals as goal
+
+pub returns : goal.returns
+returns c =
+    let v = c.args in
+    let p = c.emit_empty-dry in
+    let q = c.dry_refusal in
+    let w = memory_of v.m v.nets.now v.trits.now in
+    let s = state_of v.st in
+    dry_called (emptied_if w v.output.now) v.room s _ (chains_empty w v.output.now) (empty_below w v.output.now (omega (arith, reads_are v.m v.nets.now v.trits.now (reads_length v.m _ c.well_formed.1.1.0 v.nets.now v.trits.now))) s)
+    p.new.log _ (state_of p.result) q.result c.dry_start-start.ensures p.ensures q.ensures

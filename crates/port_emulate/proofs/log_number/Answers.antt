@@ -1,0 +1,26 @@
+-- `port_emulate::log_number` meets its contract.
+use Rattle.rules.specs.Ports.{emulate_read_before_write}
+use Rattle.log_entries.specs.View.{state_of}
+use Rattle.log_entries.proofs.Emission.{dry_called}
+use Rattle.net_memory.specs.View.{memory_of}
+use Rattle.net_memory.proofs.Sized.{writes_length}
+use Rattle.port_emulate.proofs.Delays.{chains_emulate}
+use Rattle.port_emulate.proofs.Bounds.{below, thin_is, shapes}
+use Rattle.port_emulate.proofs.Number.{dry_run, few_writes}
+use Rattle.port_emulate.proofs.log_number.Goals as goal
+
+pub emit_ports-dry-requires : goal.emit_ports-dry-requires
+emit_ports-dry-requires c = c.requires
+
+pub returns : goal.returns
+returns c =
+    λ y z b.
+    let v = c.args in
+    let m = v.m in
+    let x = v.nets.now in
+    let M = memory_of m x y in
+    let p = c.emit_ports-dry in
+    let q = c.dry_refusal in
+    let f = few_writes m x y (writes_length m _ c.well_formed.1.1.1.1.1.1.1.1.1.1.1.1.1.1.0 x) in
+    dry_called (emulate_read_before_write M) v.room (state_of v.st) _ (chains_emulate M) (below M (thin_is v.st.next m x y z) (shapes v.st.next m x y z) f (state_of v.st))
+    p.new.log _ (state_of p.result) q.result c.dry_start-start.ensures (dry_run m x y v.all_x _ _ b (p.ensures x y)) q.ensures

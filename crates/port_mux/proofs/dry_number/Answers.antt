@@ -1,0 +1,20 @@
+-- `port_mux::dry_number` meets its contract.
+use Rattle.rules.specs.Ports.{transparency_mux}
+use Rattle.log_entries.specs.View.{state_of}
+use Rattle.log_entries.proofs.Emission.{dry_called}
+use Rattle.net_memory.specs.View.{memory_of}
+use Rattle.port_overlay.proofs.Bounds.{chains_mux_at}
+use Rattle.port_mux.specs.Call.{overlay_of}
+use Rattle.port_mux.proofs.Passed.{mux_below}
+use Rattle.port_mux.proofs.dry_number.Goals as goal
+
+pub returns : goal.returns
+returns c =
+    let v = c.args in
+    let p = c.emit_mux-dry in
+    let q = c.dry_refusal in
+    let s = state_of v.st in
+    let w = memory_of v.m v.nets.now v.trits.now in
+    let o = overlay_of v.masked v.bits.now v.mask.now in
+    dry_called (transparency_mux w v.i v.j o) v.room s _ (chains_mux_at w v.i v.j o) (mux_below v.m v.nets.now v.trits.now v.i v.j v.masked v.bits.now v.mask.now c.requires.0 s)
+    p.new.log _ (state_of p.result) q.result c.dry_start-start.ensures p.ensures.ran q.ensures

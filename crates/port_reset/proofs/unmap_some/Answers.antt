@@ -1,0 +1,50 @@
+-- `port_reset::unmap_some` meets its contract.
+use mathlib.Core.Path.{sym, ap, ◌∙◌}
+use Rattle.rules.specs.Ports.{is_plain}
+use Rattle.net_memory.specs.declared.MemoryReadPort.{MemoryReadPort}
+use Rattle.net_memory.specs.View.{clocked_by, read_trits}
+use Rattle.net_memory.proofs.Sized.{reads_length, writes_length}
+use Rattle.port_unmap.specs.Ready.{own_flip_flop}
+use Rattle.port_unmap.proofs.Passed.{flip_some}
+use Rattle.port_reset.proofs.Passed.{is_there_lem, ready, plain_done, some_done, struct_plain, struct_some}
+use Rattle.port_reset.proofs.unmap_some.Goals as goal
+
+pub returns-then-port_plain : goal.returns-then-port_plain
+returns-then-port_plain c =
+    let v = c.args in
+    let x = reads_length v.m _ c.well_formed.1.1.1.1.0 v.nets.now v.trits.now in
+    let y = writes_length v.m _ c.well_formed.1.1.1.1.0 v.nets.now in
+    let h = is_there_lem v.st.next v.m v.nets.now v.trits.now v.i v.incl v.output.now c.requires.1 x y in
+    let q = sym (c.port_plain.ensures ∙ ap (λ (z : MemoryReadPort). is_plain v.incl (clocked_by v.c z (read_trits v.m v.trits.now v.i))) c.requires.2) ∙ c.if-port_plain.true in
+    let e = flip_some v.m v.nets.now v.trits.now v.i h v.c c.requires.0 in
+    let n = c.room_refusal-n in
+    record { log_after = plain_done v.m v.nets.now v.trits.now v.i v.incl v.output.now v.log.now v.st n.result (own_flip_flop v.m v.trits.now v.i v.c) e q n.ensures; reset_struct = struct_plain v.m v.st v.i v.incl v.trits.now v.c c.requires.0 n.result q }
+
+pub unmap_clocked-requires : goal.unmap_clocked-requires
+unmap_clocked-requires c =
+    let v = c.args in
+    let x = reads_length v.m _ c.well_formed.1.1.1.1.0 v.nets.now v.trits.now in
+    let y = writes_length v.m _ c.well_formed.1.1.1.1.0 v.nets.now in
+    let g = ready v.st.next v.m v.nets.now v.trits.now v.i v.incl v.output.now c.requires.1 x y v.c c.requires.0 in
+    (g, c.requires.2)
+
+pub shape_of-log : goal.shape_of-log
+shape_of-log c = c.unmap_clocked.auto.log
+
+pub shape_of-output : goal.shape_of-output
+shape_of-output c = c.unmap_clocked.auto.output
+
+pub shape_of-trits : goal.shape_of-trits
+shape_of-trits c = c.unmap_clocked.auto.trits
+
+pub returns : goal.returns
+returns c =
+    let v = c.args in
+    let x = reads_length v.m _ c.well_formed.1.1.1.1.0 v.nets.now v.trits.now in
+    let y = writes_length v.m _ c.well_formed.1.1.1.1.0 v.nets.now in
+    let h = is_there_lem v.st.next v.m v.nets.now v.trits.now v.i v.incl v.output.now c.requires.1 x y in
+    let g = ready v.st.next v.m v.nets.now v.trits.now v.i v.incl v.output.now c.requires.1 x y v.c c.requires.0 in
+    let q = sym (c.port_plain.ensures ∙ ap (λ (z : MemoryReadPort). is_plain v.incl (clocked_by v.c z (read_trits v.m v.trits.now v.i))) c.requires.2) ∙ c.if-port_plain.false in
+    let e = flip_some v.m v.nets.now v.trits.now v.i h v.c c.requires.0 in
+    let u = c.unmap_clocked in
+    record { log_after = some_done v.m v.nets.now v.trits.now v.i v.incl v.output.now v.log.now v.st v.c _ g e q u.ensures.log_after; reset_struct = struct_some v.m v.st v.i v.incl v.trits.now v.c c.requires.0 u.result u.new.trits q u.ensures.acted }

@@ -1,0 +1,10 @@
+-- `port_reset_emit::start_over` meets its contract.
+use native.Mathlib.Omega.{arith}
+use Rattle.rules.specs.Limits.{X}
+use Rattle.port_reset_emit.proofs.Behind.{first_filled}
+use Rattle.port_reset_emit.proofs.start_over.Goals as goal
+
+pub returns : goal.returns
+returns c =
+    let v = c.args in
+    (first_filled v.under.now c.fill_u32.new.to v.n X c.fill_u32.ensures (omega (arith, c.requires)), first_filled v.over.now c.fill_u32-2.new.to v.n 0 c.fill_u32-2.ensures (omega (arith, c.requires)))

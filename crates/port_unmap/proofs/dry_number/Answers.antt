@@ -1,0 +1,19 @@
+-- `port_unmap::dry_number` meets its contract.
+use Rattle.log_entries.specs.View.{state_of}
+use Rattle.log_entries.proofs.Emission.{dry_called}
+use Rattle.rules.specs.Ports.{unmap_dff}
+use Rattle.net_memory.specs.View.{memory_of}
+use Rattle.port_overlay.proofs.Bounds.{chains_unmap}
+use Rattle.port_unmap.specs.Ready.{own_flip_flop}
+use Rattle.port_unmap.proofs.Port.{unmap_below}
+use Rattle.port_unmap.proofs.dry_number.Goals as goal
+
+pub returns : goal.returns
+returns c =
+    let v = c.args in
+    let p = c.emit_port-dry in
+    let q = c.dry_refusal in
+    let s = state_of v.st in
+    let f = own_flip_flop v.m v.trits.now v.i v.c in
+    dry_called (unmap_dff (memory_of v.m v.nets.now v.trits.now) v.i v.output.now f) v.room s _ (chains_unmap (memory_of v.m v.nets.now v.trits.now) v.i v.output.now f) (unmap_below v.m v.nets.now v.trits.now v.i v.c c.requires.0 v.output.now s)
+    p.new.log _ (state_of p.result.state) q.result c.dry_start-start.ensures p.ensures.log_after q.ensures

@@ -1,0 +1,19 @@
+-- `swizzle_plan::logs::all_logs_bad` meets its contract.
+use mathlib.Core.Path.{sym, ap, ◌∙◌}
+use Prim.Native.Nat.{ℕ}
+use mathlib.Core.Bool.{◌||◌}
+use mathlib.Core.List.{List}
+use Rattle.rules.specs.Conditions.{bad_writes, bad_reads}
+use Rattle.net_memory.specs.View.{memory_of}
+use Rattle.net_memory.proofs.Sized.{reads_length}
+use Rattle.swizzle_plan.specs.Calls.{plan_of}
+use Rattle.swizzle_plan.proofs.Whole.{every_port}
+use Rattle.swizzle_plan.proofs.logs.all_logs_bad.Goals as goal
+
+pub returns : goal.returns
+returns c =
+    let v = c.args in
+    let n = c.ports_used-count.ensures in
+    λ trits es. let x = c.part_u32.ensures.0 ∙ every_port v.m v.nets.now trits _ (reads_length v.m _ c.well_formed.0 v.nets.now trits ∙ sym n.0) n.1 in
+    let p = plan_of v.s es v.writes.now v.reads.now in
+    c.logs_bad.ensures trits es ∙ ap (λ (l : List ℕ). bad_writes (memory_of v.m v.nets.now trits) p || bad_reads (memory_of v.m v.nets.now trits) l p) x

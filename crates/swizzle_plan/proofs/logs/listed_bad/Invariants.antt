@@ -1,0 +1,17 @@
+-- The invariants of `swizzle_plan::logs::listed_bad`.
+use mathlib.Core.Path.{◌≡◌}
+use Prim.Native.Nat.{ℕ, ◌-◌, ◌≤◌}
+use mathlib.Core.List.{List}
+use Rattle.lists.specs.Lists.{any, pairs}
+use Rattle.rules.specs.Conditions.{bad_wide}
+use Rattle.net_memory.specs.View.{memory_of}
+use Rattle.swizzle_plan.specs.Calls.{plan_of}
+use Rattle.swizzle_plan.specs.Numbers.{read_logs}
+use Rattle.swizzle_plan.proofs.Wides.{left}
+use Rattle.swizzle_plan.proofs.logs.listed_bad.Given as goal
+
+abbrev pub invariant-loop-i : goal.invariant-loop-i
+invariant-loop-i l = (l.i ≤ l.end) × ((nets trits es ws rs : List ℕ) → any (λ (x : ℕ × ℕ). bad_wide (plan_of l.s es ws rs) x.0 x.1) (left (read_logs (memory_of l.m nets trits) l.ports) l.news l.i) ≡ any (λ (x : ℕ × ℕ). bad_wide (plan_of l.s es ws rs) x.0 x.1) (pairs (read_logs (memory_of l.m nets trits) l.ports) l.news))
+
+abbrev pub decreases-loop-i : goal.decreases-loop-i
+decreases-loop-i l = l.end - l.i
