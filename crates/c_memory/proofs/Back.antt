@@ -2,7 +2,7 @@
 use mathlib.Core.Path.{◌≡◌, refl}
 use mathlib.Core.Bool.{Bool, true, false}
 use lib.Dec.{eqb, ltb}
-use Rattle.lists.specs.Choice.{if◌then◌else◌}
+use Rattle.lists.specs.Choice.{when◌then◌else◌}
 use Rattle.net_value.specs.declared.ControlNet.{ControlNet}
 use Rattle.net_value.specs.declared.ControlNet.TheVariants.{Pos, Neg}
 use Rattle.net_value.specs.View.{control_of}
@@ -33,7 +33,7 @@ write_back : (p : MemoryWritePort) → given_write (write_struct p) ≡ p
 write_back p = λ i. record { addr_len = p.addr_len; data_len = p.data_len; mask_len = p.mask_len; clock = net_back p.clock i }
 
 -- a flag that is 0 or 1 leaves the reset as it is
-reset_back : (b : Bool) (c : ControlNet) → if ltb 1 (flag_code b) then no_control else given_net (net_struct c) ≡ c
+reset_back : (b : Bool) (c : ControlNet) → when ltb 1 (flag_code b) then no_control else given_net (net_struct c) ≡ c
 reset_back true c = net_back c
 reset_back false c = net_back c
 

@@ -5,7 +5,7 @@ use mathlib.Core.List.{List}
 use mathlib.Core.Logic.{◌≢◌}
 use Prim.Native.Nat.{ℕ}
 use lib.Dec.{eqb}
-use Rattle.lists.specs.Choice.{if◌then◌else◌, leaves}
+use Rattle.lists.specs.Choice.{when◌then◌else◌, leaves}
 use Rattle.lists.proofs.Choice.{leaves_refused, leaves_accepted}
 use Rattle.rules.specs.Answers as answers
 use Rattle.net_memory.specs.declared.Memory.{Memory as MachineMemory}
@@ -28,7 +28,7 @@ accepted e m z q = λ i. record { number = sym z i; memory = (q ∙ sym (leaves_
 
 -- an answer looks at the memory only where it is accepted
 looked_by : {A : Type 0} (f : MachineMemory → A) (m : MachineMemory) (n : ℕ) (b : Bool)
-    → if b then answers.Accepted (f (given_memory (if b then memory_struct m else zero_memory))) else answers.Refused n ≡ if b then answers.Accepted (f m) else answers.Refused n
+    → when b then answers.Accepted (f (given_memory (when b then memory_struct m else zero_memory))) else answers.Refused n ≡ when b then answers.Accepted (f m) else answers.Refused n
 looked_by {A = A} f m n true = ap (λ (x : MachineMemory). answers.Accepted (f x)) (memory_back m)
 looked_by f m n false = refl
 
@@ -40,7 +40,7 @@ looked f m n = looked_by f m n (eqb n 0)
 again : (e : MachineExtracted) → e.refusal ≡ 0 → given_memory (extracted_struct e).memory ≡ e.memory
 again e z = ap given_memory (leaves_accepted e.refusal zero_memory (memory_struct e.memory) z) ∙ memory_back e.memory
 
-new_by : (b : Bool) (m w : MachineMemory) → if b then memory_struct (if b then w else m) else zero_memory ≡ if b then memory_struct w else zero_memory
+new_by : (b : Bool) (m w : MachineMemory) → when b then memory_struct (when b then w else m) else zero_memory ≡ when b then memory_struct w else zero_memory
 new_by true m w = refl
 new_by false m w = refl
 

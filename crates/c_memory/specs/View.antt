@@ -1,6 +1,6 @@
 -- The library's memory that a caller's struct is, and the caller's struct of a library's memory.
 use Rattle.std.specs.Prelude.{map, replicate, eqb, ltb}
-use Rattle.lists.specs.Choice.{if◌then◌else◌}
+use Rattle.lists.specs.Choice.{when◌then◌else◌}
 use Rattle.rules.specs.Limits.{max_ports}
 use Rattle.rules.specs.Value as rules
 use Rattle.net_value.specs.declared.ControlNet.{ControlNet}
@@ -37,11 +37,11 @@ given_write p = record { addr_len = p.addr_len; data_len = p.data_len; mask_len 
 
 -- the clock of a clocked port: no control where the flag `clocked` is above 1
 unfoldable pub given_clock : FlipFlop → ControlNet
-given_clock p = if eqb p.clocked 1 then given_net p.clock else no_control
+given_clock p = when eqb p.clocked 1 then given_net p.clock else no_control
 
 -- its reset: no control where the flag `reset_over_enable` is above 1
 unfoldable pub given_reset : FlipFlop → ControlNet
-given_reset p = if ltb 1 p.reset_over_enable then no_control else given_net p.reset
+given_reset p = when ltb 1 p.reset_over_enable then no_control else given_net p.reset
 
 abbrev pub given_controls : FlipFlop → Controls
 given_controls p = record {
@@ -53,7 +53,7 @@ given_controls p = record {
 }
 
 unfoldable pub given_flip_flop : FlipFlop → MemoryReadFlipFlop
-given_flip_flop p = if eqb p.clocked 0 then None else Some (given_controls p)
+given_flip_flop p = when eqb p.clocked 0 then None else Some (given_controls p)
 
 abbrev pub fields_of : ReadPort → FlipFlop
 fields_of p = record { clocked = p.clocked; clock = p.clock; clear = p.clear; reset = p.reset; enable = p.enable; reset_over_enable = p.reset_over_enable }

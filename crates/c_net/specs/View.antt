@@ -1,7 +1,7 @@
 -- What a caller's structs are in terms of the rules, and the structs of the rules' answers.
 use Rattle.std.specs.Prelude.{ℕ, Bool, true, false, eqb, ltb}
 use Rattle.std.proofs.Math.Option.{Option, none, some}
-use Rattle.lists.specs.Choice.{if◌then◌else◌}
+use Rattle.lists.specs.Choice.{when◌then◌else◌}
 use Rattle.rules.specs.Logic.{Trit, code_of}
 use Rattle.rules.specs.Value as rules
 use Rattle.rules.specs.Answers as answers
@@ -48,11 +48,11 @@ is_set flag = eqb flag 1
 
 -- a polarity above 1 gives what is no control
 unfoldable pub given_control : Control → rules.Control
-given_control c = if eqb c.polarity 0 then rules.Pos c.net else if eqb c.polarity 1 then rules.Neg c.net else rules.Neg 0
+given_control c = when eqb c.polarity 0 then rules.Pos c.net else when eqb c.polarity 1 then rules.Neg c.net else rules.Neg 0
 
 -- a control beside a flag; a flag above 1 makes it none
 unfoldable pub flagged_control : Control → ℕ → rules.Control
-flagged_control c flag = if ltb 1 flag then rules.Neg 0 else given_control c
+flagged_control c flag = when ltb 1 flag then rules.Neg 0 else given_control c
 
 -- a control that is given back
 abbrev pub control_struct : rules.Control → Control

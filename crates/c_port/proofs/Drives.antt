@@ -5,7 +5,7 @@ use mathlib.Core.Logic.{◌≢◌}
 use Prim.Native.Nat.{ℕ}
 use mathlib.Core.List.{List}
 use lib.Dec.{eqb}
-use Rattle.lists.specs.Choice.{if◌then◌else◌, leaves}
+use Rattle.lists.specs.Choice.{when◌then◌else◌, leaves}
 use Rattle.lists.proofs.Choice.{leaves_refused, leaves_accepted}
 use Rattle.log_entries.specs.declared.LogState.{LogState}
 use Rattle.net_memory.specs.declared.Memory.{Memory as MachineMemory}
@@ -24,7 +24,7 @@ pub accepted : (m c : Memory) (d : MachineDriven) → d.refusal ≡ 0 → c ≡ 
 accepted m c d z q = λ i. record { number = sym z i; memory = (q ∙ sym (leaves_accepted d.refusal m (memory_struct d.memory) z)) i; state = d.state }
 
 -- read again: the memory of the library's answer, which is g where the call is refused
-again_by : (b : Bool) (m : Memory) (g w a : MachineMemory) → g ≡ given_memory m → a ≡ if b then w else g → given_memory (if b then memory_struct a else m) ≡ a
+again_by : (b : Bool) (m : Memory) (g w a : MachineMemory) → g ≡ given_memory m → a ≡ when b then w else g → given_memory (when b then memory_struct a else m) ≡ a
 again_by true m g w a same kept = memory_back a
 again_by false m g w a same kept = sym same ∙ sym kept
 
@@ -32,7 +32,7 @@ again : (n : ℕ) (m : Memory) (g w a : MachineMemory) → g ≡ given_memory m 
 unfolding leaves
 again n m g w a same kept = again_by (eqb n 0) m g w a same kept
 
-new_by : (b : Bool) (m : Memory) (g w : MachineMemory) → if b then memory_struct (if b then w else g) else m ≡ if b then memory_struct w else m
+new_by : (b : Bool) (m : Memory) (g w : MachineMemory) → when b then memory_struct (when b then w else g) else m ≡ when b then memory_struct w else m
 new_by true m g w = refl
 new_by false m g w = refl
 

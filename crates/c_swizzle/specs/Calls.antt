@@ -1,6 +1,6 @@
 -- The struct of a library's answer to a swizzle, and the library's answer that a struct is.
 use Rattle.std.specs.Prelude.{ℕ, eqb}
-use Rattle.lists.specs.Choice.{if◌then◌else◌}
+use Rattle.lists.specs.Choice.{when◌then◌else◌}
 use Rattle.record_sizes.specs.declared.Sizes.{Sizes}
 use Rattle.image_state.specs.declared.Sized.{Sized}
 use Rattle.image_state.specs.declared.Sized.TheVariants.{Refused, Accepted}
@@ -25,7 +25,7 @@ swizzled_struct x = record {
 }
 
 unfoldable pub given_sizes : ℕ → Sizes → Sized
-given_sizes n z = if eqb n 0 then Accepted z else Refused n
+given_sizes n z = when eqb n 0 then Accepted z else Refused n
 
 abbrev pub given_swizzled : Swizzled → MachineSwizzled
 given_swizzled r = record {

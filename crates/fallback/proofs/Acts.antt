@@ -10,7 +10,7 @@ use lib.ListN.{length, take, drop}
 use lib.Seq.{sets}
 use lib.Dec.{leb, ltb}
 use borrow.Author.Tests.{le-ltb, ltb-false, leb-true}
-use Rattle.lists.specs.Choice.{if◌then◌else◌, ◌or_else◌}
+use Rattle.lists.specs.Choice.{when◌then◌else◌, ◌or_else◌}
 use Rattle.lists.specs.Lists.{part}
 use Rattle.lists.proofs.Choice.{else_zero, and_true, refused_not}
 use Rattle.rules.specs.Limits.{max_outputs, max_bits, max_nets, max_words, X}
@@ -58,7 +58,7 @@ unfolding emit_words counts
 one_most l ws k h = on (leb (l.state.used + length ws) max_words && ltb (l.state.next + k) X) refl
   where
     on : (b : Bool) → (leb (l.state.used + length ws) max_words && ltb (l.state.next + k) X) ≡ b
-        → (if◌then◌else◌ {A = Lent} b (record { log = sets l.log l.state.used ws; state = advanced l.state (length ws) k }) (record { log = l.log; state = overflowed l.state })).state.used ≤ max_words
+        → (when◌then◌else◌ {A = Lent} b (record { log = sets l.log l.state.used ws; state = advanced l.state (length ws) k }) (record { log = l.log; state = overflowed l.state })).state.used ≤ max_words
     on true e = leb-true _ max_words (and_true (leb (l.state.used + length ws) max_words) _ e).0
     on false e = h
 
@@ -105,7 +105,7 @@ same_next m output n = plus_none (unmapped_all m output output n).next
 
 if_next : (m : Mem) (output : Value) (n : ℕ) → length output ≤ max_outputs → (emptied_if m output n).next ≡ (unmapped_all m output output n).next
 unfolding emptied_if
-if_next m output n h = ap (λ (b : Bool). ((if b then done [] else emptied m output) n).next) (le-ltb max_outputs (length output) h) ∙ same_next m output n
+if_next m output n h = ap (λ (b : Bool). ((when b then done [] else emptied m output) n).next) (le-ltb max_outputs (length output) h) ∙ same_next m output n
 
 module _ (m : Memory) (nets trits output : List ℕ) (st : machine.LogState) (z : lower_fallback_number st.next (given_of m nets trits) output ≡ 0) where
   abbrev M : Mem

@@ -8,7 +8,7 @@ use mathlib.Core.List.{List}
 use lib.ListN.{length, drop}
 use lib.Dec.{ltb}
 use borrow.Author.Tests.{lt-ltb, le-ltb}
-use Rattle.lists.specs.Choice.{if◌then◌else◌, ◌or_else◌, leaves}
+use Rattle.lists.specs.Choice.{when◌then◌else◌, ◌or_else◌, leaves}
 use Rattle.lists.proofs.Choice.{else_first, else_rest, leaves_refused, leaves_accepted}
 use Rattle.rules.specs.Cell.{Mem}
 use Rattle.rules.specs.Log.{Trace, log_after, state_after}

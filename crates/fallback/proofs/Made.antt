@@ -9,7 +9,7 @@ use mathlib.Core.List.{List, [], ◌∷◌, map}
 use lib.ListN.{length, take, drop, length-map, length-take}
 use lib.Dec.{eqb, ltb}
 use borrow.Author.Tests.{eqb-true, not-false}
-use Rattle.lists.specs.Choice.{if◌then◌else◌}
+use Rattle.lists.specs.Choice.{when◌then◌else◌}
 use Rattle.lists.specs.Lists.{part, sum_by, up_from}
 use Rattle.lists.proofs.Choice.{or_false}
 use Rattle.lists.proofs.Store.{drop_sets}
@@ -62,7 +62,7 @@ module _ (g : WideMemory) (nets image : List ℕ) where
   unfolding rows_of lower_rows
   rows_none = refl
 
-  none_either : (b : Bool) → (if b then done tt else rows_of g nets image []) ≡ lower_rows []
+  none_either : (b : Bool) → (when b then done tt else rows_of g nets image []) ≡ lower_rows []
   unfolding lower_rows
   none_either true = refl
   none_either false = rows_none
@@ -70,7 +70,7 @@ module _ (g : WideMemory) (nets image : List ℕ) where
   none_lowered : g.mems ≡ 0 → lowered g nets image ≡ lower_rows (results_of g nets [] image)
   unfolding lowered results_of
   none_lowered e =
-      ap (λ (k : ℕ). if ltb max_unit g.unit || ltb max_columns g.mems then done tt else rows_of g nets image (up_from 0 k)) e
+      ap (λ (k : ℕ). when ltb max_unit g.unit || ltb max_columns g.mems then done tt else rows_of g nets image (up_from 0 k)) e
       ∙ none_either (ltb max_unit g.unit || ltb max_columns g.mems) ∙ ap (λ (k : ℕ). lower_rows (map (result_of g nets [] image) (up_from 0 k))) (sym e)
 
   -- a struct that is prepared gives the registers of its memories

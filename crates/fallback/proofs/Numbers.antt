@@ -9,7 +9,7 @@ use mathlib.Core.List.{List}
 use lib.ListN.{length}
 use lib.Dec.{eqb}
 use borrow.Author.Tests.{eq-eqb}
-use Rattle.lists.specs.Choice.{if◌then◌else◌, ◌or_else◌}
+use Rattle.lists.specs.Choice.{when◌then◌else◌, ◌or_else◌}
 use Rattle.lists.proofs.Choice.{else_first, else_rest, hit, miss}
 use Rattle.rules.specs.Limits.{max_bits, max_nets, max_ports, max_row, max_words}
 use Rattle.rules.specs.Value.{Value}
@@ -49,7 +49,7 @@ module _ (next : ℕ) (g : Given) (output : Value) (n : ℕ) (e : n ≡ driving_
   unfolding lower_fallback_number
   number_first h = e ∙ sym (else_first (driving_number false next g output) _ (λ z. h (e ∙ z)))
 
-  number_rest : n ≡ 0 → lower_fallback_number next g output ≡ (if write_clocks_differ g.mem then 11 else if short_ports g.mem then 14 else 0)
+  number_rest : n ≡ 0 → lower_fallback_number next g output ≡ (when write_clocks_differ g.mem then 11 else when short_ports g.mem then 14 else 0)
   unfolding lower_fallback_number
   number_rest z = else_rest (driving_number false next g output) _ (sym e ∙ z)
 

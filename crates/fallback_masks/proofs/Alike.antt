@@ -9,7 +9,7 @@ use lib.ListN.{length, get_or, take, drop, replicate, length-map, length-take, l
 use lib.Seq.{take-append-le, drop-append-le}
 use lib.Dec.{eqb}
 use borrow.Author.Tests.{eq-eqb, ne_eqb, eqb-true, eqb-false}
-use Rattle.lists.specs.Choice.{if◌then◌else◌}
+use Rattle.lists.specs.Choice.{when◌then◌else◌}
 use Rattle.lists.specs.Lists.{pairs, up_from}
 use Rattle.lists.specs.Distinct.{place_in, with_new, kept_from_of, places_from, kept, places}
 use Rattle.lists.proofs.Choice.{and_true}
@@ -172,7 +172,7 @@ self : (a : ℕ) → same2 (a, 0) (a, 0) ≡ true
 self a = and_one (eqb a a) ∙ eq-eqb a a refl
 
 hit_step : (t : Bool) (x y d : Key2) (l : List Key2) → same2 y x ≡ t → (place_in same2 x l < length l → same2 (get_or l (place_in same2 x l) d) x ≡ true)
-    → (if t then 0 else suc (place_in same2 x l)) < suc (length l) → same2 (get_or (y ∷ l) (if t then 0 else suc (place_in same2 x l)) d) x ≡ true
+    → (when t then 0 else suc (place_in same2 x l)) < suc (length l) → same2 (get_or (y ∷ l) (when t then 0 else suc (place_in same2 x l)) d) x ≡ true
 hit_step true x y d l e f h = e
 hit_step false x y d l e f h = f (omega arith)
 
@@ -181,7 +181,7 @@ place_has : (x d : Key2) (l : List Key2) → place_in same2 x l < length l → s
 place_has x d [] h = absurd (omega arith)
 place_has x d (y ∷ l) h = hit_step (same2 y x) x y d l refl (place_has x d l) h
 
-new_step : (t : Bool) (x y : Key2) (l : List Key2) → place_in same2 x l < length (with_new same2 x l) → (if t then 0 else suc (place_in same2 x l)) < length (if t then y ∷ l else y ∷ with_new same2 x l)
+new_step : (t : Bool) (x y : Key2) (l : List Key2) → place_in same2 x l < length (with_new same2 x l) → (when t then 0 else suc (place_in same2 x l)) < length (when t then y ∷ l else y ∷ with_new same2 x l)
 new_step true x y l h = omega arith
 new_step false x y l h = omega arith
 
@@ -284,7 +284,7 @@ module _ (e : ℕ) (mask : Value) (n : ℕ) where
 
 -- ---- the mask of a piece
 module _ (s : Split) (mask : Value) (x n : ℕ) where
-  either : (b : Bool) (e k : ℕ) → Alike ((if b then done mask else add_dedup_mux_of (Pos e) mask (replicate (length mask) 0)) k).value mask
+  either : (b : Bool) (e k : ℕ) → Alike ((when b then done mask else add_dedup_mux_of (Pos e) mask (replicate (length mask) 0)) k).value mask
   unfolding done
   either true e k = alike_refl mask
   either false e k = dedup_alike e mask k

@@ -8,7 +8,7 @@ use mathlib.Core.Bool.{false, not, ◌||◌}
 use mathlib.Core.List.{List, [], ◌∷◌}
 use lib.ListN.{length, length-map}
 use lib.Dec.{eqb}
-use Rattle.lists.specs.Choice.{if◌then◌else◌}
+use Rattle.lists.specs.Choice.{when◌then◌else◌}
 use Rattle.lists.specs.Lists.{any, sum_by}
 use Rattle.lists.proofs.Choice.{or_false, if_false}
 use Rattle.rules.specs.Limits.{max_depth, max_width}
@@ -56,19 +56,19 @@ module _ (m : Mem) where
 
   bare_register : register_words B ≡ register_words m
   unfolding register_words
-  bare_register = λ i. if eqb (count i) 0 then 0 else bare_depth m i * (21 + 6 * bare_width m i + count i * (2 * bare_width m i)) + 5 * all_runs i
+  bare_register = λ i. when eqb (count i) 0 then 0 else bare_depth m i * (21 + 6 * bare_width m i + count i * (2 * bare_width m i)) + 5 * all_runs i
 
   bare_nets : register_nets B ≡ register_nets m
   unfolding register_nets
-  bare_nets = λ i. if eqb (count i) 0 then 0 else bare_depth m i * ((2 + count i) * bare_width m i)
+  bare_nets = λ i. when eqb (count i) 0 then 0 else bare_depth m i * ((2 + count i) * bare_width m i)
 
   pub bare-words : rows_words_of B ≡ rows_words_of m
   unfolding rows_words_of
-  bare-words = λ i. if eqb (bare_width m i) 0 then 0 else bare_depth m i * (reads i * (4 + 2 * bare_width m i)) + bare_register i
+  bare-words = λ i. when eqb (bare_width m i) 0 then 0 else bare_depth m i * (reads i * (4 + 2 * bare_width m i)) + bare_register i
 
   pub bare-all_nets : rows_nets B ≡ rows_nets m
   unfolding rows_nets
-  bare-all_nets = λ i. if eqb (bare_width m i) 0 then 0 else bare_nets i
+  bare-all_nets = λ i. when eqb (bare_width m i) 0 then 0 else bare_nets i
 
   bare_shape : (p : WritePort) → bad_write_shape B p ≡ bad_write_shape m p
   unfolding bad_write_shape write_wide_log2 all_bare with_reads

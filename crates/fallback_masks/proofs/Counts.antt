@@ -10,7 +10,7 @@ use mathlib.Core.List.{List, [], ◌∷◌, map}
 use lib.ListN.{length, replicate, length-map}
 use lib.Dec.{eqb, ltb}
 use borrow.Author.Tests.{ne_eqb, eqb-true, ltb-false, not-false}
-use Rattle.lists.specs.Choice.{if◌then◌else◌}
+use Rattle.lists.specs.Choice.{when◌then◌else◌}
 use Rattle.lists.specs.Lists.{any, sum_by, part, up_from}
 use Rattle.lists.proofs.Choice.{or_false, if_false}
 use Rattle.lists.proofs.UpFrom.{length_up}
@@ -91,7 +91,7 @@ module _ (q : Layout) (D : ℕ) where
   unfolding row_words_of
   words_nil = refl
 
-  register_sum : (l : List WideWrite) → AllWrites q l → sum_by (λ (i : ℕ). row_words_of u (map (write_part q i) l)) is ≡ (if eqb (length l) 0 then 0 else D * (21 + 6 * u + length l * (2 * u)) + 5 * ports_runs_of l)
+  register_sum : (l : List WideWrite) → AllWrites q l → sum_by (λ (i : ℕ). row_words_of u (map (write_part q i) l)) is ≡ (when eqb (length l) 0 then 0 else D * (21 + 6 * u + length l * (2 * u)) + 5 * ports_runs_of l)
   register_sum [] a = sum_same (λ (i : ℕ). row_words_of u []) (λ (i : ℕ). 0) (λ i. words_nil) is ∙ sum_const 0 is ∙ mul-zero (length is)
   register_sum (w ∷ l) a =
       let t : ℕ → ℕ = λ (i : ℕ). mux_words u (map (write_part q i) (w ∷ l)) in
@@ -113,7 +113,7 @@ module _ (q : Layout) (D : ℕ) where
   unfolding row_nets
   nets_nil = refl
 
-  nets_sum : (l : List WideWrite) → sum_by (λ (i : ℕ). row_nets u (map (write_part q i) l)) is ≡ (if eqb (length l) 0 then 0 else D * ((2 + length l) * u))
+  nets_sum : (l : List WideWrite) → sum_by (λ (i : ℕ). row_nets u (map (write_part q i) l)) is ≡ (when eqb (length l) 0 then 0 else D * ((2 + length l) * u))
   nets_sum [] = sum_same (λ (i : ℕ). row_nets u []) (λ (i : ℕ). 0) (λ i. nets_nil) is ∙ sum_const 0 is ∙ mul-zero (length is)
   nets_sum (w ∷ l) =
       sum_same (λ (i : ℕ). row_nets u (map (write_part q i) (w ∷ l))) (λ (i : ℕ). (2 + suc (length l)) * u) (λ i. nets_cons i w l) is
@@ -280,11 +280,11 @@ module _ (b : Mem) (h : max_wide_log2 b ≤ addr_bits) (e : bad_depth b ≡ fals
         (λ j. (length-map (rs b outs n) (read_part q i) ∙ rs_long outs n) j * (4 + 2 * unit_is j))
 
     abbrev register : ℕ
-    register = (if eqb (length (ws b n)) 0 then 0 else D * (21 + 6 * q.unit + length (ws b n) * (2 * q.unit)) + 5 * sum_by (λ (x : WideWrite). row_runs q.unit D x.port.mask) (ws b n))
+    register = (when eqb (length (ws b n)) 0 then 0 else D * (21 + 6 * q.unit + length (ws b n) * (2 * q.unit)) + 5 * sum_by (λ (x : WideWrite). row_runs q.unit D x.port.mask) (ws b n))
 
     register_is : register ≡ register_words b
     unfolding register_words
-    register_is = λ j. if eqb (ws_long n j) 0 then 0 else D * (21 + 6 * unit_is j + ws_long n j * (2 * unit_is j)) + 5 * all_runs a n j
+    register_is = λ j. when eqb (ws_long n j) 0 then 0 else D * (21 + 6 * unit_is j + ws_long n j * (2 * unit_is j)) + 5 * all_runs a n j
 
     words_sum : lower_words (rows b h e w outs n) ≡ D * reading + register_words b
     unfolding lower_words
@@ -298,9 +298,9 @@ module _ (b : Mem) (h : max_wide_log2 b ≤ addr_bits) (e : bad_depth b ≡ fals
     unfolding result_mem
     row_nets_lem i = refl
 
-    nets_are : (if eqb (length (ws b n)) 0 then 0 else D * ((2 + length (ws b n)) * q.unit)) ≡ register_nets b
+    nets_are : (when eqb (length (ws b n)) 0 then 0 else D * ((2 + length (ws b n)) * q.unit)) ≡ register_nets b
     unfolding register_nets
-    nets_are = λ j. if eqb (ws_long n j) 0 then 0 else D * ((2 + ws_long n j) * unit_is j)
+    nets_are = λ j. when eqb (ws_long n j) 0 then 0 else D * ((2 + ws_long n j) * unit_is j)
 
     nets_all : lower_nets (rows b h e w outs n) ≡ register_nets b
     unfolding lower_nets

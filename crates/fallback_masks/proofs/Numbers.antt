@@ -12,7 +12,7 @@ use lib.ListN.{length, get_or, drop, drop_of_length-le}
 use lib.Seq.{drop-cons}
 use lib.Dec.{eqb, ltb}
 use borrow.Author.Tests.{eq-eqb, ne_eqb, lt-ltb, le-ltb}
-use Rattle.lists.specs.Choice.{if◌then◌else◌}
+use Rattle.lists.specs.Choice.{when◌then◌else◌}
 use Rattle.lists.specs.Lists.{sum_by}
 use Rattle.lists.proofs.Choice.{if_true, if_false, or_left}
 use Rattle.lists.proofs.Sum.{sum_drop, sum_end}
@@ -195,12 +195,12 @@ module _ (m : Mem) (low : max_wide_log2 m ≤ addr_bits) where
     words_by_is : m.width ≢ 0 → words_by m.depth m.width reads writes runs ≡ rows_words_of m
     unfolding words_by rows_words_of register_words
     words_by_is w =
-        (λ i. m.depth * (er i * (4 + 2 * m.width)) + (if eqb (ew i) 0 then 0 else m.depth * (21 + 6 * m.width + ew i * (2 * m.width)) + 5 * runs_are i))
+        (λ i. m.depth * (er i * (4 + 2 * m.width)) + (when eqb (ew i) 0 then 0 else m.depth * (21 + 6 * m.width + ew i * (2 * m.width)) + 5 * runs_are i))
         ∙ sym (if_false (eqb m.width 0) 0 _ (ne_eqb m.width 0 w))
 
     nets_by_is : m.width ≢ 0 → nets_by m.depth m.width writes ≡ rows_nets m
     unfolding nets_by rows_nets register_nets
-    nets_by_is w = (λ i. if eqb (ew i) 0 then 0 else m.depth * ((2 + ew i) * m.width)) ∙ sym (if_false (eqb m.width 0) 0 _ (ne_eqb m.width 0 w))
+    nets_by_is w = (λ i. when eqb (ew i) 0 then 0 else m.depth * ((2 + ew i) * m.width)) ∙ sym (if_false (eqb m.width 0) 0 _ (ne_eqb m.width 0 w))
 
     pub words_is : m.depth ≤ max_depth → m.width ≤ max_width → m.width ≢ 0 → words_by m.depth m.width reads writes runs ≡ size_words m
     unfolding size_words
@@ -228,7 +228,7 @@ module _ (m : Mem) where
       let t = over h (ltb max_depth m.depth) in
       (sym (if_true _ 0 (rows_words_of m) t), sym (if_true _ 0 (rows_nets m) t))
 
-  either : (b : Bool) (n : ℕ) → n ≡ 0 → 0 ≡ (if b then 0 else n)
+  either : (b : Bool) (n : ℕ) → n ≡ 0 → 0 ≡ (when b then 0 else n)
   either true n e = refl
   either false n e = sym e
 

@@ -10,7 +10,7 @@ use lib.ListN.{length, get_or, length-map}
 use lib.Dec.{eqb}
 use borrow.Author.Tests.{eq-eqb, ne_eqb}
 use Rattle.lists.specs.Lists.{up_from}
-use Rattle.lists.specs.Choice.{if◌then◌else◌}
+use Rattle.lists.specs.Choice.{when◌then◌else◌}
 use Rattle.lists.proofs.Choice.{else_zero, if_true, if_false}
 use Rattle.lists.proofs.Parts.{length_part}
 use Rattle.lists.proofs.UpFrom.{length_up, get_d_up}
@@ -70,7 +70,7 @@ module _ (b : Mem) where
   unfolding swizzle_empty ◌>>=◌ ◌>>◌ done
   empty_none outs n = refl
 
-  swizzle_wide : (outs : Value) → b.width ≢ 0 → swizzle b outs P ≡ (if eqb b.depth 0 then swizzle_empty b outs else swizzle_rows b outs P)
+  swizzle_wide : (outs : Value) → b.width ≢ 0 → swizzle b outs P ≡ (when eqb b.depth 0 then swizzle_empty b outs else swizzle_rows b outs P)
   unfolding swizzle
   swizzle_wide outs w = if_false (eqb b.width 0) (done []) _ (ne_eqb b.width 0 w)
 

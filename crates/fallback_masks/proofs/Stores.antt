@@ -10,7 +10,7 @@ use lib.ListN.{length, get_or, take, drop, replicate, length-append, length-take
 use lib.Seq.{sets, sets-eq, take-append_seam, drop-append-add, take_all}
 use lib.Dec.{eqb}
 use borrow.Author.Tests.{ne_eqb}
-use Rattle.lists.specs.Choice.{if◌then◌else◌}
+use Rattle.lists.specs.Choice.{when◌then◌else◌}
 use Rattle.lists.specs.Lists.{part, up_from, concat_map}
 use Rattle.lists.proofs.Choice.{if_false}
 use Rattle.lists.proofs.Parts.{part_cons, none_front}
@@ -36,16 +36,16 @@ up_joined n (suc j) k =
     ap (λ (m : ℕ). n ∷ (up_from (suc n) j ++ up_from m k)) a ∙ ap (λ (l : List ℕ). n ∷ l) (up_joined (suc n) j k) ∙ ap (up_from n) b
 
 -- the sources of one row
-one_source : (b e : ℕ) → e < None → (if eqb e None then None else b + e) ≡ b + e
+one_source : (b e : ℕ) → e < None → (when eqb e None then None else b + e) ≡ b + e
 one_source b e h = if_false (eqb e None) None (b + e) (ne_eqb e None (λ z. omega (arith, z, h)))
 
-row_sources_lem : (b a c : ℕ) → a + c ≤ None → map (λ (e : ℕ). if eqb e None then None else b + e) (up_from a c) ≡ up_from (b + a) c
+row_sources_lem : (b a c : ℕ) → a + c ≤ None → map (λ (e : ℕ). when eqb e None then None else b + e) (up_from a c) ≡ up_from (b + a) c
 row_sources_lem b a zero h = refl
 row_sources_lem b a (suc c) h =
     let s : b + suc a ≡ suc (b + a) = omega arith in
     (λ i. one_source b a (omega arith) i ∷ row_sources_lem b (suc a) c (omega arith) i) ∙ ap (λ (k : ℕ). (b + a) ∷ up_from k c) s
 
-all-sources : (w a c : ℕ) → w ≤ None → concat_map (λ (j : ℕ). map (λ (e : ℕ). if eqb e None then None else j * w + e) (up_from 0 w)) (up_from a c) ≡ up_from (a * w) (c * w)
+all-sources : (w a c : ℕ) → w ≤ None → concat_map (λ (j : ℕ). map (λ (e : ℕ). when eqb e None then None else j * w + e) (up_from 0 w)) (up_from a c) ≡ up_from (a * w) (c * w)
 all-sources w a zero h = ap (up_from (a * w)) (sym (zero-mul w))
 all-sources w a (suc c) h =
     let z : a * w + 0 ≡ a * w = omega arith in
@@ -58,7 +58,7 @@ repeat_part : (last a c : ℕ) (v : List ℕ) → a + c ≤ length v → a + c �
 unfolding repeating
 repeat_part last a zero v h g = refl
 repeat_part last a (suc c) v h g =
-    let n = (if eqb a None then last else get_or v a X) in
+    let n = (when eqb a None then last else get_or v a X) in
     let e : n ≡ get_or v a X = if_false (eqb a None) last (get_or v a X) (ne_eqb a None (λ z. omega (arith, z, g))) in
     let s : suc a ≡ a + 1 = omega arith in
     (λ i. e i ∷ (repeat_part n (suc a) c v (omega arith) (omega arith) ∙ ap (λ (k : ℕ). part k c v) s) i) ∙ sym (part_cons a c v X (omega arith))
@@ -99,7 +99,7 @@ module _ (q : Layout) (K k w : ℕ) (addr : Value) (hard : q.hard ≡ 0) (soft :
   pub sources_are : sources q s ≡ up_from 0 (T * w)
   unfolding sources
   sources_are =
-      (λ i. concat_map (λ (j : ℕ). map (λ (e : ℕ). if eqb e None then None else j * width i + e) (es i)) (rows_are i))
+      (λ i. concat_map (λ (j : ℕ). map (λ (e : ℕ). when eqb e None then None else j * width i + e) (es i)) (rows_are i))
       ∙ all-sources w 0 T w_thin ∙ ap (λ (j : ℕ). up_from j (T * w)) (zero-mul w)
 
   pub repeats : (mask : List ℕ) → length mask ≡ T * w → repeating X (sources q s) mask ≡ mask

@@ -1,6 +1,6 @@
 -- What the code computes: a step over a mask, and the counts by the number of rows that the widest port reaches.
 use Rattle.std.specs.Prelude.{ℕ, ◌+◌, ◌-◌, ◌*◌, ◌/◌, ◌^◌, ◌≤◌, min, not, length, eqb}
-use Rattle.lists.specs.Choice.{if◌then◌else◌}
+use Rattle.lists.specs.Choice.{when◌then◌else◌}
 use Rattle.rules.specs.Limits.{addr_bits, max_depth, max_width, max_ports}
 use Rattle.rules.specs.Cell.{WritePort, wide_log2}
 use Rattle.rules.specs.Log.{flag}
@@ -8,11 +8,11 @@ use Rattle.fallback_masks.specs.Sizes.{mask_runs}
 
 -- a net starts a run: the first of a row, or one that differs from the net before
 unfoldable pub starts_run : ℕ → ℕ → ℕ → ℕ
-starts_run left last n = if eqb left 0 then 1 else flag (not (eqb last n))
+starts_run left last n = when eqb left 0 then 1 else flag (not (eqb last n))
 
 -- the nets of the row that are still to come
 unfoldable pub left_after_of : ℕ → ℕ → ℕ
-left_after_of w left = (if eqb left 0 then w else left) - 1
+left_after_of w left = (when eqb left 0 then w else left) - 1
 
 -- the pieces of a port with wide log k and so many address bits, where the widest port reaches so many rows
 unfoldable pub pieces_by : ℕ → ℕ → ℕ → ℕ → ℕ
@@ -33,10 +33,10 @@ port_most = 67141632
 -- all words and nets, by the numbers of ports and the runs of all write ports
 unfoldable pub words_by : ℕ → ℕ → ℕ → ℕ → ℕ → ℕ
 words_by depth width reads writes runs =
-    depth * (reads * (4 + 2 * width)) + (if eqb writes 0 then 0 else depth * (21 + 6 * width + writes * (2 * width)) + 5 * runs)
+    depth * (reads * (4 + 2 * width)) + (when eqb writes 0 then 0 else depth * (21 + 6 * width + writes * (2 * width)) + 5 * runs)
 
 unfoldable pub nets_by : ℕ → ℕ → ℕ → ℕ
-nets_by depth width writes = if eqb writes 0 then 0 else depth * ((2 + writes) * width)
+nets_by depth width writes = when eqb writes 0 then 0 else depth * ((2 + writes) * width)
 
 -- sizes inside the limits
 pub record Inside (depth width reads writes runs : ℕ) : Type 0 where

@@ -10,7 +10,7 @@ use lib.ListN.{length, set}
 use lib.Seq.{sets, length-sets}
 use lib.Dec.{eqb, ltb}
 use borrow.Author.Tests.{lt-ltb, le-leb}
-use Rattle.lists.specs.Choice.{if◌then◌else◌}
+use Rattle.lists.specs.Choice.{when◌then◌else◌}
 use Rattle.lists.specs.Lists.{all, up_from}
 use Rattle.lists.proofs.Choice.{and_true, or_left, or_later, cases_le}
 use Rattle.rules.specs.Limits.{X, max_nets, max_merge}
@@ -100,7 +100,7 @@ module _ (m : Mem) (output : Value) where
   kept_of i none room k = kept-done k room
   kept_of i (some f) room k = on (ltb max_merge (read_at_of m i).data_len)
     where
-      on : (b : Bool) → Kept k room ((if b then done room else unmapped_to m i output f room) k)
+      on : (b : Bool) → Kept k room ((when b then done room else unmapped_to m i output f room) k)
       on true = kept-done k room
       on false = kept_to i f room k
 

@@ -8,7 +8,7 @@ use mathlib.Core.Bool.{Bool, true, false}
 use mathlib.Core.List.{List, [], ◌∷◌, map}
 use lib.ListN.{length, length-append, length-map}
 use lib.Dec.{eqb}
-use Rattle.lists.specs.Choice.{if◌then◌else◌}
+use Rattle.lists.specs.Choice.{when◌then◌else◌}
 use Rattle.lists.specs.Lists.{pairs, up_from, concat_map}
 use Rattle.lists.proofs.Distinct.{length_kept}
 use Rattle.lists.proofs.UpFrom.{length_up}
@@ -47,7 +47,7 @@ write_nets_lem : (q : Layout) (s : Split) (p : WritePort) → (write_count_of q 
 unfolding write_count_of times_count plus eq_count mux_count_of nothing
 write_nets_lem q s p = mul-le-mul_left s.pieces (on (is_empty s.mux_addr))
   where
-    on : (b : Bool) → 1 + (if b then nothing else mux_count_of (mask_nets q s p)).nets ≤ 1 + mask_nets q s p
+    on : (b : Bool) → 1 + (when b then nothing else mux_count_of (mask_nets q s p)).nets ≤ 1 + mask_nets q s p
     on true = omega arith
     on false = omega arith
 

@@ -9,7 +9,7 @@ use mathlib.Core.List.{List, [], ◌∷◌, map}
 use lib.ListN.{length}
 use lib.Dec.{eqb, ltb}
 use borrow.Author.Tests.{eq-eqb, ne_eqb, le-ltb}
-use Rattle.lists.specs.Choice.{if◌then◌else◌}
+use Rattle.lists.specs.Choice.{when◌then◌else◌}
 use Rattle.lists.specs.Lists.{any, up_from}
 use Rattle.lists.proofs.Choice.{or_both, else_rest, else_zero, refused_not}
 use Rattle.lists.proofs.UpFrom.{length_up}
@@ -152,16 +152,16 @@ module _ (next : ℕ) (m : Memory) (nets trits output : List ℕ) (z : lower_fal
 
       bare-driven : driving_number (plan_too_large (fallback_plan B)) next' given' outs ≡ 0
       unfolding driving_number mem_number
-      bare-driven = λ i. if one_not i then 1 else if two_not i then 2 else if depth_not i then 3 else if four_not i then 4 else 0
+      bare-driven = λ i. when one_not i then 1 else when two_not i then 2 else when depth_not i then 3 else when four_not i then 4 else 0
 
       bare-plan : swizzle_plan_number next' given' outs (fallback_plan B) ≡ 0
       unfolding swizzle_plan_number
       bare-plan = else_rest (driving_number (plan_too_large (fallback_plan B)) next' given' outs) _ bare-driven ∙ plan_passes
 
-      last_none : ◌≡◌ {A = ℕ} (if eqb B.depth 0 && short_ports B then 14 else 0) 0
-      last_none = ap {B = ℕ} (λ (b : Bool). if eqb B.depth 0 && b then 14 else 0) no_short ∙ on (eqb B.depth 0)
+      last_none : ◌≡◌ {A = ℕ} (when eqb B.depth 0 && short_ports B then 14 else 0) 0
+      last_none = ap {B = ℕ} (λ (b : Bool). when eqb B.depth 0 && b then 14 else 0) no_short ∙ on (eqb B.depth 0)
         where
-          on : (t : Bool) → ◌≡◌ {A = ℕ} (if t && false then 14 else 0) 0
+          on : (t : Bool) → ◌≡◌ {A = ℕ} (when t && false then 14 else 0) 0
           on true = refl
           on false = refl
 

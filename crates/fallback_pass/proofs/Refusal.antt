@@ -9,7 +9,7 @@ use mathlib.Core.List.{List, [], map}
 use lib.ListN.{length}
 use lib.Dec.{eqb}
 use borrow.Author.Tests.{eq-eqb, ne_eqb}
-use Rattle.lists.specs.Choice.{if◌then◌else◌}
+use Rattle.lists.specs.Choice.{when◌then◌else◌}
 use Rattle.lists.specs.Lists.{any, sum_by, pairs}
 use Rattle.lists.proofs.Choice.{or_false, or_both, else_rest}
 use Rattle.rules.specs.Numbers.{largest}
@@ -62,14 +62,14 @@ scratch_most : (m : Mem) (p : Plan) (k : ℕ) → largest (map (piece_nets m p) 
 unfolding swizzle_scratch
 scratch_most m p k h = on (eqb m.width 0) (eqb m.depth 0) h
   where
-    on : (a b : Bool) → largest (map (piece_nets m p) (pairs m.reads p.read_wide_of)) ≤ k → (if a then 0 else if b then 0 else largest (map (piece_nets m p) (pairs m.reads p.read_wide_of))) ≤ k
+    on : (a b : Bool) → largest (map (piece_nets m p) (pairs m.reads p.read_wide_of)) ≤ k → (when a then 0 else when b then 0 else largest (map (piece_nets m p) (pairs m.reads p.read_wide_of))) ≤ k
     on true b h = omega arith
     on false true h = omega arith
     on false false h = h
 
 results_pass : (r : SwizzleRooms) (m : Mem) (ds : List Driving) → length (shared_nets m ds) ≤ r.nets → length (shared_trits m ds) ≤ r.trits → results_refusal r m ds ≡ 0
 unfolding results_refusal
-results_pass r m ds a b = ap {B = ℕ} (λ (t : Bool). if t then 20 else 0) (or_both (room_enough r.nets _ a) (room_enough r.trits _ b))
+results_pass r m ds a b = ap {B = ℕ} (λ (t : Bool). when t then 20 else 0) (or_both (room_enough r.nets _ a) (room_enough r.trits _ b))
 
 module _ (next : ℕ) (m : Memory) (nets trits output : List ℕ) (z : lower_fallback_number next (given_of m nets trits) output ≡ 0) where
   abbrev M : Mem

@@ -9,7 +9,7 @@ use mathlib.Core.List.{List, [], ◌∷◌, map}
 use lib.ListN.{length}
 use lib.Dec.{eqb}
 use borrow.Author.Tests.{ne_eqb, le-ltb}
-use Rattle.lists.specs.Choice.{if◌then◌else◌}
+use Rattle.lists.specs.Choice.{when◌then◌else◌}
 use Rattle.lists.specs.Lists.{sum_by, pairs}
 use Rattle.lists.proofs.Choice.{if_false}
 use Rattle.rules.specs.Cell.{ReadPort, Mem}
@@ -27,7 +27,7 @@ unfolding no_room_of
 room_enough room need h = le-ltb room need h
 
 pub lent_enough : (room need : ℕ) → need ≤ room → lent_refusal room need ≡ 0
-lent_enough room need h = ap {B = ℕ} (λ (b : Bool). if b then 20 else 0) (room_enough room need h)
+lent_enough room need h = ap {B = ℕ} (λ (b : Bool). when b then 20 else 0) (room_enough room need h)
 
 -- ---- sums over ports whose new wide logs are 0
 sum_same : {A : Type 0} (f : ℕ → ℕ) (c : ℕ) → f 0 ≡ c → (l : List A) → sum_by f (map (λ (a : A). zero) l) ≡ length l * c

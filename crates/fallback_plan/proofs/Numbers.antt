@@ -11,7 +11,7 @@ use mathlib.Core.List.{List, [], ◌∷◌, map}
 use lib.ListN.{length, get_or, length-map}
 use lib.Dec.{eqb, ltb, leb}
 use borrow.Author.Tests.{eq-eqb, ne_eqb, eqb-true, not-false, le-ltb, lt-leb}
-use Rattle.lists.specs.Choice.{if◌then◌else◌, ◌or_else◌}
+use Rattle.lists.specs.Choice.{when◌then◌else◌, ◌or_else◌}
 use Rattle.lists.specs.Lists.{any, pairs, up_from}
 use Rattle.lists.proofs.Choice.{or_false, if_true}
 use Rattle.lists.proofs.UpFrom.{length_up}
@@ -128,7 +128,7 @@ module _ (m : Mem) where
 
   pub no_7_8 : K ≤ addr_bits → bad_depth m ≡ false → plan_number m (fallback_plan m) ≡ 0
   unfolding plan_number
-  no_7_8 h e = λ i. if entries_named i then 7 else if mask_good h e i then 8 else 0
+  no_7_8 h e = λ i. when entries_named i then 7 else when mask_good h e i then 8 else 0
 
   wide_good : (old : ℕ) → old ≤ K → bad_wide (fallback_plan m) old 0 ≡ false
   unfolding bad_wide fallback_plan
@@ -176,7 +176,7 @@ module _ (m : Mem) where
 
   pub no_9 : wide_number m (all_reads m) (fallback_plan m) ≡ 0
   unfolding wide_number
-  no_9 = λ i. if writes_good i || reads_good i then 9 else 0
+  no_9 = λ i. when writes_good i || reads_good i then 9 else 0
 
   -- ---- the layout: a memory for each row
   abbrev pub q : Layout
@@ -268,7 +268,7 @@ module _ (m : Mem) where
     -- ---- no number of a plan
     no_10 : m.depth * m.width ≤ max_bits → image_number m (fallback_plan m) ≡ 0
     unfolding image_number
-    no_10 l = ap (λ (b : Bool). if b then ten else zero) (image_good l)
+    no_10 l = ap (λ (b : Bool). when b then ten else zero) (image_good l)
 
     pub no_number : m.depth * m.width ≤ max_bits → whole_plan m (fallback_plan m) ≡ 0
     unfolding whole_plan ◌or_else◌

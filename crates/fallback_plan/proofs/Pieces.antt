@@ -9,7 +9,7 @@ use mathlib.Core.List.{List, [], ◌∷◌}
 use lib.ListN.{length}
 use lib.Dec.{eqb}
 use borrow.Author.Tests.{eqb-true, eqb-false}
-use Rattle.lists.specs.Choice.{if◌then◌else◌}
+use Rattle.lists.specs.Choice.{when◌then◌else◌}
 use Rattle.lists.specs.Lists.{sum_by}
 use Rattle.rules.specs.Numbers.{softs}
 use Rattle.rules.specs.Value.{Value}
@@ -20,7 +20,7 @@ use Rattle.fallback_plan.proofs.Numbers.{half_ones, ones-softs}
 use Rattle.fallback_plan.proofs.Spots.{wide_none, rows_none}
 
 -- ---- the soft bits of an address
-flag-soft : (mask : ℕ) (b : Bool) → eqb (mask % 2) 1 ≡ b → flag (doubles (if b then Soft else High)) ≡ mask % 2
+flag-soft : (mask : ℕ) (b : Bool) → eqb (mask % 2) 1 ≡ b → flag (doubles (when b then Soft else High)) ≡ mask % 2
 unfolding flag doubles
 flag-soft mask true e = sym (eqb-true (mask % 2) 1 e)
 flag-soft mask false e = let n = eqb-false (mask % 2) 1 e in zero_left (mask % 2) (omega arith) n

@@ -10,7 +10,7 @@ use mathlib.Core.List.{List, [], ◌∷◌, ◌++◌}
 use lib.ListN.{length, replicate}
 use lib.Dec.{eqb, ltb}
 use borrow.Author.Tests.{eq-eqb}
-use Rattle.lists.specs.Choice.{if◌then◌else◌}
+use Rattle.lists.specs.Choice.{when◌then◌else◌}
 use Rattle.lists.specs.Lists.{all}
 use Rattle.lists.proofs.Choice.{and_true}
 use Rattle.rules.specs.Numbers.{softs, bits_for}
@@ -46,17 +46,17 @@ spot_chunks (r ∷ rs) c x =
     under_chunk (is_chunk r) x (length rs) (spot_by rs (x / 2)) o.0 (spot_chunks rs o.1 (x / 2))
 
 -- ---- the roles
-chosen : (b : Bool) → is_chunk (if b then Soft else High) ≡ true
+chosen : (b : Bool) → is_chunk (when b then Soft else High) ≡ true
 unfolding is_chunk
 chosen true = refl
 chosen false = refl
 
-pub wide_none : (b : Bool) → wide_after (if b then Soft else High) 0 ≡ 0
+pub wide_none : (b : Bool) → wide_after (when b then Soft else High) 0 ≡ 0
 unfolding wide_after
 wide_none true = refl
 wide_none false = refl
 
-pub rows_none : (b : Bool) → rows_after (if b then Soft else High) 0 ≡ 0
+pub rows_none : (b : Bool) → rows_after (when b then Soft else High) 0 ≡ 0
 unfolding rows_after
 rows_none true = refl
 rows_none false = refl
@@ -78,7 +78,7 @@ low_chunks zero k h = refl
 low_chunks (suc old) zero h = absurd (omega arith)
 low_chunks (suc old) (suc k) h =
     let o = half_ones k (2 ^ suc k - 1) refl in
-    (λ i. is_chunk (if eq-eqb ((2 ^ suc k - 1) % 2) 1 o.0 i then Soft else Wide) && all is_chunk (low_roles old (o.1 i)))
+    (λ i. is_chunk (when eq-eqb ((2 ^ suc k - 1) % 2) 1 o.0 i then Soft else Wide) && all is_chunk (low_roles old (o.1 i)))
     ∙ (λ i. soft_chunk i && all is_chunk (low_roles old (2 ^ k - 1))) ∙ low_chunks old k (omega arith)
 
 high_chunk : is_chunk High ≡ true
@@ -102,7 +102,7 @@ mux_chunks (r ∷ rs) c =
     let o = and_true (is_chunk r) (all is_chunk rs) c in
     picked (is_row r) r (mux_roles rs) o.0 (mux_chunks rs o.1)
   where
-    picked : (b : Bool) (r : Role) (l : List Role) → is_chunk r ≡ true → Chunks l → Chunks (if b then l else r ∷ l)
+    picked : (b : Bool) (r : Role) (l : List Role) → is_chunk r ≡ true → Chunks l → Chunks (when b then l else r ∷ l)
     picked true r l e h = h
     picked false r l e h = (λ i. e i && all is_chunk l) ∙ h
 

@@ -10,7 +10,7 @@ use lib.ListN.{length, take, get_or, set, length-map, get_or-map}
 use lib.Seq.{sets}
 use lib.Dec.{eqb, ltb}
 use borrow.Author.Tests.{lt-ltb, le-ltb, eq-eqb, ne_eqb}
-use Rattle.lists.specs.Choice.{if◌then◌else◌}
+use Rattle.lists.specs.Choice.{when◌then◌else◌}
 use Rattle.lists.specs.Lists.{up_from}
 use Rattle.lists.proofs.Stores.{take_stored}
 use Rattle.lists.proofs.UpFrom.{length_up}
@@ -77,16 +77,16 @@ module _ (w : ℕ) (mask bits row row' spare spare' : List ℕ) (l l1 : Lent) (h
 module _ (w : ℕ) (clock : Control) (init v q : Value) (l : Lent) where
   pub held-many : max_merge < w → l ≡ run (held_if w clock init v q) l
   unfolding held_if
-  held-many h = sym (ap (λ (b : Bool). run (if b then done [] else held_back clock init v q) l) (lt-ltb max_merge w h) ∙ run-done [] l)
+  held-many h = sym (ap (λ (b : Bool). run (when b then done [] else held_back clock init v q) l) (lt-ltb max_merge w h) ∙ run-done [] l)
 
   pub held_few : (l1 : Lent) → w ≤ max_merge → l1 ≡ run (held_back clock init v q) l → l1 ≡ run (held_if w clock init v q) l
   unfolding held_if
-  held_few l1 h e = e ∙ sym (ap (λ (b : Bool). run (if b then done [] else held_back clock init v q) l) (le-ltb max_merge w h))
+  held_few l1 h e = e ∙ sym (ap (λ (b : Bool). run (when b then done [] else held_back clock init v q) l) (le-ltb max_merge w h))
 
 -- ---- the outputs
 module _ (first w : ℕ) (v : Value) (l : Lent) where
   abbrev driven : Bool → Trace Value
-  driven b = if b then done [] else replace_value_of (up_from first w) v
+  driven b = when b then done [] else replace_value_of (up_from first w) v
 
   pub driven-many : max_merge < w → l ≡ run (driven_by first w v) l
   unfolding driven_by

@@ -1,6 +1,6 @@
 -- The parts of a row's register as the code makes them, for any lengths.
 use Rattle.std.specs.Prelude.{ℕ, Bool, ◌||◌, not, List, [], length, eqb, ltb}
-use Rattle.lists.specs.Choice.{if◌then◌else◌}
+use Rattle.lists.specs.Choice.{when◌then◌else◌}
 use Rattle.lists.specs.Lists.{up_from}
 use Rattle.rules.specs.Limits.{max_merge, max_nets}
 use Rattle.rules.specs.Logic.{Const}
@@ -13,7 +13,7 @@ use Rattle.port_overlay.specs.Laid.{behind}
 
 -- the void nets; a row of more nets than a merge takes keeps what it has
 unfoldable pub start_if : ℕ → Value → Trace Value
-start_if w v = if ltb max_merge w then done v else add_void_of w
+start_if w v = when ltb max_merge w then done v else add_void_of w
 
 -- a write port over the nets v
 abbrev pub over : Value → Value → Value → Trace Value
@@ -24,15 +24,15 @@ unfoldable pub unfit : ℕ → Value → Value → Bool
 unfit w mask bits = ltb max_merge w || (not (eqb (length mask) w) || not (eqb (length bits) w))
 
 unfoldable pub over_if : ℕ → Value → Value → Value → Trace Value
-over_if w mask bits v = if unfit w mask bits then done v else over mask bits v
+over_if w mask bits v = when unfit w mask bits then done v else over mask bits v
 
 -- the flip-flop of the nets v, whose results take the place of q
 abbrev pub held_back : Control → Const → Value → Value → Trace Value
 held_back clock init v q = behind (flip_flop (plain_controls clock) v init init init) q
 
 unfoldable pub held_if : ℕ → Control → Const → Value → Value → Trace Value
-held_if w clock init v q = if ltb max_merge w then done [] else held_back clock init v q
+held_if w clock init v q = when ltb max_merge w then done [] else held_back clock init v q
 
 -- w outputs from net `first` on are the row
 unfoldable pub driven_by : ℕ → ℕ → Value → Trace Value
-driven_by first w v = if ltb max_merge w || ltb max_nets first then done [] else replace_value_of (up_from first w) v
+driven_by first w v = when ltb max_merge w || ltb max_nets first then done [] else replace_value_of (up_from first w) v

@@ -10,7 +10,7 @@ use lib.ListN.{length, take}
 use lib.Seq.{sets, length-take-le}
 use lib.Dec.{eqb, ltb}
 use borrow.Author.Tests.{lt-ltb, le-ltb, eq-eqb, ne_eqb}
-use Rattle.lists.specs.Choice.{if◌then◌else◌}
+use Rattle.lists.specs.Choice.{when◌then◌else◌}
 use Rattle.lists.specs.Lists.{part, up_from}
 use Rattle.lists.proofs.UpFrom.{count_step, count_end}
 use Rattle.lists.proofs.Stores.{take_stored}
@@ -108,7 +108,7 @@ product_small n w h k = mul-le-mul {n₂ = 32768} {m₂ = 256} h k
 
 pub driven_past : (first before w : ℕ) (v : Value) (l : Lent) → max_nets < first → l ≡ run (driven_by (first + before) w v) l
 unfolding driven_by
-driven_past first before w v l h = sym (ap (λ (b : Bool). run (if b then done [] else replace_value_of (up_from (first + before) w) v) l) (or_right (ltb max_merge w) (lt-ltb max_nets (first + before) (omega arith))) ∙ run-done [] l)
+driven_past first before w v l h = sym (ap (λ (b : Bool). run (when b then done [] else replace_value_of (up_from (first + before) w) v) l) (or_right (ltb max_merge w) (lt-ltb max_nets (first + before) (omega arith))) ∙ run-done [] l)
   where
     or_right : (a : Bool) {b : Bool} → b ≡ true → (a || b) ≡ true
     or_right true e = refl
@@ -145,12 +145,12 @@ module _ (g : WideMemory) (nets image : List ℕ) (n m : ℕ) (k : m ≡ n) (ini
   pub row_not : (l : Lent) → length init ≢ g.unit → l ≡ run (row_if g nets image n) l
   unfolding row_if
   row_not l h =
-      sym (ap (λ (b : Bool). run (if b then row_trace g (mem_at g nets image n) (mem_at g nets image n).init n else done tt) l) (ap (λ (c : Const). eqb (length c) g.unit) (sym e) ∙ ne_eqb (length init) g.unit h) ∙ run-done tt l)
+      sym (ap (λ (b : Bool). run (when b then row_trace g (mem_at g nets image n) (mem_at g nets image n).init n else done tt) l) (ap (λ (c : Const). eqb (length c) g.unit) (sym e) ∙ ne_eqb (length init) g.unit h) ∙ run-done tt l)
 
   row_is : length init ≡ g.unit → row_if g nets image n ≡ row_trace g (mem_at g nets image n) init n
   unfolding row_if
   row_is h =
-      ap (λ (b : Bool). if b then row_trace g (mem_at g nets image n) (mem_at g nets image n).init n else done tt) (ap (λ (c : Const). eqb (length c) g.unit) (sym e) ∙ eq-eqb (length init) g.unit h)
+      ap (λ (b : Bool). when b then row_trace g (mem_at g nets image n) (mem_at g nets image n).init n else done tt) (ap (λ (c : Const). eqb (length c) g.unit) (sym e) ∙ eq-eqb (length init) g.unit h)
       ∙ ap (λ (c : Const). row_trace g (mem_at g nets image n) c n) (sym e)
 
   pub row_ran : (l l1 l2 : Lent) (v : Value) → length init ≡ g.unit → Gave (row_by g (mem_at g nets image m) init) l l1 v → l2 ≡ run (drives g n v (read_numbers g)) l1 → l2 ≡ run (row_if g nets image n) l
@@ -187,7 +187,7 @@ module _ (g : WideMemory) (nets image : List ℕ) (count : ℕ) where
 -- ---- the limits
 module _ (g : WideMemory) (nets image : List ℕ) (l : Lent) where
   abbrev chosen : Bool → Trace Unit
-  chosen b = if b then done tt else rows_of g nets image (up_from 0 g.mems)
+  chosen b = when b then done tt else rows_of g nets image (up_from 0 g.mems)
 
   pub unit_past : max_unit < g.unit → l ≡ run (lowered g nets image) l
   unfolding lowered

@@ -10,7 +10,7 @@ use lib.ListN.{length, take, drop, length-take, drop_of_length-le}
 use lib.Seq.{drop-cons, take_at, drop_at, get_or-take}
 use lib.Dec.{eqb, ltb}
 use borrow.Author.Tests.{le-ltb, eq-eqb, ne_eqb, lt-ltb}
-use Rattle.lists.specs.Choice.{if◌then◌else◌}
+use Rattle.lists.specs.Choice.{when◌then◌else◌}
 use Rattle.lists.specs.Lists.{up_from, concat_map}
 use Rattle.lists.proofs.UpFrom.{length_up}
 use Rattle.lists.proofs.Views.{length_views}
@@ -136,7 +136,7 @@ module _ (g : WideMemory) (m : Mem) (r : Row g m) where
   unfolding done
   const_long n = length_const m.init ∙ r.init_row
 
-  chosen_long : (b : Bool) (n : ℕ) → length ((if b then done (of_const m.init) else register_by g m m.init) n).value ≡ g.unit
+  chosen_long : (b : Bool) (n : ℕ) → length ((when b then done (of_const m.init) else register_by g m m.init) n).value ≡ g.unit
   chosen_long true n = const_long n
   chosen_long false n = register_long n
 
@@ -238,8 +238,8 @@ module _ (g : WideMemory) (nets image : List ℕ) (f : Flat g nets image) where
   row_is : (n : ℕ) → n < g.mems → row_if g nets image n ≡ (row_value (D n).memory.writes (D n).memory >>= λ v. drive_outputs (D n).memory.reads (D n).output v)
   unfolding row_if
   row_is n h =
-      ap (λ (m : Mem). if eqb (length m.init) g.unit then row_trace g m m.init n else done tt) (mem_is n h)
-      ∙ ap (λ (b : Bool). if b then row_trace g (D n).memory (D n).memory.init n else done tt) (eq-eqb (length (D n).memory.init) g.unit (f.init_row n h))
+      ap (λ (m : Mem). when eqb (length m.init) g.unit then row_trace g m m.init n else done tt) (mem_is n h)
+      ∙ ap (λ (b : Bool). when b then row_trace g (D n).memory (D n).memory.init n else done tt) (eq-eqb (length (D n).memory.init) g.unit (f.init_row n h))
       ∙ trace_is n h
 
   rows_by : (k a : ℕ) → a + k ≤ g.mems → rows_of g nets image (up_from a k) ≡ lower_rows (map D (up_from a k))

@@ -1,6 +1,6 @@
 -- The rows as registers as the code makes them: by the numbers of the ports and of the memories that a struct and the lent arrays hold.
 use Rattle.std.specs.Prelude.{ℕ, ◌+◌, ◌*◌, min, Bool, ◌||◌, List, [], ◌∷◌, length, get_or, eqb, ltb}
-use Rattle.lists.specs.Choice.{if◌then◌else◌}
+use Rattle.lists.specs.Choice.{when◌then◌else◌}
 use Rattle.lists.specs.Lists.{up_from}
 use Rattle.rules.specs.Limits.{max_ports, max_unit, max_columns}
 use Rattle.rules.specs.Logic.{Const}
@@ -35,7 +35,7 @@ register_by g m init = do
 
 -- without write ports the trits
 unfoldable pub row_by : WideMemory → Mem → Const → Trace Value
-row_by g m init = if eqb g.write_count 0 then done (of_const init) else register_by g m init
+row_by g m init = when eqb g.write_count 0 then done (of_const init) else register_by g m init
 
 -- memory n's outputs of these read ports are the row
 unfoldable pub drives : WideMemory → ℕ → Value → List ℕ → Trace Unit
@@ -58,7 +58,7 @@ mem_at g nets image n = (memory_at g nets [] image n).memory
 
 unfoldable pub row_if : WideMemory → List ℕ → List ℕ → ℕ → Trace Unit
 row_if g nets image n =
-    if eqb (length (mem_at g nets image n).init) g.unit then row_trace g (mem_at g nets image n) (mem_at g nets image n).init n else done tt
+    when eqb (length (mem_at g nets image n).init) g.unit then row_trace g (mem_at g nets image n) (mem_at g nets image n).init n else done tt
 
 -- these memories in turn
 unfoldable pub rows_of : WideMemory → List ℕ → List ℕ → List ℕ → Trace Unit
@@ -69,4 +69,4 @@ rows_of g nets image (n ∷ ns) = do
 
 -- all of them; a struct whose numbers pass the limits of a swizzle gives nothing
 unfoldable pub lowered : WideMemory → List ℕ → List ℕ → Trace Unit
-lowered g nets image = if ltb max_unit g.unit || ltb max_columns g.mems then done tt else rows_of g nets image (up_from 0 g.mems)
+lowered g nets image = when ltb max_unit g.unit || ltb max_columns g.mems then done tt else rows_of g nets image (up_from 0 g.mems)

@@ -11,7 +11,7 @@ use lib.Dec.{eqb, ltb, leb}
 use lib.ListN.{length, get_or, set, drop, replicate, get_or-replicate, length-set}
 use lib.Seq.{drop-cons, drop-length, get_or-set_same, get_or-set_other}
 use borrow.Author.Tests.{lt-ltb, le-ltb, le-leb, lt-leb, eq-eqb, ne_eqb}
-use Rattle.lists.specs.Choice.{if◌then◌else◌}
+use Rattle.lists.specs.Choice.{when◌then◌else◌}
 use Rattle.lists.specs.Lists.{any, up_from}
 use Rattle.lists.proofs.Choice.{or_left, or_right, or_both, or_rest, cases_le}
 use Rattle.lists.proofs.UpFrom.{any_same, any_up}
@@ -23,11 +23,11 @@ use Rattle.rules.specs.Limits.{max_width}
 module _ (base e : ℕ) (marks : List ℕ) where
   kept : (ltb e base || leb max_width (e - base)) ≡ true → marks ≡ bumped base e marks
   unfolding bumped
-  kept h = sym (ap (λ (t : Bool). if t then marks else set marks (e - base) (more (get_or marks (e - base) 0))) h)
+  kept h = sym (ap (λ (t : Bool). when t then marks else set marks (e - base) (more (get_or marks (e - base) 0))) h)
 
   marked : (ltb e base || leb max_width (e - base)) ≡ false → set marks (e - base) (more (get_or marks (e - base) 0)) ≡ bumped base e marks
   unfolding bumped
-  marked h = sym (ap (λ (t : Bool). if t then marks else set marks (e - base) (more (get_or marks (e - base) 0))) h)
+  marked h = sym (ap (λ (t : Bool). when t then marks else set marks (e - base) (more (get_or marks (e - base) 0))) h)
 
   pub bump_low : e < base → marks ≡ bumped base e marks
   bump_low l = kept (or_left _ (lt-ltb e base l))
@@ -39,10 +39,10 @@ module _ (base e : ℕ) (marks : List ℕ) where
   bump_in l h = marked (or_both (le-ltb e base l) (lt-leb max_width (e - base) h))
 
   pub bump_first : base ≤ e → e - base < max_width → get_or marks (e - base) 0 ≡ 0 → set marks (e - base) 1 ≡ bumped base e marks
-  bump_first l h z = ap (λ (t : Bool). set marks (e - base) (if t then 1 else 2)) (sym (eq-eqb _ 0 z)) ∙ bump_in l h
+  bump_first l h z = ap (λ (t : Bool). set marks (e - base) (when t then 1 else 2)) (sym (eq-eqb _ 0 z)) ∙ bump_in l h
 
   pub bump_again : base ≤ e → e - base < max_width → get_or marks (e - base) 0 ≢ 0 → set marks (e - base) 2 ≡ bumped base e marks
-  bump_again l h z = ap (λ (t : Bool). set marks (e - base) (if t then 1 else 2)) (sym (ne_eqb _ 0 z)) ∙ bump_in l h
+  bump_again l h z = ap (λ (t : Bool). set marks (e - base) (when t then 1 else 2)) (sym (ne_eqb _ 0 z)) ∙ bump_in l h
 
   -- ---- the mark of bit base + j
   pub hit : (j : ℕ) → j < max_width → length marks ≡ max_width → e ≡ base + j → get_or (bumped base e marks) j 0 ≡ more (get_or marks j 0)

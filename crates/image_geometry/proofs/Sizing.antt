@@ -8,7 +8,7 @@ use native.Mathlib.Nat.{div-lt_iff_lt-mul, le-div_iff_mul-le, add-mul, one-mul, 
 use lib.ListN.{length, replicate, length-replicate}
 use lib.Pow.{pow_pos, pow_mono}
 use borrow.Author.Tests.{eq-eqb, ne_eqb}
-use Rattle.lists.specs.Choice.{if◌then◌else◌}
+use Rattle.lists.specs.Choice.{when◌then◌else◌}
 use Rattle.rules.specs.Limits.{addr_bits, max_depth, max_row, max_unit}
 use Rattle.rules.specs.Numbers.{ceil_div, top_bits, bits_for}
 use Rattle.rules.specs.Geometry.{Layout, soft_bits, soft, row_len_of, full_depth_of, full_chunks, part_depth_of, all_chunks, full_mems, all_mems, columns, chunk_mux_bits}
@@ -210,7 +210,7 @@ module _ (p : Params) (len : ℕ) (n : Narrow p len) (m : Mems) (e : (es : List 
 
     pub size_some : (p.width ≡ 0 → ⊥) → (m.full * m.full_depth + (m.all - m.full) * m.part_depth) * unit ≡ image_size (layout_by p es)
     unfolding image_size
-    size_some z = trits_are ∙ sym (ap (λ (t : Bool). if t then 0 else trits (layout_by p es)) (ne_eqb p.width 0 z))
+    size_some z = trits_are ∙ sym (ap (λ (t : Bool). when t then 0 else trits (layout_by p es)) (ne_eqb p.width 0 z))
 
     pub shape_none : p.width ≡ 0
         → shape_by (record { full_mems = m.full; all_mems = m.all; full_depth = m.full_depth; part_depth = m.part_depth; columns = m.all * unit; trits = (m.full * m.full_depth + (m.all - m.full) * m.part_depth) * unit; image_size = 0 })

@@ -7,7 +7,7 @@ use native.Mathlib.Numerals.{add-one}
 use native.Mathlib.Nat.{add-mul, mul_assoc, mul-le-mul, mul-le-mul_left, div-le_self, div-add-mod', mod-lt, le_trans, lt_of_le_of_lt, add-zero, one-mul}
 use lib.Arith.{digits_div, digits_mod}
 use borrow.Author.Tests.{lt-ltb, le-ltb}
-use Rattle.lists.specs.Choice.{if◌then◌else◌}
+use Rattle.lists.specs.Choice.{when◌then◌else◌}
 use Rattle.lists.proofs.Choice.{cases_le}
 use Rattle.rules.specs.Limits.{addr_bits, max_depth, max_row, max_unit}
 use Rattle.rules.specs.Geometry.{Layout, row_len_of, full_depth_of, part_depth_of, full_mems}
@@ -60,11 +60,11 @@ module _ (full H P u r : ℕ) where
 
   pub next_full : (m : ℕ) → m < full → row_start m + H * u ≡ row_start (m + 1)
   unfolding depth_at
-  next_full m l = sym (next_start m ∙ ap (λ (t : Bool). row_start m + (if t then H else P) * u) (lt-ltb m full l))
+  next_full m l = sym (next_start m ∙ ap (λ (t : Bool). row_start m + (when t then H else P) * u) (lt-ltb m full l))
 
   pub next_part : (m : ℕ) → full ≤ m → row_start m + P * u ≡ row_start (m + 1)
   unfolding depth_at
-  next_part m l = sym (next_start m ∙ ap (λ (t : Bool). row_start m + (if t then H else P) * u) (le-ltb m full l))
+  next_part m l = sym (next_start m ∙ ap (λ (t : Bool). row_start m + (when t then H else P) * u) (le-ltb m full l))
 
 before_max : (full H P m : ℕ) → H ≤ 1048576 → P ≤ 1048576 → rows_before full H P m ≤ m * 1048576
 unfolding rows_before

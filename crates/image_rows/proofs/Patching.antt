@@ -7,7 +7,7 @@ use mathlib.Core.Option.{none, some}
 use mathlib.Core.List.{List}
 use lib.ListN.{length}
 use borrow.Author.Tests.{eq-eqb, ne_eqb, lt-ltb, le-ltb, le-leb, lt-leb}
-use Rattle.lists.specs.Choice.{if◌then◌else◌}
+use Rattle.lists.specs.Choice.{when◌then◌else◌}
 use Rattle.rules.specs.Logic.{are_trits}
 use Rattle.rules.specs.Geometry.{Layout}
 use Rattle.rules.specs.Image.{image_size, write_row, Patch, Laid}
@@ -46,11 +46,11 @@ number_is q size row trits room e = ap (λ (n : ℕ). patch_refusal_by q.width q
 -- ---- what is left of the image
 kept_by : (q : Layout) (c : Patch) (image : List ℕ) → patch_refusal_of q c ≢ 0 → image ≡ patched_by q c image
 unfolding patched_by
-kept_by q c image n = sym (ap (λ (t : Bool). if t then write_row q c.row c.trits image else image) (ne_eqb _ 0 n))
+kept_by q c image n = sym (ap (λ (t : Bool). when t then write_row q c.row c.trits image else image) (ne_eqb _ 0 n))
 
 written_by : (q : Layout) (c : Patch) (image : List ℕ) → patch_refusal_of q c ≡ 0 → write_row q c.row c.trits image ≡ patched_by q c image
 unfolding patched_by
-written_by q c image n = sym (ap (λ (t : Bool). if t then write_row q c.row c.trits image else image) (eq-eqb _ 0 n))
+written_by q c image n = sym (ap (λ (t : Bool). when t then write_row q c.row c.trits image else image) (eq-eqb _ 0 n))
 
 -- ---- the whole answer
 module _ (l : Laid) (c : Patch) (image : List ℕ) where

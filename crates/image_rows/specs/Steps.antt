@@ -1,6 +1,6 @@
 -- What the private functions ask and give: the cursor over a row's places, and a row taken out of an image.
 use Rattle.std.specs.Prelude.{ℕ, zero, suc, ◌+◌, ◌-◌, ◌*◌, ◌≤◌, ◌<◌, ◌≡◌, false, List, [], ◌∷◌, eqb, ltb, length, drop, get_or}
-use Rattle.lists.specs.Choice.{if◌then◌else◌}
+use Rattle.lists.specs.Choice.{when◌then◌else◌}
 use Rattle.rules.specs.Limits.{addr_bits, max_row, None, trit_x}
 use Rattle.rules.specs.Geometry.{Layout, Spot, row_len_of, full_mems, full_depth_of, part_depth_of, walk}
 use Rattle.rules.specs.Image.{place_of, flat_at, put, put_row}
@@ -45,8 +45,8 @@ pub record Low (c : Cursor) (g : Steps) : Type 0 where
 
 abbrev pub next_of : Steps → Cursor → Cursor
 next_of g c =
-    if ltb (c.bit + 1) g.unit then record { memory = c.memory; bit = c.bit + 1; start = c.start }
-    else if ltb c.memory g.full then record { memory = c.memory + 1; bit = 0; start = c.start + g.full_step }
+    when ltb (c.bit + 1) g.unit then record { memory = c.memory; bit = c.bit + 1; start = c.start }
+    else when ltb c.memory g.full then record { memory = c.memory + 1; bit = 0; start = c.start + g.full_step }
     else record { memory = c.memory + 1; bit = 0; start = c.start + g.part_step }
 
 -- the cursor after i steps, and the index of its place

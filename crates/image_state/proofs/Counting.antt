@@ -6,7 +6,7 @@ use mathlib.Core.Bool.{Bool, true, false}
 use mathlib.Core.Option.{none, some}
 use native.Mathlib.Omega.{arith}
 use borrow.Author.Tests.{eq-eqb, ne_eqb}
-use Rattle.lists.specs.Choice.{if◌then◌else◌}
+use Rattle.lists.specs.Choice.{when◌then◌else◌}
 use Rattle.rules.specs.Geometry.{Layout, full_mems, all_mems, full_depth_of, part_depth_of}
 use Rattle.rules.specs.Record.{Sizes, depth_if, sizes_of}
 use Rattle.rules.specs.Conditions.{bad_layout, bad_sizes}
@@ -69,7 +69,7 @@ module _ (q : Layout) (s : Shape) (h : shape_by s ≡ shape_of q) where
   unfolding sizes_of
   sizes_some w =
       (λ i. held (full_is i) (deep_is i) (all_is i - full_is i) (part_is i))
-      ∙ sym (ap (λ (t : Bool). held (if t then 0 else full_mems q) (full_depth_of q) (if t then 0 else all_mems q - full_mems q) (part_depth_of q)) (ne_eqb q.width 0 w))
+      ∙ sym (ap (λ (t : Bool). held (when t then 0 else full_mems q) (full_depth_of q) (when t then 0 else all_mems q - full_mems q) (part_depth_of q)) (ne_eqb q.width 0 w))
 
 -- ---- the whole answer
 module _ (q : Layout) where

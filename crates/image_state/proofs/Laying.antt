@@ -10,7 +10,7 @@ use lib.Dec.{ltb}
 use lib.ListN.{length, take, replicate, length-replicate}
 use lib.Seq.{sets}
 use borrow.Author.Tests.{lt-ltb, le-ltb, eq-eqb}
-use Rattle.lists.specs.Choice.{if◌then◌else◌}
+use Rattle.lists.specs.Choice.{when◌then◌else◌}
 use Rattle.lists.proofs.Choice.{or_later, or_left}
 use Rattle.lists.proofs.Store.{part_sets}
 use Rattle.rules.specs.Limits.{max_depth, max_width, max_bits, max_row}
@@ -51,7 +51,7 @@ module _ (l : Laid) where
 -- ---- the state made from a layout
 pub made_long : (p : Params) (es : List ℕ) → max_row < length es → unset_laid ≡ laid_by p es
 unfolding laid_by
-made_long p es l = sym (ap (λ (t : Bool). if t then unset_laid else full p es) (lt-ltb max_row (length es) l))
+made_long p es l = sym (ap (λ (t : Bool). when t then unset_laid else full p es) (lt-ltb max_row (length es) l))
   where
     full : Params → List ℕ → Laid
     full p es = record { depth = p.depth; width = p.width; soft_mask = p.soft_mask; hard = p.hard; unit = p.unit; len = length es; entries = sets (replicate max_row 0) 0 es }
@@ -60,7 +60,7 @@ pub made_short : (p : Params) (es kept : List ℕ) → length es ≤ max_row →
     → ◌≡◌ {A = Laid} (record { depth = p.depth; width = p.width; soft_mask = p.soft_mask; hard = p.hard; unit = p.unit; len = length es; entries = kept }) (laid_by p es)
 unfolding laid_by
 made_short p es kept h e =
-    ap (with_entries p es) e ∙ sym (ap (λ (t : Bool). if t then unset_laid else with_entries p es (sets (replicate max_row 0) 0 es)) (le-ltb max_row (length es) h))
+    ap (with_entries p es) e ∙ sym (ap (λ (t : Bool). when t then unset_laid else with_entries p es (sets (replicate max_row 0) 0 es)) (le-ltb max_row (length es) h))
   where
     with_entries : Params → List ℕ → List ℕ → Laid
     with_entries p es kept = record { depth = p.depth; width = p.width; soft_mask = p.soft_mask; hard = p.hard; unit = p.unit; len = length es; entries = kept }
@@ -88,9 +88,9 @@ with_unit l u = record { depth = l.depth; width = l.width; soft_mask = l.soft_ma
 lent_is : (l : Laid) → handed_on (layout_by (lent_params l) (take (min max_row l.len) l.entries)) ≡ laid_of l
 lent_is l =
     ⊎_elim
-    (λ h. unit_none (lent_params l) _ (ap (λ (t : Bool). if t then 0 else l.unit) (lt-ltb max_row l.len h)) ∙ sym (laid_long l h))
+    (λ h. unit_none (lent_params l) _ (ap (λ (t : Bool). when t then 0 else l.unit) (lt-ltb max_row l.len h)) ∙ sym (laid_long l h))
     (λ h. let e : min max_row l.len ≡ l.len = omega arith in
-    (λ i. handed_on (layout_by (with_unit l (ap (λ (t : Bool). if t then 0 else l.unit) (le-ltb max_row l.len h) i)) (take (e i) l.entries))) ∙ sym (laid_short l h))
+    (λ i. handed_on (layout_by (with_unit l (ap (λ (t : Bool). when t then 0 else l.unit) (le-ltb max_row l.len h) i)) (take (e i) l.entries))) ∙ sym (laid_short l h))
     (lt_or_le max_row l.len)
 
 pub laid_lent : (l : Laid) (p : Params) (n : ℕ) → p ≡ lent_params l → n ≡ min max_row l.len → handed_on (layout_by p (take n l.entries)) ≡ laid_of l

@@ -2,7 +2,7 @@
 use Rattle.std.specs.Prelude.{ℕ, List, length, take, replicate, ltb}
 use Rattle.std.proofs.Math.Option.{none}
 use Rattle.std.proofs.lemmas.List.Edits.{sets}
-use Rattle.lists.specs.Choice.{if◌then◌else◌}
+use Rattle.lists.specs.Choice.{when◌then◌else◌}
 use Rattle.rules.specs.Limits.{max_row}
 use Rattle.rules.specs.Geometry.{Layout}
 use Rattle.rules.specs.Image as rules
@@ -25,14 +25,14 @@ view_of l = layout_by (params_of l) (take l.len l.entries)
 
 -- the numbers that the calls go by: where the length passes the array the unit is 0, which no layout has
 abbrev pub lent_unit : Laid → ℕ
-lent_unit l = if ltb max_row l.len then 0 else l.unit
+lent_unit l = when ltb max_row l.len then 0 else l.unit
 
 abbrev pub lent_params : Laid → Params
 lent_params l = record { depth = l.depth; width = l.width; soft_mask = l.soft_mask; hard = l.hard; unit = lent_unit l }
 
 -- a length past the array, and a layout that no accepted swizzle has, are no state
 unfoldable pub laid_of : Laid → rules.Laid
-laid_of l = if ltb max_row l.len then none else handed_on (view_of l)
+laid_of l = when ltb max_row l.len then none else handed_on (view_of l)
 
 -- the struct before any swizzle, and that of a layout
 abbrev pub unset_laid : Laid
@@ -40,7 +40,7 @@ unset_laid = record { depth = 0; width = 0; soft_mask = 0; hard = 0; unit = 0; l
 
 unfoldable pub laid_by : Params → List ℕ → Laid
 laid_by p es =
-    if ltb max_row (length es) then unset_laid
+    when ltb max_row (length es) then unset_laid
     else record {
       depth = p.depth;
       width = p.width;

@@ -6,7 +6,7 @@ use native.Mathlib.Omega.{arith}
 use mathlib.Core.Bool.{Bool, true, false, not, ◌&&◌, ◌||◌}
 use lib.Dec.{eqb, leb, ltb}
 use borrow.Author.Tests.{leb-true, leb-false, ltb-false, eqb-true, ne_eqb, not-false}
-use Rattle.lists.specs.Choice.{if◌then◌else◌, ◌or_else◌, leaves}
+use Rattle.lists.specs.Choice.{when◌then◌else◌, ◌or_else◌, leaves}
 
 -- ---- tests
 pub or_false : (a b : Bool) → (a || b) ≡ false → (a ≡ false) × (b ≡ false)
@@ -46,28 +46,28 @@ cases_le {P = P} a b f g = on (leb a b) refl
     on false e = g (leb-false a b e)
 
 -- ---- a chain of refusals, test by test: what is known where none holds
-pub if_zero : (t : Bool) (n rest : ℕ) → (if t then suc n else rest) ≡ 0 → (t ≡ false) × (rest ≡ 0)
+pub if_zero : (t : Bool) (n rest : ℕ) → (when t then suc n else rest) ≡ 0 → (t ≡ false) × (rest ≡ 0)
 if_zero true n rest e = absurd (omega arith)
 if_zero false n rest e = (refl, e)
 
-pub refused_not : (t : Bool) (n rest : ℕ) → 0 < n → (if t then n else rest) ≡ 0 → (t ≡ false) × (rest ≡ 0)
+pub refused_not : (t : Bool) (n rest : ℕ) → 0 < n → (when t then n else rest) ≡ 0 → (t ≡ false) × (rest ≡ 0)
 refused_not true n rest h e = absurd (omega arith)
 refused_not false n rest h e = (refl, e)
 
-pub not_leb : (a b n rest : ℕ) → 0 < n → (if leb a b then n else rest) ≡ 0 → (b < a) × (rest ≡ 0)
+pub not_leb : (a b n rest : ℕ) → 0 < n → (when leb a b then n else rest) ≡ 0 → (b < a) × (rest ≡ 0)
 not_leb a b n rest h e = (leb-false a b (refused_not (leb a b) n rest h e).0, (refused_not (leb a b) n rest h e).1)
 
-pub not_ltb : (a b n rest : ℕ) → 0 < n → (if ltb a b then n else rest) ≡ 0 → (b ≤ a) × (rest ≡ 0)
+pub not_ltb : (a b n rest : ℕ) → 0 < n → (when ltb a b then n else rest) ≡ 0 → (b ≤ a) × (rest ≡ 0)
 not_ltb a b n rest h e = (ltb-false a b (refused_not (ltb a b) n rest h e).0, (refused_not (ltb a b) n rest h e).1)
 
-pub not_ne : (a b n rest : ℕ) → 0 < n → (if not (eqb a b) then n else rest) ≡ 0 → (a ≡ b) × (rest ≡ 0)
+pub not_ne : (a b n rest : ℕ) → 0 < n → (when not (eqb a b) then n else rest) ≡ 0 → (a ≡ b) × (rest ≡ 0)
 not_ne a b n rest h e = (eqb-true a b (not-false (eqb a b) (refused_not (not (eqb a b)) n rest h e).0), (refused_not (not (eqb a b)) n rest h e).1)
 
 -- the test that holds, and one that does not
-pub hit : {t : Bool} (n rest : ℕ) → t ≡ true → n ≡ (if t then n else rest)
+pub hit : {t : Bool} (n rest : ℕ) → t ≡ true → n ≡ (when t then n else rest)
 hit n rest e = rw e
 
-pub miss : {t : Bool} (n rest x : ℕ) → t ≡ false → x ≡ rest → x ≡ (if t then n else rest)
+pub miss : {t : Bool} (n rest x : ℕ) → t ≡ false → x ≡ rest → x ≡ (when t then n else rest)
 miss n rest x e q = rw e q
 
 -- ---- or_else
@@ -115,10 +115,10 @@ or_rest {a} {b} e = ap (λ (t : Bool). t || b) e
 
 -- ---- a choice that is settled
 module _ {ℓ} {A : Type ℓ} where
-  pub if_true : (b : Bool) (x y : A) → b ≡ true → (if b then x else y) ≡ x
+  pub if_true : (b : Bool) (x y : A) → b ≡ true → (when b then x else y) ≡ x
   if_true b x y e = rw e
 
-  pub if_false : (b : Bool) (x y : A) → b ≡ false → (if b then x else y) ≡ y
+  pub if_false : (b : Bool) (x y : A) → b ≡ false → (when b then x else y) ≡ y
   if_false b x y e = rw e
 
 -- a later test that holds

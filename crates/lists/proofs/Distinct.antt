@@ -8,7 +8,7 @@ use native.Mathlib.Omega.{arith}
 use mathlib.Core.List.{List, [], ◌∷◌, ◌++◌}
 use lib.ListN.{length, take, drop, get_or}
 use lib.Seq.{drop-cons, drop-length, take-suc}
-use Rattle.lists.specs.Choice.{if◌then◌else◌}
+use Rattle.lists.specs.Choice.{when◌then◌else◌}
 use Rattle.lists.specs.Distinct.{place_in, with_new, kept_from_of, places_from}
 
 module _ {ℓ} {A : Type ℓ} (same : A → A → Bool) where
@@ -23,7 +23,7 @@ module _ {ℓ} {A : Type ℓ} (same : A → A → Bool) where
   pub place_none : (x : A) (l : List A) → length l + place_in same x (drop (length l) l) ≡ length l
   place_none x l = rw (drop-length, add-zero)
 
-  le_step : (t : Bool) (k n : ℕ) → k ≤ n → (if t then 0 else suc k) ≤ suc n
+  le_step : (t : Bool) (k n : ℕ) → k ≤ n → (when t then 0 else suc k) ≤ suc n
   le_step true k n h = omega arith
   le_step false k n h = omega arith
 
@@ -32,7 +32,7 @@ module _ {ℓ} {A : Type ℓ} (same : A → A → Bool) where
   place_le x (y ∷ l) = le_step (same y x) (place_in same x l) (length l) (place_le x l)
 
   found_step : (t : Bool) (x y : A) (l : List A) → (place_in same x l < length l → with_new same x l ≡ l)
-      → (if t then 0 else suc (place_in same x l)) < suc (length l) → (if t then y ∷ l else y ∷ with_new same x l) ≡ y ∷ l
+      → (when t then 0 else suc (place_in same x l)) < suc (length l) → (when t then y ∷ l else y ∷ with_new same x l) ≡ y ∷ l
   found_step true x y l f h = refl
   found_step false x y l f h = ap (λ (r : List A). y ∷ r) (f (omega arith))
 
@@ -42,7 +42,7 @@ module _ {ℓ} {A : Type ℓ} (same : A → A → Bool) where
   with_new_found x (y ∷ l) h = found_step (same y x) x y l (with_new_found x l) h
 
   new_step : (t : Bool) (x y : A) (l : List A) → (length l ≤ place_in same x l → with_new same x l ≡ l ++ (x ∷ []))
-      → suc (length l) ≤ (if t then 0 else suc (place_in same x l)) → (if t then y ∷ l else y ∷ with_new same x l) ≡ (y ∷ l) ++ (x ∷ [])
+      → suc (length l) ≤ (when t then 0 else suc (place_in same x l)) → (when t then y ∷ l else y ∷ with_new same x l) ≡ (y ∷ l) ++ (x ∷ [])
   new_step true x y l f h = absurd (omega arith)
   new_step false x y l f h = ap (λ (r : List A). y ∷ r) (f (omega arith))
 
@@ -52,7 +52,7 @@ module _ {ℓ} {A : Type ℓ} (same : A → A → Bool) where
   with_new_new x (y ∷ l) h = new_step (same y x) x y l (with_new_new x l) h
 
   length_step : (t : Bool) (x y : A) (l : List A) → length (with_new same x l) ≤ suc (length l)
-      → length (if t then y ∷ l else y ∷ with_new same x l) ≤ suc (suc (length l))
+      → length (when t then y ∷ l else y ∷ with_new same x l) ≤ suc (suc (length l))
   length_step true x y l h = omega arith
   length_step false x y l h = omega arith
 
@@ -88,7 +88,7 @@ module _ {ℓ} {A : Type ℓ} (same : A → A → Bool) where
   length_places acc (x ∷ l) = ap suc (length_places (with_new same x acc) l)
 
   with_new-step : (t : Bool) (x y : A) (l : List A) → same y x ≡ t → place_in same x (with_new same x l) ≡ place_in same x l
-      → place_in same x (if t then y ∷ l else y ∷ with_new same x l) ≡ (if t then 0 else suc (place_in same x l))
+      → place_in same x (when t then y ∷ l else y ∷ with_new same x l) ≡ (when t then 0 else suc (place_in same x l))
   with_new-step true x y l e f = rw e
   with_new-step false x y l e f = rw e (ap suc f)
 

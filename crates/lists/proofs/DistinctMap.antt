@@ -6,7 +6,7 @@ use Prim.Native.Nat.{ℕ, suc, ◌<◌}
 use native.Mathlib.Omega.{arith}
 use mathlib.Core.List.{List, [], ◌∷◌, map}
 use lib.ListN.{length, get_or}
-use Rattle.lists.specs.Choice.{if◌then◌else◌}
+use Rattle.lists.specs.Choice.{when◌then◌else◌}
 use Rattle.lists.specs.Distinct.{place_in, with_new, kept_from_of, places_from}
 
 module _ {A : Type 0} (P : A → Type 0) where
@@ -20,7 +20,7 @@ module _ {A : Type 0} (P : A → Type 0) where
   each_of (x ∷ l) d f = (f 0 (omega arith), each_of l d (λ i h. f (suc i) (omega arith)))
 
 module _ {A : Type 0} (P : A → Type 0) (same : A → A → Bool) where
-  each_step : (t : Bool) (x y : A) (l : List A) → P y → Each P l → Each P (with_new same x l) → Each P (if t then y ∷ l else y ∷ with_new same x l)
+  each_step : (t : Bool) (x y : A) (l : List A) → P y → Each P l → Each P (with_new same x l) → Each P (when t then y ∷ l else y ∷ with_new same x l)
   each_step true x y l p a b = (p, a)
   each_step false x y l p a b = (p, b)
 
@@ -39,7 +39,7 @@ module _ {A B : Type 0} (P : A → Type 0) (same : A → A → Bool) (sameOf : B
   place_map x (y ∷ l) p a = rw (agree y x a.0 p, place_map x l p a.1)
 
   new_step : (t : Bool) (x y : A) (l : List A) → with_new sameOf (f x) (map f l) ≡ map f (with_new same x l)
-      → (if t then f y ∷ map f l else f y ∷ with_new sameOf (f x) (map f l)) ≡ map f (if t then y ∷ l else y ∷ with_new same x l)
+      → (when t then f y ∷ map f l else f y ∷ with_new sameOf (f x) (map f l)) ≡ map f (when t then y ∷ l else y ∷ with_new same x l)
   new_step true x y l e = refl
   new_step false x y l e = ap (λ (r : List B). f y ∷ r) e
 

@@ -7,11 +7,11 @@ use mathlib.Core.List.{List, [], ◌∷◌}
 use lib.Dec.{eqb}
 use lib.ListN.{length, take}
 use lib.Seq.{take-length}
-use Rattle.lists.specs.Choice.{if◌then◌else◌}
+use Rattle.lists.specs.Choice.{when◌then◌else◌}
 use Rattle.lists.specs.Distinct.{with_new, kept_from_of, kept, places}
 
 module _ {ℓ} {A : Type ℓ} (same : A → A → Bool) where
-  stays_step : (t : Bool) (n : ℕ) (x y : A) (l : List A) → take n (with_new same x l) ≡ take n l → take (suc n) (if t then y ∷ l else y ∷ with_new same x l) ≡ y ∷ take n l
+  stays_step : (t : Bool) (n : ℕ) (x y : A) (l : List A) → take n (with_new same x l) ≡ take n l → take (suc n) (when t then y ∷ l else y ∷ with_new same x l) ≡ y ∷ take n l
   stays_step true n x y l e = refl
   stays_step false n x y l e = ap (λ (r : List A). y ∷ r) e
 
@@ -20,7 +20,7 @@ module _ {ℓ} {A : Type ℓ} (same : A → A → Bool) where
   new_stays (suc n) x [] h = absurd (omega arith)
   new_stays (suc n) x (y ∷ l) h = stays_step (same y x) n x y l (new_stays n x l (omega arith))
 
-  length_step : (t : Bool) (x y : A) (l : List A) → length l ≤ length (with_new same x l) → suc (length l) ≤ length (if t then y ∷ l else y ∷ with_new same x l)
+  length_step : (t : Bool) (x y : A) (l : List A) → length l ≤ length (with_new same x l) → suc (length l) ≤ length (when t then y ∷ l else y ∷ with_new same x l)
   length_step true x y l h = omega arith
   length_step false x y l h = omega arith
 

@@ -9,7 +9,7 @@ use lib.ListN.{length, length-append}
 use lib.Seq.{sets}
 use lib.Dec.{leb, ltb}
 use borrow.Author.Tests.{ne_eqb, eqb-true, leb-true, ltb-true, le-leb, lt-leb, lt-ltb, le-ltb}
-use Rattle.lists.specs.Choice.{if◌then◌else◌}
+use Rattle.lists.specs.Choice.{when◌then◌else◌}
 use Rattle.lists.proofs.Choice.{cases_le, and_true}
 use Rattle.lists.proofs.Store.{sets_append}
 use Rattle.rules.specs.Limits.{max_nets, max_words, X}
@@ -278,7 +278,7 @@ module _ {A : Type 0} (t : Trace A) (room : ℕ) (s : LogState) (log : List ℕ)
   unfolding dry_refusal log_refusal
   dry_number = on (is_over (run t dry).state) refl
     where
-      on : (o : Bool) → is_over (run t dry).state ≡ o → (if o then 20 else room_refusal room s (run t dry).state.used ((run t dry).state.next - start_net s)) ≡ log_refusal room s t
+      on : (o : Bool) → is_over (run t dry).state ≡ o → (when o then 20 else room_refusal room s (run t dry).state.used ((run t dry).state.next - start_net s)) ≡ log_refusal room s t
       on true q = cases_le (length (added (t (start_net s)))) max_words (λ g. absurd (dry_short g (is_over_lem _ q))) dry_full
       on false q = ap (λ (y : LogState). room_refusal room s y.used (y.next - start_net s)) (dry_exact (run_exact t dry c q))
 

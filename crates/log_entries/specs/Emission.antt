@@ -2,7 +2,7 @@
 -- words that a log can have and the nets below X; an entry that would pass them is not stored, and X as the next free net says so from then on.
 use Rattle.std.specs.Prelude.{ℕ, ◌+◌, ◌-◌, Bool, ◌&&◌, List, [], ◌∷◌, length, eqb, leb, ltb}
 use Rattle.std.proofs.lemmas.List.Edits.{sets}
-use Rattle.lists.specs.Choice.{if◌then◌else◌}
+use Rattle.lists.specs.Choice.{when◌then◌else◌}
 use Rattle.rules.specs.Limits.{max_words, X}
 use Rattle.rules.specs.Log.{Entry, encode, Trace, LogState, start_net}
 use Rattle.rules.specs.Beside.Chain.{result_width}
@@ -31,7 +31,7 @@ is_over s = eqb s.next X
 -- the words of one entry, for so many results
 unfoldable pub emit_words : Lent → List ℕ → ℕ → Lent
 emit_words l ws nets =
-    if counts l.state (length ws) nets
+    when counts l.state (length ws) nets
     then record { log = sets l.log l.state.used ws; state = advanced l.state (length ws) nets }
     else record { log = l.log; state = overflowed l.state }
 
@@ -50,4 +50,4 @@ dry_start s = record { used = 0; next = start_net s }
 
 -- 20 and 21 by the state after it
 unfoldable pub dry_refusal : ℕ → LogState → LogState → ℕ
-dry_refusal room s dry = if is_over dry then 20 else room_refusal room s dry.used (dry.next - start_net s)
+dry_refusal room s dry = when is_over dry then 20 else room_refusal room s dry.used (dry.next - start_net s)

@@ -8,7 +8,7 @@ use mathlib.Core.List.{List}
 use lib.ListN.{length}
 use lib.Dec.{ltb, eqb}
 use borrow.Author.Tests.{lt-ltb, le-ltb, eq-eqb, ne_eqb, eqb-true, not-false, ltb-false}
-use Rattle.lists.specs.Choice.{if◌then◌else◌, ◌or_else◌}
+use Rattle.lists.specs.Choice.{when◌then◌else◌, ◌or_else◌}
 use Rattle.lists.proofs.Choice.{else_first, else_rest, refused_not, or_false}
 use Rattle.rules.specs.Limits.{max_merge}
 use Rattle.rules.specs.Value.{Value, Control, good_value, good_select}
@@ -78,7 +78,7 @@ module _ (next : ℕ) (c : Control) (a b : Value) where
 
   -- past 1 and 2
   module _ (g : length a ≤ max_merge) (h : length b ≤ max_merge) (e : length a ≡ length b) where
-    mux_past : (if not (good_select next c) || (bad_value next a || bad_value next b) then 4 else 0) ≡ mux_number next c a b
+    mux_past : (when not (good_select next c) || (bad_value next a || bad_value next b) then 4 else 0) ≡ mux_number next c a b
     unfolding mux_number long_value unequal
     mux_past = rw (le-ltb max_merge (length a) g, le-ltb max_merge (length b) h, eq-eqb (length a) (length b) e)
 
@@ -125,11 +125,11 @@ module _ (next : ℕ) (f : FlipFlop) where
 
   -- past 2
   module _ (l : bad_trit_lens (length f.bits) f.clear_value f.reset_value f.init_value ≡ false) where
-    dff_past : (if bad_flip_flop next f then 4 else 0) ≡ dff_number next f
+    dff_past : (when bad_flip_flop next f then 4 else 0) ≡ dff_number next f
     unfolding dff_number bad_flip_flop_lens
     dff_past = rw l
 
-    dff_by : (t : Bool) → bad_flip_flop next f ≡ t → (if t then 4 else 0) ≡ dff_number next f
+    dff_by : (t : Bool) → bad_flip_flop next f ≡ t → (when t then 4 else 0) ≡ dff_number next f
     dff_by t e = rw e at dff_past
 
     pub dff_bits : good_value next f.bits ≡ false → 4 ≡ dff_number next f
@@ -141,7 +141,7 @@ module _ (next : ℕ) (f : FlipFlop) where
     dff_controls x y = dff_by true (rw (x, y))
 
     pub dff_trits : (t : Bool) → good_value next f.bits ≡ true → bad_controls next f.controls ≡ false
-        → t ≡ (bad_trits f.clear_value || (bad_trits f.reset_value || bad_trits f.init_value)) → (if t then 4 else 0) ≡ dff_number next f
+        → t ≡ (bad_trits f.clear_value || (bad_trits f.reset_value || bad_trits f.init_value)) → (when t then 4 else 0) ≡ dff_number next f
     unfolding bad_flip_flop bad_value
     dff_trits t x y z = dff_by t (rw (x, y) (sym z))
 

@@ -8,7 +8,7 @@ use lib.ListN.{length, take, get_or, set, length-append, length-map}
 use lib.Seq.{sets, length-sets, length-take-le, get_or-set_same, get_or-set_other}
 use lib.Dec.{eqb}
 use borrow.Author.Tests.{eq-eqb, eqb-true, eqb-false}
-use Rattle.lists.specs.Choice.{if◌then◌else◌}
+use Rattle.lists.specs.Choice.{when◌then◌else◌}
 use Rattle.lists.proofs.Choice.{cases_le}
 use Rattle.lists.specs.Lists.{pairs}
 use Rattle.lists.specs.Distinct.{place_in, with_new, kept_from_of, places_from}
@@ -142,11 +142,11 @@ module _ (x y kx₀ ky₀ at₀ kx ky at : List ℕ) (n count last i : ℕ) (r :
           let w : kept_from_of same2 [] (take (i + 1) ps) ≡ ks = more ∙ with_new_found same2 (get_or x i 0, get_or y i 0) ks (omega (arith, place_is, m.counted)) in
           record { within = omega arith; counted = rw w m.counted; in_kx = rw w m.in_kx; in_ky = rw w m.in_ky; in_at = placed; latest = λ g. last_place }
 
-      pub turn : Merged x y kx₀ ky₀ at₀ (if eqb place count then set kx count (get_or x i 0) else kx) (if eqb place count then set ky count (get_or y i 0) else ky) (set at i place) n (if eqb place count then count + 1 else count) place (i + 1)
+      pub turn : Merged x y kx₀ ky₀ at₀ (when eqb place count then set kx count (get_or x i 0) else kx) (when eqb place count then set ky count (get_or y i 0) else ky) (set at i place) n (when eqb place count then count + 1 else count) place (i + 1)
       turn = on (eqb place count) refl
         where
           on : (b : Bool) → eqb place count ≡ b
-              → Merged x y kx₀ ky₀ at₀ (if b then set kx count (get_or x i 0) else kx) (if b then set ky count (get_or y i 0) else ky) (set at i place) n (if b then count + 1 else count) place (i + 1)
+              → Merged x y kx₀ ky₀ at₀ (when b then set kx count (get_or x i 0) else kx) (when b then set ky count (get_or y i 0) else ky) (set at i place) n (when b then count + 1 else count) place (i + 1)
           on true q = turn_new (eqb-true place count q)
           on false q = turn_old (eqb-false place count q)
 
@@ -161,10 +161,10 @@ module _ (kx : List ℕ) (count most x : ℕ) (b : Bounded kx count most) where
       (λ q. let e : j ≡ count = omega (arith, h, q) in omega (arith, ap (λ (k : ℕ). get_or (set kx count x) k 0) e, get_or-set_same kx count x 0 g))
       (λ q. omega (arith, get_or-set_other kx count j x 0 (λ e. omega (arith, e, q)), b j q))
 
-  pub bound_turn : count < length kx → (place : ℕ) → Bounded (if eqb place count then set kx count x else kx) (if eqb place count then count + 1 else count) (max most x)
+  pub bound_turn : count < length kx → (place : ℕ) → Bounded (when eqb place count then set kx count x else kx) (when eqb place count then count + 1 else count) (max most x)
   bound_turn g place = on (eqb place count)
     where
-      on : (t : Bool) → Bounded (if t then set kx count x else kx) (if t then count + 1 else count) (max most x)
+      on : (t : Bool) → Bounded (when t then set kx count x else kx) (when t then count + 1 else count) (max most x)
       on true = new_bound g
       on false = old_bound
 

@@ -4,7 +4,7 @@
 
 ghost use Rattle.std.specs.Prelude.{◌≡◌, ◌+◌, ◌-◌, ◌<◌, max, length, take, get_or, set, eqb};
 ghost use Rattle.std.proofs.lemmas.List.Edits.{sets};
-ghost use Rattle.lists.specs.Choice.{if◌then◌else◌};
+ghost use Rattle.lists.specs.Choice.{when◌then◌else◌};
 ghost use Rattle.lists.specs.Lists.{pairs};
 ghost use Rattle.lists.specs.Distinct.{place_in, kept, places};
 ghost use Rattle.rules.specs.Merge.{same2};
@@ -68,9 +68,9 @@ fn place_at(
 // Keeps a key after the first count where its place says that it is new, and returns how many are kept then.
 fn keep(kx: &mut [u32], ky: &mut [u32], count: usize, place: usize, x: u32, y: u32) -> usize
     requires { (count < length kx.old) × (count < length ky.old) }
-    ensures value { result ≡ (if eqb place count then count + 1 else count) }
-    ensures kx_after { kx.new ≡ (if eqb place count then set kx.old count x else kx.old) }
-    ensures ky_after { ky.new ≡ (if eqb place count then set ky.old count y else ky.old) }
+    ensures value { result ≡ (when eqb place count then count + 1 else count) }
+    ensures kx_after { kx.new ≡ (when eqb place count then set kx.old count x else kx.old) }
+    ensures ky_after { ky.new ≡ (when eqb place count then set ky.old count y else ky.old) }
 {
     if place != count {
         return count;

@@ -8,7 +8,7 @@ use lib.ListN.{length}
 use lib.Seq.{take_all}
 use lib.Dec.{ltb, eqb}
 use borrow.Author.Tests.{lt-ltb, le-ltb, eq-eqb, ne_eqb, eqb-true, not-false, ltb-false}
-use Rattle.lists.specs.Choice.{if◌then◌else◌, ◌or_else◌}
+use Rattle.lists.specs.Choice.{when◌then◌else◌, ◌or_else◌}
 use Rattle.lists.proofs.Choice.{else_zero, else_first, else_rest, refused_not, or_false}
 use Rattle.rules.specs.Limits.{max_merge}
 use Rattle.rules.specs.Value.{Value, Control, good_value}
@@ -44,7 +44,7 @@ module _ (s a b : Value) where
     lens_1b k = rw (le-ltb max_merge (length s) g, le-ltb max_merge (length a) h, lt-ltb max_merge (length b) k)
 
     module _ (k : length b ≤ max_merge) where
-      past_1 : (if unequal s a || unequal s b then 2 else 0) ≡ bitwise_lens_number s a b
+      past_1 : (when unequal s a || unequal s b then 2 else 0) ≡ bitwise_lens_number s a b
       unfolding bitwise_lens_number long_value
       past_1 = rw (le-ltb max_merge (length s) g, le-ltb max_merge (length a) h, le-ltb max_merge (length b) k)
 
@@ -61,7 +61,7 @@ module _ (s a b : Value) where
       lens_0 e f = rw (eq-eqb (length s) (length a) e, eq-eqb (length s) (length b) f) at past_1
 
 module _ (next : ℕ) (s a b : Value) where
-  by_lens : bitwise_number next s a b ≡ (bitwise_lens_number s a b or_else (if bad_value next s || (bad_value next a || bad_value next b) then 4 else 0))
+  by_lens : bitwise_number next s a b ≡ (bitwise_lens_number s a b or_else (when bad_value next s || (bad_value next a || bad_value next b) then 4 else 0))
   unfolding bitwise_number
   by_lens = refl
 
@@ -69,7 +69,7 @@ module _ (next : ℕ) (s a b : Value) where
   number_lens n e h = e ∙ sym (else_first (bitwise_lens_number s a b) _ (λ z. h (e ∙ z))) ∙ sym by_lens
 
   module _ (z : bitwise_lens_number s a b ≡ 0) where
-    rest : (t : ℕ) → t ≡ (if bad_value next s || (bad_value next a || bad_value next b) then 4 else 0) → t ≡ bitwise_number next s a b
+    rest : (t : ℕ) → t ≡ (when bad_value next s || (bad_value next a || bad_value next b) then 4 else 0) → t ≡ bitwise_number next s a b
     rest t e = e ∙ sym (else_rest (bitwise_lens_number s a b) _ z) ∙ sym by_lens
 
     pub number_s : good_value next s ≡ false → 4 ≡ bitwise_number next s a b

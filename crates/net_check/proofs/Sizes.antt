@@ -7,7 +7,7 @@ use mathlib.Core.List.{List}
 use lib.ListN.{length}
 use lib.Dec.{ltb}
 use borrow.Author.Tests.{le-ltb}
-use Rattle.lists.specs.Choice.{if◌then◌else◌, least}
+use Rattle.lists.specs.Choice.{when◌then◌else◌, least}
 use Rattle.rules.specs.Limits.{max_depth, max_width, max_bits, max_ports}
 use Rattle.rules.specs.Conditions.{too_large, bad_shape, bad_depth, bad_nets}
 use Rattle.rules.specs.Refusals.{mem_number, number_by_of}
@@ -33,7 +33,7 @@ large_by m nets trits w r =
 
 -- ---- the number, by the tests in the order of the code
 abbrev by_tests : Bool → Bool → Bool → Bool → Bool → Bool → Bool → Bool → Bool → ℕ
-by_tests large many one shape lens two depth nets four = if large || (many || one) then 1 else number_by_of (shape || (lens || two)) depth (nets || four)
+by_tests large many one shape lens two depth nets four = when large || (many || one) then 1 else number_by_of (shape || (lens || two)) depth (nets || four)
 
 number_by : (one two four : Bool) (next : ℕ) (m : Memory) (nets trits : List ℕ)
     → by_tests (too_large (memory_of m nets trits)) (too_many_ports m) one (bad_shape (memory_of m nets trits)) (bad_lens m (length nets) (length trits)) two (bad_depth (memory_of m nets trits)) (bad_nets next (memory_of m nets trits)) four
@@ -68,9 +68,9 @@ module _ (large many one shape lens two depth nets four : Bool) where
   number = by_tests large many one shape lens two depth nets four
 
   one_hit : one ≡ true → 1 ≡ number
-  one_hit e = sym (ap (λ (t : Bool). if large || (many || t) then 1 else number_by_of (shape || (lens || two)) depth (nets || four)) e ∙ hit large many)
+  one_hit e = sym (ap (λ (t : Bool). when large || (many || t) then 1 else number_by_of (shape || (lens || two)) depth (nets || four)) e ∙ hit large many)
     where
-      hit : (a b : Bool) → (if a || (b || true) then 1 else number_by_of (shape || (lens || two)) depth (nets || four)) ≡ 1
+      hit : (a b : Bool) → (when a || (b || true) then 1 else number_by_of (shape || (lens || two)) depth (nets || four)) ≡ 1
       hit true b = refl
       hit false true = refl
       hit false false = refl
@@ -78,15 +78,15 @@ module _ (large many one shape lens two depth nets four : Bool) where
   large_hit : large || many ≡ true → 1 ≡ number
   large_hit e = on large many e
     where
-      on : (a b : Bool) → a || b ≡ true → 1 ≡ (if a || (b || one) then 1 else number_by_of (shape || (lens || two)) depth (nets || four))
+      on : (a b : Bool) → a || b ≡ true → 1 ≡ (when a || (b || one) then 1 else number_by_of (shape || (lens || two)) depth (nets || four))
       on true b q = refl
       on false true q = refl
       on false false q = no (sym q)
 
   past : one ≡ false → large || many ≡ false → number ≡ number_by_of (shape || (lens || two)) depth (nets || four)
-  past e q = ap (λ (t : Bool). if large || (many || t) then 1 else number_by_of (shape || (lens || two)) depth (nets || four)) e ∙ on large many q
+  past e q = ap (λ (t : Bool). when large || (many || t) then 1 else number_by_of (shape || (lens || two)) depth (nets || four)) e ∙ on large many q
     where
-      on : (a b : Bool) → a || b ≡ false → (if a || (b || false) then 1 else number_by_of (shape || (lens || two)) depth (nets || four)) ≡ number_by_of (shape || (lens || two)) depth (nets || four)
+      on : (a b : Bool) → a || b ≡ false → (when a || (b || false) then 1 else number_by_of (shape || (lens || two)) depth (nets || four)) ≡ number_by_of (shape || (lens || two)) depth (nets || four)
       on true b q = no q
       on false true q = no q
       on false false q = refl

@@ -9,7 +9,7 @@ use lib.Dec.{eqb, leb}
 use lib.ListN.{length, drop, get_or}
 use lib.Seq.{drop-cons, drop-length}
 use borrow.Author.Tests.{ne_eqb, lt-leb, le-leb, leb-true, leb-false}
-use Rattle.lists.specs.Choice.{if◌then◌else◌}
+use Rattle.lists.specs.Choice.{when◌then◌else◌}
 use Rattle.lists.specs.Lists.{all}
 use Rattle.rules.specs.Limits.{trit_x}
 use Rattle.rules.specs.Logic.{Trit, Zero, One, Undef, trit_of, code_of, trit_not, trit_and, trit_or, are_trits}
@@ -52,7 +52,7 @@ or_one Zero = refl
 or_one One = refl
 or_one Undef = refl
 
-undef_and_by : (b : Bool) → trit_and Undef (if b then One else Undef) ≡ Undef
+undef_and_by : (b : Bool) → trit_and Undef (when b then One else Undef) ≡ Undef
 unfolding trit_and
 undef_and_by true = refl
 undef_and_by false = refl
@@ -61,7 +61,7 @@ undef_and : (n : ℕ) → (n ≡ 0 → ⊥) → trit_and Undef (trit_of n) ≡ U
 unfolding trit_of
 undef_and n f = rw (ne_eqb n 0 f) (undef_and_by (eqb n 1))
 
-undef_or_by : (b : Bool) → trit_or Undef (if b then Zero else Undef) ≡ Undef
+undef_or_by : (b : Bool) → trit_or Undef (when b then Zero else Undef) ≡ Undef
 unfolding trit_or
 undef_or_by true = refl
 undef_or_by false = refl

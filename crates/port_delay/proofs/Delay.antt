@@ -8,7 +8,7 @@ use lib.ListN.{length, take, replicate, length-replicate}
 use lib.Seq.{sets}
 use lib.Dec.{eqb, ltb}
 use borrow.Author.Tests.{lt-ltb, le-ltb, ltb-false, eqb-true, eq-eqb}
-use Rattle.lists.specs.Choice.{if◌then◌else◌}
+use Rattle.lists.specs.Choice.{when◌then◌else◌}
 use Rattle.lists.specs.Lists.{pairs, up_from}
 use Rattle.lists.specs.Distinct.{places}
 use Rattle.lists.proofs.Choice.{if_true, if_false}
@@ -40,7 +40,7 @@ pub undef_is : (n : ℕ) → replicate n 2 ≡ undef n
 unfolding undef
 undef_is n = refl
 
-start_is : (b : Bool) (n : ℕ) → replicate n (start_trit b) ≡ (if b then undef n else zeros n)
+start_is : (b : Bool) (n : ℕ) → replicate n (start_trit b) ≡ (when b then undef n else zeros n)
 unfolding undef zeros
 start_is true n = refl
 start_is false n = refl
@@ -72,7 +72,7 @@ module _ (mask trits out out' : List ℕ) (allX : Bool) (clock : Control) (c : C
       let q = et ∙ start_is allX (length mask) in
       λ k. record { bits = limited-all mask h k; controls = ec k; clear_value = q k; reset_value = q k; init_value = q k }
 
-  start_length : (b : Bool) (n : ℕ) → length (if b then undef n else zeros n) ≡ n
+  start_length : (b : Bool) (n : ℕ) → length (when b then undef n else zeros n) ≡ n
   unfolding undef zeros
   start_length true n = length-replicate n 2
   start_length false n = length-replicate n 0
@@ -80,7 +80,7 @@ module _ (mask trits out out' : List ℕ) (allX : Bool) (clock : Control) (c : C
   keys_length : length (dff_keys F) ≡ length mask
   unfolding dff_keys mask_delay with_init new_flip_flop
   keys_length =
-      let t = if allX then undef (length mask) else zeros (length mask) in
+      let t = when allX then undef (length mask) else zeros (length mask) in
       omega (arith, pairs_size (pairs mask t) (pairs t t), pairs_size mask t, pairs_size t t, start_length allX (length mask))
 
   mask_length : (n : ℕ) → length (add_dedup_dff_of F n).value ≡ length mask
@@ -109,7 +109,7 @@ module _ (allX : Bool) (addr bits mask a d k : List ℕ) (clock : Control) (l l1
   three_gave =
       gave_bind (add_dff_of (new_flip_flop addr clock)) _ l l1 l3 (take (length addr) a) _ (chains_dff _) g1
       (gave_bind (add_dff_of (new_flip_flop bits clock)) _ l1 l2 l3 (take (length bits) d) _ (chains_dff _) g2
-      (gave_same (add_dedup_dff_of (with_init (new_flip_flop mask clock) (if allX then undef (length bits) else zeros (length bits)))) _ l2 l3 (take (length mask) k) (chains_dedup_dff _) as_data))
+      (gave_same (add_dedup_dff_of (with_init (new_flip_flop mask clock) (when allX then undef (length bits) else zeros (length bits)))) _ l2 l3 (take (length mask) k) (chains_dedup_dff _) as_data))
 
 -- ---- by the test
 pub can_not_addr : (addr bits mask : ℕ) → max_merge < addr → false ≡ delayable addr bits mask
@@ -124,7 +124,7 @@ pub can_by : (addr bits mask : ℕ) → addr ≤ max_merge → bits ≤ max_merg
 unfolding delayable
 can_by addr bits mask g h = sym (if_false (ltb max_merge addr) _ _ (le-ltb max_merge addr g) ∙ if_false (ltb max_merge bits) _ _ (le-ltb max_merge bits h))
 
-on_if : (t u : Bool) → (if t then false else u) ≡ true → (t ≡ false) × (u ≡ true)
+on_if : (t u : Bool) → (when t then false else u) ≡ true → (t ≡ false) × (u ≡ true)
 on_if true u e = let z : ◌≡◌ {A = ℕ} 0 1 = cc in absurd (omega arith)
 on_if false u e = (refl, e)
 

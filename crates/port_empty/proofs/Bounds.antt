@@ -8,7 +8,7 @@ use mathlib.Core.List.{List, [], ◌∷◌}
 use lib.ListN.{length, replicate, length-take}
 use lib.Dec.{ltb}
 use borrow.Author.Tests.{ltb-false}
-use Rattle.lists.specs.Choice.{if◌then◌else◌}
+use Rattle.lists.specs.Choice.{when◌then◌else◌}
 use Rattle.lists.specs.Lists.{up_from}
 use Rattle.lists.proofs.UpFrom.{length_up}
 use Rattle.rules.specs.Limits.{X, max_merge, max_ports, max_outputs}
@@ -44,7 +44,7 @@ shl_few stride x v h n = omega (arith, (counted_shl stride x v).nets n)
 ushr_few : (stride : ℕ) (x v : Value) → length v ≤ 4096 → AtMost (add_ushr_of stride x v) 4096
 ushr_few stride x v h n = omega (arith, (counted_ushr stride x v).nets n)
 
-sees_if : (b : Bool) (t u : Trace Seen) (k : ℕ) → Sees (t k).value → Sees (u k).value → Sees ((if b then t else u) k).value
+sees_if : (b : Bool) (t u : Trace Seen) (k : ℕ) → Sees (t k).value → Sees (u k).value → Sees ((when b then t else u) k).value
 sees_if true t u k p q = p
 sees_if false t u k p q = q
 
@@ -93,7 +93,7 @@ lays_done : (o : Value) → length o ≤ 4096 → Lays (done (plain o))
 unfolding done
 lays_done o h = record { nets = most-done (plain o) 16385; short = λ k. h; unmasked = λ k. refl }
 
-lays_if : (b : Bool) (t u : Trace Overlay) → Lays t → Lays u → Lays (if b then t else u)
+lays_if : (b : Bool) (t u : Trace Overlay) → Lays t → Lays u → Lays (when b then t else u)
 lays_if true t u p q = p
 lays_if false t u p q = q
 
@@ -132,7 +132,7 @@ module _ (kw kr : ℕ) (w : WritePort) (r : ReadPort) (o : Value) where
   unfolding laid_if
   lays_laid h = on (fitting kw kr (length w.addr) (length r.addr) (length w.bits) (length w.mask) r.data_len) refl
     where
-      on : (b : Bool) → fitting kw kr (length w.addr) (length r.addr) (length w.bits) (length w.mask) r.data_len ≡ b → Lays (if b then laid_over kw kr w r (plain o) else done (plain o))
+      on : (b : Bool) → fitting kw kr (length w.addr) (length r.addr) (length w.bits) (length w.mask) r.data_len ≡ b → Lays (when b then laid_over kw kr w r (plain o) else done (plain o))
       on true e =
           let s = few_of (fits kw kr (length w.addr) (length r.addr) (length w.bits) (length w.mask) r.data_len e) in
           record { nets = over_nets s; short = over_short s; unmasked = over_unmasked }
@@ -196,7 +196,7 @@ module _ (m : Mem) (output : Value) where
   of_nets i none room = most-done room 139272
   of_nets i (some f) room = on (ltb max_merge (read_at_of m i).data_len) refl
     where
-      on : (b : Bool) → ltb max_merge (read_at_of m i).data_len ≡ b → AtMost (if b then done room else unmapped_to m i output f room) 139272
+      on : (b : Bool) → ltb max_merge (read_at_of m i).data_len ≡ b → AtMost (when b then done room else unmapped_to m i output f room) 139272
       on true e = most-done room 139272
       on false e = to_nets i f room (ltb-false max_merge (read_at_of m i).data_len e)
 

@@ -8,7 +8,7 @@ use lib.ListN.{length, take, replicate, length-replicate}
 use lib.Seq.{sets, length-take-le}
 use lib.Dec.{ltb}
 use borrow.Author.Tests.{lt-ltb, le-ltb, eqb-true, not-false}
-use Rattle.lists.specs.Choice.{if◌then◌else◌}
+use Rattle.lists.specs.Choice.{when◌then◌else◌}
 use Rattle.lists.specs.Lists.{any, sum_by}
 use Rattle.lists.proofs.Choice.{or_false}
 use Rattle.lists.proofs.Parts.{part_replicate}
@@ -51,11 +51,11 @@ chains_empty m output =
 module _ (m : Mem) (output : Value) (l : Lent) where
   pub empty_many : max_outputs < length output → l ≡ run (emptied_if m output) l
   unfolding emptied_if
-  empty_many h = sym (ap (λ (b : Bool). run (if b then done [] else emptied m output) l) (lt-ltb max_outputs (length output) h) ∙ run-done [] l)
+  empty_many h = sym (ap (λ (b : Bool). run (when b then done [] else emptied m output) l) (lt-ltb max_outputs (length output) h) ∙ run-done [] l)
 
   empty_few : (l2 : Lent) → length output ≤ max_outputs → l2 ≡ run (emptied m output) l → l2 ≡ run (emptied_if m output) l
   unfolding emptied_if
-  empty_few l2 h e = e ∙ sym (ap (λ (b : Bool). run (if b then done [] else emptied m output) l) (le-ltb max_outputs (length output) h))
+  empty_few l2 h e = e ∙ sym (ap (λ (b : Bool). run (when b then done [] else emptied m output) l) (le-ltb max_outputs (length output) h))
 
   then_none : (v : Value) (l1 : Lent) → run (replace_value_of v (x_nets (length v))) l1 ≡ run (replace_value_of v (x_nets (length v)) >> done {A = List Driving} []) l1
   unfolding ◌>>◌
@@ -103,7 +103,7 @@ module _ (m : Mem) (a : AllReady m) (output : Value) where
 
   pub rules_empty : bad_output_len m output ≡ false → emptied_if m output ≡ swizzle_empty m output
   unfolding emptied_if
-  rules_empty e = ap (λ (b : Bool). if b then done [] else emptied m output) (le-ltb max_outputs (length output) (outputs_few e)) ∙ is_empty_lem
+  rules_empty e = ap (λ (b : Bool). when b then done [] else emptied m output) (le-ltb max_outputs (length output) (outputs_few e)) ∙ is_empty_lem
 
   -- so are the log and the state, and 20 and 21
   pub rules_run : bad_output_len m output ≡ false → (l : Lent) → run (emptied_if m output) l ≡ run (swizzle_empty m output) l

@@ -1,6 +1,6 @@
 -- The swizzle of a memory of depth 0 as the code does it: all read ports unmapped, and the outputs after replaced by X.
 use Rattle.std.specs.Prelude.{List, [], length, ltb}
-use Rattle.lists.specs.Choice.{if◌then◌else◌}
+use Rattle.lists.specs.Choice.{when◌then◌else◌}
 use Rattle.rules.specs.Limits.{max_outputs}
 use Rattle.rules.specs.Value.{Value, x_nets}
 use Rattle.rules.specs.Cell.{Mem}
@@ -16,4 +16,4 @@ emptied m output = do
 
 -- more outputs, which no memory has, give nothing
 unfoldable pub emptied_if : Mem → Value → Trace (List Driving)
-emptied_if m output = if ltb max_outputs (length output) then done [] else emptied m output
+emptied_if m output = when ltb max_outputs (length output) then done [] else emptied m output

@@ -8,7 +8,7 @@ use mathlib.Core.List.{List, [], ◌∷◌, map}
 use lib.ListN.{length, get_or, length-map}
 use lib.Pow.{pow_mono}
 use lib.Dec.{eqb}
-use Rattle.lists.specs.Choice.{if◌then◌else◌, ◌or_else◌}
+use Rattle.lists.specs.Choice.{when◌then◌else◌, ◌or_else◌}
 use Rattle.lists.specs.Lists.{any, pairs, sum_by}
 use Rattle.lists.specs.Distinct.{kept, places}
 use Rattle.lists.proofs.Choice.{or_false, else_zero}
@@ -65,7 +65,7 @@ pub most-delays : (is : ℕ → Bool) (allX : Bool) (j : ℕ) (ps : List WritePo
 unfolding delays
 most-delays is allX j [] n = most-done [] 0 n
 most-delays is allX j (p ∷ ps) n =
-    let t = if is j then delayed allX p else done p in
+    let t = when is j then delayed allX p else done p in
     let u = delays is allX (suc j) ps in
     omega (
       arith,
@@ -112,7 +112,7 @@ module _ (m : Mem) (thin : m.width ≤ 128) where
       under n x r k a b c d = omega arith
 
 -- ---- a memory without a number
-module _ (next : ℕ) (m : Memory) (nets trits : List ℕ) (z : (emulate_number next (given_of m nets trits) or_else (if any unclocked (memory_of m nets trits).reads then 22 else 0)) ≡ 0) where
+module _ (next : ℕ) (m : Memory) (nets trits : List ℕ) (z : (emulate_number next (given_of m nets trits) or_else (when any unclocked (memory_of m nets trits).reads then 22 else 0)) ≡ 0) where
   mem_zero : mem_number false false false next (given_of m nets trits) ≡ 0
   unfolding emulate_number
   mem_zero = (else_zero (mem_number false false false next (given_of m nets trits)) _ (else_zero (emulate_number next (given_of m nets trits)) _ z).0).0

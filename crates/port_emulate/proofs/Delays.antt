@@ -7,7 +7,7 @@ use mathlib.Core.Bool.{Bool, true, false}
 use mathlib.Core.List.{List, [], ◌∷◌}
 use lib.ListN.{length, drop, get_or, drop_of_length-le}
 use lib.Seq.{drop-cons}
-use Rattle.lists.specs.Choice.{if◌then◌else◌}
+use Rattle.lists.specs.Choice.{when◌then◌else◌}
 use Rattle.lists.proofs.Choice.{if_true}
 use Rattle.rules.specs.Logic.{is_undef}
 use Rattle.rules.specs.Cell.{WritePort, Mem, is_read_before_write}
@@ -38,7 +38,7 @@ chains_delayed : (allX : Bool) (p : WritePort) → Chains (delayed allX p)
 unfolding delayed
 chains_delayed allX p = chains_bind _ _ (chains_dff _) (λ a. chains_bind _ _ (chains_dff _) (λ v. chains_bind _ _ (chains_dedup_dff _) (λ k. chains_done _)))
 
-pub chains_step : (b allX : Bool) (p : WritePort) → Chains (if b then delayed allX p else done p)
+pub chains_step : (b allX : Bool) (p : WritePort) → Chains (when b then delayed allX p else done p)
 chains_step b allX p = chains_if b (delayed allX p) (done p) (chains_delayed allX p) (chains_done p)
 
 pub chains_delays : (is : ℕ → Bool) (allX : Bool) (j : ℕ) (ps : List WritePort) → Chains (delays is allX j ps)
@@ -57,7 +57,7 @@ module _ (is : ℕ → Bool) (allX : Bool) (W : List WritePort) (j : ℕ) where
     unfolding delayed_if
     if_is = if_true (delayable (length P.addr) (length P.bits) (length P.mask)) (delayed allX P) (done q) can_be
 
-    step_is : (b : Bool) → Gave (delayed_by b allX P q) l l1 v → Gave (if b then delayed allX P else done P) l l1 v
+    step_is : (b : Bool) → Gave (delayed_by b allX P q) l l1 v → Gave (when b then delayed allX P else done P) l l1 v
     step_is true x = subst (λ (t : Trace WritePort). Gave t l l1 v) if_is x
     step_is false x = x
 
@@ -68,7 +68,7 @@ module _ (is : ℕ → Bool) (allX : Bool) (W : List WritePort) (j : ℕ) where
     rest = delays is allX (suc j) (drop (j + 1) W)
 
     abbrev step : Trace WritePort
-    step = if is j then delayed allX P else done P
+    step = when is j then delayed allX P else done P
 
     joined : run rest l1 ≡ run (step >>= λ x. (rest >>= λ qs. done (x ∷ qs))) l
     joined =
@@ -96,7 +96,7 @@ pub delays_are : (m : Mem) (j : ℕ) (ps : List WritePort) → delays (relates_t
 unfolding delays delay_writes
 delays_are m j [] = refl
 delays_are m j (p ∷ ps) =
-    ap (λ (t : Trace (List WritePort)). (if relates_to is_read_before_write m j then delayed (is_undef m.init) p else done p) >>= λ q. (t >>= λ qs. done (q ∷ qs))) (delays_are m (suc j) ps)
+    ap (λ (t : Trace (List WritePort)). (when relates_to is_read_before_write m j then delayed (is_undef m.init) p else done p) >>= λ q. (t >>= λ qs. done (q ∷ qs))) (delays_are m (suc j) ps)
 
 module _ (m : Mem) where
   abbrev all : Trace (List WritePort)

@@ -6,7 +6,7 @@ use native.Mathlib.Omega.{arith}
 use mathlib.Core.Bool.{Bool}
 use mathlib.Core.List.{List}
 use lib.ListN.{length}
-use Rattle.lists.specs.Choice.{if◌then◌else◌, ◌or_else◌}
+use Rattle.lists.specs.Choice.{when◌then◌else◌, ◌or_else◌}
 use Rattle.lists.specs.Lists.{any, part}
 use Rattle.lists.proofs.Choice.{else_first, else_rest}
 use Rattle.rules.specs.Limits.{max_ports}
@@ -36,14 +36,14 @@ else_assoc (suc a) b x =
 
 module _ (m : Memory) (nets trits : List ℕ) (room : ℕ) (s : LogState) where
   abbrev input : ℕ
-  input = emulate_number s.next (given_of m nets trits) or_else (if any unclocked (memory_of m nets trits).reads then 22 else 0)
+  input = emulate_number s.next (given_of m nets trits) or_else (when any unclocked (memory_of m nets trits).reads then 22 else 0)
 
   abbrev rest : ℕ
   rest = driving_refusal (rooms_of nets trits) (alone (emulate_read_before_write (memory_of m nets trits) (start_net s)).value) or_else log_refusal room s (emulate_read_before_write (memory_of m nets trits))
 
   whole_is : (input or_else rest) ≡ emulate_read_before_write_refusal (rooms_of nets trits) room s (given_of m nets trits)
   unfolding emulate_read_before_write_refusal
-  whole_is = else_assoc (emulate_number s.next (given_of m nets trits)) (if any unclocked (memory_of m nets trits).reads then 22 else 0) rest
+  whole_is = else_assoc (emulate_number s.next (given_of m nets trits)) (when any unclocked (memory_of m nets trits).reads then 22 else 0) rest
 
   pub refused_input : (n : ℕ) → n ≡ input → n ≢ 0 → n ≡ emulate_read_before_write_refusal (rooms_of nets trits) room s (given_of m nets trits)
   refused_input n e h = e ∙ sym (else_first input rest (λ z. h (e ∙ z))) ∙ whole_is

@@ -7,7 +7,7 @@ use mathlib.Core.Bool.{Bool}
 use mathlib.Core.List.{List, [], ◌∷◌, ◌++◌, append-nil}
 use lib.ListN.{length, take, drop, get_or, set, drop_of_length-le, length-set}
 use lib.Seq.{drop-cons, drop-drop, take_all}
-use Rattle.lists.specs.Choice.{if◌then◌else◌}
+use Rattle.lists.specs.Choice.{when◌then◌else◌}
 use Rattle.rules.specs.Cell.{WritePort, ReadPort, Mem}
 use Rattle.rules.specs.Log.{Trace, ◌>>=◌, done}
 use Rattle.rules.specs.Ports.{delayed}
@@ -80,7 +80,7 @@ module _ (m : Memory) (allX : Bool) (nets₀ : List ℕ) (l₀ : Lent) (j : ℕ)
     step : Gave (delays is allX (suc j) (drop (suc j) W)) l1 l' qs → Gave (delays is allX j (port_at m nets j ∷ drop (suc j) W)) l l' (turned_by (is j) (port_at m nets' j) ∷ qs)
     unfolding delays
     step r =
-        gave_bind (if is j then delayed allX (port_at m nets j) else done (port_at m nets j)) _ l l1 l' (turned_by (is j) (port_at m nets' j)) _ (chains_step (is j) allX (port_at m nets j)) (p.gave x y)
+        gave_bind (when is j then delayed allX (port_at m nets j) else done (port_at m nets j)) _ l l1 l' (turned_by (is j) (port_at m nets' j)) _ (chains_step (is j) allX (port_at m nets j)) (p.gave x y)
         (gave_same (delays is allX (suc j) (drop (suc j) W)) (λ vs. turned_by (is j) (port_at m nets' j) ∷ vs) l1 l' qs (chains_delays is allX (suc j) (drop (suc j) W)) r)
 
     next : Gave (delays is allX (suc j) (drop (suc j) W)) l1 l' qs → Gave (delays is allX 0 W) l₀ l' (take (suc j) (turned_from is 0 (writes_of m nets')) ++ qs)

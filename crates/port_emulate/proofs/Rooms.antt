@@ -21,7 +21,7 @@ use Rattle.lists.specs.Distinct.{places}
 use Rattle.lists.proofs.Distinct.{length_places}
 use Rattle.lists.proofs.Pairs.{pairs_size}
 use Rattle.lists.proofs.UpFrom.{length_up}
-use Rattle.lists.specs.Choice.{if◌then◌else◌}
+use Rattle.lists.specs.Choice.{when◌then◌else◌}
 use Rattle.merge_mux.proofs.Spread.{length_spread}
 use Rattle.rules.specs.Logic.{is_undef, undef, zeros}
 use Rattle.rules.specs.Ports.{Driving, relates_to, delayed, delay_writes, settled_flip_flop, settled_port, emulate_read_before_write}
@@ -61,11 +61,11 @@ delayed_short allX p n =
     let q = (delayed allX p n).value in
     let f = new_flip_flop p.addr p.clock in
     let g = new_flip_flop p.bits p.clock in
-    let t = if allX then undef (length p.bits) else zeros (length p.bits) in
+    let t = when allX then undef (length p.bits) else zeros (length p.bits) in
     let n1 = (add_dff_of f n).next in
     omega (arith, nets_length p, nets_length q, dff_short f n, dff_short g n1, dedup_short (with_init (new_flip_flop p.mask p.clock) t) (add_dff_of g n1).next)
 
-step_short : (b allX : Bool) (p : WritePort) (n : ℕ) → length (port_nets ((if b then delayed allX p else done p) n).value) ≤ length (port_nets p)
+step_short : (b allX : Bool) (p : WritePort) (n : ℕ) → length (port_nets ((when b then delayed allX p else done p) n).value) ≤ length (port_nets p)
 unfolding done
 step_short true allX p n = delayed_short allX p n
 step_short false allX p n = le_refl (length (port_nets p))
@@ -74,7 +74,7 @@ writes_short : (m : Mem) (j : ℕ) (ps : List WritePort) (n : ℕ) → length (c
 unfolding delay_writes ◌>>=◌ done
 writes_short m j [] n = omega arith
 writes_short m j (p ∷ ps) n =
-    let s = (if relates_to is_read_before_write m j then delayed (is_undef m.init) p else done p) n in
+    let s = (when relates_to is_read_before_write m j then delayed (is_undef m.init) p else done p) n in
     let r = delay_writes m (suc j) ps s.next in
     omega (arith, length-append (port_nets s.value) (concat_map port_nets r.value), length-append (port_nets p) (concat_map port_nets ps), step_short (relates_to is_read_before_write m j) (is_undef m.init) p n, writes_short m (suc j) ps s.next)
 

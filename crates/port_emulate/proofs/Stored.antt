@@ -7,7 +7,7 @@ use mathlib.Core.Bool.{Bool, true, false}
 use mathlib.Core.List.{List, [], ◌∷◌, ◌++◌, append_assoc}
 use lib.ListN.{length, take, drop, get_or, set, length-append, drop_of_length-le}
 use lib.Seq.{sets, length-sets, drop-cons, set-get_or, get_or-set_same, take-suc-set}
-use Rattle.lists.specs.Choice.{if◌then◌else◌}
+use Rattle.lists.specs.Choice.{when◌then◌else◌}
 use Rattle.lists.specs.Lists.{part}
 use Rattle.lists.proofs.Choice.{if_true}
 use Rattle.lists.proofs.Parts.{length_part}
@@ -104,7 +104,7 @@ module _ (m : Memory) (nets : List ℕ) (j at : ℕ) (p : MemoryWritePort) (r : 
     cut_is = λ i. record { addr = take (addr_length i) a; bits = take (bits_length i) d; mask = take (mask_length i) k; clock = inverse (control_of p.clock) }
 
     stored_gave : (allX : Bool) (q : WritePort) (l l1 : Lent) (b : Bool) → b ≡ true → j < length (writes_of m nets) → Gave (delayed_by b allX P q) l l1 (cut_by b P a d k)
-        → Gave (if b then delayed allX (port_at m nets j) else done (port_at m nets j)) l l1 (turned_by b (port_at m nets' j))
+        → Gave (when b then delayed allX (port_at m nets j) else done (port_at m nets j)) l l1 (turned_by b (port_at m nets' j))
     stored_gave allX q l l1 true e h g =
         subst (λ (w : WritePort). Gave (delayed allX w) l l1 (turned_by true (port_at m nets' j))) port_view
         (subst (λ (w : WritePort). Gave (delayed allX P) l l1 w) (cut_is ∙ ap (turned_by true) (sym (stored_port h)))
@@ -121,7 +121,7 @@ module _ (m : Memory) (nets : List ℕ) (j at : ℕ) (p : MemoryWritePort) (r : 
 
   -- a port that is not delayed
   kept_gave : (allX : Bool) (q : WritePort) (a d k : List ℕ) (l l1 : Lent) (b : Bool) → b ≡ false → Gave (delayed_by b allX P q) l l1 (cut_by b P a d k)
-      → Gave (if b then delayed allX (port_at m nets j) else done (port_at m nets j)) l l1 (turned_by b (port_at m nets j))
+      → Gave (when b then delayed allX (port_at m nets j) else done (port_at m nets j)) l l1 (turned_by b (port_at m nets j))
   kept_gave allX q a d k l l1 true e g = let z : ◌≡◌ {A = ℕ} 0 1 = cc in absurd (omega arith)
   kept_gave allX q a d k l l1 false e g = subst (λ (w : WritePort). Gave (done w) l l1 w) port_view g
 

@@ -1,6 +1,6 @@
 -- The write ports delayed one after the other, by the test of each and by whether the image is all X.
 use Rattle.std.specs.Prelude.{◌≡◌, ◌≢◌, ℕ, suc, ◌<◌, ◌≤◌, min, Bool, List, [], ◌∷◌, length, get_or, set}
-use Rattle.lists.specs.Choice.{if◌then◌else◌, leaves, ◌or_else◌}
+use Rattle.lists.specs.Choice.{when◌then◌else◌, leaves, ◌or_else◌}
 use Rattle.lists.specs.Lists.{any}
 use Rattle.rules.specs.Limits.{max_ports}
 use Rattle.rules.specs.Cell.{WritePort}
@@ -21,16 +21,16 @@ use Rattle.port_unmap.specs.declared.Driven.{Driven}
 
 -- one port by this test; q is what its scratch holds
 abbrev pub delayed_by : Bool → Bool → WritePort → WritePort → Trace WritePort
-delayed_by b allX p q = if b then delayed_if allX p q else done p
+delayed_by b allX p q = when b then delayed_if allX p q else done p
 
 abbrev pub cut_by : Bool → WritePort → List ℕ → List ℕ → List ℕ → WritePort
-cut_by b p a d k = if b then cut p a d k else p
+cut_by b p a d k = when b then cut p a d k else p
 
 -- all of them, from port j on
 unfoldable pub delays : (ℕ → Bool) → Bool → ℕ → List WritePort → Trace (List WritePort)
 delays is allX j [] = done []
 delays is allX j (p ∷ ps) = do
-  q ← (if is j then delayed allX p else done p)
+  q ← (when is j then delayed allX p else done p)
   qs ← delays is allX (suc j) ps
   done (q ∷ qs)
 
@@ -62,7 +62,7 @@ pub record PortReady (m : Memory) (nets : List ℕ) (j at : ℕ) (p : MemoryWrit
 
 -- port j is delayed where a read port reads before it writes: its entries in the log, and its nets among the others, which stay
 pub record PortDone (m : Memory) (allX : Bool) (j : ℕ) (nets nets' : List ℕ) (l l1 : Lent) : Type 0 where
-  pub gave : (x y : List ℕ) → Gave (if is_read m x y j then delayed allX (port_at m nets j) else done (port_at m nets j)) l l1 (turned_by (is_read m x y j) (port_at m nets' j))
+  pub gave : (x y : List ℕ) → Gave (when is_read m x y j then delayed allX (port_at m nets j) else done (port_at m nets j)) l l1 (turned_by (is_read m x y j) (port_at m nets' j))
   pub kept : (trits : List ℕ)
       → memory_of m nets' trits
       ≡ record { depth = (memory_of m nets trits).depth; width = (memory_of m nets trits).width; init = (memory_of m nets trits).init; writes = set (memory_of m nets trits).writes j (port_at m nets' j); reads = (memory_of m nets trits).reads }
@@ -77,7 +77,7 @@ pub record PortsDone (m : Memory) (allX : Bool) (nets nets' : List ℕ) (l l1 : 
 -- ---- the call
 -- 1 to 4, 12, 13 and 22
 abbrev pub input_number : ℕ → Memory → List ℕ → List ℕ → ℕ
-input_number next m nets trits = emulate_number next (given_of m nets trits) or_else (if any unclocked (memory_of m nets trits).reads then 22 else 0)
+input_number next m nets trits = emulate_number next (given_of m nets trits) or_else (when any unclocked (memory_of m nets trits).reads then 22 else 0)
 
 -- the struct and the nets themselves: a refused call gives both, and the state, back as they were
 pub record Emulated (m : Memory) (st : LogState) (nets nets' : List ℕ) (r : Driven) : Type 0 where

@@ -7,7 +7,7 @@ use mathlib.Core.List.{List}
 use lib.ListN.{length}
 use lib.Dec.{eqb, ltb, leb}
 use borrow.Author.Tests.{le-leb, lt-leb, lt-ltb, le-ltb}
-use Rattle.lists.specs.Choice.{if◌then◌else◌}
+use Rattle.lists.specs.Choice.{when◌then◌else◌}
 use Rattle.lists.specs.Lists.{any}
 use Rattle.lists.proofs.Choice.{else_first, else_rest}
 use Rattle.rules.specs.Limits.{max_ports}
@@ -91,7 +91,7 @@ module _ (m : Memory) (nets trits : List ℕ) (i : ℕ) (rl : length (reads_of m
 
     pair_15 : no_pair W i j ≡ true → 15 ≡ pair_ports_number W i j
     unfolding pair_ports_number
-    pair_15 e = sym (λ k. if not (e k) && short_pair W (read_at_of W i) j then 14 else if e k then 15 else 0)
+    pair_15 e = sym (λ k. when not (e k) && short_pair W (read_at_of W i) j then 14 else when e k then 15 else 0)
 
     none_read : min max_ports m.read_count ≤ i → no_pair W i j ≡ true
     unfolding no_pair
@@ -114,11 +114,11 @@ module _ (m : Memory) (nets trits : List ℕ) (i : ℕ) (rl : length (reads_of m
 
       pub pair_14 : true ≡ short_pair W (read_at_of W i) j → 14 ≡ pair_ports_number W i j
       unfolding pair_ports_number
-      pair_14 e = λ k. if not (sym both_there k) && e k then 14 else if sym both_there k then 15 else 0
+      pair_14 e = λ k. when not (sym both_there k) && e k then 14 else when sym both_there k then 15 else 0
 
       pub pair_0 : false ≡ short_pair W (read_at_of W i) j → 0 ≡ pair_ports_number W i j
       unfolding pair_ports_number
-      pair_0 e = λ k. if not (sym both_there k) && e k then 14 else if sym both_there k then 15 else 0
+      pair_0 e = λ k. when not (sym both_there k) && e k then 14 else when sym both_there k then 15 else 0
 
 -- ---- the numbers
 module _ (next : ℕ) (m : Memory) (nets trits : List ℕ) (i j : ℕ) (o : Overlay) (one two four : Bool) (n : ℕ)
@@ -142,17 +142,17 @@ module _ (bits mask n : ℕ) (masked : Bool) (b k : Value) where
 
   pub room_bits : bits < n → 20 ≡ rooms
   unfolding overlay_refusal no_room_of
-  room_bits h = sym (ap (λ (t : Bool). if t || any (λ x. ltb mask n) (held (overlay_of masked b k).mask) then 20 else 0) (lt-ltb bits n h))
+  room_bits h = sym (ap (λ (t : Bool). when t || any (λ x. ltb mask n) (held (overlay_of masked b k).mask) then 20 else 0) (lt-ltb bits n h))
 
   module _ (h : n ≤ bits) where
     pub room-plain : masked ≡ false → 0 ≡ rooms
     unfolding overlay_refusal no_room_of held
-    room-plain e = sym (λ i. if le-ltb bits n h i || any (λ x. ltb mask n) (held (overlay_of (e i) b k).mask) then 20 else 0)
+    room-plain e = sym (λ i. when le-ltb bits n h i || any (λ x. ltb mask n) (held (overlay_of (e i) b k).mask) then 20 else 0)
 
     pub room_mask : masked ≡ true → mask < n → 20 ≡ rooms
     unfolding overlay_refusal no_room_of held
-    room_mask e g = sym (λ i. if le-ltb bits n h i || any (λ x. lt-ltb mask n g i) (held (overlay_of (e i) b k).mask) then 20 else 0)
+    room_mask e g = sym (λ i. when le-ltb bits n h i || any (λ x. lt-ltb mask n g i) (held (overlay_of (e i) b k).mask) then 20 else 0)
 
     pub room_both : masked ≡ true → n ≤ mask → 0 ≡ rooms
     unfolding overlay_refusal no_room_of held
-    room_both e g = sym (λ i. if le-ltb bits n h i || any (λ x. le-ltb mask n g i) (held (overlay_of (e i) b k).mask) then 20 else 0)
+    room_both e g = sym (λ i. when le-ltb bits n h i || any (λ x. le-ltb mask n g i) (held (overlay_of (e i) b k).mask) then 20 else 0)

@@ -8,7 +8,7 @@ use lib.ListN.{length, take}
 use lib.Seq.{sets}
 use lib.Dec.{eqb, ltb}
 use borrow.Author.Tests.{leb-false, ltb-false, eqb-true, not-false}
-use Rattle.lists.specs.Choice.{if◌then◌else◌}
+use Rattle.lists.specs.Choice.{when◌then◌else◌}
 use Rattle.lists.specs.Lists.{any}
 use Rattle.lists.proofs.Choice.{or_false, refused_not, else_zero}
 use Rattle.lists.proofs.All.{any_at}
@@ -69,7 +69,7 @@ module _ (next : ℕ) (m : Memory) (nets trits : List ℕ) (i j : ℕ) (masked :
   good = valid _ _ _ next m nets trits numbers.0
 
   abbrev last : ℕ
-  last = if no_pair M i j then 15 else 0
+  last = when no_pair M i j then 15 else 0
 
   pair_not : ((not (no_pair M i j) && short_pair M (read_at_of M i) j) ≡ false) × (last ≡ 0)
   unfolding pair_ports_number

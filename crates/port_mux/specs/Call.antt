@@ -2,7 +2,7 @@
 use Rattle.std.specs.Prelude.{◌≡◌, ℕ, ◌<◌, ◌≤◌, min, Bool, true, false, List, [], length, take}
 use Rattle.std.proofs.Math.Option.{none, some}
 use Rattle.std.proofs.lemmas.List.Edits.{sets}
-use Rattle.lists.specs.Choice.{if◌then◌else◌, leaves}
+use Rattle.lists.specs.Choice.{when◌then◌else◌, leaves}
 use Rattle.lists.specs.Lists.{any}
 use Rattle.rules.specs.Limits.{max_ports}
 use Rattle.rules.specs.Value.{Value}
@@ -18,11 +18,11 @@ use Rattle.net_memory.specs.View.{memory_of, read_port}
 
 -- data, and a mask where one is wanted
 abbrev pub overlay_of : Bool → Value → Value → Overlay
-overlay_of masked bits mask = record { bits = bits; mask = if masked then some mask else none }
+overlay_of masked bits mask = record { bits = bits; mask = when masked then some mask else none }
 
 -- a value where it is wanted
 abbrev pub wanted_of : Bool → Value → Value
-wanted_of wanted v = if wanted then v else []
+wanted_of wanted v = when wanted then v else []
 
 -- the machine's answer: the first n nets of the rooms are the overlay after
 abbrev pub overlaid_of : Bool → ℕ → Answer → List ℕ → List ℕ → List ℕ → Overlaid

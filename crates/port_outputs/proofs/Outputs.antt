@@ -8,7 +8,7 @@ use lib.ListN.{length, get_or}
 use lib.Seq.{take_all}
 use lib.Dec.{leb}
 use borrow.Author.Tests.{le-leb, lt-leb}
-use Rattle.lists.specs.Choice.{if◌then◌else◌}
+use Rattle.lists.specs.Choice.{when◌then◌else◌}
 use Rattle.lists.specs.Lists.{all, any, sum_by}
 use Rattle.lists.proofs.Choice.{else_rest}
 use Rattle.rules.specs.Limits.{max_ports}
@@ -33,13 +33,13 @@ module _ (m : Memory) (nets trits : List ℕ) (i : ℕ) (reads : length (reads_o
   unfolding output_slice_refusal port_number bad_port not_below memory_of
   port_out h =
       let e : leb (length (reads_of m nets trits)) i ≡ true = ap (λ (n : ℕ). leb n i) reads ∙ le-leb _ _ h in
-      sym (else_rest (mem_refusal (given_of m nets trits)) _ z ∙ ap (λ (t : Bool). if t then 15 else 0) e)
+      sym (else_rest (mem_refusal (given_of m nets trits)) _ z ∙ ap (λ (t : Bool). when t then 15 else 0) e)
 
   pub port_in : i < min max_ports m.read_count → 0 ≡ output_slice_refusal (given_of m nets trits) i
   unfolding output_slice_refusal port_number bad_port not_below memory_of
   port_in h =
       let e : leb (length (reads_of m nets trits)) i ≡ false = ap (λ (n : ℕ). leb n i) reads ∙ lt-leb _ _ h in
-      sym (else_rest (mem_refusal (given_of m nets trits)) _ z ∙ ap (λ (t : Bool). if t then 15 else 0) e)
+      sym (else_rest (mem_refusal (given_of m nets trits)) _ z ∙ ap (λ (t : Bool). when t then 15 else 0) e)
 
 -- ---- the clocks
 module _ (m : Memory) (nets trits : List ℕ) where

@@ -7,7 +7,7 @@ use mathlib.Core.Option.{Option, none, some}
 use mathlib.Core.List.{List, [], ◌∷◌, ◌++◌, map, append-nil}
 use lib.ListN.{length, take, drop, get_or, replicate, length-map, length-take, length-drop, length-append}
 use lib.Dec.{ltb}
-use Rattle.lists.specs.Choice.{if◌then◌else◌}
+use Rattle.lists.specs.Choice.{when◌then◌else◌}
 use Rattle.lists.specs.Lists.{pairs, up_from}
 use Rattle.lists.specs.Distinct.{kept, places}
 use Rattle.lists.proofs.UpFrom.{length_up}
@@ -121,7 +121,7 @@ module _ (kw kr : ℕ) (w : WritePort) (r : ReadPort) (s : Small w r.data_len) w
     sees_mask = omega (arith, length-take r.data_len (up_from (k + length w.bits) (length w.mask)), s.in_read);
   }
 
-  sees_if : (b : Bool) (t u : Trace Seen) (k : ℕ) → Sees (t k).value → Sees (u k).value → Sees ((if b then t else u) k).value
+  sees_if : (b : Bool) (t u : Trace Seen) (k : ℕ) → Sees (t k).value → Sees (u k).value → Sees ((when b then t else u) k).value
   sees_if true t u k p q = p
   sees_if false t u k p q = q
 
@@ -239,7 +239,7 @@ module _ (m : Mem) (i : ℕ) (s : (j : ℕ) → Small (write_at m j) (read_at_of
   from_few j [] = omega arith
   from_few j (x ∷ xs) = on (is_transparent x) (from_few (suc j) xs)
     where
-      on : (b : Bool) → length (transparent_from (suc j) xs) ≤ length xs → length (if b then j ∷ transparent_from (suc j) xs else transparent_from (suc j) xs) ≤ suc (length xs)
+      on : (b : Bool) → length (transparent_from (suc j) xs) ≤ length xs → length (when b then j ∷ transparent_from (suc j) xs else transparent_from (suc j) xs) ≤ suc (length xs)
       on true h = omega arith
       on false h = omega arith
 

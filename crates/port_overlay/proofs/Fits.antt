@@ -9,7 +9,7 @@ use lib.ListN.{length}
 use lib.Dec.{eqb, ltb, leb}
 use lib.Pow.{pow_mono}
 use borrow.Author.Tests.{lt-ltb, le-ltb, le-leb, ltb-false, eqb-true, eq-eqb, not-false}
-use Rattle.lists.specs.Choice.{if◌then◌else◌}
+use Rattle.lists.specs.Choice.{when◌then◌else◌}
 use Rattle.lists.specs.Lists.{any}
 use Rattle.lists.proofs.Choice.{or_false, cases_le}
 use Rattle.lists.proofs.All.{any_at}
@@ -71,11 +71,11 @@ like_by : (width a b x y : ℕ) → Shaped width a x → Shaped width b y → li
 unfolding like_wide
 like_by width a b x y s t =
     cases_le y x
-    (λ h. ap (λ (c : Bool). if c then leb a b else if ltb y x then leb b a else eqb a b) (le-ltb x y h)
+    (λ h. ap (λ (c : Bool). when c then leb a b else when ltb y x then leb b a else eqb a b) (le-ltb x y h)
     ∙ cases_le x y
-    (λ g. ap (λ (c : Bool). if c then leb b a else eqb a b) (le-ltb y x g) ∙ eq-eqb a b (same g h))
-    (λ g. ap (λ (c : Bool). if c then leb b a else eqb a b) (lt-ltb y x g) ∙ le-leb b a (sizes_up width b a y x t s h)))
-    (λ h. ap (λ (c : Bool). if c then leb a b else if ltb y x then leb b a else eqb a b) (lt-ltb x y h) ∙ le-leb a b (sizes_up width a b x y s t (under h)))
+    (λ g. ap (λ (c : Bool). when c then leb b a else eqb a b) (le-ltb y x g) ∙ eq-eqb a b (same g h))
+    (λ g. ap (λ (c : Bool). when c then leb b a else eqb a b) (lt-ltb y x g) ∙ le-leb b a (sizes_up width b a y x t s h)))
+    (λ h. ap (λ (c : Bool). when c then leb a b else when ltb y x then leb b a else eqb a b) (lt-ltb x y h) ∙ le-leb a b (sizes_up width a b x y s t (under h)))
   where
     same : x ≤ y → y ≤ x → a ≡ b
     same g h = omega (arith, sizes_up width a b x y s t g, sizes_up width b a y x t s h)
@@ -108,7 +108,7 @@ laid_reads kw kr w r o = refl
 
 laid_fit : (kw kr : ℕ) (w : WritePort) (r : ReadPort) (o : Overlay) → fitting kw kr (length w.addr) (length r.addr) (length w.bits) (length w.mask) r.data_len ≡ true → laid_if kw kr w r o ≡ laid_over kw kr w r o
 unfolding laid_if
-laid_fit kw kr w r o e = ap (λ (b : Bool). if b then laid_over kw kr w r o else done o) e
+laid_fit kw kr w r o e = ap (λ (b : Bool). when b then laid_over kw kr w r o else done o) e
 
 module _ (m : Mem) (i : ℕ) where
   mux_is : (j : ℕ) (o : Overlay) → laid_over (write_wide_log2 m (write_at m j)) (read_wide_log2 m (read_at_of m i)) (write_at m j) (read_at_of m i) o ≡ transparency_mux m i j o
@@ -139,11 +139,11 @@ module _ (m : Mem) (i : ℕ) where
 
     as_yes : (x j : ℕ) (o : Overlay) → is_transparent x ≡ true → laid_as m kr (reading r.addr r.data_len) x j o ≡ laid_by m kr (reading r.addr r.data_len) j o
     unfolding laid_as
-    as_yes x j o e = ap (λ (b : Bool). if b then laid_by m kr (reading r.addr r.data_len) j o else done o) e
+    as_yes x j o e = ap (λ (b : Bool). when b then laid_by m kr (reading r.addr r.data_len) j o else done o) e
 
     as_no : (x j : ℕ) (o : Overlay) → is_transparent x ≡ false → laid_as m kr (reading r.addr r.data_len) x j o ≡ done o
     unfolding laid_as
-    as_no x j o e = ap (λ (b : Bool). if b then laid_by m kr (reading r.addr r.data_len) j o else done o) e
+    as_no x j o e = ap (λ (b : Bool). when b then laid_by m kr (reading r.addr r.data_len) j o else done o) e
 
     done_bind : (o : Overlay) (f : Overlay → Trace Overlay) → (done o >>= f) ≡ f o
     unfolding ◌>>=◌ done
@@ -158,8 +158,8 @@ module _ (m : Mem) (i : ℕ) where
       where
         on : (b : Bool) → is_transparent x ≡ b
             → ((p : Overlay) → any (short_pair m r) (transparent_from (suc j) xs) ≡ false → laid_from m kr (reading r.addr r.data_len) (suc j) xs p ≡ transparencies m i (transparent_from (suc j) xs) p)
-            → any (short_pair m r) (if is_transparent x then j ∷ transparent_from (suc j) xs else transparent_from (suc j) xs) ≡ false
-            → (laid_as m kr (reading r.addr r.data_len) x j o >>= λ p. laid_from m kr (reading r.addr r.data_len) (suc j) xs p) ≡ transparencies m i (if is_transparent x then j ∷ transparent_from (suc j) xs else transparent_from (suc j) xs) o
+            → any (short_pair m r) (when is_transparent x then j ∷ transparent_from (suc j) xs else transparent_from (suc j) xs) ≡ false
+            → (laid_as m kr (reading r.addr r.data_len) x j o >>= λ p. laid_from m kr (reading r.addr r.data_len) (suc j) xs p) ≡ transparencies m i (when is_transparent x then j ∷ transparent_from (suc j) xs else transparent_from (suc j) xs) o
         on true t rest q =
             let z = or_false (short_pair m r j) _ (rw t at q) in
             rw t (λ k. (as_yes x j o t ∙ laid_is j o (omega arith) z.0) k >>= λ p. rest p z.1 k)

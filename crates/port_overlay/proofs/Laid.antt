@@ -12,7 +12,7 @@ use Rattle.net_memory.specs.declared.Memory.{Memory}
 use Rattle.log_entries.proofs.Emission.{run-done}
 use lib.ListN.{length, take, drop, get_or, drop_of_length-le}
 use lib.Seq.{sets, drop-cons}
-use Rattle.lists.specs.Choice.{if◌then◌else◌}
+use Rattle.lists.specs.Choice.{when◌then◌else◌}
 use Rattle.lists.specs.Lists.{up_from}
 use Rattle.rules.specs.Value.{Value}
 use Rattle.rules.specs.Cell.{FlipFlop, WritePort, ReadPort, Mem, wide_log2, write_wide_log2, write_at, is_transparent}
@@ -161,8 +161,8 @@ module _ (m : Mem) (kr : ℕ) (r : ReadPort) (n : ℕ) (xs : List ℕ) (f : Valu
 module _ (m : Mem) (kr : ℕ) (r : ReadPort) (n : ℕ) (xs : List ℕ) (f : Value → FlipFlop) (from : Value) (l : Lent) where
   pub if_many : max_merge < n → l ≡ run (unmapped_if m kr r n xs f from) l
   unfolding unmapped_if
-  if_many h = sym (ap (λ (b : Bool). run (if b then done [] else unmapped m kr r n xs f from) l) (lt-ltb max_merge n h) ∙ run-done [] l)
+  if_many h = sym (ap (λ (b : Bool). run (when b then done [] else unmapped m kr r n xs f from) l) (lt-ltb max_merge n h) ∙ run-done [] l)
 
   pub if_few : (l1 : Lent) → n ≤ max_merge → l1 ≡ run (unmapped m kr r n xs f from) l → l1 ≡ run (unmapped_if m kr r n xs f from) l
   unfolding unmapped_if
-  if_few l1 h e = e ∙ sym (ap (λ (b : Bool). run (if b then done [] else unmapped m kr r n xs f from) l) (le-ltb max_merge n h))
+  if_few l1 h e = e ∙ sym (ap (λ (b : Bool). run (when b then done [] else unmapped m kr r n xs f from) l) (le-ltb max_merge n h))

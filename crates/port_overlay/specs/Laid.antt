@@ -1,7 +1,7 @@
 -- The write ports that a read port is transparent to, laid over what it reads one after the other; and the flip-flop behind it.
 use Rattle.std.specs.Prelude.{ℕ, suc, ltb, List, [], ◌∷◌}
 use Rattle.rules.specs.Limits.{max_merge}
-use Rattle.lists.specs.Choice.{if◌then◌else◌}
+use Rattle.lists.specs.Choice.{when◌then◌else◌}
 use Rattle.rules.specs.Value.{Value}
 use Rattle.rules.specs.Cell.{FlipFlop, Relation, ReadPort, Mem, write_at, write_wide_log2, is_transparent}
 use Rattle.rules.specs.Log.{Trace, ◌>>=◌, ◌>>◌, done, add_void_of, add_dff_of, replace_value_of}
@@ -14,7 +14,7 @@ laid_by m kr r j o = laid_if (write_wide_log2 m (write_at m j)) kr (write_at m j
 
 -- the same by the relation to it
 unfoldable pub laid_as : Mem → ℕ → ReadPort → Relation → ℕ → Overlay → Trace Overlay
-laid_as m kr r x j o = if is_transparent x then laid_by m kr r j o else done o
+laid_as m kr r x j o = when is_transparent x then laid_by m kr r j o else done o
 
 -- all of them, from write port j on
 unfoldable pub laid_from : Mem → ℕ → ReadPort → ℕ → List Relation → Overlay → Trace Overlay
@@ -38,4 +38,4 @@ unmapped m kr r n xs f from = do
 
 -- more nets than a merge takes, which no port of a memory has, give nothing
 unfoldable pub unmapped_if : Mem → ℕ → ReadPort → ℕ → List Relation → (Value → FlipFlop) → Value → Trace Value
-unmapped_if m kr r n xs f from = if ltb max_merge n then done [] else unmapped m kr r n xs f from
+unmapped_if m kr r n xs f from = when ltb max_merge n then done [] else unmapped m kr r n xs f from

@@ -10,7 +10,7 @@ use mathlib.Core.List.{List, [], ◌∷◌, ◌++◌}
 use lib.ListN.{length, drop, get_or, drop_of_length-le}
 use lib.Seq.{drop-cons}
 use lib.Dec.{eqb}
-use Rattle.lists.specs.Choice.{if◌then◌else◌, ◌or_else◌}
+use Rattle.lists.specs.Choice.{when◌then◌else◌, ◌or_else◌}
 use Rattle.lists.specs.Lists.{any, part, up_from}
 use Rattle.lists.proofs.Choice.{else_first, else_rest, hit, miss, or_rest}
 use Rattle.rules.specs.Limits.{max_ports}
@@ -189,13 +189,13 @@ module _ (next : ℕ) (m : Memory) (nets trits : List ℕ) where
   M = memory_of m nets trits
 
   abbrev pub input_number : ℕ
-  input_number = emulate_number next (given_of m nets trits) or_else (if any unclocked M.reads then 22 else 0)
+  input_number = emulate_number next (given_of m nets trits) or_else (when any unclocked M.reads then 22 else 0)
 
   emulate_first : N ≢ 0 → emulate_number next (given_of m nets trits) ≡ N
   unfolding emulate_number
   emulate_first h = else_first N _ h
 
-  emulate_rest : N ≡ 0 → emulate_number next (given_of m nets trits) ≡ (if read_clocks_differ M then 12 else if mixed_relations M then 13 else 0)
+  emulate_rest : N ≡ 0 → emulate_number next (given_of m nets trits) ≡ (when read_clocks_differ M then 12 else when mixed_relations M then 13 else 0)
   unfolding emulate_number
   emulate_rest e = else_rest N _ e
 
@@ -212,5 +212,5 @@ module _ (next : ℕ) (m : Memory) (nets trits : List ℕ) where
     pub num_13 : read_clocks_differ M ≡ false → mixed_relations M ≡ true → 13 ≡ input_number
     num_13 e f = before_22 13 13 (emulate_rest z ∙ sym (miss 12 _ 13 e (hit 13 _ f))) refl (λ q. omega (arith, q))
 
-    pub num_last : (x : ℕ) → read_clocks_differ M ≡ false → mixed_relations M ≡ false → x ≡ (if any unclocked M.reads then 22 else 0) → x ≡ input_number
+    pub num_last : (x : ℕ) → read_clocks_differ M ≡ false → mixed_relations M ≡ false → x ≡ (when any unclocked M.reads then 22 else 0) → x ≡ input_number
     num_last x e f q = q ∙ sym (else_rest (emulate_number next (given_of m nets trits)) _ (emulate_rest z ∙ sym (miss 12 _ 0 e (miss 13 _ 0 f refl))))

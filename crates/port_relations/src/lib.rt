@@ -2,7 +2,7 @@
 #![tactic(auto)]
 
 ghost use Rattle.std.specs.Prelude.{◌≡◌, ◌&&◌, List, ℕ, get_or};
-ghost use Rattle.lists.specs.Choice.{if◌then◌else◌, ◌or_else◌};
+ghost use Rattle.lists.specs.Choice.{when◌then◌else◌, ◌or_else◌};
 ghost use Rattle.lists.specs.Lists.{any, part};
 ghost use Rattle.rules.specs.Cell.{ReadBeforeWrite, Transparent};
 ghost use Rattle.rules.specs.Conditions.{unclocked, read_clocks_differ, mixed_relations};
@@ -167,7 +167,7 @@ fn any_unclocked(m: Memory) -> bool
 
 // 1 to 4, 12, 13 and 22, or 0.
 pub fn input_number(m: Memory, nets: &[u32], trits: &[u8], next: u32) -> u32
-    ensures { result ≡ (emulate_number next (given_of m nets.now trits.now) or_else (if any unclocked (memory_of m nets.now trits.now).reads then 22 else 0)) }
+    ensures { result ≡ (emulate_number next (given_of m nets.now trits.now) or_else (when any unclocked (memory_of m nets.now trits.now).reads then 22 else 0)) }
 {
     let n = net_check::memory_number(m, nets, trits, next, false, false, false);
     if n != 0 {

@@ -8,7 +8,7 @@ use mathlib.Core.Bool.{Bool, true, false, not, ◌&&◌}
 use mathlib.Core.Option.{Option, none, some}
 use mathlib.Core.List.{List}
 use lib.ListN.{length}
-use Rattle.lists.specs.Choice.{if◌then◌else◌, ◌or_else◌, leaves}
+use Rattle.lists.specs.Choice.{when◌then◌else◌, ◌or_else◌, leaves}
 use Rattle.lists.specs.Lists.{any}
 use Rattle.lists.proofs.Choice.{refused_not, else_zero, else_first, else_rest, if_true, if_false, leaves_refused}
 use Rattle.rules.specs.Limits.{max_ports}
@@ -54,7 +54,7 @@ module _ (next : ℕ) (m : Memory) (nets trits : List ℕ) (i : ℕ) (incl : Boo
   abbrev M : Mem
   M = memory_of m nets trits
 
-  both : (driving_number false next (given_of m nets trits) output ≡ 0) × ((if incl && short_port M (read_at_of M i) then 14 else port_number M i) ≡ 0)
+  both : (driving_number false next (given_of m nets trits) output ≡ 0) × ((when incl && short_port M (read_at_of M i) then 14 else port_number M i) ≡ 0)
   unfolding unmap_reset_number
   both = else_zero (driving_number false next (given_of m nets trits) output) _ z
 
@@ -75,11 +75,11 @@ module _ (next : ℕ) (m : Memory) (nets trits : List ℕ) (i : ℕ) (incl : Boo
 -- ---- 22
 flip_22 : (r : ReadPort) → r.flip_flop ≡ none → flip_flop_refusal r ≡ 22
 unfolding flip_flop_refusal unclocked is_some
-flip_22 r e = ap (λ (o : Option ReadFlipFlop). if not (is_some o) then 22 else 0) e
+flip_22 r e = ap (λ (o : Option ReadFlipFlop). when not (is_some o) then 22 else 0) e
 
 flip_0 : (r : ReadPort) (f : ReadFlipFlop) → r.flip_flop ≡ some f → flip_flop_refusal r ≡ 0
 unfolding flip_flop_refusal unclocked is_some
-flip_0 r f e = ap (λ (o : Option ReadFlipFlop). if not (is_some o) then 22 else 0) e
+flip_0 r f e = ap (λ (o : Option ReadFlipFlop). when not (is_some o) then 22 else 0) e
 
 -- ---- by the flip-flop
 module _ (v : Mem) (i : ℕ) (incl : Bool) (output : Value) (f : ReadFlipFlop) (e : (read_at_of v i).flip_flop ≡ some f) where

@@ -6,7 +6,7 @@ use mathlib.Core.Bool.{Bool, true, false, not}
 use mathlib.Core.List.{List, []}
 use lib.ListN.{length, replicate}
 use borrow.Author.Tests.{le-ltb}
-use Rattle.lists.specs.Choice.{if◌then◌else◌}
+use Rattle.lists.specs.Choice.{when◌then◌else◌}
 use Rattle.lists.specs.Lists.{any, part}
 use Rattle.rules.specs.Limits.{max_merge, X}
 use Rattle.rules.specs.Logic.{is_undef}
@@ -79,7 +79,7 @@ mask_by : (f : ReadFlipFlop) (j : ℕ) → ◌≡◌ {A = Value → FlipFlop} (�
 unfolding has_init
 mask_by f j = refl
 
-all-related : (incl : Bool) (l : List ℕ) (k : ℕ) → length l ≡ k → length (if incl then l else []) ≤ k
+all-related : (incl : Bool) (l : List ℕ) (k : ℕ) → length l ≡ k → length (when incl then l else []) ≤ k
 all-related true l k e = omega arith
 all-related false l k e = omega arith
 
@@ -91,7 +91,7 @@ module _ (m : Memory) (nets trits : List ℕ) (i : ℕ) (c : Controls) (incl : B
   F = own_flip_flop m trits i c
 
   abbrev own_rels : List ℕ
-  own_rels = if incl then F.relations else []
+  own_rels = when incl then F.relations else []
 
   -- few nets
   pub reset_below : (output : Value) (s : LogState) → (unmap_reset M i incl output F (start_net s)).next < X
@@ -105,7 +105,7 @@ module _ (m : Memory) (nets trits : List ℕ) (i : ℕ) (c : Controls) (incl : B
       ∙ ap (λ (js : List ℕ). transparencies M i js o) (sym (wanted_is incl F))
 
   module _ (output : Value) (p : MemoryReadPort) (raddr rels own clear reset init from : List ℕ) (start : ℕ) (l l1 : Lent) (w : Value)
-      (ep : p ≡ read_port m i) (ea : raddr ≡ read_nets m nets i) (er : rels ≡ (if incl then part 0 p.relations_len p.relations else [])) (eo : own ≡ read_trits m trits i)
+      (ep : p ≡ read_port m i) (ea : raddr ≡ read_nets m nets i) (er : rels ≡ (when incl then part 0 p.relations_len p.relations else [])) (eo : own ≡ read_trits m trits i)
       (ec : clear ≡ part 0 p.clear_len own) (es : reset ≡ part p.clear_len p.reset_len own) (ei : init ≡ part (p.clear_len + p.reset_len) p.init_len own)
       (et : start ≡ output_start M i) (ef : from ≡ part start p.data_len output)
       (h : Gave (reset_if M (wide_log2 m.width p.data_len) (reading raddr p.data_len) p.data_len rels (λ b. flip_flop (controls_of c) b clear reset init) (λ k. mask_behind (controls_of c) (not (is_undef init)) p.data_len k) from) l l1 w) where
@@ -120,7 +120,7 @@ module _ (m : Memory) (nets trits : List ℕ) (i : ℕ) (c : Controls) (incl : B
     trace_is =
         let k1 = ap (λ (q : MemoryReadPort). wide_log2 m.width q.data_len) ep ∙ wide_is m nets trits i c g.port in
         let a1 = ea ∙ sym (addr_is m nets trits i c g.port) in
-        let r1 = er ∙ (λ k. if incl then part 0 (ep k).relations_len (ep k).relations else []) in
+        let r1 = er ∙ (λ k. when incl then part 0 (ep k).relations_len (ep k).relations else []) in
         let c1 = ec ∙ (λ k. part 0 (ep k).clear_len (eo k)) in
         let s1 = es ∙ (λ k. part (ep k).clear_len (ep k).reset_len (eo k)) in
         let i1 = ei ∙ (λ k. part ((ep k).clear_len + (ep k).reset_len) (ep k).init_len (eo k)) in

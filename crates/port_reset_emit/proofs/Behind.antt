@@ -7,7 +7,7 @@ use mathlib.Core.List.{List, []}
 use lib.ListN.{length, take, replicate, length-replicate}
 use lib.Seq.{sets}
 use borrow.Author.Tests.{lt-ltb, le-ltb}
-use Rattle.lists.specs.Choice.{if◌then◌else◌}
+use Rattle.lists.specs.Choice.{when◌then◌else◌}
 use Rattle.lists.specs.Lists.{pairs, up_from}
 use Rattle.lists.specs.Distinct.{places}
 use Rattle.lists.proofs.Pairs.{pairs_size}
@@ -53,12 +53,12 @@ first_filled u w n t e h = take_stored u w (replicate n t) n e (sym (length-repl
 pub filled_length : (u w : List ℕ) (n t : ℕ) → w ≡ sets u 0 (replicate n t) → n ≤ length u → n ≡ length (take n w)
 filled_length u w n t e h = sym (ap length (first_filled u w n t e h) ∙ length-replicate n t)
 
-start_is : (b : Bool) (n : ℕ) → replicate n (start_trit b) ≡ (if b then ones n else undef n)
+start_is : (b : Bool) (n : ℕ) → replicate n (start_trit b) ≡ (when b then ones n else undef n)
 unfolding undef ones
 start_is true n = refl
 start_is false n = refl
 
-start_length : (b : Bool) (n : ℕ) → length (if b then ones n else undef n) ≡ n
+start_length : (b : Bool) (n : ℕ) → length (when b then ones n else undef n) ≡ n
 unfolding undef ones
 start_length true n = length-replicate n 1
 start_length false n = length-replicate n 2
@@ -78,7 +78,7 @@ module _ (c : Controls) (initial : Bool) (n : ℕ) (mask : Value) (e : length ma
   keys_length : length (dff_keys F) ≡ n
   unfolding dff_keys mask_behind
   keys_length =
-      let t = if initial then ones n else undef n in
+      let t = when initial then ones n else undef n in
       omega (arith, pairs_size (pairs mask (ones n)) (pairs (ones n) t), pairs_size mask (ones n), pairs_size (ones n) t, start_length initial n, ones_length n, e)
 
   pub mask_length : (k : ℕ) → length (add_dedup_dff_of F k).value ≡ n

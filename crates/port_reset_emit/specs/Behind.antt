@@ -1,6 +1,6 @@
 -- unmap_read_init_reset_transparency without its numbers: the write ports laid over no data, the flip-flops of data and mask, and the muxes by them.
 use Rattle.std.specs.Prelude.{ℕ, Bool, List, [], replicate, ltb}
-use Rattle.lists.specs.Choice.{if◌then◌else◌}
+use Rattle.lists.specs.Choice.{when◌then◌else◌}
 use Rattle.rules.specs.Limits.{max_merge, trit_x}
 use Rattle.rules.specs.Logic.{undef, ones}
 use Rattle.rules.specs.Value.{Value, x_nets}
@@ -12,11 +12,11 @@ use Rattle.port_overlay.specs.Laid.{laid_from}
 
 -- the trit that the mask's flip-flop starts with
 abbrev pub start_trit : Bool → ℕ
-start_trit initial = if initial then 1 else trit_x
+start_trit initial = when initial then 1 else trit_x
 
 -- the flip-flop of a mask of n nets
 unfoldable pub mask_behind : Controls → Bool → ℕ → Value → FlipFlop
-mask_behind c initial n mask = record { bits = mask; controls = c; clear_value = ones n; reset_value = ones n; init_value = if initial then ones n else undef n }
+mask_behind c initial n mask = record { bits = mask; controls = c; clear_value = ones n; reset_value = ones n; init_value = when initial then ones n else undef n }
 
 -- muxes whose results take the place of these nets
 unfoldable pub choice : Value → Value → Value → Value → Trace Value
@@ -41,4 +41,4 @@ reset_laid m kr r n xs f g from = do
 
 -- more nets than a merge takes, which no port of a memory has, give nothing
 unfoldable pub reset_if : Mem → ℕ → ReadPort → ℕ → List Relation → (Value → FlipFlop) → (Value → FlipFlop) → Value → Trace Value
-reset_if m kr r n xs f g from = if ltb max_merge n then done [] else reset_laid m kr r n xs f g from
+reset_if m kr r n xs f g from = when ltb max_merge n then done [] else reset_laid m kr r n xs f g from

@@ -5,7 +5,7 @@ use mathlib.Core.Bool.{Bool, true, false}
 use mathlib.Core.Option.{some}
 use mathlib.Core.List.{List, [], ◌∷◌, map}
 use lib.ListN.{take, drop}
-use Rattle.lists.specs.Choice.{if◌then◌else◌}
+use Rattle.lists.specs.Choice.{when◌then◌else◌}
 use Rattle.lists.specs.Lists.{sum_by, part}
 use Rattle.lists.specs.Views.{views}
 use Rattle.rules.specs.Limits.{max_ports}
@@ -71,7 +71,7 @@ module _ (is : ℕ → Bool) (M : Mem) (e : (j : ℕ) → is j ≡ relates_to is
   unfolding settled
   relations_settled l s zero = refl
   relations_settled [] s (suc n) = refl
-  relations_settled (r ∷ l) s (suc n) = λ k. (if e s k then Undefined else r) ∷ relations_settled l (suc s) n k
+  relations_settled (r ∷ l) s (suc n) = λ k. (when e s k then Undefined else r) ∷ relations_settled l (suc s) n k
 
   flip_flop-settled : (f : MemoryReadFlipFlop) (p : MemoryReadPort) (y : List ℕ) → flip_flop_by f (settled_by is p) y ≡ settled_flip_flop M (flip_flop_by f p y)
   unfolding settled_flip_flop

@@ -1,6 +1,6 @@
 -- The struct of a memory after an emulation, word by word: write ports that are delayed at the other edge of their clock, relations to them Undefined.
 use Rattle.std.specs.Prelude.{ℕ, zero, suc, min, Bool, List, [], ◌∷◌, map}
-use Rattle.lists.specs.Choice.{if◌then◌else◌}
+use Rattle.lists.specs.Choice.{when◌then◌else◌}
 use Rattle.lists.specs.Lists.{any}
 use Rattle.rules.specs.Limits.{max_ports}
 use Rattle.rules.specs.Value as rules
@@ -22,7 +22,7 @@ is_read m nets trits j = any (has_relation ReadBeforeWrite j) (flip_flops_from m
 -- ---- the memory
 -- a port at the other edge of its clock, by this test
 abbrev pub turned_by : Bool → WritePort → WritePort
-turned_by b w = if b then record { addr = w.addr; bits = w.bits; mask = w.mask; clock = inverse w.clock } else w
+turned_by b w = when b then record { addr = w.addr; bits = w.bits; mask = w.mask; clock = inverse w.clock } else w
 
 -- the ports from j on, each by its test
 abbrev pub turned_from : (ℕ → Bool) → ℕ → List WritePort → List WritePort
@@ -46,11 +46,11 @@ abbrev pub other_edge_of : MemoryWritePort → MemoryWritePort
 other_edge_of p = record { addr_len = p.addr_len; data_len = p.data_len; mask_len = p.mask_len; clock = net_of (inverse (control_of p.clock)) }
 
 abbrev pub turned_port : Bool → MemoryWritePort → MemoryWritePort
-turned_port b p = if b then other_edge_of p else p
+turned_port b p = when b then other_edge_of p else p
 
 -- a relation to a port, by whether that one is delayed
 abbrev pub undefined_if : Bool → ℕ → ℕ
-undefined_if b r = if b then Undefined else r
+undefined_if b r = when b then Undefined else r
 
 -- the first n elements of a list changed, each by its number; that of the first is s
 abbrev pub first_changed : {A : Type 0} → (ℕ → A → A) → ℕ → ℕ → List A → List A

@@ -9,7 +9,7 @@ use lib.ListN.{length, take, drop, replicate, length-append, length-replicate, l
 use lib.Seq.{sets, take_all, length-take-le}
 use lib.Dec.{ltb, eqb}
 use borrow.Author.Tests.{lt-ltb, le-ltb, ltb-false, eqb-true, leb-true}
-use Rattle.lists.specs.Choice.{if◌then◌else◌}
+use Rattle.lists.specs.Choice.{when◌then◌else◌}
 use Rattle.lists.specs.Lists.{pairs, up_from}
 use Rattle.lists.specs.Distinct.{places}
 use Rattle.lists.proofs.Stores.{take_stored}
@@ -209,10 +209,10 @@ pub rest_short : (x a : List ℕ) (d k : ℕ) → x ≡ drop d a → length a �
 rest_short x a d k e h = omega (arith, ap length e, length-drop d a)
 
 -- ---- pairs that fit
-pub stop : {t : Bool} (x : Bool) → t ≡ true → false ≡ (if t then false else x)
+pub stop : {t : Bool} (x : Bool) → t ≡ true → false ≡ (when t then false else x)
 stop x e = rw e
 
-pub skip : {t x r : Bool} → t ≡ false → r ≡ x → r ≡ (if t then false else x)
+pub skip : {t x r : Bool} → t ≡ false → r ≡ x → r ≡ (when t then false else x)
 skip e f = rw e f
 
 module _ (kw kr waddr raddr size mask n : ℕ) where
@@ -239,11 +239,11 @@ module _ (kw kr waddr raddr size mask n : ℕ) where
         even = λ p. eqb-true size n (rw (le-ltb kw kr (same1 p), le-ltb kr kw (same2' p)) at h.1);
       }
     where
-      yes : (t : Bool) (x : Bool) → (if t then false else x) ≡ true → (t ≡ false) × (x ≡ true)
+      yes : (t : Bool) (x : Bool) → (when t then false else x) ≡ true → (t ≡ false) × (x ≡ true)
       yes true x q = let z : ◌≡◌ {A = ℕ} 0 1 = cc in absurd (omega arith)
       yes false x q = (refl, q)
 
-      no : (t : Bool) (x : Bool) → (if t then x else false) ≡ true → (t ≡ true) × (x ≡ true)
+      no : (t : Bool) (x : Bool) → (when t then x else false) ≡ true → (t ≡ true) × (x ≡ true)
       no true x q = (refl, q)
       no false x q = let z : ◌≡◌ {A = ℕ} 0 1 = cc in absurd (omega arith)
 

@@ -11,7 +11,7 @@ use lib.ListN.{length}
 use lib.Seq.{set-get_or}
 use lib.Dec.{eqb, leb}
 use borrow.Author.Tests.{leb-false, eqb-true, not-false}
-use Rattle.lists.specs.Choice.{if◌then◌else◌, leaves}
+use Rattle.lists.specs.Choice.{when◌then◌else◌, leaves}
 use Rattle.lists.specs.Lists.{any}
 use Rattle.lists.proofs.Choice.{or_false, refused_not, else_zero, else_first, else_rest}
 use Rattle.lists.proofs.All.{any_at}
@@ -123,7 +123,7 @@ module _ (next : ℕ) (m : Memory) (nets trits : List ℕ) (i : ℕ) (output : L
   abbrev Mv : Mem
   Mv = memory_of m nets trits
 
-  both : (driving_number false next (given_of m nets trits) output ≡ 0) × ((if short_port Mv (read_at_of Mv i) then 14 else port_number Mv i) ≡ 0)
+  both : (driving_number false next (given_of m nets trits) output ≡ 0) × ((when short_port Mv (read_at_of Mv i) then 14 else port_number Mv i) ≡ 0)
   unfolding unmap_read_dff_number
   both = else_zero (driving_number false next (given_of m nets trits) output) _ z
 
@@ -155,7 +155,7 @@ pub same : {A : Type 0} (n : ℕ) (a : A) → leaves n a a ≡ a
 unfolding leaves
 same n a = on (eqb n 0)
   where
-    on : (t : Bool) → (if t then a else a) ≡ a
+    on : (t : Bool) → (when t then a else a) ≡ a
     on true = refl
     on false = refl
 

@@ -10,7 +10,7 @@ use lib.ListN.{length, drop, get_or, drop_of_length-le}
 use lib.Seq.{drop-cons}
 use lib.Dec.{eqb, leb}
 use borrow.Author.Tests.{le-leb, lt-leb, ne_eqb, eq-eqb}
-use Rattle.lists.specs.Choice.{if◌then◌else◌}
+use Rattle.lists.specs.Choice.{when◌then◌else◌}
 use Rattle.lists.specs.Lists.{any, part}
 use Rattle.lists.proofs.Choice.{else_first, else_rest, hit, miss}
 use Rattle.rules.specs.Limits.{max_ports}
@@ -29,7 +29,7 @@ use Rattle.net_memory.proofs.Ports.{read_of_view, reads_none, reads_at, nets_at}
 use Rattle.net_memory.specs.Given.{given_of}
 
 -- a number that is 0 where a test fails
-test_is : (t : Bool) → not (eqb (if t then 14 else 0) 0) ≡ t
+test_is : (t : Bool) → not (eqb (when t then 14 else 0) 0) ≡ t
 test_is true = refl
 test_is false = refl
 
@@ -58,7 +58,7 @@ module _ (f : ℕ → Bool) (rels : List ℕ) where
       ∙ on (is_transparent (get_or rels j 0))
       ∙ ap (λ (k : ℕ). (is_transparent (get_or rels j 0) && f j) || any f (transparent_from k (drop k rels))) (sym (add-one j))
     where
-      on : (t : Bool) → any f (if t then j ∷ transparent_from (suc j) (drop (suc j) rels) else transparent_from (suc j) (drop (suc j) rels)) ≡ ((t && f j) || any f (transparent_from (suc j) (drop (suc j) rels)))
+      on : (t : Bool) → any f (when t then j ∷ transparent_from (suc j) (drop (suc j) rels) else transparent_from (suc j) (drop (suc j) rels)) ≡ ((t && f j) || any f (transparent_from (suc j) (drop (suc j) rels)))
       on true = refl
       on false = refl
 
@@ -131,11 +131,11 @@ module _ (m : Memory) (nets trits : List ℕ) (i : ℕ) (p : MemoryReadPort) (h 
 -- ---- the numbers
 pub port_15 : (m : Memory) (nets trits : List ℕ) (i : ℕ) → length (reads_of m nets trits) ≡ min max_ports m.read_count → min max_ports m.read_count ≤ i → port_number (memory_of m nets trits) i ≡ 15
 unfolding port_number bad_port not_below memory_of
-port_15 m nets trits i k h = ap (λ (t : Bool). if t then 15 else 0) (ap (λ (n : ℕ). leb n i) k ∙ le-leb _ _ h)
+port_15 m nets trits i k h = ap (λ (t : Bool). when t then 15 else 0) (ap (λ (n : ℕ). leb n i) k ∙ le-leb _ _ h)
 
 pub port_0 : (m : Memory) (nets trits : List ℕ) (i : ℕ) → length (reads_of m nets trits) ≡ min max_ports m.read_count → i < min max_ports m.read_count → port_number (memory_of m nets trits) i ≡ 0
 unfolding port_number bad_port not_below memory_of
-port_0 m nets trits i k h = ap (λ (t : Bool). if t then 15 else 0) (ap (λ (n : ℕ). leb n i) k ∙ lt-leb _ _ h)
+port_0 m nets trits i k h = ap (λ (t : Bool). when t then 15 else 0) (ap (λ (n : ℕ). leb n i) k ∙ lt-leb _ _ h)
 
 module _ (next : ℕ) (m : Memory) (nets trits : List ℕ) (i : ℕ) (output : List ℕ) where
   abbrev D : ℕ

@@ -11,7 +11,7 @@ use lib.ListN.{length, take, drop, set}
 use lib.Seq.{sets}
 use lib.Dec.{ltb}
 use borrow.Author.Tests.{le-ltb}
-use Rattle.lists.specs.Choice.{if◌then◌else◌}
+use Rattle.lists.specs.Choice.{when◌then◌else◌}
 use Rattle.lists.specs.Lists.{sum_by, part, up_from}
 use Rattle.lists.proofs.UpFrom.{length_up}
 use Rattle.lists.proofs.Store.{drop_sets}
@@ -146,7 +146,7 @@ module _ (m : Mem) (output : Value) (fine : (i : ℕ) (f : ReadFlipFlop) → i <
 
   few_to : (i : ℕ) (f : ReadFlipFlop) (room : Value) → (read_at_of m i).data_len ≤ max_merge → unmapped_of (some f) m i output room ≡ unmapped_to m i output f room
   unfolding unmapped_of
-  few_to i f room h = ap (λ (b : Bool). if b then done room else unmapped_to m i output f room) (le-ltb max_merge (read_at_of m i).data_len h)
+  few_to i f room h = ap (λ (b : Bool). when b then done room else unmapped_to m i output f room) (le-ltb max_merge (read_at_of m i).data_len h)
 
   some_like : (n : ℕ) (f : ReadFlipFlop) (out : Value) (k : ℕ) → n < length m.reads → Fine m n f → drop (output_start m n) out ≡ drop (output_start m n) output
       → Like (bared m (suc n)) (unmap_dff (bared m n) n out f k) (unmapped_of (some f) m n output out k)
@@ -190,7 +190,7 @@ module _ (m : Mem) (output : Value) (fine : (i : ℕ) (f : ReadFlipFlop) → i <
   kept_of n none out k = refl
   kept_of n (some f) out k = on (ltb max_merge (read_at_of m n).data_len)
     where
-      on : (b : Bool) → drop (output_start m (suc n)) ((if b then done out else unmapped_to m n output f out) k).value ≡ drop (output_start m (suc n)) out
+      on : (b : Bool) → drop (output_start m (suc n)) ((when b then done out else unmapped_to m n output f out) k).value ≡ drop (output_start m (suc n)) out
       on true = refl
       on false = kept_to n f out k
 

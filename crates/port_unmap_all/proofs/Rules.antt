@@ -11,7 +11,7 @@ use lib.ListN.{length, take, set}
 use lib.Seq.{sets, take_all}
 use lib.Dec.{eqb, ltb}
 use borrow.Author.Tests.{ltb-false, eqb-true, not-false}
-use Rattle.lists.specs.Choice.{if◌then◌else◌}
+use Rattle.lists.specs.Choice.{when◌then◌else◌}
 use Rattle.lists.specs.Lists.{any, up_from}
 use Rattle.lists.proofs.All.{any_at}
 use Rattle.lists.proofs.Choice.{or_false}
@@ -108,7 +108,7 @@ module _ (m : Mem) (output : Value) (n : ℕ) where
   cut_of i none room k = record { entries_same = refl; next_same = refl; value_cut = refl }
   cut_of i (some f) room k = on (ltb max_merge (read_at_of m i).data_len)
     where
-      on : (b : Bool) → Cut n ((if b then done room else unmapped_to m i output f room) k) ((if b then done (take n room) else unmapped_to m i output f (take n room)) k)
+      on : (b : Bool) → Cut n ((when b then done room else unmapped_to m i output f room) k) ((when b then done (take n room) else unmapped_to m i output f (take n room)) k)
       on true = record { entries_same = refl; next_same = refl; value_cut = refl }
       on false = cut_to i f room k
 

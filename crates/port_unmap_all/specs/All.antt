@@ -2,7 +2,7 @@
 use Rattle.std.specs.Prelude.{◌≡◌, ℕ, ◌≤◌, false, List, [], ◌∷◌, map, length, take, ltb}
 use Rattle.std.proofs.Math.Option.{Option, none, some}
 use Rattle.std.proofs.lemmas.List.Edits.{sets}
-use Rattle.lists.specs.Choice.{if◌then◌else◌}
+use Rattle.lists.specs.Choice.{when◌then◌else◌}
 use Rattle.lists.specs.Lists.{any, up_from}
 use Rattle.rules.specs.Limits.{max_merge, max_ports}
 use Rattle.rules.specs.Value.{Value}
@@ -27,7 +27,7 @@ unmapped_to m i output f room = do
 -- more nets than a merge takes, which no port of a memory has, give nothing; so does a port without a flip-flop
 unfoldable pub unmapped_of : Option ReadFlipFlop → Mem → ℕ → Value → Value → Trace Value
 unmapped_of none m i output room = done room
-unmapped_of (some f) m i output room = if ltb max_merge (read_at_of m i).data_len then done room else unmapped_to m i output f room
+unmapped_of (some f) m i output room = when ltb max_merge (read_at_of m i).data_len then done room else unmapped_to m i output f room
 
 unfoldable pub unmapped_at : Mem → ℕ → Value → Value → Trace Value
 unmapped_at m i output room = unmapped_of (read_at_of m i).flip_flop m i output room

@@ -9,7 +9,7 @@ use mathlib.Core.List.{List, [], ◌∷◌, ◌++◌, map, append-nil}
 use lib.ListN.{length, take, drop, get_or, set, drop_of_length-le}
 use lib.Seq.{take_all, take-suc-set, drop-set-lt, drop-cons, append_snoc}
 use borrow.Author.Tests.{eq-eqb, ne_eqb}
-use Rattle.lists.specs.Choice.{if◌then◌else◌}
+use Rattle.lists.specs.Choice.{when◌then◌else◌}
 use Rattle.lists.specs.Lists.{part}
 use Rattle.rules.specs.Logic.{is_undef}
 use Rattle.rules.specs.Value.{is_always}
@@ -23,26 +23,26 @@ abbrev pub Left : List ℕ → ℕ → Type 0
 Left rels j = is_empty (transparent_from j (drop j rels)) ≡ is_empty (transparent_from 0 rels)
 
 from_step : (rels : List ℕ) (j : ℕ) → j < length rels
-    → transparent_from j (drop j rels) ≡ (if is_transparent (get_or rels j 0) then j ∷ transparent_from (suc j) (drop (suc j) rels) else transparent_from (suc j) (drop (suc j) rels))
+    → transparent_from j (drop j rels) ≡ (when is_transparent (get_or rels j 0) then j ∷ transparent_from (suc j) (drop (suc j) rels) else transparent_from (suc j) (drop (suc j) rels))
 unfolding transparent_from
 from_step rels j h = ap (transparent_from j) (drop-cons rels j 0 h)
 
 pub left_found : (rels : List ℕ) (j : ℕ) → j < length rels → get_or rels j 0 ≡ 2 → Left rels j → true ≡ not (is_empty (transparent_from 0 rels))
 unfolding is_empty is_transparent
 left_found rels j h e q =
-    ap not (sym (ap is_empty (from_step rels j h) ∙ ap (λ (b : Bool). is_empty (if b then j ∷ transparent_from (suc j) (drop (suc j) rels) else transparent_from (suc j) (drop (suc j) rels))) (eq-eqb (get_or rels j 0) 2 e)) ∙ q)
+    ap not (sym (ap is_empty (from_step rels j h) ∙ ap (λ (b : Bool). is_empty (when b then j ∷ transparent_from (suc j) (drop (suc j) rels) else transparent_from (suc j) (drop (suc j) rels))) (eq-eqb (get_or rels j 0) 2 e)) ∙ q)
 
 pub left_next : (rels : List ℕ) (j : ℕ) → j < length rels → get_or rels j 0 ≢ 2 → Left rels j → Left rels (j + 1)
 unfolding is_transparent
 left_next rels j h e q =
     ap (λ (k : ℕ). is_empty (transparent_from k (drop k rels))) (add-one j)
-    ∙ sym (ap is_empty (from_step rels j h) ∙ ap (λ (b : Bool). is_empty (if b then j ∷ transparent_from (suc j) (drop (suc j) rels) else transparent_from (suc j) (drop (suc j) rels))) (ne_eqb (get_or rels j 0) 2 e)) ∙ q
+    ∙ sym (ap is_empty (from_step rels j h) ∙ ap (λ (b : Bool). is_empty (when b then j ∷ transparent_from (suc j) (drop (suc j) rels) else transparent_from (suc j) (drop (suc j) rels))) (ne_eqb (get_or rels j 0) 2 e)) ∙ q
 
 pub left_end : (rels : List ℕ) (j : ℕ) → length rels ≤ j → Left rels j → false ≡ not (is_empty (transparent_from 0 rels))
 unfolding is_empty transparent_from
 left_end rels j h q = ap not (sym (ap (λ (l : List ℕ). is_empty (transparent_from j l)) (drop_of_length-le rels h)) ∙ q)
 
-pub wanted_is : (incl : Bool) (f : ReadFlipFlop) → wanted incl f ≡ transparent_from 0 (if incl then f.relations else [])
+pub wanted_is : (incl : Bool) (f : ReadFlipFlop) → wanted incl f ≡ transparent_from 0 (when incl then f.relations else [])
 unfolding wanted transparent_ports transparent_from
 wanted_is true f = refl
 wanted_is false f = refl
@@ -74,7 +74,7 @@ module _ (incl : Bool) (f : ReadFlipFlop) where
   plain_clear e r c = go _ _ false e (go _ _ false r (stop _ _ c)) ∙ sym (plain_is incl f)
 
   pub plain_rest : (b : Bool) (rels : List ℕ) → is_undef f.init_value ≡ true → is_always 0 f.controls.reset ≡ true → is_always 0 f.controls.clear ≡ true
-      → rels ≡ (if incl then f.relations else []) → b ≡ not (is_empty (transparent_from 0 rels)) → not b ≡ is_plain incl f
+      → rels ≡ (when incl then f.relations else []) → b ≡ not (is_empty (transparent_from 0 rels)) → not b ≡ is_plain incl f
   plain_rest b rels e r c q h =
       go _ _ (not b) e (go _ _ (not b) r (go _ _ (not b) c
       (ap not h ∙ not_not (is_empty (transparent_from 0 rels)) ∙ ap (λ (x : List ℕ). is_empty (transparent_from 0 x)) q ∙ ap is_empty (sym (wanted_is incl f))))) ∙ sym (plain_is incl f)
@@ -87,11 +87,11 @@ plain_as incl f init rels b q ei er = q ∙ (λ k. is_plain incl (record { contr
 -- ---- the relations that stay
 pub code_kept : (x : ℕ) → x ≢ 2 → x ≡ no_transparent x
 unfolding no_transparent is_transparent
-code_kept x h = sym (ap (λ (b : Bool). if b then 0 else x) (ne_eqb x 2 h))
+code_kept x h = sym (ap (λ (b : Bool). when b then 0 else x) (ne_eqb x 2 h))
 
 pub code_gone : (x : ℕ) → x ≡ 2 → 0 ≡ no_transparent x
 unfolding no_transparent is_transparent
-code_gone x e = sym (ap (λ (b : Bool). if b then 0 else x) (eq-eqb x 2 e))
+code_gone x e = sym (ap (λ (b : Bool). when b then 0 else x) (eq-eqb x 2 e))
 
 module _ (f : ℕ → ℕ) (rels : List ℕ) where
   -- the first j codes are new
@@ -126,6 +126,6 @@ map_take f (suc n) [] = refl
 map_take f (suc n) (x ∷ l) = ap (λ (t : List ℕ). f x ∷ t) (map_take f n l)
 
 -- of the codes in use
-pub kept-part : (incl : Bool) (n : ℕ) (rels : List ℕ) → part 0 n (kept_relations incl rels) ≡ (if incl then map no_transparent (part 0 n rels) else part 0 n rels)
+pub kept-part : (incl : Bool) (n : ℕ) (rels : List ℕ) → part 0 n (kept_relations incl rels) ≡ (when incl then map no_transparent (part 0 n rels) else part 0 n rels)
 kept-part true n rels = map_take no_transparent n rels
 kept-part false n rels = refl

@@ -1,7 +1,7 @@
 -- A port without clear, reset and init, and without Transparent relations where these are to go: the struct and the trits of its memory.
 use Rattle.std.specs.Prelude.{Bool, ℕ, List, map, replicate}
 use Rattle.std.proofs.lemmas.List.Edits.{sets}
-use Rattle.lists.specs.Choice.{if◌then◌else◌}
+use Rattle.lists.specs.Choice.{when◌then◌else◌}
 use Rattle.rules.specs.Limits.{trit_x}
 use Rattle.rules.specs.Ports.{is_plain, no_transparent}
 use Rattle.net_value.specs.declared.ControlNet.TheVariants.{Pos}
@@ -24,7 +24,7 @@ unreset_controls c = record {
 
 -- the codes of relations without Transparent, where these are to go
 abbrev pub kept_relations : Bool → List ℕ → List ℕ
-kept_relations incl rels = if incl then map no_transparent rels else rels
+kept_relations incl rels = when incl then map no_transparent rels else rels
 
 -- a port with these controls, without clear and reset
 abbrev pub unreset_port : MemoryReadPort → Controls → Bool → MemoryReadPort
@@ -49,8 +49,8 @@ blanked m i trits = sets trits (trit_start m i) (replicate (trit_size (read_port
 -- by the port's flip-flop: where there is nothing to unmap, both stay
 abbrev pub struct_after : MemoryReadFlipFlop → Memory → List ℕ → ℕ → Bool → Memory
 struct_after None m trits i incl = m
-struct_after (Some c) m trits i incl = if is_plain incl (clocked_by c (read_port m i) (read_trits m trits i)) then m else unreset m i c incl
+struct_after (Some c) m trits i incl = when is_plain incl (clocked_by c (read_port m i) (read_trits m trits i)) then m else unreset m i c incl
 
 abbrev pub trits_after : MemoryReadFlipFlop → Memory → List ℕ → ℕ → Bool → List ℕ
 trits_after None m trits i incl = trits
-trits_after (Some c) m trits i incl = if is_plain incl (clocked_by c (read_port m i) (read_trits m trits i)) then trits else blanked m i trits
+trits_after (Some c) m trits i incl = when is_plain incl (clocked_by c (read_port m i) (read_trits m trits i)) then trits else blanked m i trits

@@ -2,7 +2,7 @@
 #![tactic(auto)]
 
 ghost use Rattle.std.specs.Prelude.{◌≡◌, Bool, not, List, [], ℕ, ◌<◌, ◌≤◌};
-ghost use Rattle.lists.specs.Choice.{if◌then◌else◌};
+ghost use Rattle.lists.specs.Choice.{when◌then◌else◌};
 ghost use Rattle.rules.specs.Cell.{transparent_from};
 ghost use Rattle.rules.specs.Ports.{is_empty, is_plain, no_transparent};
 ghost use Rattle.net_flip_flop.specs.View.{controls_of};
@@ -15,7 +15,7 @@ use net_value::{ControlNet, Net};
 
 // The relations that are to go.
 pub fn wanted_relations(rels: &[u8], incl: bool) -> &[u8]
-    ensures { result.now ≡ (if incl then rels.now else []) }
+    ensures { result.now ≡ (when incl then rels.now else []) }
 {
     if incl {
         return rels;

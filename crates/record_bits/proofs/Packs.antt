@@ -10,7 +10,7 @@ use lib.ListN.{length, take, drop, get_or, set, length-take}
 use lib.Seq.{sets, drop-cons, drop-drop}
 use lib.Pow.{pow_mono}
 use lib.Dec.{eqb}
-use Rattle.lists.specs.Choice.{if◌then◌else◌}
+use Rattle.lists.specs.Choice.{when◌then◌else◌}
 use Rattle.lists.proofs.Store.{sets_at, sets_set}
 use Rattle.lists.proofs.Joined.{map_take, map_drop}
 use Rattle.rules.specs.Limits.{trit_x}
@@ -37,11 +37,11 @@ pub byte_small : (f : ℕ → ℕ) → ((t : ℕ) → f t < 2) → (m j : ℕ) (
 byte_small f z m j l h =
     omega (arith, byte_lt f z (take m l), pow_mono {i = length (take m l)} {j = j} (simp length-take (omega arith)))
 
-bit : (t : Bool) → (if t then 1 else 0) < 2
+bit : (t : Bool) → (when t then 1 else 0) < 2
 bit true = omega arith
 bit false = omega arith
 
-not_bit : (t : Bool) → (if t then 0 else 1) < 2
+not_bit : (t : Bool) → (when t then 0 else 1) < 2
 not_bit true = omega arith
 not_bit false = omega arith
 

@@ -1,6 +1,6 @@
 -- The trits of a known byte and a value byte, and the errors in them, for a count of trits that are left.
 use Rattle.std.specs.Prelude.{ℕ, Bool, ◌||◌, List, ◌++◌, map, take, drop, eqb, ltb}
-use Rattle.lists.specs.Choice.{if◌then◌else◌}
+use Rattle.lists.specs.Choice.{when◌then◌else◌}
 use Rattle.lists.specs.Lists.{any, pairs}
 use Rattle.rules.specs.Logic.{Const}
 use Rattle.rules.specs.Value.{from_uint}
@@ -23,4 +23,4 @@ bad_group count known value = bad_by count (from_uint 8 known) (from_uint 8 valu
 
 -- of one bit each: of a trit, or both spare
 abbrev pub bad_pair : Bool → ℕ → ℕ → Bool
-bad_pair spare known value = if spare then eqb 1 known || eqb 1 value else ltb known value
+bad_pair spare known value = when spare then eqb 1 known || eqb 1 value else ltb known value

@@ -3,7 +3,7 @@
 
 ghost use Rattle.std.specs.Prelude.{◌≡◌, ◌∷◌, ◌+◌, ◌*◌, ◌<◌, ◌≤◌, length, drop};
 ghost use Rattle.lists.specs.Lists.{sum_by, part, concat_map};
-ghost use Rattle.lists.specs.Choice.{if◌then◌else◌, ◌or_else◌};
+ghost use Rattle.lists.specs.Choice.{when◌then◌else◌, ◌or_else◌};
 ghost use Rattle.rules.specs.Limits.{max_image};
 ghost use Rattle.rules.specs.Record.{size_mems, size_trits, bits_of, head_sizes, decode_image};
 ghost use Rattle.rules.specs.Refusals.{record_number, header_refusal};
@@ -73,7 +73,7 @@ fn put_field(out: &mut [u8], at: usize, n: usize) -> usize
 // A space, and blank or load.
 fn put_kind(out: &mut [u8], at: usize, blank: bool) -> usize
     requires { at + 6 ≤ max_place }
-    ensures { Put out.old at (space ∷ (if blank then blank_text else load_text)) out.new result × (result ≤ at + 6) }
+    ensures { Put out.old at (space ∷ (when blank then blank_text else load_text)) out.new result × (result ≤ at + 6) }
 {
     if blank {
         return put_text(out, at, b" blank");

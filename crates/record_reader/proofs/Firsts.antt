@@ -7,7 +7,7 @@ use mathlib.Core.List.{List}
 use lib.Dec.{ltb}
 use lib.ListN.{length}
 use borrow.Author.Tests.{lt-ltb, le-ltb, ltb-true, ltb-false}
-use Rattle.lists.specs.Choice.{if◌then◌else◌}
+use Rattle.lists.specs.Choice.{when◌then◌else◌}
 use Rattle.rules.specs.Record.{size_trits, head_sizes, array_bytes, after_trit}
 use Rattle.record_reader.specs.Reading.{place_after_head, has_trit, has_trit_at, trit_there, place_after_trit, first_trits}
 use Rattle.record_reader.specs.declared.TritFound.{TritFound}
@@ -19,7 +19,7 @@ and_no : (a b : Bool) → b ≡ false → (a && b) ≡ false
 and_no true b e = e
 and_no false b e = refl
 
-if_no : (a b : Bool) → b ≡ false → (if a then false else b) ≡ false
+if_no : (a b : Bool) → b ≡ false → (when a then false else b) ≡ false
 if_no true b e = refl
 if_no false b e = e
 

@@ -8,7 +8,7 @@ use lib.Dec.{eqb, ltb}
 use lib.ListN.{length, take, drop, get_or, length-drop, get_or-map, get_or-eq_default}
 use lib.Seq.{get_or-take, get_or-drop, length-take-le}
 use borrow.Author.Tests.{lt-ltb, le-ltb, ltb-true, ltb-false, eqb-true, not-false}
-use Rattle.lists.specs.Choice.{if◌then◌else◌}
+use Rattle.lists.specs.Choice.{when◌then◌else◌}
 use Rattle.lists.specs.Lists.{pairs}
 use Rattle.lists.proofs.Choice.{or_false, and_true}
 use Rattle.lists.proofs.Pairs.{get_d_pairs}
@@ -112,15 +112,15 @@ module _ (bytes : List ℕ) (e : bad_head bytes (length bytes) ≡ false) where
 code_not_end : (t : ℕ) → Code t ≡ NoTrit → ⊥
 code_not_end t e = let z : ◌≡◌ {A = ℕ} 0 1 = cc in omega arith
 
-if_false : (b x : Bool) → (if b then false else x) ≡ true → x ≡ true
+if_false : (b x : Bool) → (when b then false else x) ≡ true → x ≡ true
 if_false true x e = let z : ◌≡◌ {A = ℕ} 0 1 = cc in absurd (omega arith)
 if_false false x e = e
 
-has_code : (b : Bool) (t u : ℕ) → (if b then Code t else NoTrit) ≡ Code u → b ≡ true
+has_code : (b : Bool) (t u : ℕ) → (when b then Code t else NoTrit) ≡ Code u → b ≡ true
 has_code true t u e = refl
 has_code false t u e = absurd (code_not_end u (sym e))
 
-has_none : (b : Bool) (t : ℕ) → (if b then Code t else NoTrit) ≡ NoTrit → b ≡ false
+has_none : (b : Bool) (t : ℕ) → (when b then Code t else NoTrit) ≡ NoTrit → b ≡ false
 has_none true t e = absurd (code_not_end t e)
 has_none false t e = refl
 
@@ -153,11 +153,11 @@ module _ (bytes : List ℕ) (at : ℕ) where
 found_not_end : (t : ℕ) → Found t ≡ End → ⊥
 found_not_end t e = let z : ◌≡◌ {A = ℕ} 0 1 = cc in omega arith
 
-is_found : (b : Bool) (w u : ℕ) → (if b then Found w else End) ≡ Found u → u ≡ w
+is_found : (b : Bool) (w u : ℕ) → (when b then Found w else End) ≡ Found u → u ≡ w
 is_found true w u e = cc
 is_found false w u e = absurd (found_not_end u (sym e))
 
-is_none : (b : Bool) (w : ℕ) → (if b then Found w else End) ≡ End → b ≡ false
+is_none : (b : Bool) (w : ℕ) → (when b then Found w else End) ≡ End → b ≡ false
 is_none true w e = absurd (found_not_end w e)
 is_none false w e = refl
 

@@ -1,6 +1,6 @@
 -- What a reader takes at its place, or that there is none, and its place after that.
 use Rattle.std.specs.Prelude.{ℕ, ◌+◌, ◌-◌, ◌*◌, ◌/◌, ◌%◌, ◌<◌, Bool, false, ◌&&◌, List, [], length, drop, eqb, ltb, leb}
-use Rattle.lists.specs.Choice.{if◌then◌else◌}
+use Rattle.lists.specs.Choice.{when◌then◌else◌}
 use Rattle.lists.specs.Lists.{part}
 use Rattle.rules.specs.Logic.{Const}
 use Rattle.rules.specs.Limits.{head_bytes}
@@ -23,10 +23,10 @@ abbrev pub has_word : List ℕ → ℕ → Bool
 has_word bytes at = ltb (at + 1) (length bytes)
 
 unfoldable pub word_there : List ℕ → ℕ → Word
-word_there bytes at = if has_word bytes at then Found (rules.next_word (reader_at bytes at)) else End
+word_there bytes at = when has_word bytes at then Found (rules.next_word (reader_at bytes at)) else End
 
 unfoldable pub place_after_word : List ℕ → ℕ → ℕ
-place_after_word bytes at = if has_word bytes at then (rules.after_word (reader_at bytes at)).at else at
+place_after_word bytes at = when has_word bytes at then (rules.after_word (reader_at bytes at)).at else at
 
 -- six words one after another from a place on, and the place after them
 unfoldable pub words_from : List ℕ → ℕ → HeadWords
@@ -79,17 +79,17 @@ has_trit bytes at =
     && ltb (head_bytes + rules.array_bytes (rules.size_trits (rules.head_sizes bytes)) + at / 8) (length bytes)
 
 unfoldable pub trit_numbered : List ℕ → ℕ → TritFound
-trit_numbered bytes i = if has_trit bytes i then Code (rules.trit_at_of bytes i) else NoTrit
+trit_numbered bytes i = when has_trit bytes i then Code (rules.trit_at_of bytes i) else NoTrit
 
 -- by the reader's place, which counts the head's bytes, and behind the head trits: trit i stands at headBytes + i. Before the head is read there is none
 abbrev pub has_trit_at : List ℕ → ℕ → Bool
-has_trit_at bytes at = if ltb at head_bytes then false else has_trit bytes (at - head_bytes)
+has_trit_at bytes at = when ltb at head_bytes then false else has_trit bytes (at - head_bytes)
 
 unfoldable pub trit_there : List ℕ → ℕ → TritFound
-trit_there bytes at = if has_trit_at bytes at then Code (rules.next_trit (reader_at bytes at)) else NoTrit
+trit_there bytes at = when has_trit_at bytes at then Code (rules.next_trit (reader_at bytes at)) else NoTrit
 
 unfoldable pub place_after_trit : List ℕ → ℕ → ℕ
-place_after_trit bytes at = if has_trit_at bytes at then (rules.after_trit (reader_at bytes at)).at else at
+place_after_trit bytes at = when has_trit_at bytes at then (rules.after_trit (reader_at bytes at)).at else at
 
 -- a record's first two trits, at the two places behind the head
 unfoldable pub first_trits : List ℕ → FirstTrits
@@ -111,7 +111,7 @@ has_trits count bytes at =
     && (eqb ((at - head_bytes) % 8) 0 && (leb count many_trits && eqb (length bytes) (head_bytes + 2 * rules.array_bytes count)))
 
 unfoldable pub trits_there : ℕ → List ℕ → ℕ → Const
-trits_there count bytes at = if has_trits count bytes at then drop (at - head_bytes) (image_of count bytes) else []
+trits_there count bytes at = when has_trits count bytes at then drop (at - head_bytes) (image_of count bytes) else []
 
 unfoldable pub place_after_trits : ℕ → List ℕ → ℕ → ℕ
 place_after_trits count bytes at = (rules.after_trits (length (trits_there count bytes at)) (reader_at bytes at)).at

@@ -4,7 +4,7 @@ use Prim.Native.Nat.{ℕ, ◌+◌}
 use native.Mathlib.Nat.{add-zero, add_assoc}
 use mathlib.Core.Bool.{Bool, true, false, ◌||◌}
 use mathlib.Core.List.{List, [], ◌∷◌, ◌++◌}
-use Rattle.lists.specs.Choice.{if◌then◌else◌}
+use Rattle.lists.specs.Choice.{when◌then◌else◌}
 use Rattle.lists.specs.Lists.{sum_by}
 use Rattle.rules.specs.Value.{Value, Control, Pos, Neg, is_always}
 use Rattle.rules.specs.Cell.{Controls, FlipFlop}
@@ -28,7 +28,7 @@ module _ {A : Type 0} where
   unfolding Chains Chained done
   chains_done a n = refl
 
-  pub chains_if : (b : Bool) (t u : Trace A) → Chains t → Chains u → Chains (if b then t else u)
+  pub chains_if : (b : Bool) (t u : Trace A) → Chains t → Chains u → Chains (when b then t else u)
   chains_if true t u c d = c
   chains_if false t u c d = d
 

@@ -6,7 +6,7 @@ use native.Mathlib.Omega.{arith}
 use mathlib.Core.Bool.{Bool, true, false, ◌||◌}
 use mathlib.Core.List.{[], ◌∷◌}
 use lib.ListN.{length, get_or}
-use Rattle.lists.specs.Choice.{if◌then◌else◌}
+use Rattle.lists.specs.Choice.{when◌then◌else◌}
 use Rattle.rules.specs.Limits.{max_nets, X}
 use Rattle.rules.specs.Value.{Value, Control, Pos, Neg, is_always}
 use Rattle.rules.specs.Cell.{Controls, FlipFlop}
@@ -81,7 +81,7 @@ pub most-done : {A : Type 0} (a : A) (k : ℕ) → AtMost (done a) k
 unfolding done
 most-done a k n = omega arith
 
-pub most_if : {A : Type 0} (b : Bool) (t u : Trace A) (k : ℕ) → AtMost t k → AtMost u k → AtMost (if b then t else u) k
+pub most_if : {A : Type 0} (b : Bool) (t u : Trace A) (k : ℕ) → AtMost t k → AtMost u k → AtMost (when b then t else u) k
 most_if true t u k c d = c
 most_if false t u k c d = d
 

@@ -9,7 +9,7 @@ use lib.ListN.{length, get_or, take, drop, length-append, take-append-drop}
 use lib.Seq.{take-append_seam, drop-append_seam, take_at, drop_at}
 use lib.Dec.{eqb}
 use borrow.Author.Tests.{eqb-true, not-true, not-false}
-use Rattle.lists.specs.Choice.{if◌then◌else◌}
+use Rattle.lists.specs.Choice.{when◌then◌else◌}
 use Rattle.lists.specs.Lists.{same_list, all}
 use Rattle.lists.proofs.Choice.{or_false, and_true}
 use Rattle.lists.proofs.Same.{same_refl, same_true}
@@ -153,7 +153,7 @@ decode-encode (Replace from to) rest h = read_back (Replace from to) 10 0 0 (fro
 
 -- the other way: words that are read as an entry are its words, and its values are equally long
 decode_if : (t u : Bool) (p q : Entry × List ℕ) (l : List ℕ) → (u ≡ true → l ≡ encode p.0 ++ p.1) → (t ≡ true → formed p.0 ≡ true)
-    → (if t && u then some p else none) ≡ some q → (l ≡ encode q.0 ++ q.1) × (formed q.0 ≡ true)
+    → (when t && u then some p else none) ≡ some q → (l ≡ encode q.0 ++ q.1) × (formed q.0 ≡ true)
 decode_if true true p q l f g e =
     let x : p ≡ q = cc in
     (rw (← x) (f refl), rw (← x) (g refl))

@@ -11,7 +11,7 @@ use lib.ListN.{length, get_or, take, drop, replicate, length-drop, length-append
 use lib.Seq.{take_at, drop_at}
 use borrow.Author.Tests.{eqb-true, eqb-false, ltb-false, leb-false, eq-eqb, ne_eqb, not-false}
 use Rattle.rules.specs.Limits.{trit_x, None}
-use Rattle.lists.specs.Choice.{if◌then◌else◌}
+use Rattle.lists.specs.Choice.{when◌then◌else◌}
 use Rattle.rules.specs.Logic.{undef, are_trits}
 use Rattle.rules.specs.Geometry.{Layout, row_len_of, full_depth_of, part_depth_of, full_mems, all_mems}
 use Rattle.rules.specs.Image.{rows_before, mem_start, trits, image_size, index_of, write_row, row_of, write_rows, layout, Patch}
@@ -159,7 +159,7 @@ module _ (q : Layout) (z : Accepted q) where
     rest : drop (image_size q) buffer' ≡ drop (image_size q) buffer
 
   next : ℕ → Patch → List ℕ → List ℕ
-  next size c rows = if eqb (refused q size c) 0 then exchange q.width c.row c.trits rows else rows
+  next size c rows = when eqb (refused q size c) 0 then exchange q.width c.row c.trits rows else rows
 
   one_accepted : (size : ℕ) (c : Patch) (rows buffer : List ℕ) → length buffer ≡ size → image_size q ≤ size → length rows ≡ q.depth * q.width
       → take (image_size q) buffer ≡ layout q rows → refused q size c ≡ 0 → Step size rows (exchange q.width c.row c.trits rows) buffer (called q c buffer)

@@ -7,7 +7,7 @@ use native.Mathlib.Omega.{arith}
 use lib.Dec.{eqb, leb}
 use lib.ListN.{length, replicate, length-replicate}
 use borrow.Author.Tests.{eq-eqb, ne_eqb, le-ltb}
-use Rattle.lists.specs.Choice.{if◌then◌else◌}
+use Rattle.lists.specs.Choice.{when◌then◌else◌}
 use Rattle.lists.specs.Lists.{all}
 use Rattle.lists.proofs.Choice.{else_rest, or_both, not_is_false}
 use Rattle.rules.specs.Limits.{trit_x, max_depth, max_width, max_bits, max_row, max_unit, max_hard}
@@ -54,7 +54,7 @@ module _ (q : Layout) (n : ℕ) where
   unfolding swizzle
   few_words = on (eqb q.width 0) (eqb q.depth 0)
     where
-      on : (a b : Bool) → Few (if a then done [] else if b then swizzle_empty (bare_mem q) [] else swizzle_rows (bare_mem q) [] (bare_plan q))
+      on : (a b : Bool) → Few (when a then done [] else when b then swizzle_empty (bare_mem q) [] else swizzle_rows (bare_mem q) [] (bare_plan q))
       on true b = none_words
       on false true = empty_words
       on false false = rows_words
@@ -64,7 +64,7 @@ no_scratch : (q : Layout) → swizzle_scratch (bare_mem q) (bare_plan q) ≡ 0
 unfolding swizzle_scratch largest
 no_scratch q = on (eqb q.width 0) (eqb q.depth 0)
   where
-    on : (a b : Bool) → ◌≡◌ {A = ℕ} (if a then 0 else if b then 0 else 0) 0
+    on : (a b : Bool) → ◌≡◌ {A = ℕ} (when a then 0 else when b then 0 else 0) 0
     on true b = refl
     on false true = refl
     on false false = refl
@@ -111,7 +111,7 @@ module _ (q : Layout) (e : bad_layout q ≡ false) where
   number_good =
       else_rest _ _ (else_rest _ _ mem_good ∙ else_rest _ _ plan_good ∙ else_rest _ _ wide_good ∙ result_good) ∙ last (eqb q.depth 0)
     where
-      last : (t : Bool) → ◌≡◌ {A = ℕ} (if t && false then 14 else 0) 0
+      last : (t : Bool) → ◌≡◌ {A = ℕ} (when t && false then 14 else 0) 0
       last true = refl
       last false = refl
 

@@ -10,7 +10,7 @@ use lib.Dec.{eqb, ltb}
 use lib.ListN.{length, get_or}
 use borrow.Author.Tests.{eq-eqb, eqb-true, eqb-false, ltb-false, leb-false, ne_eqb, not-false}
 use Rattle.lists.proofs.Choice.{or_left, or_right, or_false, or_both, and_false, not_is_true}
-use Rattle.lists.specs.Choice.{if◌then◌else◌}
+use Rattle.lists.specs.Choice.{when◌then◌else◌}
 use Rattle.lists.proofs.All.{any_at}
 use Rattle.rules.specs.Limits.{max_depth, max_width, max_bits, max_row, max_unit, max_hard, max_mask, addr_bits, None}
 use Rattle.rules.specs.Numbers.{top_bits}
@@ -135,11 +135,11 @@ module _ (q : Layout) where
 module _ (q : Layout) where
   pub shape_none : bad_layout q ≡ true → none ≡ laid_shape q
   unfolding laid_shape
-  shape_none e = sym (ap (λ (t : Bool). if t then none else some (shape_of q)) e)
+  shape_none e = sym (ap (λ (t : Bool). when t then none else some (shape_of q)) e)
 
   pub shape_some : (s : Shape) → bad_layout q ≡ false → s ≡ shape_of q → some s ≡ laid_shape q
   unfolding laid_shape
-  shape_some s e h = ap some h ∙ sym (ap (λ (t : Bool). if t then none else some (shape_of q)) e)
+  shape_some s e h = ap some h ∙ sym (ap (λ (t : Bool). when t then none else some (shape_of q)) e)
 
   -- what a caller learns
   never : {s : Shape} → ◌≡◌ {A = Option Shape} none (some s) → ⊥

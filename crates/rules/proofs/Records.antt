@@ -10,7 +10,7 @@ use lib.ListN.{length, take, drop, replicate, length-append, length-map}
 use lib.Seq.{take_at, drop_at, drop-drop}
 use borrow.Author.Tests.{leb-true, eq-eqb, le-ltb}
 use Rattle.rules.specs.Limits.{trit_x, head_bytes, record_mark}
-use Rattle.lists.specs.Choice.{if◌then◌else◌, ◌or_else◌}
+use Rattle.lists.specs.Choice.{when◌then◌else◌, ◌or_else◌}
 use Rattle.lists.specs.Lists.{all, any, pairs}
 use Rattle.rules.specs.Numbers.{ceil_div}
 use Rattle.rules.specs.Logic.{are_trits}
@@ -21,7 +21,7 @@ use Rattle.lists.proofs.Choice.{and_true}
 use Rattle.rules.proofs.Bits.{are_bits, length_pack, pack_bits_lem, image_bits}
 
 -- ---- known and value bits
-bit_if : (b : Bool) (x y : ℕ) → leb x 1 ≡ true → leb y 1 ≡ true → leb (if b then x else y) 1 ≡ true
+bit_if : (b : Bool) (x y : ℕ) → leb x 1 ≡ true → leb y 1 ≡ true → leb (when b then x else y) 1 ≡ true
 bit_if true x y e f = e
 bit_if false x y e f = f
 

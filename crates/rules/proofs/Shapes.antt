@@ -5,7 +5,7 @@ use mathlib.Core.Bool.{Bool, true, false, ◌||◌}
 use mathlib.Core.List.{List, [], ◌∷◌}
 use lib.ListN.{length, drop}
 use lib.Dec.{eqb, eqb-suc-zero, leb-suc-suc, leb-zero}
-use Rattle.lists.specs.Choice.{if◌then◌else◌}
+use Rattle.lists.specs.Choice.{when◌then◌else◌}
 use Rattle.rules.specs.Value.{Value}
 use Rattle.rules.specs.Merge.{longer, runs}
 use Rattle.rules.specs.Geometry.{Spot, to_chunk, hard_left, under, walk}
@@ -14,10 +14,10 @@ use Rattle.rules.specs.Swizzle.{role_of, is_chunk, wide_after, rows_after, roles
 -- how many neighbours after s equal it
 abbrev pub lead : ℕ → List ℕ → ℕ
 lead s [] = 0
-lead s (t ∷ l) = if eqb s t then suc (lead t l) else 0
+lead s (t ∷ l) = when eqb s t then suc (lead t l) else 0
 
 step : (b : Bool) (t : ℕ) (l : List ℕ) → runs (t ∷ l) ≡ suc (lead t l) ∷ runs (drop (lead t l) l)
-    → longer b (runs (t ∷ l)) ≡ suc (if b then suc (lead t l) else 0) ∷ runs (drop (if b then suc (lead t l) else 0) (t ∷ l))
+    → longer b (runs (t ∷ l)) ≡ suc (when b then suc (lead t l) else 0) ∷ runs (drop (when b then suc (lead t l) else 0) (t ∷ l))
 unfolding longer
 step true t l h = ap (longer true) h
 step false t l h = refl

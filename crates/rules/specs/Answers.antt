@@ -3,7 +3,7 @@
 use Rattle.std.specs.Prelude.{ℕ, ◌-◌, Bool, List, [], ◌∷◌, length, drop, eqb}
 use Rattle.std.proofs.Math.Option.{none, some}
 use Rattle.std.proofs.lemmas.List.Edits.{sets}
-use Rattle.lists.specs.Choice.{if◌then◌else◌, leaves}
+use Rattle.lists.specs.Choice.{when◌then◌else◌, leaves}
 use Rattle.lists.specs.Lists.{all, part}
 use Rattle.rules.specs.Limits.{X}
 use Rattle.rules.specs.Logic.{Const, Trit, trit_of, const_not, const_and, const_or, is_undef}
@@ -28,7 +28,7 @@ pub data Answer (A : Type 0) : Type 0 where
 module _ {A : Type 0} where
   -- the values, unless a number refuses the call
   unfoldable pub answer_of : ℕ → A → Answer A
-  answer_of n a = if eqb n 0 then Accepted a else Refused n
+  answer_of n a = when eqb n 0 then Accepted a else Refused n
 
 -- ---- leaves
 unfoldable pub trit_from_code : ℕ → Answer Trit

@@ -3,7 +3,7 @@ use Rattle.std.specs.Prelude.{ℕ, suc, ◌-◌, ◌/◌, Bool, true, false, Lis
 use Rattle.std.proofs.Math.Option.{Option, none, some}
 use Rattle.std.proofs.lemmas.List.Edits.{sets}
 use Rattle.rules.specs.Limits.{addr_bits}
-use Rattle.lists.specs.Choice.{if◌then◌else◌}
+use Rattle.lists.specs.Choice.{when◌then◌else◌}
 use Rattle.lists.specs.Lists.{sum_by, part, concat_map}
 use Rattle.rules.specs.Numbers.{top_bits}
 use Rattle.rules.specs.Logic.{Const, undef}
@@ -194,7 +194,7 @@ is_read_before_write r = eqb r ReadBeforeWrite
 -- the numbers, from i on, of the write ports that a port is transparent to
 unfoldable pub transparent_from : ℕ → List Relation → List ℕ
 transparent_from i [] = []
-transparent_from i (r ∷ rs) = if is_transparent r then i ∷ transparent_from (suc i) rs else transparent_from (suc i) rs
+transparent_from i (r ∷ rs) = when is_transparent r then i ∷ transparent_from (suc i) rs else transparent_from (suc i) rs
 
 unfoldable pub transparent_ports : ReadFlipFlop → List ℕ
 transparent_ports f = transparent_from 0 f.relations

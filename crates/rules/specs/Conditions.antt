@@ -1,7 +1,7 @@
 -- The conditions of document 01's numbers, in their order. `next` is the next free net; a call without the log state takes its limit.
 use Rattle.std.specs.Prelude.{ℕ, suc, ◌+◌, ◌-◌, ◌*◌, ◌%◌, ◌^◌, min, Bool, false, ◌&&◌, ◌||◌, not, List, [], ◌∷◌, ◌++◌, length, drop, eqb, ltb, leb}
 use Rattle.rules.specs.Limits.{max_depth, max_width, max_bits, max_ports, max_wide, addr_bits, max_row, max_unit, max_hard, max_mask, max_granularity, max_merge, max_columns, max_image, max_nets, max_partial, None, record_mark, head_bytes, max_words}
-use Rattle.lists.specs.Choice.{if◌then◌else◌}
+use Rattle.lists.specs.Choice.{when◌then◌else◌}
 use Rattle.lists.specs.Lists.{any, sum_by, pairs, up_from}
 use Rattle.rules.specs.Numbers.{softs, top_bits}
 use Rattle.rules.specs.Logic.{Const, are_trits}
@@ -211,7 +211,7 @@ bad_unit s = eqb s.unit 0 || ltb max_unit s.unit
 
 -- a depth is 0 exactly when its count is
 unfoldable pub unlike : ℕ → ℕ → Bool
-unlike count depth = not (if eqb count 0 then eqb depth 0 else ltb 0 depth)
+unlike count depth = not (when eqb count 0 then eqb depth 0 else ltb 0 depth)
 
 unfoldable pub bad_depths : Sizes → Bool
 bad_depths s =

@@ -1,7 +1,7 @@
 -- Sizes: make_data_swizzle, swizzle_depths, swizzle_mux_bits, and the walk over the bits of a row number.
 use Rattle.std.specs.Prelude.{ℕ, zero, suc, ◌+◌, ◌-◌, ◌*◌, ◌/◌, ◌%◌, ◌^◌, Bool, true, false, ◌||◌, List, [], ◌∷◌, ◌++◌, map, length, get_or, replicate, eqb}
 use Rattle.rules.specs.Limits.{addr_bits, max_row, X, None}
-use Rattle.lists.specs.Choice.{if◌then◌else◌}
+use Rattle.lists.specs.Choice.{when◌then◌else◌}
 use Rattle.lists.specs.Lists.{all, pairs, up_from, same_list}
 use Rattle.rules.specs.Numbers.{ceil_div, softs, bits_for}
 use Rattle.rules.specs.Value.{Value}
@@ -17,7 +17,7 @@ unfoldable pub changing : Mem → ℕ → List WritePort → List ℕ → List �
 changing m b [] gs = []
 changing m b (p ∷ ps) [] = []
 changing m b (p ∷ ps) (g ∷ gs) =
-    if same_list (mask_slice m b p) (mask_slice m (b - 1) p) then changing m b ps gs else g ∷ changing m b ps gs
+    when same_list (mask_slice m b p) (mask_slice m (b - 1) p) then changing m b ps gs else g ∷ changing m b ps gs
 
 unfoldable pub aligned : List ℕ → ℕ → Bool
 aligned gs n = all (λ g. eqb (n % g) 0) gs
@@ -74,7 +74,7 @@ unfoldable pub part_depth_of : Layout → ℕ
 part_depth_of q = q.depth / 2 ^ soft q % full_depth_of q
 
 unfoldable pub all_chunks : Layout → ℕ
-all_chunks q = if eqb (part_depth_of q) 0 then full_chunks q else full_chunks q + 1
+all_chunks q = when eqb (part_depth_of q) 0 then full_chunks q else full_chunks q + 1
 
 -- the full memories, and all
 unfoldable pub full_mems : Layout → ℕ

@@ -2,7 +2,7 @@
 use Rattle.std.specs.Prelude.{ℕ, zero, suc, ◌+◌, ◌-◌, ◌*◌, ◌/◌, ◌%◌, min, Bool, true, false, List, [], ◌∷◌, get_or, set, eqb, ltb}
 use Rattle.std.proofs.Math.Option.{Option}
 use Rattle.rules.specs.Limits.{addr_bits, None}
-use Rattle.lists.specs.Choice.{if◌then◌else◌}
+use Rattle.lists.specs.Choice.{when◌then◌else◌}
 use Rattle.lists.specs.Lists.{part}
 use Rattle.rules.specs.Logic.{Const, undef}
 use Rattle.rules.specs.Geometry.{Layout, row_len_of, full_depth_of, part_depth_of, full_mems, all_mems, Spot, walk}
@@ -27,7 +27,7 @@ place_of q row i = record { memory = column q row i / q.unit; row = (spot_of q r
 -- ---- the image is flat: memories in order, row 0 and bit 0 first
 -- the depth of memory n, where the first full of them have depth H and the others P; and the rows of the memories before it
 unfoldable pub depth_at : ℕ → ℕ → ℕ → ℕ → ℕ
-depth_at full H P n = if ltb n full then H else P
+depth_at full H P n = when ltb n full then H else P
 
 unfoldable pub rows_before : ℕ → ℕ → ℕ → ℕ → ℕ
 rows_before full H P n = min n full * H + (n - full) * P
@@ -41,7 +41,7 @@ trits q = mem_start q (all_mems q)
 
 -- the image of an accepted swizzle: a memory of width 0 gives no memories
 unfoldable pub image_size : Layout → ℕ
-image_size q = if eqb q.width 0 then 0 else trits q
+image_size q = when eqb q.width 0 then 0 else trits q
 
 -- the index of a memory's row and bit in the flat image
 unfoldable pub flat_at : Layout → ℕ → ℕ → ℕ → ℕ

@@ -1,6 +1,6 @@
 -- The lister program: what it prints for what it reads.
 use Rattle.std.specs.Prelude.{ℕ, zero, suc, ◌+◌, ◌*◌, ◌/◌, ◌%◌, Bool, true, false, List, [], ◌∷◌, ◌++◌, map, eqb, ltb}
-use Rattle.lists.specs.Choice.{if◌then◌else◌}
+use Rattle.lists.specs.Choice.{when◌then◌else◌}
 use Rattle.lists.specs.Lists.{sum_by, part, up_from, concat_map}
 use Rattle.rules.specs.Logic.{Const, ones}
 use Rattle.rules.specs.Image.{depth_at, rows_before}
@@ -79,7 +79,7 @@ memory_line y =
     ++ (space ∷ decimal y.depth)
     ++ (space ∷ decimal y.known)
     ++ (space ∷ decimal y.ones)
-    ++ (space ∷ (if is_blank y.known y.ones then blank_text else load_text))
+    ++ (space ∷ (when is_blank y.known y.ones then blank_text else load_text))
     ++ (newline ∷ [])
 
 unfoldable pub refused_line : ℕ → List ℕ
@@ -90,4 +90,4 @@ listed bytes = head_line (head_sizes bytes) ++ concat_map memory_line (summaries
 
 -- the lister's standard output for its standard input
 unfoldable pub lister : List ℕ → List ℕ
-lister bytes = if eqb (record_number bytes) 0 then listed bytes else refused_line (record_number bytes)
+lister bytes = when eqb (record_number bytes) 0 then listed bytes else refused_line (record_number bytes)

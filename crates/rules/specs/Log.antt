@@ -3,7 +3,7 @@
 use Rattle.std.specs.Prelude.{ℕ, ◌+◌, min, max, Bool, true, false, ◌||◌, List, [], ◌∷◌, ◌++◌, length, get_or}
 use Rattle.std.proofs.lemmas.List.Edits.{sets}
 use Rattle.rules.specs.Limits.{X, max_nets}
-use Rattle.lists.specs.Choice.{if◌then◌else◌}
+use Rattle.lists.specs.Choice.{when◌then◌else◌}
 use Rattle.lists.specs.Lists.{up_from}
 use Rattle.rules.specs.Value.{Value, first_cell, Control, is_always, control_words, Pos, Neg}
 use Rattle.rules.specs.Cell.{Controls, FlipFlop}
@@ -137,8 +137,8 @@ with_reset c r = record { clock = c.clock; clear = c.clear; reset = r; enable = 
 -- remap_reset_over_enable
 unfoldable pub remap_reset_over_enable_of : Controls → Trace Controls
 remap_reset_over_enable_of c =
-    if c.reset_over_enable then done c
-    else if is_always 0 c.reset || is_always 1 c.enable then done (with_reset c c.reset)
+    when c.reset_over_enable then done c
+    else when is_always 0 c.reset || is_always 1 c.enable then done (with_reset c c.reset)
     else do
       r ← into_pos_of c.reset
       e ← into_pos_of c.enable

@@ -1,7 +1,7 @@
 -- logic.rs: trits and constants. A constant is a list of trit codes: 0, 1, and 2 for X.
 use Rattle.std.specs.Prelude.{ℕ, Bool, List, map, replicate, eqb, leb}
 use Rattle.rules.specs.Limits.{trit_x}
-use Rattle.lists.specs.Choice.{if◌then◌else◌}
+use Rattle.lists.specs.Choice.{when◌then◌else◌}
 use Rattle.lists.specs.Lists.{all, pairs}
 
 abbrev pub Const : Type 0
@@ -12,7 +12,7 @@ pub data Trit : Type 0 where
 
 -- the trit of a code, and back
 unfoldable pub trit_of : ℕ → Trit
-trit_of n = if eqb n 0 then Zero else if eqb n 1 then One else Undef
+trit_of n = when eqb n 0 then Zero else when eqb n 1 then One else Undef
 
 unfoldable pub code_of : Trit → ℕ
 code_of Zero = 0

@@ -2,7 +2,7 @@
 use Rattle.std.specs.Prelude.{ℕ, ◌+◌, ◌*◌, min, ◌<◌, ◌≡◌, ◌≢◌, List, [], ◌∷◌, ◌++◌, length, get_or, take, drop, eqb}
 use Rattle.std.proofs.Math.Option.{none, some}
 use Rattle.rules.specs.Limits.{trit_x, None}
-use Rattle.lists.specs.Choice.{if◌then◌else◌}
+use Rattle.lists.specs.Choice.{when◌then◌else◌}
 use Rattle.rules.specs.Logic.{Const}
 use Rattle.rules.specs.Log.{entry}
 use Rattle.rules.specs.Geometry.{Layout, row_len_of}
@@ -11,7 +11,7 @@ use Rattle.rules.specs.Refusals.{patch_refusal_of}
 
 -- the lent image after a call
 unfoldable pub patched_by : Layout → Patch → List ℕ → List ℕ
-patched_by q c image = if eqb (patch_refusal_of q c) 0 then write_row q c.row c.trits image else image
+patched_by q c image = when eqb (patch_refusal_of q c) 0 then write_row q c.row c.trits image else image
 
 -- by the state
 unfoldable pub patched_one : Laid → Patch → List ℕ → List ℕ
@@ -44,7 +44,7 @@ exchange width r ts rows = take (r * width) rows ++ (ts ++ drop (r * width + wid
 unfoldable pub amended : Layout → ℕ → List Patch → List ℕ → List ℕ
 amended q size [] rows = rows
 amended q size (c ∷ cs) rows =
-    amended q size cs (if eqb (patch_refusal_of q (lent_to size c)) 0 then exchange q.width c.row c.trits rows else rows)
+    amended q size cs (when eqb (patch_refusal_of q (lent_to size c)) 0 then exchange q.width c.row c.trits rows else rows)
 
 -- the swizzle's own image buffer once the rows are laid out: the image, and the rest as it was
 unfoldable pub laid_out : Layout → List ℕ → List ℕ → List ℕ

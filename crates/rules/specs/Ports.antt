@@ -1,7 +1,7 @@
 -- memory/src/lib.rs, the calls on ports: transparency_mux, extract_read_ports, the two unmappings and emulate_read_before_write.
 use Rattle.std.specs.Prelude.{ℕ, suc, ◌-◌, Bool, true, false, ◌&&◌, not, List, [], ◌∷◌, map, length, get_or, take, drop, replicate, ltb}
 use Rattle.std.proofs.Math.Option.{Option, none, some}
-use Rattle.lists.specs.Choice.{if◌then◌else◌}
+use Rattle.lists.specs.Choice.{when◌then◌else◌}
 use Rattle.lists.specs.Lists.{any, up_from, concat_map}
 use Rattle.rules.specs.Logic.{is_undef, undef, zeros, ones}
 use Rattle.rules.specs.Value.{Value, x_nets, zext, inverse, is_always, Pos}
@@ -12,7 +12,7 @@ use Rattle.rules.specs.Merge.{add_dedup_mux_of, add_dedup_dff_of, add_bitwise_mu
 -- ---- transparency_mux
 -- the select bits: the low part of the narrower port's address
 unfoldable pub narrower_select : ℕ → ℕ → Value → Value → Value
-narrower_select kw kr waddr raddr = if ltb kw kr then take (kr - kw) waddr else take (kw - kr) raddr
+narrower_select kw kr waddr raddr = when ltb kw kr then take (kr - kw) waddr else take (kw - kr) raddr
 
 -- a write port as a read port sees it: the two addresses to compare, and data and mask of the read port's width
 pub record Seen : Type 0 where
@@ -38,8 +38,8 @@ seen_narrower select d w r = do
 unfoldable pub seen : ℕ → ℕ → WritePort → ReadPort → Trace Seen
 seen kw kr w r =
     let select = narrower_select kw kr w.addr r.addr in
-    if ltb kw kr then seen_wider select (kr - kw) w r
-    else if ltb kr kw then seen_narrower select (kw - kr) w r
+    when ltb kw kr then seen_wider select (kr - kw) w r
+    else when ltb kr kw then seen_narrower select (kw - kr) w r
     else done (record { write_addr = w.addr; read_addr = r.addr; bits = w.bits; mask = w.mask })
 
 -- data, and a mask where one is wanted, laid over what a port reads
@@ -124,7 +124,7 @@ has_clear f = not (is_always 0 f.controls.clear)
 
 -- the transparent relations that are to go
 unfoldable pub wanted : Bool → ReadFlipFlop → List ℕ
-wanted incl f = if incl then transparent_ports f else []
+wanted incl f = when incl then transparent_ports f else []
 
 unfoldable pub is_empty : List ℕ → Bool
 is_empty [] = true
@@ -135,7 +135,7 @@ unfoldable pub is_plain : Bool → ReadFlipFlop → Bool
 is_plain incl f = not (has_init f) && (not (has_reset f) && (not (has_clear f) && is_empty (wanted incl f)))
 
 unfoldable pub no_transparent : Relation → Relation
-no_transparent r = if is_transparent r then Undefined else r
+no_transparent r = when is_transparent r then Undefined else r
 
 -- the port's flip-flop after: no clear, reset or init
 unfoldable pub unmapped_reset : Bool → ℕ → ReadFlipFlop → ReadFlipFlop
@@ -144,7 +144,7 @@ unmapped_reset incl n f = record {
   clear_value = undef n;
   reset_value = undef n;
   init_value = undef n;
-  relations = if incl then map no_transparent f.relations else f.relations;
+  relations = when incl then map no_transparent f.relations else f.relations;
 }
 
 -- the mask's flip-flop: 1 after clear, reset and, where there is an init, at the start
@@ -154,7 +154,7 @@ mask_flip_flop f n mask = record {
   controls = f.controls;
   clear_value = ones n;
   reset_value = ones n;
-  init_value = if has_init f then ones n else undef n;
+  init_value = when has_init f then ones n else undef n;
 }
 
 unfoldable pub unmap_reset : Mem → ℕ → Bool → Value → ReadFlipFlop → Trace Driving
@@ -172,7 +172,7 @@ unmap_reset m i incl output f =
 unfoldable pub unmap_reset_of : Option ReadFlipFlop → Mem → ℕ → Bool → Value → Trace Driving
 unmap_reset_of none m i incl output = done (record { memory = m; output = output })
 unmap_reset_of (some f) m i incl output =
-    if is_plain incl f then done (record { memory = m; output = output }) else unmap_reset m i incl output f
+    when is_plain incl f then done (record { memory = m; output = output }) else unmap_reset m i incl output f
 
 unfoldable pub unmap_read_init_reset_transparency : Mem → ℕ → Bool → Value → Trace Driving
 unmap_read_init_reset_transparency m i incl output = unmap_reset_of (read_at_of m i).flip_flop m i incl output
@@ -189,20 +189,20 @@ delayed allX p =
     do
       a ← add_dff_of (new_flip_flop p.addr p.clock)
       v ← add_dff_of (new_flip_flop p.bits p.clock)
-      k ← add_dedup_dff_of (with_init (new_flip_flop p.mask p.clock) (if allX then undef n else zeros n))
+      k ← add_dedup_dff_of (with_init (new_flip_flop p.mask p.clock) (when allX then undef n else zeros n))
       done (record { addr = a; bits = v; mask = k; clock = inverse p.clock })
 
 unfoldable pub delay_writes : Mem → ℕ → List WritePort → Trace (List WritePort)
 delay_writes m j [] = done []
 delay_writes m j (p ∷ ps) = do
-  q ← (if relates_to is_read_before_write m j then delayed (is_undef m.init) p else done p)
+  q ← (when relates_to is_read_before_write m j then delayed (is_undef m.init) p else done p)
   qs ← delay_writes m (suc j) ps
   done (q ∷ qs)
 
 -- relations from write port j on: those to a delayed port are Undefined
 unfoldable pub settled : Mem → ℕ → List Relation → List Relation
 settled m j [] = []
-settled m j (r ∷ rs) = (if relates_to is_read_before_write m j then Undefined else r) ∷ settled m (suc j) rs
+settled m j (r ∷ rs) = (when relates_to is_read_before_write m j then Undefined else r) ∷ settled m (suc j) rs
 
 unfoldable pub settled_flip_flop : Mem → Option ReadFlipFlop → Option ReadFlipFlop
 settled_flip_flop m none = none

@@ -1,7 +1,7 @@
 -- The image record: its bytes from an image, and back.
 use Rattle.std.specs.Prelude.{ℕ, zero, suc, ◌+◌, ◌-◌, ◌*◌, ◌/◌, ◌%◌, List, [], ◌∷◌, ◌++◌, map, length, get_or, take, drop, eqb}
 use Rattle.rules.specs.Limits.{trit_x, record_mark, head_bytes}
-use Rattle.lists.specs.Choice.{if◌then◌else◌}
+use Rattle.lists.specs.Choice.{when◌then◌else◌}
 use Rattle.lists.specs.Lists.{part, pairs, concat_map}
 use Rattle.rules.specs.Numbers.{ceil_div}
 use Rattle.rules.specs.Logic.{Const}
@@ -18,14 +18,14 @@ pub record Sizes : Type 0 where
 
 -- a depth is 0 where its count is 0
 unfoldable pub depth_if : ℕ → ℕ → ℕ
-depth_if count depth = if eqb count 0 then 0 else depth
+depth_if count depth = when eqb count 0 then 0 else depth
 
 -- those of an accepted swizzle
 unfoldable pub sizes_of : Layout → Sizes
 sizes_of q =
     let none? = eqb q.width 0 in
-    let full = (if none? then 0 else full_mems q) in
-    let part = (if none? then 0 else all_mems q - full_mems q) in
+    let full = (when none? then 0 else full_mems q) in
+    let part = (when none? then 0 else all_mems q - full_mems q) in
     record { unit = q.unit; full = full; full_depth_of = depth_if full (full_depth_of q); partial = part; partial_depth = depth_if part (part_depth_of q) }
 
 unfoldable pub size_mems : Sizes → ℕ
@@ -66,13 +66,13 @@ array_bytes n = ceil_div n 8
 
 -- X is known 0, value 0
 unfoldable pub known_bit : ℕ → ℕ
-known_bit t = if eqb t trit_x then 0 else 1
+known_bit t = when eqb t trit_x then 0 else 1
 
 unfoldable pub value_bit : ℕ → ℕ
-value_bit t = if eqb t 1 then 1 else 0
+value_bit t = when eqb t 1 then 1 else 0
 
 unfoldable pub trit_by : ℕ → ℕ → ℕ
-trit_by known value = if eqb known 0 then trit_x else value
+trit_by known value = when eqb known 0 then trit_x else value
 
 -- ---- the record of an image
 unfoldable pub record_head : Sizes → List ℕ

@@ -3,7 +3,7 @@
 -- the state (20 to 23) among them. Numbers for the input come first, then 22, 20 and 21; a patch tries 23 before all others.
 use Rattle.std.specs.Prelude.{ℕ, ◌-◌, ◌≡◌, Bool, false, ◌&&◌, ◌||◌, not, List, [], ◌∷◌, length, eqb, ltb, leb}
 use Rattle.std.proofs.Math.Option.{none, some}
-use Rattle.lists.specs.Choice.{if◌then◌else◌, ◌or_else◌}
+use Rattle.lists.specs.Choice.{when◌then◌else◌, ◌or_else◌}
 use Rattle.lists.specs.Lists.{any}
 use Rattle.rules.specs.Limits.{max_nets}
 use Rattle.rules.specs.Logic.{Const}
@@ -21,47 +21,47 @@ use Rattle.rules.specs.Conditions.{too_large, plan_too_large, long_list, long_va
 
 -- ---- leaves
 unfoldable pub trit_refusal : ℕ → ℕ
-trit_refusal code = if bad_trits (code ∷ []) then 4 else 0
+trit_refusal code = when bad_trits (code ∷ []) then 4 else 0
 
 unfoldable pub const_not_refusal : ℕ → Const → ℕ
-const_not_refusal room a = if bad_trits a then 4 else if no_room_of room (length a) then 20 else 0
+const_not_refusal room a = when bad_trits a then 4 else when no_room_of room (length a) then 20 else 0
 
 -- const_and and const_or
 unfoldable pub const_pair_refusal : ℕ → Const → Const → ℕ
 const_pair_refusal room a b =
-    if unequal a b then 2 else if bad_trits a || bad_trits b then 4 else if no_room_of room (length a) then 20 else 0
+    when unequal a b then 2 else when bad_trits a || bad_trits b then 4 else when no_room_of room (length a) then 20 else 0
 
 unfoldable pub is_undef_refusal : Const → ℕ
-is_undef_refusal a = if bad_trits a then 4 else 0
+is_undef_refusal a = when bad_trits a then 4 else 0
 
 -- a control without the log state: its inverse, is_always
 unfoldable pub control_refusal : Control → ℕ
-control_refusal c = if bad_control max_nets c then 4 else 0
+control_refusal c = when bad_control max_nets c then 4 else 0
 
 unfoldable pub wide_log2_refusal : ℕ → ℕ → ℕ
-wide_log2_refusal width size = if bad_data_len width size then 2 else 0
+wide_log2_refusal width size = when bad_data_len width size then 2 else 0
 
 -- const_slice and value_slice
 unfoldable pub slice_refusal : ℕ → ℕ → ℕ → ℕ
-slice_refusal start end size = if ltb end start || ltb size end then 15 else 0
+slice_refusal start end size = when ltb end start || ltb size end then 15 else 0
 
 -- a value's nets without the log state: its undef test
 unfoldable pub value_refusal : Value → ℕ
-value_refusal v = if bad_value max_nets v then 4 else 0
+value_refusal v = when bad_value max_nets v then 4 else 0
 
 -- zext to n nets
 unfoldable pub zext_refusal : ℕ → Value → ℕ → ℕ
-zext_refusal room v n = if ltb n (length v) then 2 else if bad_value max_nets v then 4 else if no_room_of room n then 20 else 0
+zext_refusal room v n = when ltb n (length v) then 2 else when bad_value max_nets v then 4 else when no_room_of room n then 20 else 0
 
 unfoldable pub net_of_cell_refusal : ℕ → ℕ
-net_of_cell_refusal c = if leb max_nets (net_of_cell c) then 4 else 0
+net_of_cell_refusal c = when leb max_nets (net_of_cell c) then 4 else 0
 
 unfoldable pub narrower_select_refusal : ℕ → ℕ → Value → Value → ℕ
-narrower_select_refusal kw kr waddr raddr = if too_few_bits kw kr waddr raddr then 14 else 0
+narrower_select_refusal kw kr waddr raddr = when too_few_bits kw kr waddr raddr then 14 else 0
 
 -- ---- the log: 20 and 21, last of all
 unfoldable pub room_refusal : ℕ → LogState → ℕ → ℕ → ℕ
-room_refusal room s words nets = if log_full room s words then 20 else if nets_full s nets then 21 else 0
+room_refusal room s words nets = when log_full room s words then 20 else when nets_full s nets then 21 else 0
 
 module _ {A : Type 0} where
   -- for the words and nets that a trace gives
@@ -73,21 +73,21 @@ unfoldable pub add_void_refusal : ℕ → LogState → ℕ → ℕ
 add_void_refusal room s width = log_refusal room s (add_void_of width)
 
 unfoldable pub value_number : ℕ → Value → ℕ
-value_number next a = if bad_value next a then 4 else 0
+value_number next a = when bad_value next a then 4 else 0
 
 unfoldable pub add_not_refusal : ℕ → LogState → Value → ℕ
 add_not_refusal room s a = value_number s.next a or_else log_refusal room s (add_not_of a)
 
 -- and, or, eq and replace
 unfoldable pub pair_number : ℕ → Value → Value → ℕ
-pair_number next a b = if unequal a b then 2 else if bad_value next a || bad_value next b then 4 else 0
+pair_number next a b = when unequal a b then 2 else when bad_value next a || bad_value next b then 4 else 0
 
 unfoldable pub add_pair_refusal : {A : Type 0} → (Value → Value → Trace A) → ℕ → LogState → Value → Value → ℕ
 add_pair_refusal add room s a b = pair_number s.next a b or_else log_refusal room s (add a b)
 
 -- shl and ushr
 unfoldable pub shift_number : ℕ → Value → Value → ℕ
-shift_number next select a = if bad_value next select || bad_value next a then 4 else 0
+shift_number next select a = when bad_value next select || bad_value next a then 4 else 0
 
 unfoldable pub add_shift_refusal : (ℕ → Value → Value → Trace Value) → ℕ → LogState → ℕ → Value → Value → ℕ
 add_shift_refusal add room s stride select a = shift_number s.next select a or_else log_refusal room s (add stride select a)
@@ -95,9 +95,9 @@ add_shift_refusal add room s stride select a = shift_number s.next select a or_e
 -- mux, and its merging kind
 unfoldable pub mux_number : ℕ → Control → Value → Value → ℕ
 mux_number next c a b =
-    if long_value a || long_value b then 1
-    else if unequal a b then 2
-    else if not (good_select next c) || (bad_value next a || bad_value next b) then 4
+    when long_value a || long_value b then 1
+    else when unequal a b then 2
+    else when not (good_select next c) || (bad_value next a || bad_value next b) then 4
     else 0
 
 unfoldable pub add_mux_refusal : ℕ → LogState → Control → Value → Value → ℕ
@@ -111,7 +111,7 @@ bad_flip_flop next f =
     bad_value next f.bits || (bad_controls next f.controls || (bad_trits f.clear_value || (bad_trits f.reset_value || bad_trits f.init_value)))
 
 unfoldable pub dff_number : ℕ → FlipFlop → ℕ
-dff_number next f = if bad_flip_flop_lens f then 2 else if bad_flip_flop next f then 4 else 0
+dff_number next f = when bad_flip_flop_lens f then 2 else when bad_flip_flop next f then 4 else 0
 
 unfoldable pub add_dff_refusal : ℕ → LogState → FlipFlop → ℕ
 add_dff_refusal room s f = dff_number s.next f or_else log_refusal room s (add_dff_of f)
@@ -119,7 +119,7 @@ add_dff_refusal room s f = dff_number s.next f or_else log_refusal room s (add_d
 -- ---- lent room for another result
 -- 20 for so many elements
 abbrev pub lent_refusal : ℕ → ℕ → ℕ
-lent_refusal room need = if no_room_of room need then 20 else 0
+lent_refusal room need = when no_room_of room need then 20 else 0
 
 -- ---- merges: the result's nets are lent room too
 unfoldable pub result_refusal : ℕ → Value → ℕ
@@ -130,7 +130,7 @@ add_dedup_mux_refusal out room s c a b =
     mux_number s.next c a b or_else result_refusal out a or_else log_refusal room s (add_dedup_mux_of c a b)
 
 unfoldable pub merge_dff_number : ℕ → FlipFlop → ℕ
-merge_dff_number next f = if long_value f.bits then 1 else dff_number next f
+merge_dff_number next f = when long_value f.bits then 1 else dff_number next f
 
 unfoldable pub add_dedup_dff_refusal : ℕ → ℕ → LogState → FlipFlop → ℕ
 add_dedup_dff_refusal out room s f =
@@ -138,10 +138,10 @@ add_dedup_dff_refusal out room s f =
 
 -- 1 and 2 of a bitwise mux, by the lengths of its values alone
 unfoldable pub bitwise_lens_number : Value → Value → Value → ℕ
-bitwise_lens_number c a b = if long_value c || (long_value a || long_value b) then 1 else if unequal c a || unequal c b then 2 else 0
+bitwise_lens_number c a b = when long_value c || (long_value a || long_value b) then 1 else when unequal c a || unequal c b then 2 else 0
 
 unfoldable pub bitwise_number : ℕ → Value → Value → Value → ℕ
-bitwise_number next c a b = bitwise_lens_number c a b or_else (if bad_value next c || (bad_value next a || bad_value next b) then 4 else 0)
+bitwise_number next c a b = bitwise_lens_number c a b or_else (when bad_value next c || (bad_value next a || bad_value next b) then 4 else 0)
 
 unfoldable pub add_bitwise_mux_refusal : ℕ → ℕ → LogState → Value → Value → Value → ℕ
 add_bitwise_mux_refusal out room s c a b =
@@ -149,13 +149,13 @@ add_bitwise_mux_refusal out room s c a b =
 
 -- ---- what the records ask for
 unfoldable pub control_number : ℕ → Control → ℕ
-control_number next c = if bad_control next c then 4 else 0
+control_number next c = when bad_control next c then 4 else 0
 
 unfoldable pub into_pos_refusal : ℕ → LogState → Control → ℕ
 into_pos_refusal room s c = control_number s.next c or_else log_refusal room s (into_pos_of c)
 
 unfoldable pub remap_number : ℕ → Controls → ℕ
-remap_number next c = if bad_control next c.reset || bad_control next c.enable then 4 else 0
+remap_number next c = when bad_control next c.reset || bad_control next c.enable then 4 else 0
 
 unfoldable pub remap_reset_over_enable_refusal : ℕ → LogState → Controls → ℕ
 remap_reset_over_enable_refusal room s c = remap_number s.next c or_else log_refusal room s (remap_reset_over_enable_of c)
@@ -172,16 +172,16 @@ no_rooms r d =
     no_room_of r.nets (length (flat_nets d.memory)) || (no_room_of r.trits (length (flat_trits d.memory)) || no_room_of r.output (length d.output))
 
 unfoldable pub driving_refusal : Rooms → Driving → ℕ
-driving_refusal r d = if no_rooms r d then 20 else 0
+driving_refusal r d = when no_rooms r d then 20 else 0
 
 -- ---- a memory: 1 to 4, each with what else of the call breaks it
 -- 2, 3 or 4 by their tests
 abbrev pub number_by_of : Bool → Bool → Bool → ℕ
-number_by_of shape depth nets = if shape then 2 else if depth then 3 else if nets then 4 else 0
+number_by_of shape depth nets = when shape then 2 else when depth then 3 else when nets then 4 else 0
 
 unfoldable pub mem_number : Bool → Bool → Bool → ℕ → Given → ℕ
 mem_number one two four next g =
-    if too_large g.mem || (g.extra_ports || one) then 1
+    when too_large g.mem || (g.extra_ports || one) then 1
     else number_by_of (bad_shape g.mem || (g.wrong_lens || two)) (bad_depth g.mem) (bad_nets next g.mem || four)
 
 -- a call that has only the memory
@@ -193,7 +193,7 @@ unfoldable pub driving_number : Bool → ℕ → Given → Value → ℕ
 driving_number one next g output = mem_number one (bad_output_len g.mem output) (bad_value next output) next g
 
 unfoldable pub port_number : Mem → ℕ → ℕ
-port_number m i = if bad_port m i then 15 else 0
+port_number m i = when bad_port m i then 15 else 0
 
 -- output_len is memRefusal's; read_port_output_slice
 unfoldable pub output_slice_refusal : Given → ℕ → ℕ
@@ -212,7 +212,7 @@ unfoldable pub no_pair : Mem → ℕ → ℕ → Bool
 no_pair m i j = bad_port m i || not_below (length m.writes) j
 
 unfoldable pub pair_ports_number : Mem → ℕ → ℕ → ℕ
-pair_ports_number m i j = if not (no_pair m i j) && short_pair m (read_at_of m i) j then 14 else if no_pair m i j then 15 else 0
+pair_ports_number m i j = when not (no_pair m i j) && short_pair m (read_at_of m i) j then 14 else when no_pair m i j then 15 else 0
 
 unfoldable pub transparency_mux_number : ℕ → Given → ℕ → ℕ → Overlay → ℕ
 transparency_mux_number next g i j o =
@@ -225,7 +225,7 @@ pub record OverlayRooms : Type 0 where
   pub mask : ℕ
 
 unfoldable pub overlay_refusal : OverlayRooms → ℕ → Overlay → ℕ
-overlay_refusal r n o = if no_room_of r.bits n || any (λ k. no_room_of r.mask n) (held o.mask) then 20 else 0
+overlay_refusal r n o = when no_room_of r.bits n || any (λ k. no_room_of r.mask n) (held o.mask) then 20 else 0
 
 unfoldable pub transparency_mux_refusal : OverlayRooms → ℕ → LogState → Given → ℕ → ℕ → Overlay → ℕ
 transparency_mux_refusal r room s g i j o =
@@ -236,7 +236,7 @@ transparency_mux_refusal r room s g i j o =
 unfoldable pub extract_read_ports_refusal : Rooms → Given → List ℕ → Value → ℕ
 extract_read_ports_refusal r g ports output =
     driving_number (long_list ports) max_nets g output
-    or_else (if any (bad_port g.mem) ports then 15 else driving_refusal r (extract_read_ports g.mem ports output))
+    or_else (when any (bad_port g.mem) ports then 15 else driving_refusal r (extract_read_ports g.mem ports output))
 
 -- 20 and 21 of a call that changes a memory and its outputs: the room for them, and the log
 unfoldable pub driven_refusal : Rooms → ℕ → LogState → Trace Driving → ℕ
@@ -244,11 +244,11 @@ driven_refusal r room s t = driving_refusal r (t (start_net s)).value or_else lo
 
 -- 22
 unfoldable pub flip_flop_refusal : ReadPort → ℕ
-flip_flop_refusal p = if unclocked p then 22 else 0
+flip_flop_refusal p = when unclocked p then 22 else 0
 
 unfoldable pub unmap_read_dff_number : ℕ → Given → ℕ → Value → ℕ
 unmap_read_dff_number next g i output =
-    driving_number false next g output or_else (if short_port g.mem (read_at_of g.mem i) then 14 else port_number g.mem i)
+    driving_number false next g output or_else (when short_port g.mem (read_at_of g.mem i) then 14 else port_number g.mem i)
 
 unfoldable pub unmap_read_dff_refusal : Rooms → ℕ → LogState → Given → ℕ → Value → ℕ
 unmap_read_dff_refusal r room s g i output =
@@ -256,7 +256,7 @@ unmap_read_dff_refusal r room s g i output =
 
 unfoldable pub unmap_reset_number : ℕ → Given → ℕ → Bool → Value → ℕ
 unmap_reset_number next g i incl output =
-    driving_number false next g output or_else (if incl && short_port g.mem (read_at_of g.mem i) then 14 else port_number g.mem i)
+    driving_number false next g output or_else (when incl && short_port g.mem (read_at_of g.mem i) then 14 else port_number g.mem i)
 
 unfoldable pub unmap_read_init_reset_transparency_refusal : Rooms → ℕ → LogState → Given → ℕ → Bool → Value → ℕ
 unmap_read_init_reset_transparency_refusal r room s g i incl output =
@@ -266,7 +266,7 @@ unmap_read_init_reset_transparency_refusal r room s g i incl output =
 
 unfoldable pub emulate_number : ℕ → Given → ℕ
 emulate_number next g =
-    mem_number false false false next g or_else (if read_clocks_differ g.mem then 12 else if mixed_relations g.mem then 13 else 0)
+    mem_number false false false next g or_else (when read_clocks_differ g.mem then 12 else when mixed_relations g.mem then 13 else 0)
 
 -- a memory that changes without its outputs
 unfoldable pub alone : Mem → Driving
@@ -275,7 +275,7 @@ alone m = record { memory = m; output = [] }
 unfoldable pub emulate_read_before_write_refusal : Rooms → ℕ → LogState → Given → ℕ
 emulate_read_before_write_refusal r room s g =
     emulate_number s.next g
-    or_else (if any unclocked g.mem.reads then 22 else 0)
+    or_else (when any unclocked g.mem.reads then 22 else 0)
     or_else driving_refusal r (alone (emulate_read_before_write g.mem (start_net s)).value)
     or_else log_refusal room s (emulate_read_before_write g.mem)
 
@@ -283,21 +283,21 @@ emulate_read_before_write_refusal r room s g =
 unfoldable pub make_data_swizzle_refusal : ℕ → Given → List ℕ → ℕ
 make_data_swizzle_refusal room g gs =
     mem_refusal g
-    or_else (if bad_granularities g.mem gs then 5
-    else if row_too_long g.mem gs then 6
+    or_else (when bad_granularities g.mem gs then 5
+    else when row_too_long g.mem gs then 6
     else lent_refusal room (length (make_data_swizzle g.mem gs)))
 
 -- 7 and 8
 unfoldable pub plan_number : Mem → Plan → ℕ
-plan_number m p = if bad_entries m.width p.entries then 7 else if bad_soft_mask m p then 8 else 0
+plan_number m p = when bad_entries m.width p.entries then 7 else when bad_soft_mask m p then 8 else 0
 
 -- 9, of the write ports and the read ports in a list
 unfoldable pub wide_number : Mem → List ℕ → Plan → ℕ
-wide_number m ports p = if bad_writes m p || bad_reads m ports p then 9 else 0
+wide_number m ports p = when bad_writes m p || bad_reads m ports p then 9 else 0
 
 -- 10 of a swizzle
 unfoldable pub image_number : Mem → Plan → ℕ
-image_number m p = if image_too_large (layout_of m p) then 10 else 0
+image_number m p = when image_too_large (layout_of m p) then 10 else 0
 
 -- 7 to 10, as a swizzle tries them
 unfoldable pub whole_plan : Mem → Plan → ℕ
@@ -310,13 +310,13 @@ planned_number long g p = mem_number (plan_too_large p || long) false false max_
 unfoldable pub swizzle_depths_refusal : ℕ → Given → Plan → ℕ
 swizzle_depths_refusal room g p =
     planned_number false g p
-    or_else (if result_too_large (layout_of g.mem p) then 10 else lent_refusal room (all_mems (layout_of g.mem p)))
+    or_else (when result_too_large (layout_of g.mem p) then 10 else lent_refusal room (all_mems (layout_of g.mem p)))
 
 unfoldable pub swizzle_mux_bits_refusal : Given → List ℕ → Plan → ℕ
 swizzle_mux_bits_refusal g ports p =
     planned_number (long_list ports) g p
     or_else wide_number g.mem ports p
-    or_else (if any (bad_port g.mem) ports then 15 else 0)
+    or_else (when any (bad_port g.mem) ports then 15 else 0)
 
 -- 1 to 4 and 7 to 10 of a swizzle
 unfoldable pub swizzle_plan_number : ℕ → Given → Value → Plan → ℕ
@@ -325,7 +325,7 @@ swizzle_plan_number next g output p = driving_number (plan_too_large p) next g o
 -- depth 0 unmaps the flip-flops
 unfoldable pub swizzle_number : ℕ → Given → Value → Plan → ℕ
 swizzle_number next g output p =
-    swizzle_plan_number next g output p or_else (if eqb g.mem.depth 0 && short_ports g.mem then 14 else 0)
+    swizzle_plan_number next g output p or_else (when eqb g.mem.depth 0 && short_ports g.mem then 14 else 0)
 
 -- what a swizzle is lent: room for the image, for the nets and the trits of the resulting memories, and scratch
 pub record SwizzleRooms : Type 0 where
@@ -339,7 +339,7 @@ image_refusal room q = lent_refusal room (image_size q)
 
 -- the resulting memories
 unfoldable pub results_refusal : SwizzleRooms → Mem → List Driving → ℕ
-results_refusal r m ds = if no_room_of r.nets (length (shared_nets m ds)) || no_room_of r.trits (length (shared_trits m ds)) then 20 else 0
+results_refusal r m ds = when no_room_of r.nets (length (shared_nets m ds)) || no_room_of r.trits (length (shared_trits m ds)) then 20 else 0
 
 unfoldable pub swizzle_refusal : SwizzleRooms → ℕ → LogState → Given → Value → Plan → ℕ
 swizzle_refusal r room s g output p =
@@ -355,7 +355,7 @@ can_lower_fallback_refusal g = mem_refusal g
 
 unfoldable pub lower_fallback_number : ℕ → Given → Value → ℕ
 lower_fallback_number next g output =
-    driving_number false next g output or_else (if write_clocks_differ g.mem then 11 else if short_ports g.mem then 14 else 0)
+    driving_number false next g output or_else (when write_clocks_differ g.mem then 11 else when short_ports g.mem then 14 else 0)
 
 unfoldable pub lower_fallback_refusal : ℕ → ℕ → LogState → Given → Value → ℕ
 lower_fallback_refusal scratch room s g output =
@@ -367,8 +367,8 @@ lower_fallback_refusal scratch room s g output =
 -- by the width, the depth and the image's trits of a layout: of this row, these trits and this room
 unfoldable pub patch_refusal_by : ℕ → ℕ → ℕ → ℕ → Const → ℕ → ℕ
 patch_refusal_by width depth size row trits room =
-    if not (eqb (length trits) width) || bad_trits trits then 4
-    else if not_below depth row then 15
+    when not (eqb (length trits) width) || bad_trits trits then 4
+    else when not_below depth row then 15
     else lent_refusal room size
 
 unfoldable pub patch_refusal_of : Layout → Patch → ℕ
@@ -381,25 +381,25 @@ patch_refusal (some q) c = patch_refusal_of q c
 -- ---- records
 -- 16 and 17, of a record that starts with these bytes and is `total` bytes long
 unfoldable pub header_refusal : List ℕ → ℕ → ℕ
-header_refusal first total = if bad_head first total then 16 else if bad_sizes (head_sizes first) then 17 else 0
+header_refusal first total = when bad_head first total then 16 else when bad_sizes (head_sizes first) then 17 else 0
 
 -- 16, 17 and 18: what a reader refuses whatever its room
 unfoldable pub record_number : List ℕ → ℕ
-record_number bytes = header_refusal bytes (length bytes) or_else (if bad_bits bytes then 18 else 0)
+record_number bytes = header_refusal bytes (length bytes) or_else (when bad_bits bytes then 18 else 0)
 
 -- the image is the first trits of the lent array, as many as the sizes say
 unfoldable pub write_record_refusal : ℕ → Sizes → Const → ℕ
 write_record_refusal room z image =
-    if bad_trits (record_image z image) then 4
-    else if bad_sizes z then 17
-    else if no_room_of (length image) (size_trits z) || no_room_of room (record_bytes z) then 20
+    when bad_trits (record_image z image) then 4
+    else when bad_sizes z then 17
+    else when no_room_of (length image) (size_trits z) || no_room_of room (record_bytes z) then 20
     else 0
 
 unfoldable pub summary_refusal : Sizes → Const → ℕ → ℕ
 summary_refusal z image i =
-    if bad_trits (record_image z image) then 4
-    else if not_below (size_mems z) i then 15
-    else if bad_sizes z then 17
+    when bad_trits (record_image z image) then 4
+    else when not_below (size_mems z) i then 15
+    else when bad_sizes z then 17
     else lent_refusal (length image) (size_trits z)
 
 unfoldable pub read_record_refusal : ℕ → List ℕ → ℕ

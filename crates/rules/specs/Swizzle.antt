@@ -3,7 +3,7 @@ use Rattle.std.specs.Prelude.{ℕ, zero, suc, ◌+◌, ◌-◌, ◌*◌, ◌/◌
 use Rattle.std.proofs.Math.Option.{Option, none, some}
 use Rattle.std.proofs.lemmas.List.Edits.{sets}
 use Rattle.rules.specs.Limits.{X, trit_x, None}
-use Rattle.lists.specs.Choice.{if◌then◌else◌}
+use Rattle.lists.specs.Choice.{when◌then◌else◌}
 use Rattle.lists.specs.Lists.{sum_by, part, pairs, up_from, concat_map}
 use Rattle.rules.specs.Numbers.{softs, bits_for, largest}
 use Rattle.rules.specs.Logic.{Const}
@@ -20,7 +20,7 @@ pub data Role : Type 0 where
   Soft Wide Row High : Role
 
 unfoldable pub role_of : ℕ → ℕ → ℕ → Role
-role_of mask wide rows = if eqb (mask % 2) 1 then Soft else if ltb 0 wide then Wide else if ltb 0 rows then Row else High
+role_of mask wide rows = when eqb (mask % 2) 1 then Soft else when ltb 0 wide then Wide else when ltb 0 rows then Row else High
 
 unfoldable pub is_chunk : Role → Bool
 is_chunk Soft = true
@@ -64,22 +64,22 @@ roles mask wide rows (a ∷ more) =
 -- the roles of the k bits that a wide port leaves out of its address
 unfoldable pub low_roles : ℕ → ℕ → List Role
 low_roles zero mask = []
-low_roles (suc k) mask = (if eqb (mask % 2) 1 then Soft else Wide) ∷ low_roles k (mask / 2)
+low_roles (suc k) mask = (when eqb (mask % 2) 1 then Soft else Wide) ∷ low_roles k (mask / 2)
 
 -- of bits and their roles: the result's address, and the mux address with its roles
 unfoldable pub row_nets : List Role → Value → Value
 row_nets [] v = []
 row_nets (r ∷ rs) [] = []
-row_nets (r ∷ rs) (a ∷ more) = if is_row r then a ∷ row_nets rs more else row_nets rs more
+row_nets (r ∷ rs) (a ∷ more) = when is_row r then a ∷ row_nets rs more else row_nets rs more
 
 unfoldable pub mux_nets : List Role → Value → Value
 mux_nets [] v = []
 mux_nets (r ∷ rs) [] = []
-mux_nets (r ∷ rs) (a ∷ more) = if is_row r then mux_nets rs more else a ∷ mux_nets rs more
+mux_nets (r ∷ rs) (a ∷ more) = when is_row r then mux_nets rs more else a ∷ mux_nets rs more
 
 unfoldable pub mux_roles : List Role → List Role
 mux_roles [] = []
-mux_roles (r ∷ rs) = if is_row r then mux_roles rs else r ∷ mux_roles rs
+mux_roles (r ∷ rs) = when is_row r then mux_roles rs else r ∷ mux_roles rs
 
 -- the chunk and the row of a wide port that the bits of a number select, by their roles: for Wide Soft High the number 6, lowest bit first 0 1 1, is
 -- row 0 and chunk 3 (proofs/Worked.antt computes this and the examples below)
@@ -137,24 +137,24 @@ new_rows s = up_from 0 (2 ^ s.new)
 -- ---- the entries applied to a port's data
 -- for each old row of the port and each entry, the bit of the data that it names
 unfoldable pub sources : Layout → Split → List ℕ
-sources q s = concat_map (λ j. map (λ e. if eqb e None then None else j * q.width + e) q.entries) (old_rows s)
+sources q s = concat_map (λ j. map (λ e. when eqb e None then None else j * q.width + e) q.entries) (old_rows s)
 
 -- a None is blank
 unfoldable pub arrange : ℕ → List ℕ → List ℕ → List ℕ
-arrange blank es v = map (λ e. if eqb e None then blank else get_or v e blank) es
+arrange blank es v = map (λ e. when eqb e None then blank else get_or v e blank) es
 
 -- a None repeats what is before it
 unfoldable pub repeating : ℕ → List ℕ → List ℕ → List ℕ
 repeating last [] v = []
 repeating last (e ∷ es) v =
-    let n = (if eqb e None then last else get_or v e X) in
+    let n = (when eqb e None then last else get_or v e X) in
     n ∷ repeating n es v
 
 -- back: each arranged bit to the place that its entry names. Entries 1 None 0 bring 20 21 22 to 22 20
 unfoldable pub restore : List ℕ → List ℕ → List ℕ → List ℕ
 restore [] v acc = acc
 restore (e ∷ es) [] acc = acc
-restore (e ∷ es) (a ∷ more) acc = restore es more (if eqb e None then acc else set acc e a)
+restore (e ∷ es) (a ∷ more) acc = restore es more (when eqb e None then acc else set acc e a)
 
 -- ---- pieces among the columns
 -- piece x of these old rows stored: the arranged bits are cut into rows of entries, each goes to where its old row's piece starts. In the example above
@@ -194,7 +194,7 @@ pub record WideWrite : Type 0 where
 unfoldable pub piece_mask : Split → Value → ℕ → Trace Value
 piece_mask s mask x = do
   e ← add_eq_of s.mux_addr (from_uint (length s.mux_addr) x)
-  if is_empty s.mux_addr then done mask else add_dedup_mux_of (Pos e) mask (replicate (length mask) 0)
+  when is_empty s.mux_addr then done mask else add_dedup_mux_of (Pos e) mask (replicate (length mask) 0)
 
 -- the mask's columns after these pieces
 unfoldable pub mask_pieces : Layout → Split → Value → List ℕ → Value → Trace Value
@@ -349,8 +349,8 @@ swizzle_empty m output = do
 -- width 0 gives no memories, and asks for nothing
 unfoldable pub swizzle : Mem → Value → Plan → Trace (List Driving)
 swizzle m output p =
-    if eqb m.width 0 then done []
-    else if eqb m.depth 0 then swizzle_empty m output
+    when eqb m.width 0 then done []
+    else when eqb m.depth 0 then swizzle_empty m output
     else swizzle_rows m output p
 
 -- the image and the laid-out state that an accepted swizzle hands on
@@ -388,4 +388,4 @@ piece_nets m p x = (split_addr (layout_of m p) (read_wide_log2 m x.0) x.1 x.0.ad
 
 unfoldable pub swizzle_scratch : Mem → Plan → ℕ
 swizzle_scratch m p =
-    if eqb m.width 0 then 0 else if eqb m.depth 0 then 0 else largest (map (piece_nets m p) (pairs m.reads p.read_wide_of))
+    when eqb m.width 0 then 0 else when eqb m.depth 0 then 0 else largest (map (piece_nets m p) (pairs m.reads p.read_wide_of))

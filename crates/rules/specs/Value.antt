@@ -1,7 +1,7 @@
 -- value.rs: nets, values and control nets. A value is a list of nets: 0, 1, X, and from 2 on the nets of cells.
 use Rattle.std.specs.Prelude.{ℕ, zero, suc, ◌+◌, ◌-◌, ◌/◌, ◌%◌, Bool, false, ◌&&◌, ◌||◌, List, [], ◌∷◌, ◌++◌, map, length, replicate, eqb, ltb, leb}
 use Rattle.rules.specs.Limits.{max_nets, X, trit_x}
-use Rattle.lists.specs.Choice.{if◌then◌else◌}
+use Rattle.lists.specs.Choice.{when◌then◌else◌}
 use Rattle.lists.specs.Lists.{all}
 use Rattle.rules.specs.Logic.{Const, Trit, trit_of, Undef}
 
@@ -21,11 +21,11 @@ pub data Driver : Type 0 where
   CellNumber : ℕ → Driver
 
 unfoldable pub driver_of : ℕ → Driver
-driver_of n = if eqb n X then Constant Undef else if ltb n first_cell then Constant (trit_of n) else CellNumber (n - first_cell)
+driver_of n = when eqb n X then Constant Undef else when ltb n first_cell then Constant (trit_of n) else CellNumber (n - first_cell)
 
 -- the net of a trit, and the value of a constant
 unfoldable pub net_of_trit : ℕ → ℕ
-net_of_trit t = if eqb t trit_x then X else t
+net_of_trit t = when eqb t trit_x then X else t
 
 unfoldable pub of_const : Const → Value
 of_const c = map net_of_trit c
@@ -58,7 +58,7 @@ pub data Control : Type 0 where
 
 -- the inverse; of a constant it is the other constant
 unfoldable pub inverse : Control → Control
-inverse (Pos n) = if eqb n 0 then Pos 1 else if eqb n 1 then Pos 0 else Neg n
+inverse (Pos n) = when eqb n 0 then Pos 1 else when eqb n 1 then Pos 0 else Neg n
 inverse (Neg n) = Pos n
 
 unfoldable pub same_control : Control → Control → Bool

@@ -1,7 +1,7 @@
 -- Reading a case of the call format: words to numbers, values, ports, memories and plans. Every length word of a case is true.
 use Rattle.std.specs.Prelude.{ℕ, zero, suc, Bool, List, [], ◌∷◌, get_or, take, drop, eqb}
 use Rattle.std.proofs.Math.Option.{Option, none, some}
-use Rattle.lists.specs.Choice.{if◌then◌else◌}
+use Rattle.lists.specs.Choice.{when◌then◌else◌}
 use Rattle.rules.specs.Value.{Control, Pos, Neg}
 use Rattle.rules.specs.Cell.{Controls, FlipFlop, WritePort, ReadFlipFlop, ReadPort, Mem, Plan}
 use Rattle.rules.specs.Log.{LogState}
@@ -54,13 +54,13 @@ unfoldable pub control : Reader Control
 control = do
   sign ← word
   n ← word
-  give (if eqb sign 0 then Pos n else Neg n)
+  give (when eqb sign 0 then Pos n else Neg n)
 
 -- an option: a flag, and the thing if it is 1
 unfoldable pub option : {A : Type 0} → Reader A → Reader (Option A)
 option r = do
   is ← test
-  if is then (do
+  when is then (do
     a ← r
     give (some a)) else give none
 

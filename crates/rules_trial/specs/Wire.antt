@@ -1,7 +1,7 @@
 -- The answer to a case of the call format, as the rules give it: the number, the length and, where the number is 0, the payload.
 use Rattle.std.specs.Prelude.{ℕ, zero, suc, Bool, List, [], ◌∷◌, ◌++◌, map, length, drop, eqb}
 use Rattle.std.proofs.Math.Option.{Option, none, some}
-use Rattle.lists.specs.Choice.{if◌then◌else◌}
+use Rattle.lists.specs.Choice.{when◌then◌else◌}
 use Rattle.lists.specs.Lists.{all, concat_map, same_list}
 use Rattle.rules.specs.Limits.{X}
 use Rattle.rules.specs.Logic.{const_not, const_and, const_or, is_undef}
@@ -23,7 +23,7 @@ use Rattle.rules_trial.specs.Read.{Reader, ◌>>=◌, give, many, word, list, te
 
 -- ---- the answer's words
 unfoldable pub reply : ℕ → List ℕ → List ℕ
-reply n payload = n ∷ (if eqb n 0 then length payload ∷ payload else 0 ∷ [])
+reply n payload = n ∷ (when eqb n 0 then length payload ∷ payload else 0 ∷ [])
 
 unfoldable pub as_list : List ℕ → List ℕ
 as_list l = length l ∷ l
@@ -256,7 +256,7 @@ swizzle_step h = do
   p ← plan
   give (
       let n = swizzle_refusal (swizzle_rooms image_room) l.room l.state (given m) output p in
-      record { number = n; held = if eqb n 0 then record { laid = swizzle_laid m p; image = swizzle_image m p } else h })
+      record { number = n; held = when eqb n 0 then record { laid = swizzle_laid m p; image = swizzle_image m p } else h })
 
 unfoldable pub fallback_step : Held → Reader Stepped
 fallback_step h = do
@@ -273,7 +273,7 @@ patch_step h = do
 unfoldable pub step : Held → Reader Stepped
 step h = do
   kind ← word
-  if eqb kind 1 then swizzle_step h else if eqb kind 2 then fallback_step h else patch_step h
+  when eqb kind 1 then swizzle_step h else when eqb kind 2 then fallback_step h else patch_step h
 
 -- the numbers of the steps, and what is held after them
 pub record Steps : Type 0 where

@@ -9,7 +9,7 @@ use lib.ListN.{length, drop, replicate, length-replicate}
 use lib.Seq.{sets}
 use lib.Dec.{eqb}
 use borrow.Author.Tests.{eq-eqb, ne_eqb}
-use Rattle.lists.specs.Choice.{if◌then◌else◌, ◌or_else◌}
+use Rattle.lists.specs.Choice.{when◌then◌else◌, ◌or_else◌}
 use Rattle.lists.proofs.Choice.{else_zero}
 use Rattle.rules.specs.Limits.{max_ports}
 use Rattle.rules.specs.Value.{Value, x_nets}
@@ -103,7 +103,7 @@ empty_value : (m : Mem) (output : Value) (n : ℕ) → (swizzle_empty m output n
 unfolding swizzle_empty ◌>>=◌ ◌>>◌ done
 empty_value m output n = refl
 
-not_14 : (t : Bool) → ◌≡◌ {A = ℕ} (if t then 14 else 0) 0 → t ≡ false
+not_14 : (t : Bool) → ◌≡◌ {A = ℕ} (when t then 14 else 0) 0 → t ≡ false
 not_14 true e = absurd (omega (arith, e))
 not_14 false e = refl
 
@@ -119,7 +119,7 @@ module _ (r : rules.SwizzleRooms) (room : ℕ) (st : LogState) (m : Memory) (net
   unfolding swizzle_number
   plan = (else_zero _ _ number).0
 
-  short : ◌≡◌ {A = ℕ} (if eqb M.depth 0 && short_ports M then 14 else 0) 0
+  short : ◌≡◌ {A = ℕ} (when eqb M.depth 0 && short_ports M then 14 else 0) 0
   unfolding swizzle_number
   short = (else_zero (swizzle_plan_number st.next (given_of m nets trits) output p) _ number).1
 

@@ -6,7 +6,7 @@ use mathlib.Core.Option.{some}
 use mathlib.Core.List.{List}
 use lib.ListN.{length}
 use lib.Dec.{eqb}
-use Rattle.lists.specs.Choice.{if◌then◌else◌, ◌or_else◌}
+use Rattle.lists.specs.Choice.{when◌then◌else◌, ◌or_else◌}
 use Rattle.lists.specs.Lists.{part, any}
 use Rattle.lists.proofs.Choice.{else_zero, or_false, leaves_accepted}
 use Rattle.rules.specs.Cell.{Mem, Plan}
@@ -63,7 +63,7 @@ module _ (r : rules.SwizzleRooms) (room : ℕ) (st : LogState) (m : Memory) (net
 
   fill_0 : fill_refusal_of q r.image M.init ≡ 0
   unfolding fill_refusal_of fill_refusal_by layout_of
-  fill_0 = λ i. if init_long i then 2 else if init_good i then 4 else image_room_lem i
+  fill_0 = λ i. when init_long i then 2 else when init_good i then 4 else image_room_lem i
 
   filled_out : (image : List ℕ) → length image ≡ r.image → (fill_call (some q) M.init image).out ≡ laid_out q M.init image
   unfolding fill_call fill_refusal filled_by

@@ -8,7 +8,7 @@ use mathlib.Core.List.{List, [], ◌∷◌, ◌++◌, map, append_assoc, append-
 use lib.Dec.{eqb}
 use lib.ListN.{length, take, drop, get_or, set, length-map, length-append, length-take, length-drop, get_or-map, drop_of_length-le}
 use lib.Seq.{sets, drop-cons, drop-drop, take_all, take-suc-set}
-use Rattle.lists.specs.Choice.{if◌then◌else◌}
+use Rattle.lists.specs.Choice.{when◌then◌else◌}
 use Rattle.lists.specs.Lists.{part, up_from, concat_map}
 use Rattle.lists.proofs.UpFrom.{count_step, count_end}
 use Rattle.lists.proofs.Joined.{map_joined}
@@ -39,7 +39,7 @@ get_d_past (x ∷ l) (suc n) d h = get_d_past l n d (omega arith)
 
 -- ---- the data of a row
 pub net_by : ℕ → List ℕ → ℕ → ℕ
-net_by none v s = if eqb s None then none else get_or v s X
+net_by none v s = when eqb s None then none else get_or v s X
 
 arrange_map : (es v : List ℕ) → arrange X es v ≡ map (net_by X v) es
 unfolding arrange net_by
@@ -62,7 +62,7 @@ arranged_at base es v i =
     ∙ get_or-map (net_by X v) (row_sources base es) i (source_of base 0) ∙ ap (net_by X v) (row_at base es i)
 
 module _ (base : ℕ) (es v out₀ out : List ℕ) (at i : ℕ) (e : out ≡ sets out₀ at (take i (arrange X (row_sources base es) v))) where
-  pub arrange_turn : (n s : ℕ) → i < length es → s ≡ source_of base (get_or es i 0) → n ≡ (if eqb s None then X else get_or v s X)
+  pub arrange_turn : (n s : ℕ) → i < length es → s ≡ source_of base (get_or es i 0) → n ≡ (when eqb s None then X else get_or v s X)
       → set out (at + i) n ≡ sets out₀ at (take (i + 1) (arrange X (row_sources base es) v))
   unfolding net_by
   arrange_turn n s h p q =
@@ -76,7 +76,7 @@ module _ (base : ℕ) (es v out₀ out : List ℕ) (at i : ℕ) (e : out ≡ set
 pub length_repeating : (last : ℕ) (es v : List ℕ) → length (repeating last es v) ≡ length es
 unfolding repeating
 length_repeating last [] v = refl
-length_repeating last (e ∷ es) v = ap suc (length_repeating (if eqb e None then last else get_or v e X) es v)
+length_repeating last (e ∷ es) v = ap suc (length_repeating (when eqb e None then last else get_or v e X) es v)
 
 repeating_cons : (last e : ℕ) (es v : List ℕ) → repeating last (e ∷ es) v ≡ net_by last v e ∷ repeating (net_by last v e) es v
 unfolding repeating net_by
@@ -87,7 +87,7 @@ unfolding last_of net_by
 last_cons last e es v = refl
 
 module _ (base : ℕ) (es v out : List ℕ) (at i last n s : ℕ) (h : i < length es) (p : s ≡ source_of base (get_or es i 0))
-    (q : n ≡ (if eqb s None then last else get_or v s X)) where
+    (q : n ≡ (when eqb s None then last else get_or v s X)) where
   abbrev ss : List ℕ
   ss = row_sources base es
 
@@ -145,12 +145,12 @@ repeating-joined : (last : ℕ) (a b v : List ℕ) → repeating last (a ++ b) v
 unfolding repeating last_of
 repeating-joined last [] b v = refl
 repeating-joined last (e ∷ a) b v =
-    let n = (if eqb e None then last else get_or v e X) in
+    let n = (when eqb e None then last else get_or v e X) in
     ap (λ (r : List ℕ). n ∷ r) (repeating-joined n a b v)
 
 arrange-joined : (a b v : List ℕ) → arrange X (a ++ b) v ≡ arrange X a v ++ arrange X b v
 unfolding arrange
-arrange-joined a b v = map_joined (λ e. if eqb e None then X else get_or v e X) a b
+arrange-joined a b v = map_joined (λ e. when eqb e None then X else get_or v e X) a b
 
 module _ (olds width : ℕ) (es v out : List ℕ) (j base at : ℕ) (h : j < olds) (e : base ≡ j * width) where
   -- a row's stores, and then those of the rows after it

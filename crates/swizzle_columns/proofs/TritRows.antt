@@ -8,7 +8,7 @@ use mathlib.Core.List.{List, [], ◌∷◌, ◌++◌, map, append_assoc, append-
 use lib.Dec.{eqb}
 use lib.ListN.{length, take, drop, get_or, set, length-map, length-append, length-take, length-drop, get_or-map, drop_of_length-le}
 use lib.Seq.{sets, drop-cons, drop-drop, take_all, take-suc-set}
-use Rattle.lists.specs.Choice.{if◌then◌else◌}
+use Rattle.lists.specs.Choice.{when◌then◌else◌}
 use Rattle.lists.specs.Lists.{part, up_from, concat_map}
 use Rattle.lists.proofs.UpFrom.{count_step, count_end}
 use Rattle.lists.proofs.Joined.{map_joined}
@@ -19,7 +19,7 @@ use Rattle.swizzle_columns.specs.Rows.{source_of, row_sources, sources_from, all
 use Rattle.swizzle_columns.proofs.Rows.{length_row, from_row_of, from_step, from_end}
 
 net_by : ℕ → List ℕ → ℕ → ℕ
-net_by none v s = if eqb s None then none else get_or v s trit_x
+net_by none v s = when eqb s None then none else get_or v s trit_x
 
 arrange_map : (es v : List ℕ) → arrange trit_x es v ≡ map (net_by trit_x v) es
 unfolding arrange net_by
@@ -38,7 +38,7 @@ arranged_at base es v i =
     ∙ get_or-map (net_by trit_x v) (row_sources base es) i (source_of base 0) ∙ ap (net_by trit_x v) (row_at base es i)
 
 module _ (base : ℕ) (es v out₀ out : List ℕ) (at i : ℕ) (e : out ≡ sets out₀ at (take i (arrange trit_x (row_sources base es) v))) where
-  pub arrange_turn : (n s : ℕ) → i < length es → s ≡ source_of base (get_or es i 0) → n ≡ (if eqb s None then trit_x else get_or v s trit_x)
+  pub arrange_turn : (n s : ℕ) → i < length es → s ≡ source_of base (get_or es i 0) → n ≡ (when eqb s None then trit_x else get_or v s trit_x)
       → set out (at + i) n ≡ sets out₀ at (take (i + 1) (arrange trit_x (row_sources base es) v))
   unfolding net_by
   arrange_turn n s h p q =
@@ -50,7 +50,7 @@ module _ (base : ℕ) (es v out₀ out : List ℕ) (at i : ℕ) (e : out ≡ set
 
 arrange-joined : (a b v : List ℕ) → arrange trit_x (a ++ b) v ≡ arrange trit_x a v ++ arrange trit_x b v
 unfolding arrange
-arrange-joined a b v = map_joined (λ e. if eqb e None then trit_x else get_or v e trit_x) a b
+arrange-joined a b v = map_joined (λ e. when eqb e None then trit_x else get_or v e trit_x) a b
 
 module _ (olds width : ℕ) (es v out : List ℕ) (j base at : ℕ) (h : j < olds) (e : base ≡ j * width) where
   -- a row's stores, and then those of the rows after it

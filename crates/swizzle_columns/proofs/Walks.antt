@@ -10,7 +10,7 @@ use mathlib.Core.List.{List, [], ◌∷◌, map}
 use lib.Dec.{eqb}
 use lib.ListN.{length, take, drop, get_or, set, length-map, drop_of_length-le}
 use lib.Seq.{sets, length-sets, take-length, take_all, drop-cons}
-use Rattle.lists.specs.Choice.{if◌then◌else◌}
+use Rattle.lists.specs.Choice.{when◌then◌else◌}
 use Rattle.lists.specs.Lists.{up_from}
 use Rattle.lists.proofs.UpFrom.{length_up, up_at}
 use Rattle.lists.proofs.Maps.{map_turn, map_done}

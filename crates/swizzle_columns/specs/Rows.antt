@@ -1,13 +1,13 @@
 -- The entries of a row for each old row of a port, and where pieces start.
 use Rattle.std.specs.Prelude.{◌≡◌, ℕ, ◌+◌, ◌*◌, ◌≤◌, List, [], ◌∷◌, map, get_or, eqb}
-use Rattle.lists.specs.Choice.{if◌then◌else◌}
+use Rattle.lists.specs.Choice.{when◌then◌else◌}
 use Rattle.lists.specs.Lists.{up_from, concat_map}
 use Rattle.rules.specs.Limits.{X, None, addr_bits}
 use Rattle.rules.specs.Geometry.{walk}
 
 -- the entries of an old row whose bits start at base
 abbrev pub source_of : ℕ → ℕ → ℕ
-source_of base e = if eqb e None then None else base + e
+source_of base e = when eqb e None then None else base + e
 
 unfoldable pub row_sources : ℕ → List ℕ → List ℕ
 row_sources base es = map (source_of base) es
@@ -22,7 +22,7 @@ all_sources olds width es = sources_from 0 olds width es
 -- the last net of a row's mask
 unfoldable pub last_of : ℕ → List ℕ → List ℕ → ℕ
 last_of last [] v = last
-last_of last (e ∷ es) v = last_of (if eqb e None then last else get_or v e X) es v
+last_of last (e ∷ es) v = last_of (when eqb e None then last else get_or v e X) es v
 
 pub record Based (base : ℕ) : Type 0 where
   pub low : base ≤ 4294967296

@@ -1,6 +1,6 @@
 -- What the private functions ask and give: a grid of columns, a cursor over it, and arrays of its size.
 use Rattle.std.specs.Prelude.{◌≡◌, ℕ, ◌+◌, ◌-◌, ◌*◌, ◌/◌, ◌%◌, ◌<◌, ◌≤◌, List, [], ◌∷◌, map, length, get_or, eqb, ltb}
-use Rattle.lists.specs.Choice.{if◌then◌else◌}
+use Rattle.lists.specs.Choice.{when◌then◌else◌}
 use Rattle.rules.specs.Limits.{X, None}
 use Rattle.swizzle_laws.specs.Order.{home}
 use Rattle.swizzle_columns.specs.declared.Grid.{Grid}
@@ -23,8 +23,8 @@ pub record At (g : Grid) (i : ℕ) (c : Cursor) : Type 0 where
 
 abbrev pub next_of : Grid → Cursor → Cursor
 next_of g c =
-    if ltb (c.bit + 1) g.unit then record { index = c.index + 1; bit = c.bit + 1; mem = c.mem }
-    else if ltb (c.mem + 1) g.mems then record { index = c.index + 1 + g.hop; bit = 0; mem = c.mem + 1 }
+    when ltb (c.bit + 1) g.unit then record { index = c.index + 1; bit = c.bit + 1; mem = c.mem }
+    else when ltb (c.mem + 1) g.mems then record { index = c.index + 1 + g.hop; bit = 0; mem = c.mem + 1 }
     else record { index = c.index + 1 - g.back; bit = 0; mem = 0 }
 
 -- a step stays among numbers that can be counted

@@ -1,7 +1,7 @@
 -- What the functions over a port leave, for any numbers: nothing where they pass the limits.
 use Rattle.std.specs.Prelude.{◌≡◌, ℕ, ◌+◌, ◌-◌, ◌*◌, ◌<◌, ◌≤◌, Bool, ◌&&◌, List, length, replicate, eqb, leb, ltb}
 use Rattle.std.proofs.lemmas.List.Edits.{sets}
-use Rattle.lists.specs.Choice.{if◌then◌else◌}
+use Rattle.lists.specs.Choice.{when◌then◌else◌}
 use Rattle.lists.specs.Lists.{up_from}
 use Rattle.rules.specs.Limits.{X, trit_x, max_columns, max_row, max_width, max_nets}
 use Rattle.rules.specs.Swizzle.{arrange, repeating}
@@ -67,13 +67,13 @@ port_trits p es v size =
 
 -- ---- any numbers: `room` is what a lent room holds before
 unfoldable pub stored_of : WidePort → ℕ → ℕ → List ℕ → List ℕ → List ℕ
-stored_of p len x v room = if can_store p len (length room) (length v) x then spill_at p.mems p.rows p.unit len (port_starts p len x) v room else room
+stored_of p len x v room = when can_store p len (length room) (length v) x then spill_at p.mems p.rows p.unit len (port_starts p len x) v room else room
 
 unfoldable pub mask_row : WidePort → List ℕ → List ℕ → List ℕ → List ℕ
-mask_row p es v out = if rows_fit p (length es) then sets out 0 (repeating X (all_sources p.olds p.width es) v) else out
+mask_row p es v out = when rows_fit p (length es) then sets out 0 (repeating X (all_sources p.olds p.width es) v) else out
 
 unfoldable pub bits_of : WidePort → List ℕ → List ℕ → List ℕ → List ℕ
-bits_of p es v room = if sizes_fit p (length room) && rows_fit p (length es) then port_bits p es v (length room) else room
+bits_of p es v room = when sizes_fit p (length room) && rows_fit p (length es) then port_bits p es v (length room) else room
 
 unfoldable pub trits_of : WidePort → List ℕ → List ℕ → List ℕ → List ℕ
-trits_of p es v room = if sizes_fit p (length room) && rows_fit p (length es) then port_trits p es v (length room) else room
+trits_of p es v room = when sizes_fit p (length room) && rows_fit p (length es) then port_trits p es v (length room) else room

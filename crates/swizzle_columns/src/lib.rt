@@ -3,7 +3,7 @@
 
 ghost use Rattle.std.specs.Prelude.{◌≡◌, ◌+◌, ◌-◌, ◌*◌, ◌<◌, ◌≤◌, min, length, get_or, replicate, eqb};
 ghost use Rattle.std.proofs.lemmas.List.Edits.{sets};
-ghost use Rattle.lists.specs.Choice.{if◌then◌else◌};
+ghost use Rattle.lists.specs.Choice.{when◌then◌else◌};
 ghost use Rattle.lists.specs.Lists.{up_from};
 ghost use Rattle.rules.specs.Limits.{X, trit_x, None};
 ghost use Rattle.rules.specs.Swizzle.{arrange, repeating};
@@ -165,7 +165,7 @@ fn source(base: usize, e: u32) -> usize
 
 // The net of a bit, or `none`; X where there is no such bit.
 fn net_of(v: &[u32], n: usize, none: u32) -> u32
-    ensures { result ≡ (if eqb n None then none else get_or v.now n X) }
+    ensures { result ≡ (when eqb n None then none else get_or v.now n X) }
 {
     if n == (rules::NO_BIT as usize) {
         return none;
@@ -469,7 +469,7 @@ pub fn data_columns(to: &mut [u32], p: WidePort, entries: &[u32], v: &[u32])
 
 // The trit of a bit; X where there is none.
 fn trit_of(v: &[u8], n: usize) -> u8
-    ensures { result ≡ (if eqb n None then trit_x else get_or v.now n trit_x) }
+    ensures { result ≡ (when eqb n None then trit_x else get_or v.now n trit_x) }
 {
     if n == (rules::NO_BIT as usize) {
         return rules::TRIT_X;

@@ -9,7 +9,7 @@ use mathlib.Core.List.{List, []}
 use lib.ListN.{length}
 use lib.Dec.{eqb}
 use borrow.Author.Tests.{eq-eqb, ne_eqb}
-use Rattle.lists.specs.Choice.{if◌then◌else◌, ◌or_else◌}
+use Rattle.lists.specs.Choice.{when◌then◌else◌, ◌or_else◌}
 use Rattle.lists.proofs.Choice.{else_first, else_rest, else_zero}
 use Rattle.rules.specs.Numbers.{ceil_div}
 use Rattle.rules.specs.Value.{Value}
@@ -49,7 +49,7 @@ module _ (q : Layout) (d : q.depth ≡ 0) where
 
   chunks_none : all_chunks q ≡ 0
   unfolding all_chunks
-  chunks_none = ap (λ (t : Bool). if t then full_chunks q else full_chunks q + 1) (eq-eqb (part_depth_of q) 0 part_none) ∙ full_none
+  chunks_none = ap (λ (t : Bool). when t then full_chunks q else full_chunks q + 1) (eq-eqb (part_depth_of q) 0 part_none) ∙ full_none
 
   mems_none : all_mems q ≡ 0
   unfolding all_mems
@@ -67,9 +67,9 @@ module _ (q : Layout) (d : q.depth ≡ 0) where
 
   image_none : image_size q ≡ 0
   unfolding image_size
-  image_none = ap (λ (k : ℕ). if eqb q.width 0 then 0 else k) trits_none ∙ on (eqb q.width 0)
+  image_none = ap (λ (k : ℕ). when eqb q.width 0 then 0 else k) trits_none ∙ on (eqb q.width 0)
     where
-      on : (t : Bool) → ◌≡◌ {A = ℕ} (if t then 0 else 0) 0
+      on : (t : Bool) → ◌≡◌ {A = ℕ} (when t then 0 else 0) 0
       on true = refl
       on false = refl
 
@@ -81,30 +81,30 @@ module _ (r : rules.SwizzleRooms) (room : ℕ) (st : LogState) (g : Given) (outp
   number = swizzle_plan_number st.next g output p
 
   abbrev short : ℕ
-  short = if short_ports m then 14 else 0
+  short = when short_ports m then 14 else 0
 
   -- a number of the plan refuses
   pub whole-plan : (n : ℕ) → n ≡ number → n ≢ 0 → n ≡ swizzle_refusal r room st g output p
   unfolding swizzle_refusal swizzle_number
   whole-plan n e h =
-      let a = else_first number (if eqb m.depth 0 && short_ports m then 14 else 0) (λ z. h (e ∙ z)) in
-      e ∙ sym (else_first (number or_else (if eqb m.depth 0 && short_ports m then 14 else 0)) _ (λ z. h (e ∙ sym a ∙ z)) ∙ a)
+      let a = else_first number (when eqb m.depth 0 && short_ports m then 14 else 0) (λ z. h (e ∙ z)) in
+      e ∙ sym (else_first (number or_else (when eqb m.depth 0 && short_ports m then 14 else 0)) _ (λ z. h (e ∙ sym a ∙ z)) ∙ a)
 
   -- width 0, or rows
   pub whole_rows : (not (eqb m.width 0) && eqb m.depth 0) ≡ false → rows_refusal r room st g output p ≡ swizzle_refusal r room st g output p
   unfolding rows_refusal
-  whole_rows e = ap (λ (t : Bool). if t then number else swizzle_refusal r room st g output p) e
+  whole_rows e = ap (λ (t : Bool). when t then number else swizzle_refusal r room st g output p) e
 
   -- depth 0
   module _ (w : m.width ≢ 0) (d : m.depth ≡ 0) where
     pub empty_number : rows_refusal r room st g output p ≡ number
     unfolding rows_refusal
-    empty_number = λ i. if not (ne_eqb m.width 0 w i) && eq-eqb m.depth 0 d i then number else swizzle_refusal r room st g output p
+    empty_number = λ i. when not (ne_eqb m.width 0 w i) && eq-eqb m.depth 0 d i then number else swizzle_refusal r room st g output p
 
     module _ (z : number ≡ 0) where
       number_is : swizzle_number st.next g output p ≡ short
       unfolding swizzle_number
-      number_is = else_rest number _ z ∙ ap (λ (t : Bool). if t && short_ports m then 14 else 0) (eq-eqb m.depth 0 d)
+      number_is = else_rest number _ z ∙ ap (λ (t : Bool). when t && short_ports m then 14 else 0) (eq-eqb m.depth 0 d)
 
       empty_trace : swizzle m output p ≡ swizzle_empty m output
       unfolding swizzle
@@ -115,7 +115,7 @@ module _ (r : rules.SwizzleRooms) (room : ℕ) (st : LogState) (g : Given) (outp
       empty_value n = refl
 
       lent_none : (a b : ℕ) → b ≡ 0 → lent_refusal a b ≡ 0
-      lent_none a b e = ap (λ (t : Bool). if t then 20 else 0) (no_need a b e)
+      lent_none a b e = ap (λ (t : Bool). when t then 20 else 0) (no_need a b e)
 
       empty_image : image_refusal r.image (layout_of m p) ≡ 0
       unfolding image_refusal layout_of
@@ -124,8 +124,8 @@ module _ (r : rules.SwizzleRooms) (room : ℕ) (st : LogState) (g : Given) (outp
       empty_results : results_refusal r m (swizzle m output p (start_net st)).value ≡ 0
       unfolding results_refusal
       empty_results =
-          ap (λ (ds : List Driving). if no_room_of r.nets (length (shared_nets m ds)) || no_room_of r.trits (length (shared_trits m ds)) then 20 else 0) (ap (λ (t : Trace (List Driving)). (t (start_net st)).value) empty_trace ∙ empty_value (start_net st))
-          ∙ (λ i. if no_need r.nets _ (no_nets_lem m) i || no_need r.trits _ (no_trits_lem m) i then 20 else 0)
+          ap (λ (ds : List Driving). when no_room_of r.nets (length (shared_nets m ds)) || no_room_of r.trits (length (shared_trits m ds)) then 20 else 0) (ap (λ (t : Trace (List Driving)). (t (start_net st)).value) empty_trace ∙ empty_value (start_net st))
+          ∙ (λ i. when no_need r.nets _ (no_nets_lem m) i || no_need r.trits _ (no_trits_lem m) i then 20 else 0)
 
       empty_scratch : swizzle_scratch m p ≡ 0
       unfolding swizzle_scratch

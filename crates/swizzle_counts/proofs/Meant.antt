@@ -9,7 +9,7 @@ use mathlib.Core.List.{List, [], ◌∷◌, map}
 use lib.ListN.{length, get_or, take, drop, length-take}
 use lib.Seq.{take_all}
 use lib.Dec.{eqb, eqb-suc-zero}
-use Rattle.lists.specs.Choice.{if◌then◌else◌}
+use Rattle.lists.specs.Choice.{when◌then◌else◌}
 use Rattle.lists.specs.Lists.{sum_by, part, pairs, up_from}
 use Rattle.lists.specs.Distinct.{kept}
 use Rattle.rules.specs.Limits.{X, max_ports}
@@ -183,7 +183,7 @@ module _ (m : Mem) (q : Layout) (l : LayoutPassed q) (p : ReadPort) (n : ℕ) (o
         scratch = (others b).1 i;
       }
 
-mux_count : (v : Value) (k : ℕ) → ((if is_empty v then nothing else mux_count_of k).words ≡ mux_words (length v) k) × ((if is_empty v then nothing else mux_count_of k).nets ≡ mux_nets (length v) k)
+mux_count : (v : Value) (k : ℕ) → ((when is_empty v then nothing else mux_count_of k).words ≡ mux_words (length v) k) × ((when is_empty v then nothing else mux_count_of k).nets ≡ mux_nets (length v) k)
 unfolding is_empty nothing mux_count_of
 mux_count [] k = (refl, refl)
 mux_count (x ∷ v) k = (sym (rw (eqb-suc-zero (length v))), sym (rw (eqb-suc-zero (length v))))

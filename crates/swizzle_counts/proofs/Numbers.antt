@@ -8,7 +8,7 @@ use mathlib.Core.List.{List, [], ◌∷◌, map}
 use lib.ListN.{length, get_or}
 use lib.Dec.{eqb}
 use borrow.Author.Tests.{eq-eqb, ne_eqb}
-use Rattle.lists.specs.Choice.{if◌then◌else◌}
+use Rattle.lists.specs.Choice.{when◌then◌else◌}
 use Rattle.lists.specs.Lists.{up_from}
 use Rattle.lists.proofs.UpFrom.{count_step, count_end}
 use Rattle.rules.specs.Value.{Value}
@@ -160,10 +160,10 @@ reads_are r m nets p columns reads e = e
 
 -- ---- a write port
 module _ {A : Type 0} (m : ℕ) (x : A) (kept : A) where
-  pub mux_none : m ≡ 0 → x ≡ (if eqb m 0 then x else kept)
+  pub mux_none : m ≡ 0 → x ≡ (when eqb m 0 then x else kept)
   mux_none e = rw (eq-eqb m 0 e)
 
-  pub mux_some : (m ≡ 0 → ⊥) → kept ≡ (if eqb m 0 then x else kept)
+  pub mux_some : (m ≡ 0 → ⊥) → kept ≡ (when eqb m 0 then x else kept)
   mux_some h = rw (ne_eqb m 0 h)
 
 pub write_is : (n n' m m' hw hw' rows columns kept wide mw words mn nets : ℕ) → n ≡ n' → m ≡ m' → hw ≡ hw' → wide ≡ rows * columns → mw ≡ mux_words m kept

@@ -9,7 +9,7 @@ use mathlib.Core.List.{List, [], ◌∷◌, ◌++◌, map}
 use lib.ListN.{length, get_or}
 use lib.Dec.{eqb, ltb}
 use borrow.Author.Tests.{eq-eqb, ne_eqb, lt-ltb, le-ltb}
-use Rattle.lists.specs.Choice.{if◌then◌else◌, ◌or_else◌}
+use Rattle.lists.specs.Choice.{when◌then◌else◌, ◌or_else◌}
 use Rattle.lists.specs.Lists.{any, sum_by, pairs, up_from, concat_map}
 use Rattle.lists.proofs.Choice.{else_first, else_rest, else_zero, or_both, or_left, or_right, hit, miss}
 use Rattle.rules.specs.Value.{Value}
@@ -48,16 +48,16 @@ module _ (r : rules.SwizzleRooms) (room : ℕ) (s : LogState) (n : Needs) (image
   lent_20 a b rest h = sym (else_first (lent_refusal a b) rest (λ z. absurd (omega (arith, z, full))) ∙ full)
     where
       full : lent_refusal a b ≡ 20
-      full = ap (λ (t : Bool). if t then 20 else 0) (room_not a b h)
+      full = ap (λ (t : Bool). when t then 20 else 0) (room_not a b h)
 
   lent_0 : (a b x rest : ℕ) → b ≤ a → x ≡ rest → x ≡ (lent_refusal a b or_else rest)
-  lent_0 a b x rest h e = e ∙ sym (else_rest (lent_refusal a b) rest (ap (λ (t : Bool). if t then 20 else 0) (room_is a b h)))
+  lent_0 a b x rest h e = e ∙ sym (else_rest (lent_refusal a b) rest (ap (λ (t : Bool). when t then 20 else 0) (room_is a b h)))
 
-  some_20 : (t : Bool) (rest : ℕ) → t ≡ true → 20 ≡ ((if t then 20 else 0) or_else rest)
-  some_20 t rest e = sym (ap (λ (b : Bool). (if b then 20 else 0) or_else rest) e ∙ else_first 20 rest (λ z. absurd (omega (arith, z))))
+  some_20 : (t : Bool) (rest : ℕ) → t ≡ true → 20 ≡ ((when t then 20 else 0) or_else rest)
+  some_20 t rest e = sym (ap (λ (b : Bool). (when b then 20 else 0) or_else rest) e ∙ else_first 20 rest (λ z. absurd (omega (arith, z))))
 
-  some_0 : (t : Bool) (x rest : ℕ) → t ≡ false → x ≡ rest → x ≡ ((if t then 20 else 0) or_else rest)
-  some_0 t x rest e f = f ∙ sym (ap (λ (b : Bool). (if b then 20 else 0) or_else rest) e ∙ else_rest 0 rest refl)
+  some_0 : (t : Bool) (x rest : ℕ) → t ≡ false → x ≡ rest → x ≡ ((when t then 20 else 0) or_else rest)
+  some_0 t x rest e f = f ∙ sym (ap (λ (b : Bool). (when b then 20 else 0) or_else rest) e ∙ else_rest 0 rest refl)
 
   pub need_image : r.image < image → 20 ≡ needs_refusal r room s n image
   unfolding needs_refusal
@@ -127,7 +127,7 @@ module _ (r : rules.SwizzleRooms) (room : ℕ) (st : LogState) (g : Given) (outp
   number = swizzle_plan_number st.next g output p
 
   abbrev fourteen : ℕ
-  fourteen = if eqb m.depth 0 && short_ports m then 14 else 0
+  fourteen = when eqb m.depth 0 && short_ports m then 14 else 0
 
   -- 20 and 21
   abbrev lent : ℕ
@@ -137,7 +137,7 @@ module _ (r : rules.SwizzleRooms) (room : ℕ) (st : LogState) (g : Given) (outp
       or_else lent_refusal r.scratch (swizzle_scratch m p)
       or_else log_refusal room st (swizzle m output p)
 
-  form : rows_refusal r room st g output p ≡ (if not (eqb m.width 0) && eqb m.depth 0 then number else ((number or_else fourteen) or_else lent))
+  form : rows_refusal r room st g output p ≡ (when not (eqb m.width 0) && eqb m.depth 0 then number else ((number or_else fourteen) or_else lent))
   unfolding rows_refusal swizzle_refusal swizzle_number
   form = refl
 
@@ -149,14 +149,14 @@ module _ (r : rules.SwizzleRooms) (room : ℕ) (st : LogState) (g : Given) (outp
           let a = else_first number fourteen (λ z. h (e ∙ z)) in
           else_first (number or_else fourteen) lent (λ z. h (e ∙ sym a ∙ z)) ∙ a ∙ sym e
 
-      on : (t : Bool) → n ≡ (if t then number else ((number or_else fourteen) or_else lent))
+      on : (t : Bool) → n ≡ (when t then number else ((number or_else fourteen) or_else lent))
       on true = e
       on false = sym first
 
   module _ (z : number ≡ 0) where
     -- depth 0 is left to the caller
     pub by_empty : m.width ≢ 0 → m.depth ≡ 0 → 0 ≡ rows_refusal r room st g output p
-    by_empty w d = sym (form ∙ (λ i. if not (ne_eqb m.width 0 w i) && eq-eqb m.depth 0 d i then number else ((number or_else fourteen) or_else lent)) ∙ z)
+    by_empty w d = sym (form ∙ (λ i. when not (ne_eqb m.width 0 w i) && eq-eqb m.depth 0 d i then number else ((number or_else fourteen) or_else lent)) ∙ z)
 
     number_is : fourteen ≡ 0 → swizzle_number st.next g output p ≡ 0
     unfolding swizzle_number
@@ -164,15 +164,15 @@ module _ (r : rules.SwizzleRooms) (room : ℕ) (st : LogState) (g : Given) (outp
 
     past : (t : Bool) (k : ℕ) → (not (eqb m.width 0) && eqb m.depth 0) ≡ t → t ≡ false → fourteen ≡ 0 → k ≡ lent → k ≡ rows_refusal r room st g output p
     past t k e f q h =
-        h ∙ sym (form ∙ ap (λ (b : Bool). if b then number else ((number or_else fourteen) or_else lent)) (e ∙ f)
+        h ∙ sym (form ∙ ap (λ (b : Bool). when b then number else ((number or_else fourteen) or_else lent)) (e ∙ f)
         ∙ else_rest (number or_else fourteen) lent (else_rest number fourteen z ∙ q))
 
     -- ---- width 0
     module _ (w : m.width ≡ 0) where
       flat_14 : fourteen ≡ 0
-      flat_14 = ap (λ (b : Bool). if eqb m.depth 0 && b then 14 else 0) (ports_none m w) ∙ on (eqb m.depth 0)
+      flat_14 = ap (λ (b : Bool). when eqb m.depth 0 && b then 14 else 0) (ports_none m w) ∙ on (eqb m.depth 0)
         where
-          on : (t : Bool) → ◌≡◌ {A = ℕ} (if t && false then 14 else 0) 0
+          on : (t : Bool) → ◌≡◌ {A = ℕ} (when t && false then 14 else 0) 0
           on true = refl
           on false = refl
 
@@ -195,14 +195,14 @@ module _ (r : rules.SwizzleRooms) (room : ℕ) (st : LogState) (g : Given) (outp
       flat-results : results_refusal r m (swizzle m output p (start_net st)).value ≡ 0
       unfolding results_refusal
       flat-results =
-          ap (λ (ds : List Driving). if no_room_of r.nets (length (shared_nets m ds)) || no_room_of r.trits (length (shared_trits m ds)) then 20 else 0) (ap (λ (t : Trace (List Driving)). (t (start_net st)).value) flat_trace ∙ done_value (start_net st))
-          ∙ (λ i. if no_need r.nets _ (no_nets_lem m) i || no_need r.trits _ (no_trits_lem m) i then 20 else 0)
+          ap (λ (ds : List Driving). when no_room_of r.nets (length (shared_nets m ds)) || no_room_of r.trits (length (shared_trits m ds)) then 20 else 0) (ap (λ (t : Trace (List Driving)). (t (start_net st)).value) flat_trace ∙ done_value (start_net st))
+          ∙ (λ i. when no_need r.nets _ (no_nets_lem m) i || no_need r.trits _ (no_trits_lem m) i then 20 else 0)
 
       flat-log : log_refusal room st (swizzle m output p) ≡ room_refusal room st 0 0
       flat-log = ap (log_refusal room st) flat_trace ∙ counted_refusal (done []) 0 0 (counted_done []) room st
 
       lent_none : (a b : ℕ) → b ≡ 0 → lent_refusal a b ≡ 0
-      lent_none a b e = ap (λ (t : Bool). if t then 20 else 0) (no_need a b e)
+      lent_none a b e = ap (λ (t : Bool). when t then 20 else 0) (no_need a b e)
 
       flat_first : image_refusal r.image (layout_of m p) ≡ 0
       unfolding image_refusal
@@ -217,7 +217,7 @@ module _ (r : rules.SwizzleRooms) (room : ℕ) (st : LogState) (g : Given) (outp
     -- ---- rows
     module _ (w : m.width ≢ 0) (d : m.depth ≢ 0) where
       rows_14 : fourteen ≡ 0
-      rows_14 = ap (λ (b : Bool). if b && short_ports m then 14 else 0) (ne_eqb m.depth 0 d)
+      rows_14 = ap (λ (b : Bool). when b && short_ports m then 14 else 0) (ne_eqb m.depth 0 d)
 
       pub rows_number : swizzle_number st.next g output p ≡ 0
       rows_number = number_is rows_14
@@ -240,7 +240,7 @@ module _ (r : rules.SwizzleRooms) (room : ℕ) (st : LogState) (g : Given) (outp
       by_rows n image k ei en et es el e =
           past _ k refl (on (eqb m.width 0) (ne_eqb m.depth 0 d)) rows_14
           (e ∙ (λ i. lent_refusal r.image (ei i)
-          or_else (if no_room_of r.nets ((en ∙ values (λ ds. length (shared_nets m ds))) i) || no_room_of r.trits ((et ∙ values (λ ds. length (shared_trits m ds))) i) then 20 else 0)
+          or_else (when no_room_of r.nets ((en ∙ values (λ ds. length (shared_nets m ds))) i) || no_room_of r.trits ((et ∙ values (λ ds. length (shared_trits m ds))) i) then 20 else 0)
           or_else lent_refusal r.scratch ((es ∙ sym rows_scratch) i)
           or_else (el ∙ ap (log_refusal room st) (sym rows_trace)) i))
         where

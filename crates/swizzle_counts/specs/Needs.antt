@@ -1,6 +1,6 @@
 -- What ports of a swizzle ask for, by the numbers of a split: a port, and all.
 use Rattle.std.specs.Prelude.{◌≡◌, ℕ, ◌+◌, ◌-◌, ◌*◌, ◌^◌, ◌≤◌, ◌<◌, max, Bool, true, false, List, [], ◌∷◌, map, length, get_or, eqb}
-use Rattle.lists.specs.Choice.{if◌then◌else◌}
+use Rattle.lists.specs.Choice.{when◌then◌else◌}
 use Rattle.lists.specs.Lists.{up_from}
 use Rattle.lists.specs.Distinct.{kept}
 use Rattle.rules.specs.Limits.{X, addr_bits, max_ports, max_wide, max_width, max_row, max_hard, max_columns, max_merge}
@@ -97,10 +97,10 @@ read_from n m hw rows columns len true = record {
 
 -- an empty mux address makes no mux
 abbrev pub mux_words : ℕ → ℕ → ℕ
-mux_words m kept = if eqb m 0 then 0 else 5 + 2 * kept
+mux_words m kept = when eqb m 0 then 0 else 5 + 2 * kept
 
 abbrev pub mux_nets : ℕ → ℕ → ℕ
-mux_nets m kept = if eqb m 0 then 0 else kept
+mux_nets m kept = when eqb m 0 then 0 else kept
 
 abbrev pub write_from : ℕ → ℕ → ℕ → ℕ → ℕ → ℕ → Needs
 write_from n m hw rows columns kept = record {

@@ -1,6 +1,6 @@
 -- The refusal of a swizzle by what it asks for, without making its entries.
 use Rattle.std.specs.Prelude.{◌≡◌, ℕ, false, not, ◌&&◌, ◌||◌, List, eqb, length}
-use Rattle.lists.specs.Choice.{if◌then◌else◌, ◌or_else◌}
+use Rattle.lists.specs.Choice.{when◌then◌else◌, ◌or_else◌}
 use Rattle.rules.specs.Value.{Value}
 use Rattle.rules.specs.Cell.{Given, Plan}
 use Rattle.rules.specs.Log.{LogState}
@@ -23,14 +23,14 @@ rooms_of r = record { image = r.image; nets = r.nets; trits = r.trits; scratch =
 unfoldable pub needs_refusal : rules.SwizzleRooms → ℕ → LogState → Needs → ℕ → ℕ
 needs_refusal r room s n image =
     lent_refusal r.image image
-    or_else (if no_room_of r.nets n.room || no_room_of r.trits n.trits then 20 else 0)
+    or_else (when no_room_of r.nets n.room || no_room_of r.trits n.trits then 20 else 0)
     or_else lent_refusal r.scratch n.scratch
     or_else room_refusal room s n.words n.nets
 
 -- the whole refusal, but of depth 0, whose flip-flops are unmapped, only what comes before 14
 unfoldable pub rows_refusal : rules.SwizzleRooms → ℕ → LogState → Given → Value → Plan → ℕ
 rows_refusal r room s g output p =
-    if not (eqb g.mem.width 0) && eqb g.mem.depth 0 then swizzle_plan_number s.next g output p else swizzle_refusal r room s g output p
+    when not (eqb g.mem.width 0) && eqb g.mem.depth 0 then swizzle_plan_number s.next g output p else swizzle_refusal r room s g output p
 
 -- a plan that passes, for a memory whose width and depth are not 0
 pub record RowsFit (m : Memory) (nets : List ℕ) (s : MemorySwizzle) (es ws rs : List ℕ) : Type 0 where

@@ -7,7 +7,7 @@ use mathlib.Core.Bool.{Bool, true, false}
 use mathlib.Core.List.{List, [], ◌∷◌}
 use lib.ListN.{length, drop, get_or, set, drop_of_length-le}
 use lib.Seq.{sets, drop-cons}
-use Rattle.lists.specs.Choice.{if◌then◌else◌}
+use Rattle.lists.specs.Choice.{when◌then◌else◌}
 use Rattle.lists.specs.Lists.{part, same_list}
 use Rattle.lists.proofs.Choice.{cases_le}
 use Rattle.lists.proofs.Store.{part_sets}
@@ -34,11 +34,11 @@ no_ports : (m : Mem) (b : ℕ) (gs : List ℕ) → changing m b [] gs ≡ []
 unfolding changing
 no_ports m b gs = refl
 
-one_port : (m : Mem) (b : ℕ) (p : WritePort) (ps : List WritePort) (g : ℕ) (gs : List ℕ) → changing m b (p ∷ ps) (g ∷ gs) ≡ (if unchanged m b p then changing m b ps gs else g ∷ changing m b ps gs)
+one_port : (m : Mem) (b : ℕ) (p : WritePort) (ps : List WritePort) (g : ℕ) (gs : List ℕ) → changing m b (p ∷ ps) (g ∷ gs) ≡ (when unchanged m b p then changing m b ps gs else g ∷ changing m b ps gs)
 unfolding changing
 one_port m b p ps g gs = refl
 
-kept_le : (s : Bool) (g : ℕ) (l all : List ℕ) (n : ℕ) → length l ≤ n → all ≡ (if s then l else g ∷ l) → length all ≤ suc n
+kept_le : (s : Bool) (g : ℕ) (l all : List ℕ) (n : ℕ) → length l ≤ n → all ≡ (when s then l else g ∷ l) → length all ≤ suc n
 kept_le true g l all n h e = omega (arith, ap length e)
 kept_le false g l all n h e = omega (arith, ap length e)
 
@@ -52,11 +52,11 @@ module _ (m : Mem) (b : ℕ) (W : List WritePort) (gs : List ℕ) where
   abbrev pub rest : ℕ → List ℕ
   rest i = changing m b (drop i W) (drop i gs)
 
-  step : (i : ℕ) → i < length W → i < length gs → rest i ≡ (if unchanged m b (get_or W i no_write_of) then rest (i + 1) else get_or gs i 0 ∷ rest (i + 1))
+  step : (i : ℕ) → i < length W → i < length gs → rest i ≡ (when unchanged m b (get_or W i no_write_of) then rest (i + 1) else get_or gs i 0 ∷ rest (i + 1))
   step i h k =
       (λ j. changing m b (drop-cons W i no_write_of h j) (drop-cons gs i 0 k j))
       ∙ one_port m b (get_or W i no_write_of) (drop (suc i) W) (get_or gs i 0) (drop (suc i) gs)
-      ∙ ap (λ (n : ℕ). if unchanged m b (get_or W i no_write_of) then changing m b (drop n W) (drop n gs) else get_or gs i 0 ∷ changing m b (drop n W) (drop n gs)) (sym (add-one i))
+      ∙ ap (λ (n : ℕ). when unchanged m b (get_or W i no_write_of) then changing m b (drop n W) (drop n gs) else get_or gs i 0 ∷ changing m b (drop n W) (drop n gs)) (sym (add-one i))
 
   pub rest_end : (i : ℕ) → min (length W) (length gs) ≤ i → rest i ≡ []
   rest_end i h =
@@ -65,21 +65,21 @@ module _ (m : Mem) (b : ℕ) (W : List WritePort) (gs : List ℕ) where
       (λ k. ap (changing m b (drop i W)) (drop_of_length-le gs {i = i} (omega arith)) ∙ no_more m b (drop i W))
 
   -- a turn: the port's granularity is kept where its mask changes
-  module _ (i found r : ℕ) (s : Bool) (h : i < length W) (k : i < length gs) (u : s ≡ unchanged m b (get_or W i no_write_of)) (e : r ≡ (if s then found else found + 1)) where
-    now : rest i ≡ (if s then rest (i + 1) else get_or gs i 0 ∷ rest (i + 1))
-    now = step i h k ∙ ap (λ (t : Bool). if t then rest (i + 1) else get_or gs i 0 ∷ rest (i + 1)) (sym u)
+  module _ (i found r : ℕ) (s : Bool) (h : i < length W) (k : i < length gs) (u : s ≡ unchanged m b (get_or W i no_write_of)) (e : r ≡ (when s then found else found + 1)) where
+    now : rest i ≡ (when s then rest (i + 1) else get_or gs i 0 ∷ rest (i + 1))
+    now = step i h k ∙ ap (λ (t : Bool). when t then rest (i + 1) else get_or gs i 0 ∷ rest (i + 1)) (sym u)
 
     pub turn_length : (total : ℕ) → found + length (rest i) ≡ total → r + length (rest (i + 1)) ≡ total
     turn_length total q = on s e now
       where
-        on : (t : Bool) → r ≡ (if t then found else found + 1) → rest i ≡ (if t then rest (i + 1) else get_or gs i 0 ∷ rest (i + 1)) → r + length (rest (i + 1)) ≡ total
+        on : (t : Bool) → r ≡ (when t then found else found + 1) → rest i ≡ (when t then rest (i + 1) else get_or gs i 0 ∷ rest (i + 1)) → r + length (rest (i + 1)) ≡ total
         on true x y = omega (arith, ap length y)
         on false x y = omega (arith, ap length y)
 
-    pub turn_store : (out out' all : List ℕ) → out' ≡ (if s then out else set out found (get_or gs i 0)) → sets out found (rest i) ≡ all → sets out' r (rest (i + 1)) ≡ all
+    pub turn_store : (out out' all : List ℕ) → out' ≡ (when s then out else set out found (get_or gs i 0)) → sets out found (rest i) ≡ all → sets out' r (rest (i + 1)) ≡ all
     turn_store out out' all o q = on s e now o
       where
-        on : (t : Bool) → r ≡ (if t then found else found + 1) → rest i ≡ (if t then rest (i + 1) else get_or gs i 0 ∷ rest (i + 1)) → out' ≡ (if t then out else set out found (get_or gs i 0)) → sets out' r (rest (i + 1)) ≡ all
+        on : (t : Bool) → r ≡ (when t then found else found + 1) → rest i ≡ (when t then rest (i + 1) else get_or gs i 0 ∷ rest (i + 1)) → out' ≡ (when t then out else set out found (get_or gs i 0)) → sets out' r (rest (i + 1)) ≡ all
         on true x y z = (λ j. sets (z j) (x j) (rest (i + 1))) ∙ sym (ap (sets out found) y) ∙ q
         on false x y z = (λ j. sets (z j) ((x ∙ add-one found) j) (rest (i + 1))) ∙ sym (ap (sets out found) y) ∙ q
 

@@ -3,7 +3,7 @@
 
 ghost use Rattle.std.specs.Prelude.{◌≡◌, ◌||◌, List, [], ◌∷◌, ◌++◌, ℕ, ◌+◌, ◌-◌, ◌%◌, ◌<◌, ◌≤◌, length, get_or, set, replicate, eqb, ltb};
 ghost use Rattle.std.proofs.lemmas.List.Edits.{sets};
-ghost use Rattle.lists.specs.Choice.{if◌then◌else◌};
+ghost use Rattle.lists.specs.Choice.{when◌then◌else◌};
 ghost use Rattle.lists.specs.Lists.{same_list};
 ghost use Rattle.rules.specs.Cell.{Mem};
 ghost use Rattle.rules.specs.Limits.{X, None, max_granularity};
@@ -109,8 +109,8 @@ fn port_same(p: net_memory::MemoryWritePort, nets: &[u32], width: usize, bit: us
 // Stores a granularity unless its port's mask is the same, and says how many there are then.
 fn keep(out: &mut [u32], found: usize, same: bool, g: u32) -> usize
     requires { found ≤ 8 }
-    ensures value { (result ≡ (if same then found else found + 1)) × (result ≤ found + 1) }
-    ensures out_after { out.new ≡ (if same then out.old else set out.old found g) }
+    ensures value { (result ≡ (when same then found else found + 1)) × (result ≤ found + 1) }
+    ensures out_after { out.new ≡ (when same then out.old else set out.old found g) }
 {
     if same {
         return found;

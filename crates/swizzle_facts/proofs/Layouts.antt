@@ -10,7 +10,7 @@ use mathlib.Core.List.{List, [], ◌∷◌}
 use lib.ListN.{length, get_or}
 use lib.Dec.{eqb, ltb}
 use borrow.Author.Tests.{eq-eqb, ne_eqb, eqb-true, ltb-false, not-false}
-use Rattle.lists.specs.Choice.{if◌then◌else◌}
+use Rattle.lists.specs.Choice.{when◌then◌else◌}
 use Rattle.lists.specs.Distinct.{place_in}
 use Rattle.lists.proofs.Choice.{or_false, and_false, not_is_true, if_false}
 use Rattle.lists.proofs.Parts.{get_d_any}
@@ -65,7 +65,7 @@ chunks_by base D h e = cases (base / D) (div-add-mod' base D)
     cases zero f = absurd (omega (arith, zero-mul D))
     cases (suc k) f = omega arith
 
-some_chunks : (t : Bool) (p f : ℕ) → eqb p 0 ≡ t → (p ≡ 0 → 0 < f) → 0 < (if t then f else f + 1)
+some_chunks : (t : Bool) (p f : ℕ) → eqb p 0 ≡ t → (p ≡ 0 → 0 < f) → 0 < (when t then f else f + 1)
 some_chunks true p f e h = h (eqb-true p 0 e)
 some_chunks false p f e h = omega arith
 

@@ -9,7 +9,7 @@ use mathlib.Core.List.{List, [], ◌∷◌, ◌++◌}
 use lib.ListN.{length, replicate, length-append, length-replicate}
 use lib.Dec.{eqb, ltb}
 use borrow.Author.Tests.{ltb-true, le-leb}
-use Rattle.lists.specs.Choice.{if◌then◌else◌}
+use Rattle.lists.specs.Choice.{when◌then◌else◌}
 use Rattle.rules.specs.Limits.{addr_bits, max_columns}
 use Rattle.rules.specs.Numbers.{softs, top_bits, bits_for}
 use Rattle.rules.specs.Value.{Value, zext}
@@ -27,7 +27,7 @@ row_role : (mask wide rows : ℕ) → role_of mask wide rows ≡ Row → 0 < row
 unfolding role_of
 row_role mask wide rows e = on (eqb (mask % 2) 1) (ltb 0 wide) (ltb 0 rows) refl e
   where
-    on : (a b c : Bool) → ltb 0 rows ≡ c → (if a then Soft else if b then Wide else if c then Row else High) ≡ Row → 0 < rows
+    on : (a b c : Bool) → ltb 0 rows ≡ c → (when a then Soft else when b then Wide else when c then Row else High) ≡ Row → 0 < rows
     on true b c q f = let z : ◌≡◌ {A = ℕ} 0 1 = cc in absurd (omega arith)
     on false true c q f = let z : ◌≡◌ {A = ℕ} 0 1 = cc in absurd (omega arith)
     on false false true q f = ltb-true 0 rows q
@@ -62,7 +62,7 @@ mux_le [] v = omega arith
 mux_le (r ∷ rs) [] = omega arith
 mux_le (r ∷ rs) (a ∷ more) = on (is_row r) (mux_le rs more)
   where
-    on : (b : Bool) → length (mux_nets rs more) ≤ length more → length (if b then mux_nets rs more else a ∷ mux_nets rs more) ≤ suc (length more)
+    on : (b : Bool) → length (mux_nets rs more) ≤ length more → length (when b then mux_nets rs more else a ∷ mux_nets rs more) ≤ suc (length more)
     on true h = omega arith
     on false h = omega arith
 

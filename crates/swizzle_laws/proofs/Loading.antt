@@ -9,7 +9,7 @@ use lib.ListN.{length, take, drop, set, replicate, length-set, length-map, lengt
 use lib.Seq.{sets, set-set, set_comm}
 use lib.Dec.{eqb}
 use borrow.Author.Tests.{eqb-false, ne_eqb}
-use Rattle.lists.specs.Choice.{if◌then◌else◌}
+use Rattle.lists.specs.Choice.{when◌then◌else◌}
 use Rattle.lists.specs.Lists.{all, part, up_from, concat_map}
 use Rattle.lists.proofs.UpFrom.{length_up}
 use Rattle.rules.specs.Limits.{None, X}
@@ -19,7 +19,7 @@ use Rattle.rules.specs.Swizzle.{Split, restore, sources, old_rows, load_piece, p
 use Rattle.swizzle_laws.specs.Loads.{placed, restore_from, load_rows}
 
 -- ---- one after the other
-restore_cons : (e a : ℕ) (es v acc : List ℕ) → restore (e ∷ es) (a ∷ v) acc ≡ restore es v (if eqb e None then acc else set acc e a)
+restore_cons : (e a : ℕ) (es v acc : List ℕ) → restore (e ∷ es) (a ∷ v) acc ≡ restore es v (when eqb e None then acc else set acc e a)
 unfolding restore
 restore_cons e a es v acc = refl
 
@@ -28,7 +28,7 @@ unfolding restore
 restore_append [] fs [] w acc h = refl
 restore_append [] fs (a ∷ v) w acc h = absurd (omega arith)
 restore_append (e ∷ es) fs [] w acc h = absurd (omega arith)
-restore_append (e ∷ es) fs (a ∷ v) w acc h = restore_append es fs v w (if eqb e None then acc else set acc e a) (omega arith)
+restore_append (e ∷ es) fs (a ∷ v) w acc h = restore_append es fs v w (when eqb e None then acc else set acc e a) (omega arith)
 
 -- an entry that names a bit of a row of this width
 abbrev pub Names : ℕ → List ℕ → Type 0
@@ -42,10 +42,10 @@ names_tail width e es n i h g = n (suc i) (omega arith) g
 
 -- ---- the entries of row j
 abbrev shifted : ℕ → ℕ → ℕ
-shifted at e = if eqb e None then None else at + e
+shifted at e = when eqb e None then None else at + e
 
 place_shifted : (b : Bool) (at e a : ℕ) (acc : List ℕ) → eqb e None ≡ b → (b ≡ false → at + e < None)
-    → (if eqb (if b then None else at + e) None then acc else set acc (if b then None else at + e) a) ≡ (if b then acc else set acc (at + e) a)
+    → (when eqb (when b then None else at + e) None then acc else set acc (when b then None else at + e) a) ≡ (when b then acc else set acc (at + e) a)
 place_shifted true at e a acc q h = refl
 place_shifted false at e a acc q h = let z = ne_eqb (at + e) None (λ z. absurd (omega (arith, h refl))) in rw z
 
@@ -86,11 +86,11 @@ set_inside (a ∷ acc) l base (suc k) v h =
 
 -- one net placed in a piece that stands in the scratch
 placed_inside : (b : Bool) (base at e v : ℕ) (l acc : List ℕ) → (b ≡ false → at + e < length acc)
-    → (if b then sets l base acc else set (sets l base acc) (base + at + e) v) ≡ sets l base (if b then acc else set acc (at + e) v)
+    → (when b then sets l base acc else set (sets l base acc) (base + at + e) v) ≡ sets l base (when b then acc else set acc (at + e) v)
 placed_inside true base at e v l acc h = refl
 placed_inside false base at e v l acc h = ap (λ (n : ℕ). set (sets l base acc) n v) (add_assoc base at e) ∙ set_inside acc l base (at + e) v (h refl)
 
-length_placed : (b : Bool) (at e v : ℕ) (acc : List ℕ) → length (if b then acc else set acc (at + e) v) ≡ length acc
+length_placed : (b : Bool) (at e v : ℕ) (acc : List ℕ) → length (when b then acc else set acc (at + e) v) ≡ length acc
 length_placed true at e v acc = refl
 length_placed false at e v acc = length-set acc (at + e) v
 

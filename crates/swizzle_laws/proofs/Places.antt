@@ -6,7 +6,7 @@ use native.Mathlib.Omega.{arith}
 use mathlib.Core.List.{List, [], ◌∷◌, ◌++◌, append_assoc}
 use lib.ListN.{length, replicate, length-append, length-replicate}
 use mathlib.Core.Bool.{Bool, true, false}
-use Rattle.lists.specs.Choice.{if◌then◌else◌}
+use Rattle.lists.specs.Choice.{when◌then◌else◌}
 use Rattle.swizzle_laws.specs.Masks.{rows_mask}
 use Rattle.swizzle_laws.proofs.Masking.{rows_append, rows_high, rows_below, spot_walk}
 use Rattle.swizzle_laws.proofs.ReadCounts.{bits_enough}
@@ -145,7 +145,7 @@ unfolding mux_roles
 length_mux [] = omega arith
 length_mux (r ∷ rs) = on (is_row r) (length_mux rs)
   where
-    on : (b : Bool) → length (mux_roles rs) ≤ length rs → length (if b then mux_roles rs else r ∷ mux_roles rs) ≤ suc (length rs)
+    on : (b : Bool) → length (mux_roles rs) ≤ length rs → length (when b then mux_roles rs else r ∷ mux_roles rs) ≤ suc (length rs)
     on true h = omega arith
     on false h = omega arith
 

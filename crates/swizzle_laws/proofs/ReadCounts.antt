@@ -10,7 +10,7 @@ use lib.ListN.{length, set, length-append, length-map, length-set, length-replic
 use lib.Dec.{eqb}
 use borrow.Author.Tests.{eqb-true}
 use Rattle.lists.specs.Lists.{up_from}
-use Rattle.lists.specs.Choice.{if◌then◌else◌}
+use Rattle.lists.specs.Choice.{when◌then◌else◌}
 use Rattle.lists.proofs.UpFrom.{length_up}
 use Rattle.rules.specs.Limits.{None, addr_bits}
 use Rattle.rules.specs.Numbers.{top_bits, bits_for}
@@ -78,9 +78,9 @@ pub length_restore : (es v acc : List ℕ) → length (restore es v acc) ≡ len
 unfolding restore
 length_restore [] v acc = refl
 length_restore (e ∷ es) [] acc = refl
-length_restore (e ∷ es) (a ∷ more) acc = length_restore es more (if eqb e None then acc else set acc e a) ∙ on (eqb e None)
+length_restore (e ∷ es) (a ∷ more) acc = length_restore es more (when eqb e None then acc else set acc e a) ∙ on (eqb e None)
   where
-    on : (b : Bool) → length (if b then acc else set acc e a) ≡ length acc
+    on : (b : Bool) → length (when b then acc else set acc e a) ≡ length acc
     on true = refl
     on false = length-set acc e a
 

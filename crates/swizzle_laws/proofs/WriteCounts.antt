@@ -7,7 +7,7 @@ use mathlib.Core.Bool.{Bool, true, false, ◌&&◌}
 use mathlib.Core.List.{List, [], ◌∷◌, map}
 use lib.ListN.{length, replicate, length-map}
 use lib.Dec.{eqb}
-use Rattle.lists.specs.Choice.{if◌then◌else◌}
+use Rattle.lists.specs.Choice.{when◌then◌else◌}
 use Rattle.lists.specs.Lists.{pairs, up_from}
 use Rattle.lists.specs.Distinct.{kept}
 use Rattle.lists.proofs.UpFrom.{length_up}
@@ -78,12 +78,12 @@ counted_dedup_mux c a b =
 module _ (s : Split) (mask : Value) where
   -- the words and nets of its merging mux, and its own
   muxed : Bool → Count
-  muxed b = if b then nothing else mux_count_of (length (kept eqb mask))
+  muxed b = when b then nothing else mux_count_of (length (kept eqb mask))
 
   abbrev each : Count
   each = plus (eq_count (length s.mux_addr)) (muxed (is_empty s.mux_addr))
 
-  counted_muxed : (b : Bool) (e : ℕ) → Counted (if b then done mask else add_dedup_mux_of (Pos e) mask (replicate (length mask) 0)) (muxed b).words (muxed b).nets
+  counted_muxed : (b : Bool) (e : ℕ) → Counted (when b then done mask else add_dedup_mux_of (Pos e) mask (replicate (length mask) 0)) (muxed b).words (muxed b).nets
   unfolding muxed nothing mux_count_of
   counted_muxed true e = counted_done mask
   counted_muxed false e =

@@ -1,7 +1,7 @@
 -- Pieces of a wide port stored memory after memory, on plain numbers: M memories of U columns, R rows, L entries to a row, and where each piece
 -- starts.
 use Rattle.std.specs.Prelude.{ℕ, ◌+◌, ◌-◌, ◌*◌, ◌^◌, min, List, [], ◌∷◌, map, length, take, drop, replicate}
-use Rattle.lists.specs.Choice.{if◌then◌else◌}
+use Rattle.lists.specs.Choice.{when◌then◌else◌}
 use Rattle.rules.specs.Value.{Value, from_uint, Pos}
 use Rattle.rules.specs.Log.{Trace, ◌>>=◌, done, add_eq_of}
 use Rattle.rules.specs.Merge.{add_dedup_mux_of}
@@ -29,7 +29,7 @@ module _ {A : Type 0} where
 unfoldable pub piece_by : Value → Value → ℕ → Trace Value
 piece_by mux mask x = do
   e ← add_eq_of mux (from_uint (length mux) x)
-  if is_empty mux then done mask else add_dedup_mux_of (Pos e) mask (replicate (length mask) 0)
+  when is_empty mux then done mask else add_dedup_mux_of (Pos e) mask (replicate (length mask) 0)
 
 -- the masks of these pieces stored
 unfoldable pub spill_masks : ℕ → ℕ → ℕ → ℕ → (ℕ → List ℕ) → Value → Value → List ℕ → List ℕ → Trace (List ℕ)

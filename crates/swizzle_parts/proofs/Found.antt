@@ -11,7 +11,7 @@ use lib.ListN.{length, take, drop, get_or, length-take, length-map, get_or-eq_de
 use lib.Seq.{drop-drop, take-take, get_or-take}
 use lib.Dec.{leb, ltb}
 use borrow.Author.Tests.{leb-true, ltb-true, ltb-false, le-leb, lt-leb}
-use Rattle.lists.specs.Choice.{if◌then◌else◌}
+use Rattle.lists.specs.Choice.{when◌then◌else◌}
 use Rattle.lists.specs.Lists.{sum_by, part, all, up_from, concat_map}
 use Rattle.lists.specs.Views.{views}
 use Rattle.lists.proofs.Choice.{and_true, and_false, if_true}
@@ -59,7 +59,7 @@ module _ {P A B R : Type 0} (s t : P → ℕ) (read : P → List A → List B �
       views_at ps i (drop (s p) l) (drop (t p) m) (omega arith)
       ∙ rw (drop-drop (sum_by s (take i ps)) (s p) l, drop-drop (sum_by t (take i ps)) (t p) m)
 
-else_none : {A : Type 0} (b : Bool) (x d : A) → (b ≡ true → x ≡ d) → (if b then x else d) ≡ d
+else_none : {A : Type 0} (b : Bool) (x d : A) → (b ≡ true → x ≡ d) → (when b then x else d) ≡ d
 else_none true x d h = h refl
 else_none false x d h = refl
 

@@ -1,6 +1,6 @@
 -- Memory n of those that a struct and three lent arrays hold, where the struct's numbers are within the limits of a swizzle.
 use Rattle.std.specs.Prelude.{ℕ, ◌+◌, ◌<◌, ◌≤◌, min, Bool, true, false, ◌&&◌, List, [], take, drop, get_or, leb, ltb}
-use Rattle.lists.specs.Choice.{if◌then◌else◌}
+use Rattle.lists.specs.Choice.{when◌then◌else◌}
 use Rattle.lists.specs.Lists.{sum_by, part, all, concat_map}
 use Rattle.rules.specs.Limits.{max_ports, max_wide, max_unit, max_columns, max_nets}
 use Rattle.rules.specs.Cell.{Mem, ReadFlipFlop, read_at_of, held}
@@ -66,7 +66,7 @@ has_read g n i = is_there g n && ltb i (min max_ports g.read_count)
 
 -- it, with the outputs that it drives
 unfoldable pub memory_at : WideMemory → List ℕ → List ℕ → List ℕ → ℕ → Driving
-memory_at g nets trits image n = if is_small g then get_or (results_of g nets trits image) n no_memory else no_memory
+memory_at g nets trits image n = when is_small g then get_or (results_of g nets trits image) n no_memory else no_memory
 
 -- the trits of read port i's flip-flop; none where it has none
 unfoldable pub clear_at : Mem → ℕ → List ℕ

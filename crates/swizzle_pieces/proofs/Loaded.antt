@@ -11,7 +11,7 @@ use lib.Dec.{eqb, leb}
 use borrow.Author.Tests.{eq-eqb, ne_eqb, lt-leb, le-leb, leb-true}
 use mathlib.Core.Bool.{Bool, true, false, ◌&&◌}
 use Rattle.lists.proofs.Choice.{cases_le, and_true}
-use Rattle.lists.specs.Choice.{if◌then◌else◌}
+use Rattle.lists.specs.Choice.{when◌then◌else◌}
 use Rattle.lists.specs.Lists.{up_from}
 use Rattle.lists.proofs.UpFrom.{count_step, count_end}
 use Rattle.rules.specs.Limits.{None, X, addr_bits}

@@ -1,6 +1,6 @@
 -- The pieces of a read port, loaded one after the other.
 use Rattle.std.specs.Prelude.{◌≡◌, ℕ, ◌+◌, ◌*◌, ◌≤◌, ◌<◌, min, Bool, ◌&&◌, leb, List, [], ◌∷◌, length, replicate}
-use Rattle.lists.specs.Choice.{if◌then◌else◌}
+use Rattle.lists.specs.Choice.{when◌then◌else◌}
 use Rattle.std.proofs.lemmas.List.Edits.{sets}
 use Rattle.lists.specs.Lists.{up_from}
 use Rattle.rules.specs.Limits.{addr_bits, X}
@@ -18,7 +18,7 @@ size_of n = n.rows * n.width
 
 -- the nets from `first` on to their places, where they are all below X
 unfoldable pub guarded : ℕ → List ℕ → ℕ → List ℕ → List ℕ
-guarded at es first acc = if leb (first + length es) X then restore_from at es first acc else acc
+guarded at es first acc = when leb (first + length es) X then restore_from at es first acc else acc
 
 -- the rows of a port; a first net that would pass X is X
 unfoldable pub guard_rows : (ℕ → ℕ) → ℕ → ℕ → List ℕ → ℕ → List ℕ → List ℕ → List ℕ
@@ -40,7 +40,7 @@ held n len room = leb len X && (leb (n.rows * n.count) 4294967296 && (leb (size_
 
 -- all pieces at the scratch's front, where it holds them
 unfoldable pub load_of : Pieces → List ℕ → List ℕ → List ℕ
-load_of n es acc = if held n (length es) (length acc) then load_each n es (up_from 0 n.count) 0 acc else acc
+load_of n es acc = when held n (length es) (length acc) then load_each n es (up_from 0 n.count) 0 acc else acc
 
 -- ---- what the parts ask
 pub record RowsFit (n : Pieces) (len x at : ℕ) : Type 0 where

@@ -8,7 +8,7 @@ use mathlib.Core.List.{List}
 use lib.ListN.{length}
 use lib.Seq.{sets, length-sets}
 use lib.Dec.{eqb, ltb}
-use Rattle.lists.specs.Choice.{if◌then◌else◌, leaves}
+use Rattle.lists.specs.Choice.{when◌then◌else◌, leaves}
 use Rattle.lists.proofs.Choice.{else_first, else_rest, else_zero, or_false, or_both}
 use Rattle.rules.specs.Limits.{max_depth, max_width, max_bits, max_row, max_unit, max_hard, max_nets, addr_bits}
 use Rattle.rules.specs.Numbers.{top_bits}
@@ -27,24 +27,24 @@ use Rattle.net_memory.specs.Given.{given_of}
 use Rattle.swizzle_plan.specs.declared.MemorySwizzle.{MemorySwizzle}
 
 -- a chain whose first test refuses, and one whose first test does not
-seven : (a b : Bool) → ◌≢◌ {A = ℕ} (if a then 7 else 0) 0 → ◌≡◌ {A = ℕ} (if a then 7 else 0) (if a then 7 else if b then 8 else 0)
+seven : (a b : Bool) → ◌≢◌ {A = ℕ} (when a then 7 else 0) 0 → ◌≡◌ {A = ℕ} (when a then 7 else 0) (when a then 7 else when b then 8 else 0)
 seven true b h = refl
 seven false b h = absurd (h refl)
 
-eight : (a b : Bool) → ◌≡◌ {A = ℕ} (if a then 7 else 0) 0 → ◌≡◌ {A = ℕ} (if b then 8 else 0) (if a then 7 else if b then 8 else 0)
+eight : (a b : Bool) → ◌≡◌ {A = ℕ} (when a then 7 else 0) 0 → ◌≡◌ {A = ℕ} (when b then 8 else 0) (when a then 7 else when b then 8 else 0)
 eight true b h = absurd (omega arith)
 eight false b h = refl
 
-ten : (a b : Bool) (x : ℕ) → a ≡ false → ◌≢◌ {A = ℕ} (if a then 1 else if b then 10 else 0) 0 → ◌≡◌ {A = ℕ} (if a then 1 else if b then 10 else 0) (if b then 10 else x)
-ten a true x e h = ap {A = Bool} {B = ℕ} (λ (t : Bool). if t then 1 else 10) e
-ten a false x e h = absurd (h (ap {A = Bool} {B = ℕ} (λ (t : Bool). if t then 1 else 0) e))
+ten : (a b : Bool) (x : ℕ) → a ≡ false → ◌≢◌ {A = ℕ} (when a then 1 else when b then 10 else 0) 0 → ◌≡◌ {A = ℕ} (when a then 1 else when b then 10 else 0) (when b then 10 else x)
+ten a true x e h = ap {A = Bool} {B = ℕ} (λ (t : Bool). when t then 1 else 10) e
+ten a false x e h = absurd (h (ap {A = Bool} {B = ℕ} (λ (t : Bool). when t then 1 else 0) e))
 
 ten_not : ◌≡◌ {A = ℕ} 10 0 → ⊥
 ten_not z = omega arith
 
-room_left : (a b c : Bool) → a ≡ false → ◌≡◌ {A = ℕ} (if a then 1 else if b then 10 else 0) 0 → ◌≡◌ {A = ℕ} (if a then 1 else if c then 20 else 0) (if b then 10 else if c then 20 else 0)
-room_left a true c e h = absurd (ten_not (sym (ap {A = Bool} {B = ℕ} (λ (x : Bool). if x then 1 else 10) e) ∙ h))
-room_left a false c e h = ap {A = Bool} {B = ℕ} (λ (t : Bool). if t then 1 else if c then 20 else 0) e
+room_left : (a b c : Bool) → a ≡ false → ◌≡◌ {A = ℕ} (when a then 1 else when b then 10 else 0) 0 → ◌≡◌ {A = ℕ} (when a then 1 else when c then 20 else 0) (when b then 10 else when c then 20 else 0)
+room_left a true c e h = absurd (ten_not (sym (ap {A = Bool} {B = ℕ} (λ (x : Bool). when x then 1 else 10) e) ∙ h))
+room_left a false c e h = ap {A = Bool} {B = ℕ} (λ (t : Bool). when t then 1 else when c then 20 else 0) e
 
 module _ (m : Memory) (nets trits : List ℕ) (s : MemorySwizzle) (es ws rs : List ℕ) where
   abbrev p : Plan
@@ -57,7 +57,7 @@ module _ (m : Memory) (nets trits : List ℕ) (s : MemorySwizzle) (es ws rs : Li
   unfolding layout_of memory_of
   same_layout = refl
 
-  plan_by : plan_number (memory_of m nets trits) p ≡ (if bad_entries m.width es then 7 else if indivisible m.depth (top_bits addr_bits s.soft_addr_bits_mask) then 8 else 0)
+  plan_by : plan_number (memory_of m nets trits) p ≡ (when bad_entries m.width es then 7 else when indivisible m.depth (top_bits addr_bits s.soft_addr_bits_mask) then 8 else 0)
   unfolding plan_number bad_soft_mask memory_of
   plan_by = refl
 
@@ -114,15 +114,15 @@ module _ (m : Memory) (nets trits : List ℕ) (s : MemorySwizzle) (es ws rs : Li
       unfolding swizzle_depths_refusal result_number row_len_of
       depths_ten k e h =
           e
-          ∙ ten (bad_layout_sizes m.depth m.width (length es) s.data_width_unit s.hard_addr_bits) (result_too_large q) (if no_room_of room (all_mems q) then 20 else 0) (planned_sizes false z) (λ x. h (e ∙ x))
-          ∙ ap (λ (l : Layout). if result_too_large l then 10 else if no_room_of room (all_mems l) then 20 else 0) same_layout
+          ∙ ten (bad_layout_sizes m.depth m.width (length es) s.data_width_unit s.hard_addr_bits) (result_too_large q) (when no_room_of room (all_mems q) then 20 else 0) (planned_sizes false z) (λ x. h (e ∙ x))
+          ∙ ap (λ (l : Layout). when result_too_large l then 10 else when no_room_of room (all_mems l) then 20 else 0) same_layout
           ∙ sym (else_rest (planned_number false (given_of m nets trits) p) _ z)
 
       pub depths_rest : (k : ℕ) → k ≡ result_number q → k ≡ 0 → depths_refusal room q ≡ swizzle_depths_refusal room (given_of m nets trits) p
       unfolding swizzle_depths_refusal result_number depths_refusal row_len_of
       depths_rest k e h =
           room_left (bad_layout_sizes m.depth m.width (length es) s.data_width_unit s.hard_addr_bits) (result_too_large q) (no_room_of room (all_mems q)) (planned_sizes false z) (sym e ∙ h)
-          ∙ ap (λ (l : Layout). if result_too_large l then 10 else if no_room_of room (all_mems l) then 20 else 0) same_layout
+          ∙ ap (λ (l : Layout). when result_too_large l then 10 else when no_room_of room (all_mems l) then 20 else 0) same_layout
           ∙ sym (else_rest (planned_number false (given_of m nets trits) p) _ z)
 
 -- a call that fills keeps the length of the room
@@ -130,6 +130,6 @@ pub filled_length : (n : ℕ) (out l : List ℕ) → length (filled n out l).out
 unfolding filled leaves
 filled_length n out l = on (eqb n 0)
   where
-    on : (t : Bool) → length (if t then sets out 0 l else out) ≡ length out
+    on : (t : Bool) → length (when t then sets out 0 l else out) ≡ length out
     on true = length-sets out 0 l
     on false = refl

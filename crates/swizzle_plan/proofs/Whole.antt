@@ -7,7 +7,7 @@ use mathlib.Core.Bool.{Bool, true, false, not, ◌&&◌, ◌||◌}
 use mathlib.Core.List.{List, [], ◌∷◌}
 use lib.ListN.{length}
 use lib.Dec.{eqb, ltb}
-use Rattle.lists.specs.Choice.{if◌then◌else◌, ◌or_else◌}
+use Rattle.lists.specs.Choice.{when◌then◌else◌, ◌or_else◌}
 use Rattle.lists.specs.Lists.{part, up_from}
 use Rattle.lists.proofs.Choice.{else_first, else_rest, or_false, or_both}
 use Rattle.rules.specs.Limits.{max_depth, max_width, max_bits, max_row, max_unit, max_hard, addr_bits}
@@ -45,36 +45,36 @@ every_port m nets trits n e h = first_ports n h ∙ ap (up_from 0) (sym e)
 
 -- the numbers by their tests: 7, 8, 9, width 0, and 10
 abbrev whole_of : Bool → Bool → Bool → Bool → Bool → ℕ
-whole_of a b c z d = (if a then 7 else if b then 8 else 0) or_else (if c then 9 else 0) or_else (if not z && d then 10 else 0)
+whole_of a b c z d = (when a then 7 else when b then 8 else 0) or_else (when c then 9 else 0) or_else (when not z && d then 10 else 0)
 
-seven : (a b c z d : Bool) (k : ℕ) → k ≡ (if a then 7 else 0) → k ≢ 0 → k ≡ whole_of a b c z d
+seven : (a b c z d : Bool) (k : ℕ) → k ≡ (when a then 7 else 0) → k ≢ 0 → k ≡ whole_of a b c z d
 unfolding ◌or_else◌
 seven true b c z d k e h = e
 seven false b c z d k e h = absurd (h e)
 
-eight : (a b c z d : Bool) (k j : ℕ) → k ≡ (if a then 7 else 0) → k ≡ 0 → j ≡ (if b then 8 else 0) → j ≢ 0 → j ≡ whole_of a b c z d
+eight : (a b c z d : Bool) (k j : ℕ) → k ≡ (when a then 7 else 0) → k ≡ 0 → j ≡ (when b then 8 else 0) → j ≢ 0 → j ≡ whole_of a b c z d
 unfolding ◌or_else◌
 eight true b c z d k j e q f h = absurd (omega arith)
 eight false true c z d k j e q f h = f
 eight false false c z d k j e q f h = absurd (h f)
 
-nine : (a b c z d : Bool) (k j : ℕ) → k ≡ (if a then 7 else 0) → k ≡ 0 → j ≡ (if b then 8 else 0) → j ≡ 0 → c ≡ true → 9 ≡ whole_of a b c z d
+nine : (a b c z d : Bool) (k j : ℕ) → k ≡ (when a then 7 else 0) → k ≡ 0 → j ≡ (when b then 8 else 0) → j ≡ 0 → c ≡ true → 9 ≡ whole_of a b c z d
 unfolding ◌or_else◌
 nine true b c z d k j e q f h t = absurd (omega arith)
 nine false true c z d k j e q f h t = absurd (omega arith)
-nine false false c z d k j e q f h t = sym (ap (λ (x : Bool). (if x then 9 else 0) or_else (if not z && d then 10 else 0)) t)
+nine false false c z d k j e q f h t = sym (ap (λ (x : Bool). (when x then 9 else 0) or_else (when not z && d then 10 else 0)) t)
 
-rest : (a b c z d : Bool) (k j : ℕ) → k ≡ (if a then 7 else 0) → k ≡ 0 → j ≡ (if b then 8 else 0) → j ≡ 0 → c ≡ false → (if not z && d then 10 else 0) ≡ whole_of a b c z d
+rest : (a b c z d : Bool) (k j : ℕ) → k ≡ (when a then 7 else 0) → k ≡ 0 → j ≡ (when b then 8 else 0) → j ≡ 0 → c ≡ false → (when not z && d then 10 else 0) ≡ whole_of a b c z d
 unfolding ◌or_else◌
 rest true b c z d k j e q f h t = absurd (omega arith)
 rest false true c z d k j e q f h t = absurd (omega arith)
-rest false false c z d k j e q f h t = sym (ap (λ (x : Bool). (if x then 9 else 0) or_else (if not z && d then 10 else 0)) t)
+rest false false c z d k j e q f h t = sym (ap (λ (x : Bool). (when x then 9 else 0) or_else (when not z && d then 10 else 0)) t)
 
-flat : (z d : Bool) → z ≡ true → ◌≡◌ {A = ℕ} 0 (if not z && d then 10 else 0)
-flat z d e = sym (ap {A = Bool} {B = ℕ} (λ (x : Bool). if not x && d then 10 else 0) e)
+flat : (z d : Bool) → z ≡ true → ◌≡◌ {A = ℕ} 0 (when not z && d then 10 else 0)
+flat z d e = sym (ap {A = Bool} {B = ℕ} (λ (x : Bool). when not x && d then 10 else 0) e)
 
-ten : (z d t : Bool) (r : ℕ) → z ≡ false → t ≡ false → r ≡ (if t then 1 else if d then 10 else 0) → r ≡ (if not z && d then 10 else 0)
-ten z d t r e q f = f ∙ ap {A = Bool} {B = ℕ} (λ (x : Bool). if x then 1 else if d then 10 else 0) q ∙ sym (ap {A = Bool} {B = ℕ} (λ (x : Bool). if not x && d then 10 else 0) e)
+ten : (z d t : Bool) (r : ℕ) → z ≡ false → t ≡ false → r ≡ (when t then 1 else when d then 10 else 0) → r ≡ (when not z && d then 10 else 0)
+ten z d t r e q f = f ∙ ap {A = Bool} {B = ℕ} (λ (x : Bool). when x then 1 else when d then 10 else 0) q ∙ sym (ap {A = Bool} {B = ℕ} (λ (x : Bool). when not x && d then 10 else 0) e)
 
 module _ (m : Memory) (nets trits : List ℕ) (s : MemorySwizzle) (es ws rs : List ℕ) where
   abbrev p : Plan
@@ -97,7 +97,7 @@ module _ (m : Memory) (nets trits : List ℕ) (s : MemorySwizzle) (es ws rs : Li
   form = refl
 
   module _ (k : ℕ) (e : k ≡ entries_number m.width es) where
-    names_by : k ≡ (if names then 7 else 0)
+    names_by : k ≡ (when names then 7 else 0)
     unfolding entries_number
     names_by = e
 
@@ -105,7 +105,7 @@ module _ (m : Memory) (nets trits : List ℕ) (s : MemorySwizzle) (es ws rs : Li
     by_seven h = seven names mask logs (eqb m.width 0) large k names_by h ∙ form
 
     module _ (q : k ≡ 0) (j : ℕ) (f : j ≡ soft_mask_number m.depth s.soft_addr_bits_mask) where
-      mask_by : j ≡ (if mask then 8 else 0)
+      mask_by : j ≡ (when mask then 8 else 0)
       unfolding soft_mask_number
       mask_by = f
 

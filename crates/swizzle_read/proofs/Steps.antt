@@ -10,7 +10,7 @@ use borrow.Author.Tests.{lt-ltb, le-leb, lt-leb, ltb-true, leb-true}
 use lib.Dec.{leb, ltb}
 use native.Mathlib.Nat.{mul-le-mul, mul-le-mul_right, one-mul}
 use Rattle.lists.proofs.Choice.{and_true}
-use Rattle.lists.specs.Choice.{if◌then◌else◌}
+use Rattle.lists.specs.Choice.{when◌then◌else◌}
 use Rattle.lists.specs.Lists.{up_from}
 use Rattle.lists.proofs.Stores.{take_stored}
 use Rattle.lists.proofs.UpFrom.{length_up}

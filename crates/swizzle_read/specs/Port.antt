@@ -1,7 +1,7 @@
 -- What one read port of a swizzle logs, by its numbers.
 use Rattle.std.specs.Prelude.{◌≡◌, ℕ, ◌*◌, ◌<◌, ◌≤◌, Bool, false, ◌&&◌, List, [], leb, ltb, length}
 use Rattle.std.proofs.lemmas.List.Edits.{sets}
-use Rattle.lists.specs.Choice.{if◌then◌else◌}
+use Rattle.lists.specs.Choice.{when◌then◌else◌}
 use Rattle.rules.specs.Value.{Value, Control}
 use Rattle.rules.specs.Cell.{new_flip_flop, with_enable}
 use Rattle.rules.specs.Log.{Trace, ◌>>=◌, done, add_dff_of, replace_value_of}
@@ -17,7 +17,7 @@ mux_room = 64
 
 -- the mux address, by a flip-flop where the port is clocked
 unfoldable pub addr_by : Bool → Control → Control → Value → Trace Value
-addr_by clocked clock enable a = if clocked then add_dff_of (with_enable (new_flip_flop a clock) enable) else done a
+addr_by clocked clock enable a = when clocked then add_dff_of (with_enable (new_flip_flop a clock) enable) else done a
 
 -- what the code leaves of it: the nets at the front of the room, unless the emission overflowed
 pub record Addressed (t : Trace Value) (room₀ room : List ℕ) (l₀ l : Lent) : Type 0 where
@@ -51,7 +51,7 @@ can_read n mux w scratch = leb (length mux) mux_room && (ltb 0 n.count && leb (n
 -- what is logged, and what is loaded into the scratch; nothing where it does not hold them
 unfoldable pub read_of : Pieces → ℕ → Bool → Control → Control → Value → List ℕ → Value → ℕ → List ℕ → Trace Value
 read_of n voids clocked clock enable mux es output w scratch next =
-    (if can_read n mux w scratch then read_trace (with_first n next) voids clocked clock enable mux es output w scratch else done []) next
+    (when can_read n mux w scratch then read_trace (with_first n next) voids clocked clock enable mux es output w scratch else done []) next
 
 unfoldable pub scratch_of : Pieces → Value → List ℕ → ℕ → List ℕ → ℕ → List ℕ
-scratch_of n mux es w scratch next = if can_read n mux w scratch then load_of (with_first n next) es scratch else scratch
+scratch_of n mux es w scratch next = when can_read n mux w scratch then load_of (with_first n next) es scratch else scratch

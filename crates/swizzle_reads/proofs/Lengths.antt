@@ -6,7 +6,7 @@ use native.Mathlib.Omega.{arith}
 use mathlib.Core.Bool.{Bool, true, false}
 use mathlib.Core.List.{List, [], ◌∷◌, ◌++◌}
 use lib.ListN.{length, replicate, length-append, length-replicate}
-use Rattle.lists.specs.Choice.{if◌then◌else◌}
+use Rattle.lists.specs.Choice.{when◌then◌else◌}
 use Rattle.rules.specs.Limits.{addr_bits}
 use Rattle.rules.specs.Numbers.{top_bits, bits_for}
 use Rattle.rules.specs.Value.{Value, zext}
@@ -23,7 +23,7 @@ use Rattle.swizzle_split.specs.Steps.{Fits}
 use Rattle.swizzle_split.proofs.Splitting.{pieces_low}
 use Rattle.swizzle_reads.specs.Going.{trits_if}
 
-row_step : (b : Bool) (a : ℕ) (v : Value) (n : ℕ) → length v ≤ n → length (if b then a ∷ v else v) ≤ n + 1
+row_step : (b : Bool) (a : ℕ) (v : Value) (n : ℕ) → length v ≤ n → length (when b then a ∷ v else v) ≤ n + 1
 row_step true a v n h = omega arith
 row_step false a v n h = omega arith
 
@@ -33,7 +33,7 @@ row_le [] v = omega arith
 row_le (r ∷ rs) [] = omega arith
 row_le (r ∷ rs) (a ∷ more) = omega (arith, row_step (is_row r) a (row_nets rs more) (length more) (row_le rs more))
 
-mux_step : (b : Bool) (a : ℕ) (v : Value) (n : ℕ) → length v ≤ n → length (if b then v else a ∷ v) ≤ n + 1
+mux_step : (b : Bool) (a : ℕ) (v : Value) (n : ℕ) → length v ≤ n → length (when b then v else a ∷ v) ≤ n + 1
 mux_step true a v n h = omega arith
 mux_step false a v n h = omega arith
 

@@ -9,7 +9,7 @@ use lib.ListN.{length, drop}
 use lib.Seq.{sets}
 use lib.Dec.{leb, ltb}
 use borrow.Author.Tests.{le-leb, lt-ltb}
-use Rattle.lists.specs.Choice.{if◌then◌else◌}
+use Rattle.lists.specs.Choice.{when◌then◌else◌}
 use Rattle.lists.specs.Lists.{part}
 use Rattle.rules.specs.Limits.{X, None, addr_bits}
 use Rattle.rules.specs.Value.{Value, Control}

@@ -7,7 +7,7 @@ use mathlib.Core.List.{List}
 use lib.ListN.{length, get_or, get_or-eq_default}
 use lib.Dec.{leb, ltb}
 use borrow.Author.Tests.{le-leb, lt-leb, lt-ltb}
-use Rattle.lists.specs.Choice.{if◌then◌else◌}
+use Rattle.lists.specs.Choice.{when◌then◌else◌}
 use Rattle.rules.specs.Limits.{X}
 use Rattle.rules.specs.Value.{Value, Control}
 use Rattle.rules.specs.Swizzle.{clocked_addr}

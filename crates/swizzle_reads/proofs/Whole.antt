@@ -11,7 +11,7 @@ use lib.ListN.{length, take, drop, get_or, set, length-append, length-drop}
 use lib.Seq.{sets, length-sets, length-take-le}
 use lib.Dec.{leb, ltb}
 use borrow.Author.Tests.{le-leb, lt-ltb}
-use Rattle.lists.specs.Choice.{if◌then◌else◌}
+use Rattle.lists.specs.Choice.{when◌then◌else◌}
 use Rattle.lists.specs.Lists.{pairs, concat_map, sum_by}
 use Rattle.lists.proofs.Store.{sets_append}
 use Rattle.rules.specs.Limits.{X, addr_bits, max_wide, max_words}

@@ -2,7 +2,7 @@
 use Rattle.std.specs.Prelude.{◌≡◌, ℕ, suc, ◌+◌, ◌*◌, ◌^◌, ◌≤◌, max, Bool, true, false, not, ◌&&◌, List, [], ◌∷◌, ◌++◌, length, take, drop, get_or, set, eqb, leb, ltb}
 use Rattle.std.proofs.Math.Option.{Option, none, some}
 use Rattle.std.proofs.lemmas.List.Edits.{sets}
-use Rattle.lists.specs.Choice.{if◌then◌else◌}
+use Rattle.lists.specs.Choice.{when◌then◌else◌}
 use Rattle.lists.specs.Views.{views}
 use Rattle.rules.specs.Limits.{X}
 use Rattle.rules.specs.Value.{Value}
@@ -115,7 +115,7 @@ port_fits q s p room g =
 unfoldable pub port_if : Layout → ℕ → ℕ → InPort → ℕ → Value → Going → Going
 port_if q room i x new out g =
     let s = split_of q x.port new in
-    if port_fits q s x.port room g then port_done q s i x out g else g
+    when port_fits q s x.port room g then port_done q s i x out g else g
 
 -- these ports, from number i on; the outputs that are left go to the ports that are left
 unfoldable pub ports_from : Layout → ℕ → ℕ → List InPort → List ℕ → Value → Going → Going
@@ -152,4 +152,4 @@ has_rows q = not (bad_layout q) && not (eqb q.width 0)
 
 -- all read ports; nothing where the layout is not such
 unfoldable pub reads_if : Layout → ℕ → List InPort → List ℕ → Value → Going → Going
-reads_if q room xs ns output g = if has_rows q then ports_from q room 0 xs ns output g else g
+reads_if q room xs ns output g = when has_rows q then ports_from q room 0 xs ns output g else g

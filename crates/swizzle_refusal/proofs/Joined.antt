@@ -7,7 +7,7 @@ use mathlib.Core.Bool.{Bool, true, false, not, ◌&&◌}
 use mathlib.Core.List.{List}
 use lib.Dec.{eqb}
 use borrow.Author.Tests.{eq-eqb, ne_eqb}
-use Rattle.lists.specs.Choice.{if◌then◌else◌, ◌or_else◌}
+use Rattle.lists.specs.Choice.{when◌then◌else◌, ◌or_else◌}
 use Rattle.lists.proofs.Choice.{else_first, else_rest, else_zero, or_false}
 use Rattle.rules.specs.Value.{Value}
 use Rattle.rules.specs.Cell.{Mem, Given, Plan}
@@ -36,7 +36,7 @@ module _ (r : rules.SwizzleRooms) (room : ℕ) (st : LogState) (g : Given) (outp
 
   plan_when : flat ≡ true → rows_refusal r room st g output p ≡ swizzle_plan_number st.next g output p
   unfolding rows_refusal
-  plan_when f = ap (λ (t : Bool). if t then swizzle_plan_number st.next g output p else swizzle_refusal r room st g output p) f
+  plan_when f = ap (λ (t : Bool). when t then swizzle_plan_number st.next g output p else swizzle_refusal r room st g output p) f
 
   -- a number that refuses the rows, or the plan, refuses the swizzle
   pub joined_first : n ≢ 0 → n ≡ swizzle_refusal r room st g output p
@@ -82,14 +82,14 @@ module _ (r : rules.SwizzleRooms) (room : ℕ) (st : LogState) (m : Memory) (net
   unfolding driving_number
   outputs = (valid (plan_too_large P) (bad_output_len M output) (bad_value st.next output) st.next m nets trits driven).two_not
 
-  form : swizzle_refusal r room st (given_of m nets trits) output P ≡ ((if short_ports M then 14 else 0) or_else log_refusal room st (swizzle_empty M output))
+  form : swizzle_refusal r room st (given_of m nets trits) output P ≡ ((when short_ports M then 14 else 0) or_else log_refusal room st (swizzle_empty M output))
   form = whole_empty r room st (given_of m nets trits) output P w' d' plan_passes
 
   pub joined_short : short_ports M ≡ true → 14 ≡ swizzle_refusal r room st (given_of m nets trits) output P
   joined_short f =
-      sym (form ∙ ap (λ (t : Bool). (if t then 14 else 0) or_else log_refusal room st (swizzle_empty M output)) f ∙ else_first 14 (log_refusal room st (swizzle_empty M output)) (λ q. absurd (omega (arith, q))))
+      sym (form ∙ ap (λ (t : Bool). (when t then 14 else 0) or_else log_refusal room st (swizzle_empty M output)) f ∙ else_first 14 (log_refusal room st (swizzle_empty M output)) (λ q. absurd (omega (arith, q))))
 
   pub joined_empty : (k : ℕ) → short_ports M ≡ false → k ≡ log_refusal room st (emptied_if M output) → k ≡ swizzle_refusal r room st (given_of m nets trits) output P
   joined_empty k f q =
       q ∙ rules_number M (all_ready (plan_too_large P) st.next m nets trits output driven f) output outputs room st
-      ∙ sym (form ∙ ap (λ (t : Bool). (if t then 14 else 0) or_else log_refusal room st (swizzle_empty M output)) f ∙ else_rest 0 (log_refusal room st (swizzle_empty M output)) refl)
+      ∙ sym (form ∙ ap (λ (t : Bool). (when t then 14 else 0) or_else log_refusal room st (swizzle_empty M output)) f ∙ else_rest 0 (log_refusal room st (swizzle_empty M output)) refl)

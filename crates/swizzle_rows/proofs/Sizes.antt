@@ -8,7 +8,7 @@ use Prim.Native.Nat.{ℕ, min}
 use lib.ListN.{take}
 use lib.Dec.{eqb}
 use borrow.Author.Tests.{eq-eqb, ne_eqb}
-use Rattle.lists.specs.Choice.{if◌then◌else◌}
+use Rattle.lists.specs.Choice.{when◌then◌else◌}
 use Rattle.rules.specs.Limits.{max_ports}
 use Rattle.rules.specs.Value.{Value}
 use Rattle.rules.specs.Conditions.{bad_layout}
@@ -41,7 +41,7 @@ measured q s h = record {
 
 not_both : (b : Bool) → b ≡ true → b ≡ false → ⊥
 not_both b e f =
-    let z : ◌≡◌ {A = ℕ} 1 0 = ap (λ (t : Bool). if t then 1 else 0) (sym e ∙ f) in
+    let z : ◌≡◌ {A = ℕ} 1 0 = ap (λ (t : Bool). when t then 1 else 0) (sym e ∙ f) in
     omega (arith, z)
 
 module _ (q : Layout) (m : Memory) (nets trits ws rs : List ℕ) (output : Value) (scratch : ℕ) (st : LogState) (log to kinds : List ℕ) (after : Going) where

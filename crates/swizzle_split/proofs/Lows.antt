@@ -10,7 +10,7 @@ use lib.ListN.{length, replicate}
 use lib.Seq.{sets}
 use lib.Dec.{eqb}
 use borrow.Author.Tests.{eq-eqb, ne_eqb}
-use Rattle.lists.specs.Choice.{if◌then◌else◌}
+use Rattle.lists.specs.Choice.{when◌then◌else◌}
 use Rattle.rules.specs.Log.{flag}
 use Rattle.rules.specs.Numbers.{softs}
 use Rattle.rules.specs.Geometry.{Layout, all_chunks, full_chunks, part_depth_of, full_depth_of, soft, soft_bits}

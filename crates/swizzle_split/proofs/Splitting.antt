@@ -10,7 +10,7 @@ use lib.ListN.{length, replicate, length-append, length-replicate}
 use lib.Seq.{sets}
 use lib.Dec.{eqb, ltb}
 use borrow.Author.Tests.{ltb-true}
-use Rattle.lists.specs.Choice.{if◌then◌else◌}
+use Rattle.lists.specs.Choice.{when◌then◌else◌}
 use Rattle.lists.proofs.Store.{sets_at}
 use Rattle.rules.specs.Limits.{addr_bits}
 use Rattle.rules.specs.Numbers.{softs, top_bits, bits_for}
@@ -63,7 +63,7 @@ wide_some : (mask wide rows : ℕ) → role_of mask wide rows ≡ Wide → 0 < w
 unfolding role_of
 wide_some mask wide rows e = on (eqb (mask % 2) 1) (ltb 0 wide) (ltb 0 rows) refl e
   where
-    on : (a b c : Bool) → ltb 0 wide ≡ b → (if a then Soft else if b then Wide else if c then Row else High) ≡ Wide → 0 < wide
+    on : (a b c : Bool) → ltb 0 wide ≡ b → (when a then Soft else when b then Wide else when c then Row else High) ≡ Wide → 0 < wide
     on true b c q f = let z : ◌≡◌ {A = ℕ} 0 1 = cc in absurd (omega arith)
     on false true c q f = ltb-true 0 wide q
     on false false true q f = let z : ◌≡◌ {A = ℕ} 0 1 = cc in absurd (omega arith)

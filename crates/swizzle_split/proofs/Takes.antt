@@ -11,7 +11,7 @@ use lib.ListN.{length, drop, get_or, set, drop_of_length-le, length-drop}
 use lib.Seq.{sets, set_out, drop-cons}
 use lib.Dec.{eqb, ltb}
 use borrow.Author.Tests.{eq-eqb, ne_eqb, lt-ltb, le-ltb}
-use Rattle.lists.specs.Choice.{if◌then◌else◌}
+use Rattle.lists.specs.Choice.{when◌then◌else◌}
 use Rattle.rules.specs.Log.{flag}
 use Rattle.rules.specs.Value.{Value}
 use Rattle.rules.specs.Swizzle.{Role, Soft, Wide, Row, High, role_of, is_row, is_chunk, doubles, wide_after, rows_after, roles, row_nets, mux_nets, mux_roles, count_doubles}

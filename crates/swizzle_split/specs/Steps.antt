@@ -1,7 +1,7 @@
 -- One bit of an address after the other.
 use Rattle.std.specs.Prelude.{◌≡◌, ℕ, ◌+◌, ◌-◌, ◌*◌, ◌/◌, ◌^◌, ◌≤◌, ◌<◌, Bool, true, false, ◌&&◌, leb, List, length, take, set}
 use Rattle.std.proofs.lemmas.List.Edits.{sets}
-use Rattle.lists.specs.Choice.{if◌then◌else◌}
+use Rattle.lists.specs.Choice.{when◌then◌else◌}
 use Rattle.rules.specs.Limits.{addr_bits, max_wide, max_columns}
 use Rattle.rules.specs.Numbers.{softs}
 use Rattle.rules.specs.Value.{Value}

@@ -1,7 +1,7 @@
 -- The tree over pieces that stand side by side in lent scratch.
 use Rattle.std.specs.Prelude.{◌≡◌, ℕ, ◌*◌, ◌<◌, ◌≤◌, Bool, false, ◌&&◌, List, [], length, take, drop, leb, ltb}
 use Rattle.std.proofs.lemmas.List.Edits.{sets}
-use Rattle.lists.specs.Choice.{if◌then◌else◌}
+use Rattle.lists.specs.Choice.{when◌then◌else◌}
 use Rattle.rules.specs.Value.{Value}
 use Rattle.log_entries.specs.Emission.{Lent, is_over, run}
 use Rattle.rules.specs.Log.{Trace, done}
@@ -10,7 +10,7 @@ use Rattle.swizzle_laws.specs.Cuts.{cut, joined}
 
 -- the result nets from a place on, unless the emission overflowed
 unfoldable pub results : Bool → List ℕ → ℕ → Value → List ℕ
-results over out to v = if over then out else sets out to v
+results over out to v = when over then out else sets out to v
 
 -- the tree over the first pieces in the scratch
 abbrev pub tree_in : Value → ℕ → ℕ → Value → Trace Value
@@ -37,7 +37,7 @@ holds w count l = ltb 0 count && leb (count * w) (length l)
 
 -- the tree over pieces that the scratch holds
 unfoldable pub tree_of : Value → ℕ → ℕ → Value → Trace Value
-tree_of bits w count l = if holds w count l then tree_in bits w count l else done []
+tree_of bits w count l = when holds w count l then tree_in bits w count l else done []
 
 -- what it leaves: its value stands at the front; what stands between it and the end of the pieces is left open, and what lies past them is kept
 pub record Built (bits : Value) (w count : ℕ) (p₀ p : Value) (l₀ l : Lent) : Type 0 where

@@ -6,7 +6,7 @@ use native.Mathlib.Omega.{arith}
 use mathlib.Core.List.{List, [], ◌∷◌}
 use lib.ListN.{length, take, replicate, length-replicate}
 use lib.Seq.{sets}
-use Rattle.lists.specs.Choice.{if◌then◌else◌}
+use Rattle.lists.specs.Choice.{when◌then◌else◌}
 use Rattle.lists.specs.Lists.{pairs}
 use Rattle.lists.specs.Distinct.{kept, places}
 use Rattle.lists.proofs.Stores.{take_stored}
@@ -40,7 +40,7 @@ some_is (a ∷ v) h = refl
 
 -- what follows the comparison
 rest : Value → Value → ℕ → Trace Value
-rest mux mask e = if is_empty mux then done mask else add_dedup_mux_of (Pos e) mask (replicate (length mask) 0)
+rest mux mask e = when is_empty mux then done mask else add_dedup_mux_of (Pos e) mask (replicate (length mask) 0)
 
 piece_is : (mux mask : Value) (x : ℕ) → piece_by mux mask x ≡ (add_eq_of mux (from_uint (length mux) x) >>= rest mux mask)
 unfolding piece_by rest
@@ -141,7 +141,7 @@ muxed_length e mask n =
     length_spread (places same2 (pairs mask (replicate (length mask) 0))) _ ∙ length_places same2 [] (pairs mask (replicate (length mask) 0))
     ∙ length_pairs mask (replicate (length mask) 0) (sym (length-replicate (length mask) 0))
 
-rest_length : (b : Bool) (e : ℕ) (mask : Value) (n : ℕ) → length ((if b then done mask else add_dedup_mux_of (Pos e) mask (replicate (length mask) 0)) n).value ≡ length mask
+rest_length : (b : Bool) (e : ℕ) (mask : Value) (n : ℕ) → length ((when b then done mask else add_dedup_mux_of (Pos e) mask (replicate (length mask) 0)) n).value ≡ length mask
 rest_length true e mask n = ap length (done_value mask n)
 rest_length false e mask n = muxed_length e mask n
 

@@ -1,6 +1,6 @@
 -- What a write port leaves, for any numbers: nothing where they pass the limits.
 use Rattle.std.specs.Prelude.{ℕ, ◌≤◌, Bool, ◌&&◌, List, length, replicate, leb}
-use Rattle.lists.specs.Choice.{if◌then◌else◌}
+use Rattle.lists.specs.Choice.{when◌then◌else◌}
 use Rattle.lists.specs.Lists.{up_from}
 use Rattle.rules.specs.Limits.{X}
 use Rattle.rules.specs.Value.{Value}
@@ -30,4 +30,4 @@ port_masks p mux es mask size =
 
 -- ---- any numbers: `room` is what a lent room holds before
 unfoldable pub masks_of : WidePort → Value → List ℕ → Value → List ℕ → Trace (List ℕ)
-masks_of p mux es mask room = if can_write p (length es) (length mux) (length room) then port_masks p mux es mask (length room) else done room
+masks_of p mux es mask room = when can_write p (length es) (length mux) (length room) then port_masks p mux es mask (length room) else done room

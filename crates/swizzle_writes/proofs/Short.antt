@@ -5,7 +5,7 @@ use native.Mathlib.Omega.{arith}
 use mathlib.Core.Bool.{Bool, true, false}
 use mathlib.Core.List.{List, [], ◌∷◌, ◌++◌}
 use lib.ListN.{length, replicate, length-append, length-replicate}
-use Rattle.lists.specs.Choice.{if◌then◌else◌}
+use Rattle.lists.specs.Choice.{when◌then◌else◌}
 use Rattle.rules.specs.Limits.{addr_bits}
 use Rattle.rules.specs.Numbers.{softs, bits_for}
 use Rattle.rules.proofs.Walks.{tops_le}
@@ -15,11 +15,11 @@ use Rattle.rules.specs.Swizzle.{Role, is_row, roles, row_nets, mux_nets, split_b
 use Rattle.swizzle_split.specs.Steps.{can_split, Fits}
 use Rattle.swizzle_split.proofs.Limits.{can_fits}
 
-one_more : (b : Bool) (a : ℕ) (x : Value) (n : ℕ) → length x ≤ n → length (if b then a ∷ x else x) ≤ suc n
+one_more : (b : Bool) (a : ℕ) (x : Value) (n : ℕ) → length x ≤ n → length (when b then a ∷ x else x) ≤ suc n
 one_more true a x n h = omega arith
 one_more false a x n h = omega arith
 
-one_less : (b : Bool) (a : ℕ) (x : Value) (n : ℕ) → length x ≤ n → length (if b then x else a ∷ x) ≤ suc n
+one_less : (b : Bool) (a : ℕ) (x : Value) (n : ℕ) → length x ≤ n → length (when b then x else a ∷ x) ≤ suc n
 one_less true a x n h = omega arith
 one_less false a x n h = omega arith
 

@@ -9,7 +9,7 @@ use lib.ListN.{length, take, drop, get_or, set, drop_of_length-le, length-take, 
 use lib.Seq.{sets, drop-cons, get_or-take}
 use lib.Dec.{leb}
 use borrow.Author.Tests.{le-leb, lt-leb}
-use Rattle.lists.specs.Choice.{if◌then◌else◌}
+use Rattle.lists.specs.Choice.{when◌then◌else◌}
 use Rattle.lists.specs.Lists.{part}
 use Rattle.rules.specs.Limits.{max_columns}
 use Rattle.rules.specs.Value.{Value}

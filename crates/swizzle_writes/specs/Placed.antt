@@ -2,7 +2,7 @@
 -- or has no room, leaves nothing.
 use Rattle.std.specs.Prelude.{ℕ, suc, ◌+◌, ◌-◌, ◌*◌, ◌^◌, Bool, ◌&&◌, List, [], ◌∷◌, length, get_or, set, replicate, eqb, leb}
 use Rattle.std.proofs.lemmas.List.Edits.{sets}
-use Rattle.lists.specs.Choice.{if◌then◌else◌}
+use Rattle.lists.specs.Choice.{when◌then◌else◌}
 use Rattle.lists.specs.Lists.{part}
 use Rattle.rules.specs.Limits.{addr_bits, max_columns, max_ports}
 use Rattle.rules.specs.Value.{Value}
@@ -21,7 +21,7 @@ use Rattle.swizzle_result.specs.declared.WideWritePort.{WideWritePort}
 
 -- the rows of a port with this wide log, which is 4 at most
 abbrev pub rows_of : ℕ → ℕ
-rows_of k = if eqb k 0 then 1 else if eqb k 1 then 2 else if eqb k 2 then 4 else if eqb k 3 then 8 else 16
+rows_of k = when eqb k 0 then 1 else when eqb k 1 then 2 else when eqb k 2 then 4 else when eqb k 3 then 8 else 16
 
 -- the numbers of a port among so many memories
 abbrev pub wide_by_of : Layout → ℕ → ℕ → ℕ → Value → WidePort
@@ -59,14 +59,14 @@ roomy p len at room = leb len addr_room && (leb (p.mems * p.unit) max_columns &&
 
 unfoldable pub placed : WidePort → Value → Value → List ℕ → Value → Value → ℕ → List ℕ → Trace Placed
 placed p hw mux es bits mask at room =
-    if roomy p (length hw) at (length room)
+    when roomy p (length hw) at (length room)
     then (nets_of p mux es bits mask (at + length hw) (size_of p) (sets room at hw) >>= λ r. done (record { room = r; next = at + length hw + (size_of p + size_of p); addr_len_of = length hw }))
     else done (record { room = room; next = at; addr_len_of = 0 })
 
 -- the same from the port's address
 unfoldable pub placed_if : Layout → ℕ → ℕ → ℕ → Value → Value → Value → ℕ → List ℕ → Trace Placed
 placed_if q mems old new addr bits mask at room =
-    if can_split q old new (length addr)
+    when can_split q old new (length addr)
     then placed (wide_by_of q mems old new addr) (split_addr q old new addr).addr (split_addr q old new addr).mux_addr q.entries bits mask at room
     else done (record { room = room; next = at; addr_len_of = 0 })
 

@@ -1,6 +1,6 @@
 -- The rows in which two tables of one shape differ: a line for each, and a last line with their number, or `same`.
 use Rattle.std.specs.Prelude.{ℕ, List, [], ◌∷◌, ◌++◌, eqb, ltb}
-use Rattle.lists.specs.Choice.{if◌then◌else◌}
+use Rattle.lists.specs.Choice.{when◌then◌else◌}
 use Rattle.lists.specs.Lists.{sum_by, concat_map, up_from, same_list}
 use Rattle.rules.specs.Limits.{max_depth, max_width}
 use Rattle.rules.specs.Image.{row_of}
@@ -26,11 +26,11 @@ diff_line width r x y =
     row_word_of ++ decimal r ++ colon ++ bits_text x 0 width [] ++ (space ∷ []) ++ bits_text y 0 width [] ++ (newline ∷ [])
 
 unfoldable pub diff_of : ℕ → ℕ → List ℕ → List ℕ → List ℕ
-diff_of width r x y = if same_list x y then [] else diff_line width r x y
+diff_of width r x y = when same_list x y then [] else diff_line width r x y
 
 -- 1 where the rows differ, however many of their trits do
 unfoldable pub differs : List ℕ → List ℕ → ℕ
-differs x y = if same_list x y then 0 else 1
+differs x y = when same_list x y then 0 else 1
 
 -- ---- n rows from row r on
 module _ (width : ℕ) (a b : List ℕ) where
@@ -42,11 +42,11 @@ module _ (width : ℕ) (a b : List ℕ) where
 
 -- ---- the last line
 unfoldable pub last_line : ℕ → List ℕ
-last_line n = if eqb n 0 then same_line else differ_word ++ decimal n ++ (newline ∷ [])
+last_line n = when eqb n 0 then same_line else differ_word ++ decimal n ++ (newline ∷ [])
 
 -- the text for two tables within the limits of a memory, and none for others
 unfoldable pub diff_text : ℕ → ℕ → List ℕ → List ℕ → List ℕ
 diff_text depth width a b =
-    if ltb max_depth depth then []
-    else if ltb max_width width then []
+    when ltb max_depth depth then []
+    else when ltb max_width width then []
     else diff_lines width a b 0 depth ++ last_line (differing width a b 0 depth)

@@ -10,7 +10,7 @@ use lib.ListN.{length, set, get_or}
 use lib.Seq.{sets}
 use lib.Dec.{eqb}
 use borrow.Author.Tests.{lt-ltb, le-ltb, le-leb, ne_eqb, eqb-true}
-use Rattle.lists.specs.Choice.{if◌then◌else◌}
+use Rattle.lists.specs.Choice.{when◌then◌else◌}
 use Rattle.lists.proofs.Choice.{cases_le}
 use Rattle.rules.specs.Limits.{None}
 use Rattle.rules.specs.Lister.{digits_from}
@@ -105,7 +105,7 @@ unfolding head_run head_step_of head_stored is_digit_of is_blank is_stop head_wo
 dash c ws after = refl
 
 entry_by : (e c : ℕ) (ws after : List ℕ) → e < 4294967296 → (t : Bool) → eqb e None ≡ t
-    → head_run (head_as 0 2 c 0) ws (if t then 45 ∷ after else number_text e after) ≡ head_run (head_as 1 2 c e) ws after
+    → head_run (head_as 0 2 c 0) ws (when t then 45 ∷ after else number_text e after) ≡ head_run (head_as 1 2 c e) ws after
 entry_by e c ws after s true q = dash c ws after ∙ ap (λ (v : ℕ). head_run (head_as 1 2 c v) ws after) (sym (eqb-true e None q))
 entry_by e c ws after s false q = number_run e 2 c ws after s
 

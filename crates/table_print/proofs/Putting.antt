@@ -10,7 +10,7 @@ use lib.ListN.{length, get_or, set}
 use lib.Seq.{sets}
 use lib.Dec.{eqb}
 use borrow.Author.Tests.{lt-ltb, le-ltb}
-use Rattle.lists.specs.Choice.{if◌then◌else◌}
+use Rattle.lists.specs.Choice.{when◌then◌else◌}
 use Rattle.lists.proofs.Store.{sets_at}
 use Rattle.rules.specs.Limits.{trit_x}
 use Rattle.table_print.specs.Rows.{char_of, bits_text, rows_from, rows_text, rows_shown}
@@ -21,7 +21,7 @@ trit_past [] i h = refl
 trit_past (x ∷ rows) zero h = absurd (omega arith)
 trit_past (x ∷ rows) (suc i) h = trit_past rows i (omega arith)
 
-at_most : (p q : Bool) → (if p then 48 else if q then 49 else 120) ≤ 120
+at_most : (p q : Bool) → (when p then 48 else when q then 49 else 120) ≤ 120
 at_most true q = omega arith
 at_most false true = omega arith
 at_most false false = omega arith

@@ -9,7 +9,7 @@ use lib.ListN.{length, take, get_or, replicate, length-append, length-replicate}
 use lib.Seq.{sets, get_or-take, get_or-append-add, take_at, take_all}
 use lib.Dec.{eqb, leb}
 use borrow.Author.Tests.{leb-true, le-ltb, ltb-false, eq-eqb, ne_eqb, eqb-true, eqb-false}
-use Rattle.lists.specs.Choice.{if◌then◌else◌}
+use Rattle.lists.specs.Choice.{when◌then◌else◌}
 use Rattle.lists.specs.Lists.{part, up_from, all}
 use Rattle.lists.proofs.Choice.{and_true, cases_le}
 use Rattle.lists.proofs.Store.{part_sets}
@@ -47,7 +47,7 @@ number_append : (n : ℕ) (a b : List ℕ) → number_text n a ++ b ≡ number_t
 unfolding number_text
 number_append n a b = digits_append 10 n a b
 
-entry_by : (t : Bool) (e : ℕ) (a b : List ℕ) → (if t then 45 ∷ a else number_text e a) ++ b ≡ (if t then 45 ∷ (a ++ b) else number_text e (a ++ b))
+entry_by : (t : Bool) (e : ℕ) (a b : List ℕ) → (when t then 45 ∷ a else number_text e a) ++ b ≡ (when t then 45 ∷ (a ++ b) else number_text e (a ++ b))
 entry_by true e a b = refl
 entry_by false e a b = number_append e a b
 
@@ -112,7 +112,7 @@ module _ (q : Layout) (len : length q.entries ≤ 256) where
   unfolding entries_read
   entries_same none = on q.entries refl
     where
-      on : (es : List ℕ) → q.entries ≡ es → (if eqb count 5 then up_from 0 (get_or stored 1 0) else part 2 (count - 5) stored) ≡ q.entries
+      on : (es : List ℕ) → q.entries ≡ es → (when eqb count 5 then up_from 0 (get_or stored 1 0) else part 2 (count - 5) stored) ≡ q.entries
       on [] e =
           let c : count ≡ 5 = omega (arith, ap length e) in
           let w : get_or stored 1 0 ≡ 0 = word_at_lem 1 (omega arith) ∙ none e in

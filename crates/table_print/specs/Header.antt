@@ -1,6 +1,6 @@
 -- The header line of a table, and its whole text. Each function writes before the text that follows.
 use Rattle.std.specs.Prelude.{ℕ, List, [], ◌∷◌, eqb}
-use Rattle.lists.specs.Choice.{if◌then◌else◌}
+use Rattle.lists.specs.Choice.{when◌then◌else◌}
 use Rattle.rules.specs.Limits.{None}
 use Rattle.rules.specs.Lister.{digits_from}
 use Rattle.rules.specs.Geometry.{Layout}
@@ -13,7 +13,7 @@ number_text n after = digits_from 10 n after
 
 -- an entry: a number, or - for none
 unfoldable pub entry_text : ℕ → List ℕ → List ℕ
-entry_text e after = if eqb e None then 45 ∷ after else number_text e after
+entry_text e after = when eqb e None then 45 ∷ after else number_text e after
 
 -- entries, each behind a comma
 unfoldable pub more_entries : List ℕ → List ℕ → List ℕ

@@ -10,7 +10,7 @@ use lib.ListN.{length, take, drop, get_or}
 use lib.Seq.{sets}
 use lib.Dec.{eqb, ltb}
 use borrow.Author.Tests.{eq-eqb, ne_eqb, lt-ltb, le-ltb, ltb-false}
-use Rattle.lists.specs.Choice.{if◌then◌else◌}
+use Rattle.lists.specs.Choice.{when◌then◌else◌}
 use Rattle.lists.specs.Lists.{part, up_from}
 use Rattle.lists.proofs.Choice.{or_left, or_later}
 use Rattle.lists.proofs.Store.{part_sets}
@@ -54,11 +54,11 @@ module _ (room words out : List ℕ) (count : ℕ) (r : length room ≡ 256) whe
       rw (ne_eqb count 5 c, o, f, e) (taken_sets room (part 2 (count - 5) words) (count - 5) (sym k) (omega arith))
 
 -- ---- the test of a layout
-from_none : (t : Bool) (s : Shape) → none ≡ (if t then none else some s) → true ≡ t
+from_none : (t : Bool) (s : Shape) → none ≡ (when t then none else some s) → true ≡ t
 from_none true s e = refl
 from_none false s e = let z : ◌≡◌ {A = ℕ} 0 1 = cc in absurd (omega arith)
 
-from_some : (t : Bool) (s s' : Shape) → some s' ≡ (if t then none else some s) → false ≡ t
+from_some : (t : Bool) (s s' : Shape) → some s' ≡ (when t then none else some s) → false ≡ t
 from_some true s s' e = let z : ◌≡◌ {A = ℕ} 0 1 = cc in absurd (omega arith)
 from_some false s s' e = refl
 
@@ -99,7 +99,7 @@ module _ (e : HeadEnd) (n : ℕ) (i : n ≡ head_number e.state) where
   unfolding head_table
   head_layout h = rw (← i, eq-eqb n 0 h)
 
-count_by : (t s : Bool) → ◌≡◌ {A = ℕ} 0 (if t then (if s then 9 else 0) else 9) → s ≡ false
+count_by : (t s : Bool) → ◌≡◌ {A = ℕ} 0 (when t then (when s then 9 else 0) else 9) → s ≡ false
 count_by true true e = absurd (omega arith)
 count_by true false e = refl
 count_by false s e = absurd (omega arith)

@@ -1,6 +1,6 @@
 -- The table that a text gives: a layout and its rows, depth × width trits, row 0 and bit 0 first. Rows that are not given are X.
 use Rattle.std.specs.Prelude.{ℕ, ◌-◌, ◌*◌, List, [], ◌∷◌, ◌++◌, length, take, get_or, replicate, eqb, ltb}
-use Rattle.lists.specs.Choice.{if◌then◌else◌}
+use Rattle.lists.specs.Choice.{when◌then◌else◌}
 use Rattle.lists.specs.Lists.{part, up_from}
 use Rattle.rules.specs.Limits.{trit_x, max_bits}
 use Rattle.rules.specs.Geometry.{Layout}
@@ -26,7 +26,7 @@ max_words = 261
 
 -- the entries among the words; where none is given, each bit in its place
 unfoldable pub entries_read : List ℕ → ℕ → List ℕ
-entries_read ws count = if eqb count 5 then up_from 0 (get_or ws 1 0) else part 2 (count - 5) ws
+entries_read ws count = when eqb count 5 then up_from 0 (get_or ws 1 0) else part 2 (count - 5) ws
 
 unfoldable pub layout_read : List ℕ → ℕ → Layout
 layout_read ws count = record {
@@ -40,25 +40,25 @@ layout_read ws count = record {
 
 -- the reason that refuses a header, or 0
 unfoldable pub head_number : Head → ℕ
-head_number h = if eqb h.kind 3 then (if ltb max_words h.count then 9 else 0) else 9
+head_number h = when eqb h.kind 3 then (when ltb max_words h.count then 9 else 0) else 9
 
 -- a layout, and the rows as the machine left them
 unfoldable pub table_of : Layout → ScanEnd → Parsed
 table_of q e =
-    if eqb e.state.kind 0 then IsTable (record { layout = q; rows = take (q.depth * q.width) e.rows })
+    when eqb e.state.kind 0 then IsTable (record { layout = q; rows = take (q.depth * q.width) e.rows })
     else NoTable e.state.line e.state.kind
 
 unfoldable pub rows_table : Layout → List ℕ → Parsed
 rows_table q text = table_of q (scan_run q.depth q.width scan_start (replicate max_bits trit_x) text)
 
 unfoldable pub layout_table : Layout → List ℕ → Parsed
-layout_table q text = if bad_layout q then NoTable 1 10 else rows_table q text
+layout_table q text = when bad_layout q then NoTable 1 10 else rows_table q text
 
 unfoldable pub head_table : HeadEnd → Parsed
-head_table e = if eqb (head_number e.state) 0 then layout_table (layout_read e.words e.state.count) e.rest else NoTable 1 (head_number e.state)
+head_table e = when eqb (head_number e.state) 0 then layout_table (layout_read e.words e.state.count) e.rest else NoTable 1 (head_number e.state)
 
 -- the table of a text, whose end is a line break
 unfoldable pub parse_table : List ℕ → Parsed
 parse_table text =
-    if ltb max_text (length text) then NoTable 1 8
+    when ltb max_text (length text) then NoTable 1 8
     else head_table (head_run head_start (replicate max_words 0) (text ++ (10 ∷ [])))

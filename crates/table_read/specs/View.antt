@@ -1,6 +1,6 @@
 -- The crate's struct as a table or a refusal.
 use Rattle.std.specs.Prelude.{ℕ, ◌-◌, ◌*◌, List, take, get_or, eqb}
-use Rattle.lists.specs.Choice.{if◌then◌else◌}
+use Rattle.lists.specs.Choice.{when◌then◌else◌}
 use Rattle.rules.specs.Geometry.{Layout}
 use Rattle.image_geometry.specs.declared.Params.{Params}
 use Rattle.image_geometry.specs.View.{layout_by}
@@ -23,5 +23,5 @@ layout_in t = layout_by t.params (take t.len t.entries)
 
 unfoldable pub parsed_of : Table → Parsed
 parsed_of t =
-    if eqb t.reason 0 then IsTable (record { layout = layout_in t; rows = take (t.params.depth * t.params.width) t.rows })
+    when eqb t.reason 0 then IsTable (record { layout = layout_in t; rows = take (t.params.depth * t.params.width) t.rows })
     else NoTable t.line t.reason

@@ -11,7 +11,7 @@ use lib.ListN.{length, take, drop, get_or, set, replicate, length-drop, take-app
 use lib.Seq.{sets, drop-cons, take_all, length-take-le}
 use lib.Dec.{eqb, ltb}
 use borrow.Author.Tests.{eqb-true, eq-eqb, ne_eqb, lt-ltb, le-ltb, ltb-false}
-use Rattle.lists.specs.Choice.{if◌then◌else◌}
+use Rattle.lists.specs.Choice.{when◌then◌else◌}
 use Rattle.lists.proofs.Choice.{and_true, or_false, leaves_refused, leaves_accepted}
 use Rattle.rules.specs.Geometry.{Layout}
 use Rattle.rules.specs.Image.{Laid}
@@ -193,7 +193,7 @@ product a b d w e f h k = mul-le-mul {n₂ = 4294967295} {m₂ = 4294967295} (om
 
 -- ---- the first line
 module _ (text : List ℕ) (i : ℕ) where
-  line_step : i < length text → line_end (drop i text) ≡ (if eqb (get_or text i 0) 10 then 1 else suc (line_end (drop (i + 1) text)))
+  line_step : i < length text → line_end (drop i text) ≡ (when eqb (get_or text i 0) 10 then 1 else suc (line_end (drop (i + 1) text)))
   unfolding line_end
   line_step h = rw (drop-cons text i 0 h, add-one)
 

@@ -7,7 +7,7 @@ use native.Mathlib.Omega.{arith}
 use lib.ListN.{length, replicate}
 use lib.Dec.{eqb, ltb, leb}
 use borrow.Author.Tests.{le-ltb}
-use Rattle.lists.specs.Choice.{if◌then◌else◌}
+use Rattle.lists.specs.Choice.{when◌then◌else◌}
 use Rattle.lists.specs.Lists.{all}
 use Rattle.lists.proofs.Choice.{and_true}
 use Rattle.rules.specs.Geometry.{Layout}
@@ -22,11 +22,11 @@ use Rattle.table_readback.specs.Back.{line_end}
 abbrev Unread : Head → Type 0
 Unread h = eqb h.kind 3 ≡ false
 
-pick : (t : Bool) (x y : Head) → Unread x → Unread y → Unread (if t then x else y)
+pick : (t : Bool) (x y : Head) → Unread x → Unread y → Unread (when t then x else y)
 pick true x y e f = e
 pick false x y e f = f
 
-pick_not : (t : Bool) (x y : Head) → t ≡ false → Unread y → Unread (if t then x else y)
+pick_not : (t : Bool) (x y : Head) → t ≡ false → Unread y → Unread (when t then x else y)
 pick_not t x y e f = rw e f
 
 number_open : (h : Head) (field : ℕ) → Unread (number_end h field)
@@ -112,7 +112,7 @@ unfolding head_run
 run_three f c v ws [] = refl
 run_three f c v ws (b ∷ x) = refl
 
-same_if : (t : Bool) (x y z : Head) → x ≡ z → y ≡ z → (if t then x else y) ≡ z
+same_if : (t : Bool) (x y z : Head) → x ≡ z → y ≡ z → (when t then x else y) ≡ z
 same_if true x y z e f = e
 same_if false x y z e f = f
 
@@ -130,7 +130,7 @@ run_nine f c v ws (b ∷ x) =
 
 -- ---- the table by what follows the break
 abbrev pub by_head_of : ℕ → Layout → List ℕ → Parsed
-by_head_of n q x = if eqb n 0 then layout_table q x else NoTable 1 n
+by_head_of n q x = when eqb n 0 then layout_table q x else NoTable 1 n
 
 pub record HeadLine (body : List ℕ) : Type 0 where
   pub number : ℕ

@@ -9,7 +9,7 @@ use lib.ListN.{length, take, drop, get_or, replicate, length-append, length-repl
 use lib.Seq.{sets, take_at, drop_at}
 use lib.Dec.{eqb, ltb, leb}
 use borrow.Author.Tests.{leb-true, ltb-false, eq-eqb, eqb-true}
-use Rattle.lists.specs.Choice.{if◌then◌else◌}
+use Rattle.lists.specs.Choice.{when◌then◌else◌}
 use Rattle.lists.specs.Lists.{all}
 use Rattle.lists.proofs.Choice.{and_true}
 use Rattle.rules.specs.Limits.{trit_x, max_bits}
@@ -52,11 +52,11 @@ from_layout : (q : Layout) (x : List ℕ) (t : Table) → layout_table q x ≡ I
 unfolding layout_table
 from_layout q x t e = on (bad_layout q) refl e
   where
-    on : (b : Bool) → bad_layout q ≡ b → (if b then NoTable 1 10 else rows_table q x) ≡ IsTable t → (bad_layout q ≡ false) × (rows_table q x ≡ IsTable t)
+    on : (b : Bool) → bad_layout q ≡ b → (when b then NoTable 1 10 else rows_table q x) ≡ IsTable t → (bad_layout q ≡ false) × (rows_table q x ≡ IsTable t)
     on true k f = let z : ◌≡◌ {A = ℕ} 0 1 = cc in absurd (omega arith)
     on false k f = (k, f)
 
-from_else : (b : Bool) (x : Parsed) (line reason : ℕ) (t : Table) → (if b then x else NoTable line reason) ≡ IsTable t → x ≡ IsTable t
+from_else : (b : Bool) (x : Parsed) (line reason : ℕ) (t : Table) → (when b then x else NoTable line reason) ≡ IsTable t → x ≡ IsTable t
 from_else true x line reason t e = e
 from_else false x line reason t e = let z : ◌≡◌ {A = ℕ} 0 1 = cc in absurd (omega arith)
 
@@ -70,7 +70,7 @@ from_rows q x t e =
     let u : Table = record { layout = q; rows = take (q.depth * q.width) r.rows } in
     ap (λ (v : Table). v.layout) (same_table u t (from_else (eqb r.state.kind 0) (IsTable u) r.state.line r.state.kind t e))
 
-not_long : (b : Bool) (p : Parsed) (t : Table) → (if b then NoTable 1 8 else p) ≡ IsTable t → b ≡ false
+not_long : (b : Bool) (p : Parsed) (t : Table) → (when b then NoTable 1 8 else p) ≡ IsTable t → b ≡ false
 not_long true p t e = let z : ◌≡◌ {A = ℕ} 0 1 = cc in absurd (omega arith)
 not_long false p t e = refl
 

@@ -1,6 +1,6 @@
 -- A text of a header line, a record, and a table where there is more: the record's rows as a table's text, or the rows in which they differ from the table.
 use Rattle.std.specs.Prelude.{ℕ, suc, ◌*◌, Bool, ◌&&◌, List, [], ◌∷◌, ◌++◌, length, take, drop, replicate, eqb}
-use Rattle.lists.specs.Choice.{if◌then◌else◌}
+use Rattle.lists.specs.Choice.{when◌then◌else◌}
 use Rattle.rules.specs.Limits.{max_image, max_bits}
 use Rattle.rules.specs.Geometry.{Layout}
 use Rattle.rules.specs.Record.{Sizes, record_bytes}
@@ -15,7 +15,7 @@ use Rattle.table_differ.specs.Differ.{diff_text}
 -- the bytes of the first line with its break, or of all where there is no break
 unfoldable pub line_end : List ℕ → ℕ
 line_end [] = 0
-line_end (b ∷ bs) = if eqb b 10 then 1 else suc (line_end bs)
+line_end (b ∷ bs) = when eqb b 10 then 1 else suc (line_end bs)
 
 -- ---- the rows of a record in a layout of these sizes: 16, 17 also for other sizes, 18
 unfoldable pub same_sizes : Sizes → Sizes → Bool
@@ -25,7 +25,7 @@ same_sizes y z =
 
 unfoldable pub sized_rows : Layout → Sizes → List ℕ → List ℕ → Answer Sizes → Filled
 sized_rows q z room image (Refused n) = filled_with n room
-sized_rows q z room image (Accepted y) = if same_sizes y z then read_rows_call (handed_on q) room image else filled_with 17 room
+sized_rows q z room image (Accepted y) = when same_sizes y z then read_rows_call (handed_on q) room image else filled_with 17 room
 
 unfoldable pub record_rows : Layout → Sizes → List ℕ → List ℕ → Filled
 record_rows q z room bytes = let d = read_record_call (replicate max_image 0) bytes in sized_rows q z room d.image d.answer
@@ -52,7 +52,7 @@ text_end out text = let l = listed_in (lent_refusal (length out) (length text)) 
 unfoldable pub compared_end : List ℕ → ℕ → ℕ → List ℕ → Parsed → BackEnd
 compared_end out depth width rows (NoTable line reason) = record { answer = BadTable line reason; out = out }
 compared_end out depth width rows (IsTable t) =
-    if eqb t.layout.depth depth && eqb t.layout.width width then text_end out (diff_text depth width rows t.rows) else refused_end out 2
+    when eqb t.layout.depth depth && eqb t.layout.width width then text_end out (diff_text depth width rows t.rows) else refused_end out 2
 
 -- what follows the record: nothing, or a table
 unfoldable pub behind_end : List ℕ → List ℕ → ℕ → ℕ → List ℕ → List ℕ → BackEnd
@@ -62,7 +62,7 @@ behind_end out line depth width rows (b ∷ bs) = compared_end out depth width r
 -- by the rows of the record
 unfoldable pub rows_end_of : List ℕ → List ℕ → ℕ → ℕ → Filled → List ℕ → BackEnd
 rows_end_of out line depth width f behind =
-    if eqb f.number 0 then behind_end out line depth width (take (depth * width) f.out) behind else refused_end out f.number
+    when eqb f.number 0 then behind_end out line depth width (take (depth * width) f.out) behind else refused_end out f.number
 
 -- by the sizes of the layout, which say how long the record is
 unfoldable pub record_end : List ℕ → List ℕ → Layout → List ℕ → Answer Sizes → BackEnd

@@ -8,7 +8,7 @@ use lib.ListN.{length, take, set, replicate, length-replicate}
 use lib.Seq.{length-take-le}
 use lib.Dec.{eqb, ltb, leb}
 use borrow.Author.Tests.{ltb-true, le-leb}
-use Rattle.lists.specs.Choice.{if◌then◌else◌}
+use Rattle.lists.specs.Choice.{when◌then◌else◌}
 use Rattle.lists.specs.Lists.{all}
 use Rattle.lists.proofs.Choice.{and_true}
 use Rattle.lists.proofs.All.{all_take}
@@ -35,7 +35,7 @@ all_set f [] i v e g = refl
 all_set f (x ∷ l) zero v e g = rw g (and_true (f x) (all f l) e).1
 all_set f (x ∷ l) (suc i) v e g = rw (and_true (f x) (all f l) e).0 (all_set f l i v (and_true (f x) (all f l) e).1 g)
 
-set_trits : (t : Bool) (rows : List ℕ) (i v : ℕ) → are_trits rows ≡ true → (t ≡ true → v ≤ 2) → are_trits (if t then set rows i v else rows) ≡ true
+set_trits : (t : Bool) (rows : List ℕ) (i v : ℕ) → are_trits rows ≡ true → (t ≡ true → v ≤ 2) → are_trits (when t then set rows i v else rows) ≡ true
 unfolding are_trits
 set_trits true rows i v e h = all_set (λ t. leb t trit_x) rows i v e (le-leb v 2 (h refl))
 set_trits false rows i v e h = e
@@ -71,11 +71,11 @@ unfolding are_trits
 front_trits n l e = all_take (λ t. leb t trit_x) n l e
 
 -- ---- a text that gives a table
-from_if : (b : Bool) (x : Parsed) (line reason : ℕ) (t : Table) → (if b then NoTable line reason else x) ≡ IsTable t → (b ≡ false) × (x ≡ IsTable t)
+from_if : (b : Bool) (x : Parsed) (line reason : ℕ) (t : Table) → (when b then NoTable line reason else x) ≡ IsTable t → (b ≡ false) × (x ≡ IsTable t)
 from_if true x line reason t e = let z : ◌≡◌ {A = ℕ} 0 1 = cc in absurd (omega arith)
 from_if false x line reason t e = (refl, e)
 
-from_else : (b : Bool) (x : Parsed) (line reason : ℕ) (t : Table) → (if b then x else NoTable line reason) ≡ IsTable t → x ≡ IsTable t
+from_else : (b : Bool) (x : Parsed) (line reason : ℕ) (t : Table) → (when b then x else NoTable line reason) ≡ IsTable t → x ≡ IsTable t
 from_else true x line reason t e = e
 from_else false x line reason t e = let z : ◌≡◌ {A = ℕ} 0 1 = cc in absurd (omega arith)
 

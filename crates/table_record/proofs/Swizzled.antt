@@ -8,7 +8,7 @@ use mathlib.Core.List.{List}
 use lib.ListN.{length, replicate, length-replicate}
 use lib.Dec.{eqb, ltb}
 use borrow.Author.Tests.{ltb-false}
-use Rattle.lists.specs.Choice.{if◌then◌else◌}
+use Rattle.lists.specs.Choice.{when◌then◌else◌}
 use Rattle.lists.proofs.Choice.{or_false, leaves_accepted}
 use Rattle.rules.specs.Limits.{max_columns, max_image}
 use Rattle.rules.specs.Logic.{are_trits}
@@ -30,7 +30,7 @@ use Rattle.image_rows.proofs.Filling.{fill_0}
 use Rattle.table_record.specs.Split.{record_call, filled_record, rows_record}
 
 -- ---- a good layout's image fits the room
-fits_by : (w : Bool) (a n : ℕ) → (not w && (ltb max_columns a || ltb max_image n)) ≡ false → (if w then 0 else n) ≤ 131072
+fits_by : (w : Bool) (a n : ℕ) → (not w && (ltb max_columns a || ltb max_image n)) ≡ false → (when w then 0 else n) ≤ 131072
 fits_by true a n e = omega arith
 fits_by false a n e = ltb-false max_image n (or_false (ltb max_columns a) (ltb max_image n) e).1
 

@@ -1,6 +1,6 @@
 -- The record of rows in a layout, and of a table's text.
 use Rattle.std.specs.Prelude.{ℕ, List, length, replicate, eqb}
-use Rattle.lists.specs.Choice.{if◌then◌else◌}
+use Rattle.lists.specs.Choice.{when◌then◌else◌}
 use Rattle.rules.specs.Limits.{max_image}
 use Rattle.rules.specs.Geometry.{Layout}
 use Rattle.rules.specs.Record.{Sizes, record_bytes}
@@ -17,7 +17,7 @@ record_call out (Accepted z) image = record { answer = answer_of (write_record_r
 
 -- of the image that the rows give in a layout
 unfoldable pub filled_record : List ℕ → Layout → Filled → Listed
-filled_record out q f = if eqb f.number 0 then record_call out (sizes_call (handed_on q)) f.out else record { answer = Refused f.number; out = out }
+filled_record out q f = when eqb f.number 0 then record_call out (sizes_call (handed_on q)) f.out else record { answer = Refused f.number; out = out }
 
 unfoldable pub rows_record : List ℕ → Layout → List ℕ → Listed
 rows_record out q rows = filled_record out q (fill_call (handed_on q) rows (replicate max_image 0))

@@ -1,7 +1,7 @@
 -- The rows of an image read back, one after the other: numbers and whole answers.
 use Rattle.std.specs.Prelude.{ℕ, ◌*◌, ◌||◌, List, [], length}
 use Rattle.std.proofs.Math.Option.{none, some}
-use Rattle.lists.specs.Choice.{if◌then◌else◌}
+use Rattle.lists.specs.Choice.{when◌then◌else◌}
 use Rattle.lists.specs.Lists.{up_from, concat_map}
 use Rattle.rules.specs.Geometry.{Layout}
 use Rattle.rules.specs.Image.{image_size, Laid}
@@ -18,7 +18,7 @@ image_rows q image = rows_on q image 0 q.depth
 
 -- 20 for the image or the room for the rows
 unfoldable pub read_rows_refusal_by : ℕ → ℕ → ℕ → ℕ → ℕ → ℕ
-read_rows_refusal_by depth width size room len = if no_room_of len size || no_room_of room (depth * width) then 20 else 0
+read_rows_refusal_by depth width size room len = when no_room_of len size || no_room_of room (depth * width) then 20 else 0
 
 unfoldable pub read_rows_refusal_of : Layout → ℕ → ℕ → ℕ
 read_rows_refusal_of q room len = read_rows_refusal_by q.depth q.width (image_size q) room len

@@ -11,7 +11,7 @@ use lib.ListN.{length, drop, get_or, set, length-append, length-set, drop_of_len
 use lib.Seq.{drop-cons}
 use lib.Dec.{eqb}
 use borrow.Author.Tests.{eq-eqb, ne_eqb}
-use Rattle.lists.specs.Choice.{if◌then◌else◌}
+use Rattle.lists.specs.Choice.{when◌then◌else◌}
 use Rattle.lists.proofs.Choice.{if_true, if_false}
 use Rattle.table_text.specs.Bytes.{low_word, trit_of}
 use Rattle.table_text.specs.declared.head.Head.{Head}
@@ -56,7 +56,7 @@ module _ (h : Head) (b : ℕ) (ws : List ℕ) where
   unfolding head_stored
   head_kept e = rw e
 
-length_if : (t : Bool) (ws : List ℕ) (i v : ℕ) → length (if t then set ws i v else ws) ≡ length ws
+length_if : (t : Bool) (ws : List ℕ) (i v : ℕ) → length (when t then set ws i v else ws) ≡ length ws
 length_if true ws i v = length-set ws i v
 length_if false ws i v = refl
 
@@ -116,7 +116,7 @@ pub product : (a b r w : ℕ) → a ≡ r → b ≡ w → a < 4294967296 → w �
 product a b r w e f h k = mul-le-mul {n₂ = 4294967296} {m₂ = 128} (omega arith) (omega arith)
 
 -- ---- a trit fits a byte
-at_most : (p q r s : Bool) → (if p then 0 else if q then 1 else if r then 2 else if s then 2 else 3) ≤ 3
+at_most : (p q r s : Bool) → (when p then 0 else when q then 1 else when r then 2 else when s then 2 else 3) ≤ 3
 at_most true q r s = omega arith
 at_most false true r s = omega arith
 at_most false false true s = omega arith

@@ -1,6 +1,6 @@
 -- The rows, as in `$readmemb` files: words of 0, 1, x and _, most significant bit first, `//` comments, and `@` with a row number in hex.
 use Rattle.std.specs.Prelude.{ℕ, ◌+◌, ◌-◌, ◌*◌, Bool, ◌&&◌, List, [], ◌∷◌, ◌++◌, length, drop, set, eqb, ltb, leb}
-use Rattle.lists.specs.Choice.{if◌then◌else◌}
+use Rattle.lists.specs.Choice.{when◌then◌else◌}
 use Rattle.rules.specs.Limits.{max_width}
 use Rattle.table_text.specs.declared.scan.Scan.{Scan}
 use Rattle.table_text.specs.Bytes.{max_text, bump, more, low_word, is_blank, is_end, trit_of, hex_of}
@@ -24,29 +24,29 @@ pub record ScanEnd : Type 0 where
 
 -- a word is at its end: no bits are to come
 unfoldable pub word_end : Scan → Scan
-word_end s = if eqb s.left 0 then scan_as 0 s.line (bump s.row) 0 0 else with_kind s 12
+word_end s = when eqb s.left 0 then scan_as 0 s.line (bump s.row) 0 0 else with_kind s 12
 
 -- a row number is
 unfoldable pub number_end : ℕ → Scan → Scan
-number_end depth s = if leb s.value depth then scan_as 0 s.line (low_word s.value) 0 0 else with_kind s 14
+number_end depth s = when leb s.value depth then scan_as 0 s.line (low_word s.value) 0 0 else with_kind s 14
 
 -- a word or a row number is
 unfoldable pub ended : ℕ → Scan → Scan
 ended depth s =
-    if eqb s.kind 0 then s
-    else if eqb s.kind 1 then word_end s
-    else if eqb s.kind 2 then number_end depth s
+    when eqb s.kind 0 then s
+    else when eqb s.kind 1 then word_end s
+    else when eqb s.kind 2 then number_end depth s
     else with_kind s 11
 
 -- between words: a line break counts, a slash may start a comment
 unfoldable pub between : Scan → ℕ → Scan
 between e b =
-    if eqb e.kind 0 then (if eqb b 10 then scan_as 0 (bump e.line) e.row 0 0 else if eqb b 47 then with_kind e 3 else e)
+    when eqb e.kind 0 then (when eqb b 10 then scan_as 0 (bump e.line) e.row 0 0 else when eqb b 47 then with_kind e 3 else e)
     else e
 
 -- the bits still to come before a trit: a new word has all
 unfoldable pub left_of : ℕ → Scan → ℕ
-left_of width s = if eqb s.kind 0 then width else s.left
+left_of width s = when eqb s.kind 0 then width else s.left
 
 -- where the trit goes
 unfoldable pub place_of : ℕ → Scan → ℕ
@@ -54,39 +54,39 @@ place_of width s = s.row * width + (left_of width s - 1)
 
 -- a byte of a row number
 unfoldable pub scan_hex : Scan → ℕ → Scan
-scan_hex s b = if ltb (hex_of b) 16 then scan_as 2 s.line s.row 0 (more 16 s.value (hex_of b)) else with_kind s 11
+scan_hex s b = when ltb (hex_of b) 16 then scan_as 2 s.line s.row 0 (more 16 s.value (hex_of b)) else with_kind s 11
 
 -- in a comment and after a slash
 unfoldable pub scan_comment : Scan → ℕ → Scan
-scan_comment s b = if eqb b 10 then scan_as 0 (bump s.line) s.row 0 0 else s
+scan_comment s b = when eqb b 10 then scan_as 0 (bump s.line) s.row 0 0 else s
 
 unfoldable pub scan_slash : Scan → ℕ → Scan
-scan_slash s b = if eqb b 47 then with_kind s 4 else with_kind s 11
+scan_slash s b = when eqb b 47 then with_kind s 4 else with_kind s 11
 
 module _ (depth width : ℕ) where
   -- a trit, in a word or at its start
   unfoldable pub scan_trit : Scan → Scan
   scan_trit s =
-      if ltb s.row depth then (if eqb (left_of width s) 0 then with_kind s 13 else scan_as 1 s.line s.row (left_of width s - 1) 0)
+      when ltb s.row depth then (when eqb (left_of width s) 0 then with_kind s 13 else scan_as 1 s.line s.row (left_of width s - 1) 0)
       else with_kind s 14
 
   -- between words or in one, a byte that ends none
   unfoldable pub scan_word : Scan → ℕ → Scan
   scan_word s b =
-      if ltb (trit_of b) 3 then scan_trit s
-      else if eqb s.kind 1 && eqb b 95 then s
-      else if eqb s.kind 0 && eqb b 64 then with_kind s 5
+      when ltb (trit_of b) 3 then scan_trit s
+      else when eqb s.kind 1 && eqb b 95 then s
+      else when eqb s.kind 0 && eqb b 64 then with_kind s 5
       else with_kind s 11
 
   -- a byte outside comments
   unfoldable pub scan_plain : Scan → ℕ → Scan
-  scan_plain s b = if is_end b then between (ended depth s) b else if leb s.kind 1 then scan_word s b else scan_hex s b
+  scan_plain s b = when is_end b then between (ended depth s) b else when leb s.kind 1 then scan_word s b else scan_hex s b
 
   unfoldable pub scan_step_of : Scan → ℕ → Scan
   scan_step_of s b =
-      if ltb 8 s.kind then s
-      else if eqb s.kind 4 then scan_comment s b
-      else if eqb s.kind 3 then scan_slash s b
+      when ltb 8 s.kind then s
+      else when eqb s.kind 4 then scan_comment s b
+      else when eqb s.kind 3 then scan_slash s b
       else scan_plain s b
 
   -- a trit is stored
@@ -94,7 +94,7 @@ module _ (depth width : ℕ) where
   is_stored s b = leb s.kind 1 && (ltb (trit_of b) 3 && (ltb s.row depth && ltb 0 (left_of width s)))
 
   unfoldable pub scan_stored : Scan → ℕ → List ℕ → List ℕ
-  scan_stored s b rows = if is_stored s b then set rows (place_of width s) (trit_of b) else rows
+  scan_stored s b rows = when is_stored s b then set rows (place_of width s) (trit_of b) else rows
 
   unfoldable pub scan_run : Scan → List ℕ → List ℕ → ScanEnd
   scan_run s rows [] = record { state = s; rows = rows }
@@ -103,6 +103,6 @@ module _ (depth width : ℕ) where
   -- the rows of a text from a place on, where the text's end is a line break; a text that is too long is not read, and no memory has rows wider than the limit
   unfoldable pub rows_read : List ℕ → List ℕ → ℕ → ScanEnd
   rows_read rows text from =
-      if ltb max_width width then record { state = scan_as 15 1 0 0 0; rows = rows }
-      else if ltb max_text (length text) then record { state = scan_as 15 1 0 0 0; rows = rows }
+      when ltb max_width width then record { state = scan_as 15 1 0 0 0; rows = rows }
+      else when ltb max_text (length text) then record { state = scan_as 15 1 0 0 0; rows = rows }
       else scan_run scan_start rows (drop from (text ++ (10 ∷ [])))

@@ -1,6 +1,6 @@
 // Bytes of a table's text: digits, what separates words, and numbers that grow digit by digit.
 ghost use Rattle.std.specs.Prelude.{◌≡◌, ◌&&◌, get_or};
-ghost use Rattle.lists.specs.Choice.{if◌then◌else◌};
+ghost use Rattle.lists.specs.Choice.{when◌then◌else◌};
 ghost use Rattle.table_text.specs.Bytes.{bump, more, low_word, is_blank, is_end, is_digit_of, trit_of, hex_of, letter_of, next_letter};
 
 // The longest text that is read.
@@ -9,7 +9,7 @@ pub const MAX_TEXT: usize = 1048576;
 // ---- choices without branches
 
 pub fn pick(t: bool, a: u32, b: u32) -> u32
-    ensures { result ≡ (if t then a else b) }
+    ensures { result ≡ (when t then a else b) }
 {
     if t {
         return a;
@@ -18,7 +18,7 @@ pub fn pick(t: bool, a: u32, b: u32) -> u32
 }
 
 pub fn either(t: bool, a: bool, b: bool) -> bool
-    ensures { result ≡ (if t then a else b) }
+    ensures { result ≡ (when t then a else b) }
 {
     if t {
         return a;

@@ -1,6 +1,6 @@
 // The header line of a table's text.
 ghost use Rattle.std.specs.Prelude.{◌≡◌, ◌&&◌, ◌∷◌, [], ◌++◌, ◌+◌, ◌-◌, ◌<◌, ◌≤◌, drop, length};
-ghost use Rattle.lists.specs.Choice.{if◌then◌else◌};
+ghost use Rattle.lists.specs.Choice.{when◌then◌else◌};
 ghost use Rattle.table_text.specs.Bytes.{max_text};
 ghost use Rattle.table_text.specs.Head.{head_as, head_start, head_bad, number_end, head_blank, head_comma, head_break, head_digit, head_entry, head_letter, head_word, head_step_of, is_stop, head_stored, head_run, head_read};
 
@@ -16,7 +16,7 @@ pub struct Head {
 }
 
 fn pick_head(t: bool, a: Head, b: Head) -> Head
-    ensures { result ≡ (if t then a else b) }
+    ensures { result ≡ (when t then a else b) }
 {
     if t {
         return a;

@@ -1,6 +1,6 @@
 // The rows of a table's text.
 ghost use Rattle.std.specs.Prelude.{◌≡◌, ◌&&◌, ◌∷◌, [], ◌++◌, ◌+◌, ◌-◌, ◌*◌, ◌<◌, ◌≤◌, drop, length};
-ghost use Rattle.lists.specs.Choice.{if◌then◌else◌};
+ghost use Rattle.lists.specs.Choice.{when◌then◌else◌};
 ghost use Rattle.rules.specs.Limits.{max_width};
 ghost use Rattle.table_text.specs.Bytes.{max_text, trit_of};
 ghost use Rattle.table_text.specs.Scan.{scan_as, scan_start, with_kind, word_end, number_end, ended, between, left_of, scan_trit, scan_hex, scan_comment, scan_slash, scan_word, scan_plain, scan_step_of, is_stored, place_of, scan_stored, scan_run, rows_read};
@@ -18,7 +18,7 @@ pub struct Scan {
 }
 
 fn pick_scan(t: bool, a: Scan, b: Scan) -> Scan
-    ensures { result ≡ (if t then a else b) }
+    ensures { result ≡ (when t then a else b) }
 {
     if t {
         return a;

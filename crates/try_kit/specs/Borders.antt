@@ -1,6 +1,6 @@
 -- Lengths, rooms and next free nets at the borders of what a request takes.
 use Rattle.std.specs.Prelude.{ℕ, ◌+◌, ◌-◌, ◌%◌, min, [], ◌∷◌, ltb, get_or}
-use Rattle.lists.specs.Choice.{if◌then◌else◌}
+use Rattle.lists.specs.Choice.{when◌then◌else◌}
 use Rattle.rules.specs.Limits.{max_merge, max_nets}
 use Rattle.rules.specs.Value.{first_cell}
 use Rattle.try_kit.specs.Tally.{most}
@@ -22,4 +22,4 @@ next_at k nets =
 
 -- 20 and 21 of a request whose log ends at `end`, and whose nets from `next` on end at `last`
 abbrev pub state_number : ℕ → ℕ → ℕ → ℕ → ℕ
-state_number room end next last = if ltb room end then 20 else if ltb next first_cell then 21 else if ltb max_nets last then 21 else 0
+state_number room end next last = when ltb room end then 20 else when ltb next first_cell then 21 else when ltb max_nets last then 21 else 0

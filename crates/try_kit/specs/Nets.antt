@@ -1,6 +1,6 @@
 -- Nets that are good below a next free net, and one that is not.
 use Rattle.std.specs.Prelude.{ℕ, ◌+◌, ◌-◌, ◌%◌, min, max, Bool, List, [], ◌∷◌, ltb, get_or, set}
-use Rattle.lists.specs.Choice.{if◌then◌else◌}
+use Rattle.lists.specs.Choice.{when◌then◌else◌}
 use Rattle.rules.specs.Limits.{max_nets, X}
 use Rattle.rules.specs.Value.{first_cell}
 use Rattle.net_value.specs.declared.ControlNet.{ControlNet}
@@ -19,7 +19,7 @@ nets_of next turn n = pattern_of (λ i. net_at_of next i turn) n
 
 -- the last of n nets is the lowest that is not good
 abbrev pub spoiled : List ℕ → ℕ → ℕ → List ℕ
-spoiled s n next = if ltb 0 n then set s (n - 1) (max next first_cell) else s
+spoiled s n next = when ltb 0 n then set s (n - 1) (max next first_cell) else s
 
 abbrev pub select_of : Bool → ControlNet
-select_of neg = if neg then Neg (record { 0 = 2 }) else Pos (record { 0 = 1 })
+select_of neg = when neg then Neg (record { 0 = 2 }) else Pos (record { 0 = 1 })

@@ -1,6 +1,6 @@
 -- Controls and trits of which one may be bad.
 use Rattle.std.specs.Prelude.{ℕ, Bool, List, eqb, set}
-use Rattle.lists.specs.Choice.{if◌then◌else◌}
+use Rattle.lists.specs.Choice.{when◌then◌else◌}
 use Rattle.net_value.specs.declared.ControlNet.{ControlNet}
 use Rattle.net_value.specs.declared.ControlNet.TheVariants.{Pos, Neg}
 use Rattle.net_flip_flop.specs.declared.Controls.{Controls}
@@ -9,23 +9,23 @@ use Rattle.try_kit.specs.Nets.{select_of}
 
 -- n where this is what is bad
 abbrev pub of_what : ℕ → ℕ → ℕ → ℕ
-of_what bad what n = if eqb bad what then n else 0
+of_what bad what n = when eqb bad what then n else 0
 
 -- Neg of a constant is no control
 abbrev pub no_control : ControlNet
 no_control = Neg (record { 0 = 0 })
 
 abbrev pub select_in : Bool → Bool → ControlNet
-select_in neg bad = if bad then no_control else select_of neg
+select_in neg bad = when bad then no_control else select_of neg
 
 abbrev pub controls_in : Bool → ℕ → Controls
 controls_in over bad = record {
-  clock = if eqb bad 0 then no_control else Pos (record { 0 = 2 });
-  clear = if eqb bad 1 then no_control else Pos (record { 0 = 0 });
-  reset = if eqb bad 2 then no_control else Neg (record { 0 = 2 });
-  enable = if eqb bad 3 then no_control else Pos (record { 0 = 1 });
+  clock = when eqb bad 0 then no_control else Pos (record { 0 = 2 });
+  clear = when eqb bad 1 then no_control else Pos (record { 0 = 0 });
+  reset = when eqb bad 2 then no_control else Neg (record { 0 = 2 });
+  enable = when eqb bad 3 then no_control else Pos (record { 0 = 1 });
   reset_over_enable = over;
 }
 
 abbrev pub trits_in : ℕ → Bool → ℕ → List ℕ
-trits_in n bad place = if bad then set (pattern_of trit_at_of n) place 3 else pattern_of trit_at_of n
+trits_in n bad place = when bad then set (pattern_of trit_at_of n) place 3 else pattern_of trit_at_of n

@@ -1,6 +1,6 @@
 -- Counts of comparisons.
 use Rattle.std.specs.Prelude.{ℕ, ◌+◌, min, Bool, true, not}
-use Rattle.lists.specs.Choice.{if◌then◌else◌}
+use Rattle.lists.specs.Choice.{when◌then◌else◌}
 use Rattle.try_kit.specs.declared.tally.Tally.{Tally}
 
 -- no count, length or place of a case is larger, and no net
@@ -12,7 +12,7 @@ most_net = 100000000
 
 -- one more where a test holds
 abbrev pub more : ℕ → Bool → ℕ
-more n test = if test then min (n + 1) most else n
+more n test = when test then min (n + 1) most else n
 
 abbrev pub none_made : Tally
 none_made = record { made = 0; failed = 0 }

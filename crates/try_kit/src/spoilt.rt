@@ -1,6 +1,6 @@
 // What is bad in a case of a request: a net of a value, the select or a control, a trit code; and controls and trits of which one may be bad.
 ghost use Rattle.std.specs.Prelude.{◌≡◌, ◌%◌, eqb, length};
-ghost use Rattle.lists.specs.Choice.{if◌then◌else◌};
+ghost use Rattle.lists.specs.Choice.{when◌then◌else◌};
 ghost use Rattle.try_kit.specs.Paint.{pattern_of, trit_at_of};
 ghost use Rattle.net_value.specs.declared.ControlNet.TheVariants.{Pos, Neg};
 ghost use Rattle.try_kit.specs.Spoilt.{of_what, select_in, controls_in, trits_in};
@@ -43,7 +43,7 @@ pub fn select_in(neg: bool, bad: bool) -> ControlNet
 }
 
 fn control_or(bad: bool, good: ControlNet) -> ControlNet
-    ensures { result ≡ (if bad then Neg (record { 0 = 0 }) else good) }
+    ensures { result ≡ (when bad then Neg (record { 0 = 0 }) else good) }
 {
     if bad {
         return ControlNet::Neg(Net(0));

@@ -11,7 +11,7 @@ loop-i-init c = (omega arith, refl, omega arith, refl)
 
 pub loop-i-preserved : goal.loop-i-preserved
 loop-i-preserved c =
-        let h = c in
+    let h = c in
     let v = h.args in
     (omega arith, simp length-set h.loop-i.invariant.1, omega arith, run_turn v.to.now h.loop-i.to v.at v.first (v.last - v.first) h.loop-i.i h.loop-i.invariant.3 h.loop-i.number (omega arith) h.loop-i.invariant.2)
 
@@ -20,6 +20,6 @@ shape_of-to c = c.loop-i.invariant.1
 
 pub returns : goal.returns
 returns c =
-        let h = c in
+    let h = c in
     let v = h.args in
     run-done v.to.now h.loop-i.to v.at v.first (v.last - v.first) h.loop-i.i h.loop-i.invariant.3 (omega arith)

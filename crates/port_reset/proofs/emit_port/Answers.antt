@@ -2,7 +2,7 @@
 use mathlib.Core.Path.{sym, ap, ◌∙◌}
 use Prim.Native.Nat.{ℕ}
 use mathlib.Core.List.{List, []}
-use Rattle.lists.specs.Choice.{if◌then◌else◌}
+use Rattle.lists.specs.Choice.{when◌then◌else◌}
 use Rattle.log_entries.specs.View.{lent}
 use Rattle.net_memory.proofs.Sized.{relations_8}
 use Rattle.port_reset.proofs.Port.{port_ran, port_output}
@@ -19,6 +19,6 @@ returns c =
     let v = c.args in
     let u = c.emit_reset in
     let s = c.output_start in
-    let r = c.wanted_relations-rels.ensures ∙ ap (λ (l : List ℕ). if v.incl then l else []) c.part_u8-all.ensures.0 in
+    let r = c.wanted_relations-rels.ensures ∙ ap (λ (l : List ℕ). when v.incl then l else []) c.part_u8-all.ensures.0 in
     let n = s.ensures.by_index v.nets.now v.trits.now in
     record { log_after = port_ran v.m v.nets.now v.trits.now v.i v.c v.incl c.requires.0 v.output.now v.p _ _ _ _ _ _ _ s.result (lent v.st v.log.now) (lent u.result.state u.new.log) _ c.requires.1 c.read_nets.ensures.0 r c.read_trits-own.ensures.0 c.clear_of.ensures c.reset_of.ensures c.init_of.ensures n c.part_u32-from.ensures.0 (u.ensures v.trits.now); output_value = port_output v.m v.nets.now v.trits.now v.i v.c v.incl c.requires.0 v.output.now v.p _ _ _ _ _ _ _ s.result (lent v.st v.log.now) (lent u.result.state u.new.log) _ c.requires.1 c.read_nets.ensures.0 r c.read_trits-own.ensures.0 c.clear_of.ensures c.reset_of.ensures c.init_of.ensures n c.part_u32-from.ensures.0 (u.ensures v.trits.now) }

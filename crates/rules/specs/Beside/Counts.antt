@@ -2,7 +2,7 @@
 use Rattle.std.specs.Prelude.{ℕ, ◌+◌, ◌-◌, ◌*◌, ◌^◌, List, [], ◌∷◌, map, length, eqb}
 use Rattle.std.proofs.Math.Option.{Option, none, some}
 use Rattle.rules.specs.Limits.{X}
-use Rattle.lists.specs.Choice.{if◌then◌else◌}
+use Rattle.lists.specs.Choice.{when◌then◌else◌}
 use Rattle.lists.specs.Lists.{pairs}
 use Rattle.rules.specs.Cell.{WritePort, ReadFlipFlop, ReadPort, Mem, Plan, write_wide_log2, read_wide_log2}
 use Rattle.lists.specs.Distinct.{kept}
@@ -51,7 +51,7 @@ mask_nets q s p = length (kept eqb (repeating X (sources q s) p.mask))
 -- each piece: an eq and, unless the mux address is empty, a merged mux
 unfoldable pub write_count_of : Layout → Split → WritePort → Count
 write_count_of q s p =
-    times_count s.pieces (plus (eq_count (length s.mux_addr)) (if is_empty s.mux_addr then nothing else mux_count_of (mask_nets q s p)))
+    times_count s.pieces (plus (eq_count (length s.mux_addr)) (when is_empty s.mux_addr then nothing else mux_count_of (mask_nets q s p)))
 
 unfoldable pub clocked_count : Option ReadFlipFlop → ℕ → Count
 clocked_count none n = nothing

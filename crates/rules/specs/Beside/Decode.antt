@@ -1,7 +1,7 @@
 -- A log read back: one entry from words, and all of them.
 use Rattle.std.specs.Prelude.{ℕ, zero, suc, ◌/◌, Bool, true, not, ◌&&◌, List, [], ◌∷◌, ◌++◌, length, get_or, take, drop, eqb}
 use Rattle.std.proofs.Math.Option.{Option, none, some}
-use Rattle.lists.specs.Choice.{if◌then◌else◌}
+use Rattle.lists.specs.Choice.{when◌then◌else◌}
 use Rattle.lists.specs.Lists.{same_list}
 use Rattle.rules.specs.Value.{Value, Control, Pos, Neg, control_words}
 use Rattle.rules.specs.Cell.{Controls, FlipFlop}
@@ -16,7 +16,7 @@ controls_words c =
 -- ---- the entry that these words would be
 -- the two words of a control from place i on
 unfoldable pub control_at : List ℕ → ℕ → Control
-control_at ops i = if eqb (get_or ops i 0) 0 then Pos (get_or ops (suc i) 0) else Neg (get_or ops (suc i) 0)
+control_at ops i = when eqb (get_or ops i 0) 0 then Pos (get_or ops (suc i) 0) else Neg (get_or ops (suc i) 0)
 
 unfoldable pub controls_from : List ℕ → Controls
 controls_from ops = record {
@@ -48,15 +48,15 @@ second_half ops = drop (length ops / 2) ops
 -- kind, width, first net, operands
 unfoldable pub entry_from : ℕ → ℕ → ℕ → List ℕ → Entry
 entry_from kind width first ops =
-    if eqb kind 1 then Void first width
-    else if eqb kind 2 then Not first ops
-    else if eqb kind 3 then And first (take width ops) (drop width ops)
-    else if eqb kind 4 then Or first (take width ops) (drop width ops)
-    else if eqb kind 5 then Mux first (get_or ops 0 0) (take width (drop 1 ops)) (drop width (drop 1 ops))
-    else if eqb kind 6 then Eq first (first_half ops) (second_half ops)
-    else if eqb kind 7 then Shl first (get_or ops 0 0) (take (get_or ops 1 0) (drop 2 ops)) (drop (get_or ops 1 0) (drop 2 ops))
-    else if eqb kind 8 then Ushr first (get_or ops 0 0) (take (get_or ops 1 0) (drop 2 ops)) (drop (get_or ops 1 0) (drop 2 ops))
-    else if eqb kind 9 then Dff first (flip_flop_from width ops)
+    when eqb kind 1 then Void first width
+    else when eqb kind 2 then Not first ops
+    else when eqb kind 3 then And first (take width ops) (drop width ops)
+    else when eqb kind 4 then Or first (take width ops) (drop width ops)
+    else when eqb kind 5 then Mux first (get_or ops 0 0) (take width (drop 1 ops)) (drop width (drop 1 ops))
+    else when eqb kind 6 then Eq first (first_half ops) (second_half ops)
+    else when eqb kind 7 then Shl first (get_or ops 0 0) (take (get_or ops 1 0) (drop 2 ops)) (drop (get_or ops 1 0) (drop 2 ops))
+    else when eqb kind 8 then Ushr first (get_or ops 0 0) (take (get_or ops 1 0) (drop 2 ops)) (drop (get_or ops 1 0) (drop 2 ops))
+    else when eqb kind 9 then Dff first (flip_flop_from width ops)
     else Replace (first_half ops) (second_half ops)
 
 -- an entry's values are equally long
@@ -78,7 +78,7 @@ unfoldable pub decode : List ℕ → Option (Entry × List ℕ)
 decode l =
     let count = get_or l 3 0 in
     let e = entry_from (get_or l 0 0) (get_or l 1 0) (get_or l 2 0) (take count (drop 4 l)) in
-    if formed e && same_list (encode e) (take 4 l ++ take count (drop 4 l)) then some (e, drop count (drop 4 l)) else none
+    when formed e && same_list (encode e) (take 4 l ++ take count (drop 4 l)) then some (e, drop count (drop 4 l)) else none
 
 -- an entry before the entries of the rest
 unfoldable pub before : Entry → Option (List Entry) → Option (List Entry)

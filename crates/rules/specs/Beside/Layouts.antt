@@ -1,7 +1,7 @@
 -- An image laid out from rows, and a row read back: numbers and whole answers.
 use Rattle.std.specs.Prelude.{ℕ, ◌*◌, ◌||◌, not, List, [], map, length, get_or, eqb}
 use Rattle.std.proofs.Math.Option.{none, some}
-use Rattle.lists.specs.Choice.{if◌then◌else◌, ◌or_else◌, leaves}
+use Rattle.lists.specs.Choice.{when◌then◌else◌, ◌or_else◌, leaves}
 use Rattle.lists.specs.Lists.{up_from}
 use Rattle.lists.specs.Distinct.{place_in}
 use Rattle.rules.specs.Limits.{trit_x}
@@ -17,7 +17,7 @@ use Rattle.rules.specs.Answers.{Filled, filled, Patched, patched_with}
 -- 2, 4, then 20, by the depth, the width and the image's trits of a layout: of this room and these rows
 unfoldable pub fill_refusal_by : ℕ → ℕ → ℕ → ℕ → List ℕ → ℕ
 fill_refusal_by depth width size room rows =
-    if not (eqb (length rows) (depth * width)) then 2 else if bad_trits rows then 4 else lent_refusal room size
+    when not (eqb (length rows) (depth * width)) then 2 else when bad_trits rows then 4 else lent_refusal room size
 
 unfoldable pub fill_refusal_of : Layout → ℕ → List ℕ → ℕ
 fill_refusal_of q room rows = fill_refusal_by q.depth q.width (image_size q) room rows
@@ -55,7 +55,7 @@ read_row q image row = map (bit_of q image row) (up_from 0 q.width)
 -- 15, then 20 for the image or the room for the row
 unfoldable pub read_row_refusal_by : ℕ → ℕ → ℕ → ℕ → ℕ → ℕ → ℕ
 read_row_refusal_by depth width size room len row =
-    if not_below depth row then 15 else if no_room_of len size || no_room_of room width then 20 else 0
+    when not_below depth row then 15 else when no_room_of len size || no_room_of room width then 20 else 0
 
 unfoldable pub read_row_refusal_of : Layout → ℕ → ℕ → ℕ → ℕ
 read_row_refusal_of q room len row = read_row_refusal_by q.depth q.width (image_size q) room len row

@@ -1,7 +1,7 @@
 -- The sizes that a layout gives and the place of an entry: calls that document 01 does not name, with their numbers and whole answers.
 use Rattle.std.specs.Prelude.{ℕ, ◌*◌, ◌≤◌, ◌<◌, ◌||◌, List, length}
 use Rattle.std.proofs.Math.Option.{Option, none, some}
-use Rattle.lists.specs.Choice.{if◌then◌else◌}
+use Rattle.lists.specs.Choice.{when◌then◌else◌}
 use Rattle.rules.specs.Geometry.{Layout, row_len_of, full_depth_of, part_depth_of, full_mems, all_mems, columns, swizzle_depths}
 use Rattle.rules.specs.Image.{Place, place_of, index_of, trits, image_size, Laid}
 use Rattle.rules.specs.Conditions.{bad_entries, indivisible, result_too_large, not_below, no_room_of, bad_layout_sizes, bad_layout}
@@ -42,7 +42,7 @@ shape_of q = record {
 
 -- 1, of what a layout holds
 unfoldable pub shape_number : Layout → ℕ
-shape_number q = if bad_layout_sizes q.depth q.width (row_len_of q) q.unit q.hard then 1 else 0
+shape_number q = when bad_layout_sizes q.depth q.width (row_len_of q) q.unit q.hard then 1 else 0
 
 unfoldable pub shape_call : Layout → Answer Shape
 shape_call q = answer_of (shape_number q) (shape_of q)
@@ -50,30 +50,30 @@ shape_call q = answer_of (shape_number q) (shape_of q)
 -- the depths into lent room
 unfoldable pub depths_refusal : ℕ → Layout → ℕ
 depths_refusal room q =
-    if bad_layout_sizes q.depth q.width (row_len_of q) q.unit q.hard then 1 else if no_room_of room (all_mems q) then 20 else 0
+    when bad_layout_sizes q.depth q.width (row_len_of q) q.unit q.hard then 1 else when no_room_of room (all_mems q) then 20 else 0
 
 unfoldable pub depths_call : List ℕ → Layout → Filled
 depths_call out q = filled (depths_refusal (length out) q) out (swizzle_depths q)
 
 -- ---- the tests of a plan
 unfoldable pub entries_number : ℕ → List ℕ → ℕ
-entries_number width es = if bad_entries width es then 7 else 0
+entries_number width es = when bad_entries width es then 7 else 0
 
 unfoldable pub soft_mask_number : ℕ → ℕ → ℕ
-soft_mask_number depth mask = if indivisible depth (top_bits addr_bits mask) then 8 else 0
+soft_mask_number depth mask = when indivisible depth (top_bits addr_bits mask) then 8 else 0
 
 -- 10, and 1 where the sizes pass their limits
 unfoldable pub result_number : Layout → ℕ
 result_number q =
-    if bad_layout_sizes q.depth q.width (row_len_of q) q.unit q.hard then 1 else if result_too_large q then 10 else 0
+    when bad_layout_sizes q.depth q.width (row_len_of q) q.unit q.hard then 1 else when result_too_large q then 10 else 0
 
 -- the laid-out state of a layout: none where no accepted swizzle has it
 unfoldable pub handed_on : Layout → Laid
-handed_on q = if bad_layout q then none else some q
+handed_on q = when bad_layout q then none else some q
 
 -- its sizes
 unfoldable pub laid_shape : Layout → Option Shape
-laid_shape q = if bad_layout q then none else some (shape_of q)
+laid_shape q = when bad_layout q then none else some (shape_of q)
 
 -- ---- the place of entry i of a row
 pub record Located : Type 0 where
@@ -83,8 +83,8 @@ pub record Located : Type 0 where
 
 unfoldable pub place_number : Layout → ℕ → ℕ → ℕ
 place_number q row i =
-    if bad_layout_sizes q.depth q.width (row_len_of q) q.unit q.hard then 1
-    else if not_below q.depth row || not_below (row_len_of q) i then 15
+    when bad_layout_sizes q.depth q.width (row_len_of q) q.unit q.hard then 1
+    else when not_below q.depth row || not_below (row_len_of q) i then 15
     else 0
 
 unfoldable pub place_call : Layout → ℕ → ℕ → Answer Located
