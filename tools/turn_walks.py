@@ -4,7 +4,8 @@
 usage: turn_walks.py CRATE [--all] [F ..]     at the top of the repository; with no F each Proof.antt of the crate
 
 It asks `rt check --generated DIR --old-names` for each goal's old and new name. Answers that Rattle finds itself (`search rules`, `omega arith`) are left out but
-under --all. A line that begins 'look:' names what it could not turn. What it wrote for each goal is kept in /tmp/turned/CRATE.json."""
+under --all. A line that begins 'look:' names what it could not turn. What it wrote for each goal, and the old file,
+is kept below the system's folder for temporary files, in turned/CRATE."""
 import glob
 import json
 import os
@@ -12,6 +13,7 @@ import re
 import shutil
 import subprocess
 import sys
+import tempfile
 
 TOP = os.getcwd()
 MUTS, MINE, SLICES = {}, {}, {}
@@ -670,7 +672,7 @@ def convert(crate, path, fn, everything):
         with open(f, 'w', encoding='utf-8') as it:
             it.write(f'-- `{crate}::{path.replace("/", "::")}` meets its contract.\n' + '\n'.join(lines + [f'use Rattle.{crate}.proofs.{dotted}.Goals as goal']) + '\n\n' + body + '\n')
         made.append('Answers')
-    keep = os.path.join('/tmp/turned', crate, path)
+    keep = os.path.join(tempfile.gettempdir(), 'turned', crate, path)
     os.makedirs(keep, exist_ok=True)
     shutil.copy(old, os.path.join(keep, 'Proof.antt'))
     with open(os.path.join(keep, 'kept.json'), 'w') as it:
@@ -688,7 +690,7 @@ def main(argv):
     argv = [a for a in argv if a != '--all']
     crate, only = argv[0], argv[1:]
     where = os.path.join(TOP, 'crates', crate)
-    names = f'/tmp/names-{os.getpid()}'
+    names = os.path.join(tempfile.gettempdir(), f'names-{os.getpid()}')
     r = subprocess.run(['rt', 'check', '--generated', names, '--old-names'], cwd=where, capture_output=True, text=True)
     got = os.path.join(names, 'names.json')
     if not os.path.exists(got):
