@@ -10,7 +10,6 @@ import sys
 sys.path.insert(0, os.path.dirname(os.path.abspath(__file__)))
 import respell
 
-WORD = re.compile(r'(?<![^\s(){}\[\];,λ.]|(?<=\w)\.)if(?=\s)')
 ROW = {'if◌then◌else◌': 'when◌then◌else◌', 'if': 'when'}
 
 
