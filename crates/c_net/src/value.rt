@@ -86,7 +86,7 @@ fn store_list(out: &mut [u32], list: &[u32]) -> Count
             count: 0,
         };
     }
-    lists::copy_u32(out, 0, list);
+    lists::copy(out, 0, list);
     Count {
         number: 0,
         count: list.len(),

@@ -58,9 +58,9 @@ fn split_rows(
         trits,
         outs,
         s,
-        lists::part_u32(&entries, 0, lists::usize_of_u32(b.width)),
-        lists::part_u32(&zeros, 0, writes),
-        lists::part_u32(&zeros, 0, reads),
+        lists::part(&entries, 0, lists::usize_of_u32(b.width)),
+        lists::part(&zeros, 0, writes),
+        lists::part(&zeros, 0, reads),
     )
 }
 
@@ -95,8 +95,8 @@ fn lower_rows(
         log,
         made.state,
         made.memory,
-        lists::part_u32(tables, 0, made.nets_at),
-        lists::part_u8(&image, 0, n),
+        lists::part(tables, 0, made.nets_at),
+        lists::part(&image, 0, n),
     )
 }
 
@@ -177,7 +177,7 @@ fn later_net(next: u32, made: usize) -> u32
     if rules::MAX_NETS < next {
         return next;
     }
-    let more = lists::smaller(made, lists::usize_of_u32(rules::MAX_NETS) + 1);
+    let more = made.min(lists::usize_of_u32(rules::MAX_NETS) + 1);
     next + more as u32
 }
 
@@ -209,9 +209,9 @@ fn plan_number(
         trits,
         outs,
         s,
-        lists::part_u32(&entries, 0, lists::usize_of_u32(b.width)),
-        lists::part_u32(&zeros, 0, writes),
-        lists::part_u32(&zeros, 0, reads),
+        lists::part(&entries, 0, lists::usize_of_u32(b.width)),
+        lists::part(&zeros, 0, writes),
+        lists::part(&zeros, 0, reads),
     )
 }
 
@@ -230,7 +230,7 @@ fn split_number(
     requires { Asked m nets.now trits.now output.now st tables × HasWidth m }
     ensures { result ≡ room_refusal room (state_of st) (words + split_words (memory_of m nets.now trits.now)) (made + split_nets (memory_of m nets.now trits.now)) }
 {
-    let whole = lists::smaller(room, rules::MAX_WORDS);
+    let whole = room.min(rules::MAX_WORDS);
     if whole < words {
         return 20;
     }
@@ -266,7 +266,7 @@ fn log_number(
         return 20;
     }
     let start = log_entries::dry_start(st);
-    let unmapped = lists::usize_of_u32(lists::minus(dry.next, start.next));
+    let unmapped = lists::usize_of_u32(dry.next.saturating_sub(start.next));
     let rows = fallback_masks::rows_size(m, nets);
     let words = dry.used + rows.words;
     let made = unmapped + rows.nets;
@@ -305,7 +305,7 @@ fn act(
     if m.width == 0 {
         return state;
     }
-    let outs = lists::part_u32(after, 0, output.len());
+    let outs = lists::part(after, 0, output.len());
     lower_rows(log, state, tables, m, nets, trits, outs)
 }
 

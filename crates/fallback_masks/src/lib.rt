@@ -39,7 +39,7 @@ fn left_after(width: u32, left: u32) -> u32
     ensures { result ≡ left_after_of width left }
 {
     if left == 0 {
-        return lists::minus(width, 1);
+        return width.saturating_sub(1);
     }
     left - 1
 }
@@ -71,8 +71,8 @@ fn pieces_by(depth: usize, rows: usize, addr: usize, wide: usize) -> usize
     requires { (depth ≤ max_depth) × (0 < rows) × (0 < wide) }
     ensures { ((k : ℕ) → wide ≡ 2 ^ k → result ≡ pieces_by depth rows addr k) × (result ≤ depth) }
 {
-    let bits = lists::smaller(addr, 32) as u32;
-    let most = lists::smaller(lists::usize_of_u64(lists::two_to(bits)), rows / wide);
+    let bits = addr.min(32) as u32;
+    let most = lists::usize_of_u64(lists::two_to(bits)).min(rows / wide);
     depth / rows * most
 }
 

@@ -72,7 +72,7 @@ fn over_row(
         bits,
         &row[..w],
     );
-    lists::copy_u32(row, 0, &spare[..w]);
+    lists::copy(row, 0, &spare[..w]);
     after
 }
 
@@ -169,7 +169,7 @@ fn net_of_trit(t: u8) -> u32
 pub fn const_row(row: &mut [u32], init: &[u8])
     ensures { row.new ≡ sets row.old 0 (of_const init.now) }
 {
-    let n = lists::smaller(row.len(), init.len());
+    let n = row.len().min(init.len());
     let mut i = 0;
     while i < n {
         row[i] = net_of_trit(init[i]);

@@ -62,7 +62,7 @@ fn register(
 {
     let w = lists::usize_of_u32(g.unit);
     let s1 = fallback_row::emit_start(log, st, q, g.unit);
-    lists::copy_u32(row, 0, lists::part_u32(q, 0, w));
+    lists::copy(row, 0, lists::part(q, 0, w));
     let s2 = over_all(log, s1, row, spare, kx, ky, at, w, g, nets, n);
     let p = g.write_ports[0];
     let clock = p.clock;

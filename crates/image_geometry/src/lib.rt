@@ -228,8 +228,8 @@ pub fn depths(out: &mut [u32], p: Params, entries: &[u32]) -> u32
     }
     let full = s.full_mems as usize;
     let all = s.all_mems as usize;
-    lists::fill_u32(out, 0, full, s.full_depth as u32);
-    lists::fill_u32(out, full, all - full, s.part_depth as u32);
+    lists::fill(out, 0, full, s.full_depth as u32);
+    lists::fill(out, full, all - full, s.part_depth as u32);
     0
 }
 

@@ -52,7 +52,7 @@ fn call_at(
     let start = lists::usize_of_u32(calls[at1]);
     let count = lists::usize_of_u32(calls[at2]);
     let room = lists::usize_of_u32(calls[at3]);
-    let part = lists::part_u8(trits, start, count);
+    let part = lists::part(trits, start, count);
     call_one(buffer, p, entries, row, part, room)
 }
 
@@ -72,7 +72,7 @@ fn call_each(
     let mut i: usize = 0;
     while i < n {
         let number = call_at(buffer, p, entries, calls, trits, i);
-        lists::put_u32(numbers, i, number);
+        lists::put(numbers, i, number);
         i += 1;
     }
 }

@@ -158,7 +158,7 @@ fn run_length(c: Cursor, g: Steps, left: usize) -> usize
     requires { (c.bit < g.unit) × (0 < left) }
     ensures { (0 < result) × (result ≤ left) × (c.bit + result ≤ g.unit) }
 {
-    lists::smaller(lists::usize_of_u64(g.unit - c.bit), left)
+    lists::usize_of_u64(g.unit - c.bit).min(left)
 }
 
 // The cursor after a run of `count` places.
@@ -218,7 +218,7 @@ fn put_run(
 {
     if to <= plain {
         if to <= trits.len() {
-            lists::copy_u8(image, lists::usize_of_u64(at), &trits[from..to]);
+            lists::copy(image, lists::usize_of_u64(at), &trits[from..to]);
             return;
         }
     }
@@ -390,7 +390,7 @@ pub fn fill_rows(image: &mut [u8], p: image_geometry::Params, entries: &[u32], r
     if n != 0 {
         return n;
     }
-    lists::fill_u8(image, 0, lists::usize_of_u64(s.image_size), rules::TRIT_X);
+    lists::fill(image, 0, lists::usize_of_u64(s.image_size), rules::TRIT_X);
     write_rows(image, p, steps_of(s, p.unit), entries, rows);
     0
 }

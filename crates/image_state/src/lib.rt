@@ -60,7 +60,7 @@ pub fn laid_out(p: image_geometry::Params, entries: &[u32]) -> Laid
         return unset();
     }
     let mut kept = [0u32; rules::MAX_ROW];
-    lists::copy_u32(&mut kept, 0, entries);
+    lists::copy(&mut kept, 0, entries);
     Laid {
         depth: p.depth,
         width: p.width,
@@ -76,7 +76,7 @@ pub fn laid_out(p: image_geometry::Params, entries: &[u32]) -> Laid
 pub fn used(laid: Laid) -> usize
     ensures { (result ≡ min max_row laid.len) × (result ≤ max_row) }
 {
-    lists::smaller(rules::MAX_ROW, lists::usize_of_u32(laid.len))
+    rules::MAX_ROW.min(lists::usize_of_u32(laid.len))
 }
 
 // The unit, or 0, as before any swizzle, where the length passes the place for the entries: the calls by such a state are refused by 23.

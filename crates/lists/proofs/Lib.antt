@@ -18,4 +18,5 @@ pub mod DistinctOrder
 pub mod Lent
 pub mod Flat
 pub mod Runs
+pub mod Mids
 pub mod Powers

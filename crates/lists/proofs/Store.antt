@@ -73,7 +73,7 @@ module _ {ℓ} {A : Type ℓ} where
       (λ h. ap (sets l i) (take_all (min (length ws) (length l - i)) ws (omega arith)))
       (λ h. sets_room l i (min (length ws) (length l - i)) ws (omega arith) (omega arith))
 
-  take_replicate : (n k : ℕ) (v : A) → n ≤ k → take n (replicate k v) ≡ replicate n v
+  pub take_replicate : (n k : ℕ) (v : A) → n ≤ k → take n (replicate k v) ≡ replicate n v
   take_replicate zero k v h = refl
   take_replicate (suc n) zero v h = absurd (omega arith)
   take_replicate (suc n) (suc k) v h = ap (λ (r : List A). v ∷ r) (take_replicate n k v (omega arith))

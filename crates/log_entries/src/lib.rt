@@ -113,7 +113,7 @@ pub fn dry_refusal(room: usize, st: LogState, dry: LogState) -> u32
         return 20;
     }
     let start = dry_start(st);
-    let nets = lists::minus(dry.next, start.next);
+    let nets = dry.next.saturating_sub(start.next);
     room_refusal(room, st, dry.used, nets as usize)
 }
 
@@ -122,12 +122,12 @@ fn store_parts(log: &mut [u32], at: usize, head: [u32; 4], x: &[u32], a: &[u32],
     requires { at + (4 + (length x.now + (length a.now + length b.now))) ≤ max_words }
     ensures { log.new ≡ sets log.old at (head ++ (x.now ++ (a.now ++ b.now))) }
 {
-    lists::copy_u32(log, at, &head);
+    lists::copy(log, at, &head);
     let xs = at + 4;
-    lists::copy_u32(log, xs, x);
+    lists::copy(log, xs, x);
     let before = xs + x.len();
-    lists::copy_u32(log, before, a);
-    lists::copy_u32(log, before + a.len(), b);
+    lists::copy(log, before, a);
+    lists::copy(log, before + a.len(), b);
 }
 
 // An entry of so many results: its head, and its operands in three parts.

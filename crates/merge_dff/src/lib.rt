@@ -34,10 +34,7 @@ fn pack_trits(to: &mut [u32], reset: &[u8], clear: &[u8], init: &[u8]) -> usize
     ensures to_after { to.new ≡ sets to.old 0 (packs reset.now clear.now init.now) }
     ensures bytes { Bytes reset.now clear.now init.now }
 {
-    let n = lists::smaller(
-        to.len(),
-        lists::smaller(reset.len(), lists::smaller(clear.len(), init.len())),
-    );
+    let n = to.len().min(reset.len().min(clear.len().min(init.len())));
     let mut i = 0;
     while i < n {
         to[i] = pack(reset[i], clear[i], init[i]);
@@ -51,7 +48,7 @@ fn unpack_part(to: &mut [u8], ps: &[u32], by: u32)
     requires { 0 < by }
     ensures { to.new ≡ sets to.old 0 (map (packed_byte by) ps.now) }
 {
-    let n = lists::smaller(ps.len(), to.len());
+    let n = ps.len().min(to.len());
     let mut i = 0;
     while i < n {
         to[i] = (ps[i] / by % 256) as u8;
@@ -80,9 +77,9 @@ fn emit_kept_dff(
     unpack_part(reset, ps, 1);
     unpack_part(init, ps, 65536);
     let n = ps.len();
-    let cs = lists::part_u8(clear, 0, n);
-    let rs = lists::part_u8(reset, 0, n);
-    let is = lists::part_u8(init, 0, n);
+    let cs = lists::part(clear, 0, n);
+    let rs = lists::part(reset, 0, n);
+    let is = lists::part(init, 0, n);
     let after = log_entries::emit_dff(log, st, c, bits, cs, rs, is);
     merge_mux::emit::spread_results(out, 0, st, after, at);
     after
@@ -107,7 +104,7 @@ fn merge_packed(
     ensures log_after { lent result log.new ≡ run (merge_packed (controls_of c) (limited bits.now) (limited ps.now)) (lent st log.old) }
     ensures out_after { out.new ≡ results (is_over (state_of result)) out.old 0 (merge_packed (controls_of c) (limited bits.now) (limited ps.now) st.next).value }
 {
-    let n = lists::smaller(rules::MAX_MERGE, lists::smaller(bits.len(), ps.len()));
+    let n = rules::MAX_MERGE.min(bits.len().min(ps.len()));
     let k = merge_keys::merge(kx, ky, at, bits, ps);
     emit_kept_dff(
         log,
@@ -157,7 +154,7 @@ pub fn emit_dedup_dff_with(
         inits,
         c,
         bits,
-        lists::part_u32(column, 0, n),
+        lists::part(column, 0, n),
     )
 }
 

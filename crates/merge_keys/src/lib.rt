@@ -117,10 +117,7 @@ pub fn merge(kx: &mut [u32], ky: &mut [u32], at: &mut [u32], x: &[u32], y: &[u32
     ensures ky_after { ky.new ≡ sets ky.old 0 (seconds (kept same2 (merging x.now y.now kx.old ky.old at.old))) }
     ensures at_after { at.new ≡ sets at.old 0 (places same2 (merging x.now y.now kx.old ky.old at.old)) }
 {
-    let lent = lists::smaller(kx.len(), lists::smaller(ky.len(), at.len()));
-    let n = lists::smaller(
-        lists::smaller(rules::MAX_MERGE, lent),
-        lists::smaller(x.len(), y.len()),
-    );
+    let lent = kx.len().min(ky.len().min(at.len()));
+    let n = rules::MAX_MERGE.min(lent).min(x.len().min(y.len()));
     merge_first(kx, ky, at, x, y, n)
 }

@@ -97,7 +97,7 @@ fn dedup_mux_in(
     ensures log_after { lent result log.new ≡ run (add_dedup_mux_of (control_of select) (limited a.now) (limited b.now)) (lent st log.old) }
     ensures out_after { out.new ≡ results (is_over (state_of result)) out.old to (add_dedup_mux_of (control_of select) (limited a.now) (limited b.now) st.next).value }
 {
-    let n = lists::smaller(rules::MAX_MERGE, lists::smaller(a.len(), b.len()));
+    let n = rules::MAX_MERGE.min(a.len().min(b.len()));
     let k = merge_keys::merge(kx, ky, at, a, b);
     emit_kept_mux(log, st, out, to, select, &kx[..k], &ky[..k], &at[..n])
 }
@@ -218,10 +218,7 @@ fn bits_of(s: &[u32], a: &[u32], b: &[u32]) -> usize
     ensures value { result ≡ bits_taken s.now a.now b.now }
     ensures within { Within s.now a.now b.now result }
 {
-    lists::smaller(
-        lists::smaller(rules::MAX_MERGE, s.len()),
-        lists::smaller(a.len(), b.len()),
-    )
+    rules::MAX_MERGE.min(s.len()).min(a.len().min(b.len()))
 }
 
 // add_bitwise_mux without its numbers: a merging mux for each run of equal neighbouring selects.
@@ -255,7 +252,7 @@ pub fn emit_bitwise_mux(
     if log_entries::is_over(after) {
         return after;
     }
-    lists::copy_u32(out, 0, &nets[..n]);
+    lists::copy(out, 0, &nets[..n]);
     after
 }
 

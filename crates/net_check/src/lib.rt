@@ -109,7 +109,7 @@ fn writes_number(m: Memory, nets: &[u32], next: u32) -> u32
     while i < count {
         let p = m.write_ports[i];
         let size = net_memory::write_size(p);
-        let part = lists::part_u32(nets, at, size);
+        let part = lists::part(nets, at, size);
         number = lower(number, write_number(m.depth, m.width, next, p, part));
         at += size;
         i += 1;
@@ -129,7 +129,7 @@ fn relations_bad(p: MemoryReadPort) -> bool
     ensures { result ≡ any bad_relation (part 0 p.relations_len p.relations) }
 {
     let relations = p.relations;
-    let named = lists::part_u8(&relations, 0, lists::usize_of_u32(p.relations_len));
+    let named = lists::part(&relations, 0, lists::usize_of_u32(p.relations_len));
     !net_logic::trits_good(named)
 }
 
@@ -235,8 +235,8 @@ fn read_number_at(
     ensures { result ≡ read_number next (memory_of m nets.now trits.now) (get_or (reads_of m nets.now trits.now) i no_read_of) }
 {
     let p = m.read_ports[i];
-    let addr = lists::part_u32(nets, at, net_memory::addr_size(p));
-    let values = lists::part_u8(trits, from, net_memory::trit_size(p));
+    let addr = lists::part(nets, at, net_memory::addr_size(p));
+    let values = lists::part(trits, from, net_memory::trit_size(p));
     let writes = net_memory::ports_used(m.write_count);
     read_number(m.depth, m.width, next, writes, p, addr, values)
 }
@@ -264,7 +264,7 @@ fn reads_number(m: Memory, nets: &[u32], trits: &[u8], next: u32) -> u32
 fn init_number(m: Memory, trits: &[u8]) -> u32
     ensures { result ≡ number_by_of (not (eqb (length (part 0 m.init_len trits.now)) (m.depth * m.width))) false (bad_trits (part 0 m.init_len trits.now)) }
 {
-    let init = lists::part_u8(trits, 0, lists::usize_of_u32(m.init_len));
+    let init = lists::part(trits, 0, lists::usize_of_u32(m.init_len));
     let rows = init.len() as u64 != product(m.depth, m.width);
     number_by(rows, false, !net_logic::trits_good(init))
 }

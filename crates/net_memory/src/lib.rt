@@ -55,7 +55,7 @@ pub struct Memory {
 pub fn ports_used(count: u32) -> usize
     ensures { (result ≡ min max_ports count) × (result ≤ max_ports) }
 {
-    lists::smaller(rules::MAX_PORTS, lists::usize_of_u32(count))
+    rules::MAX_PORTS.min(lists::usize_of_u32(count))
 }
 
 // How many nets a write port has.
@@ -94,14 +94,14 @@ pub fn trit_size(p: MemoryReadPort) -> usize
 pub fn addr_of(p: MemoryWritePort, nets: &[u32]) -> &[u32]
     ensures { result.now ≡ (write_by p nets.now []).addr }
 {
-    lists::part_u32(nets, 0, lists::usize_of_u32(p.addr_len))
+    lists::part(nets, 0, lists::usize_of_u32(p.addr_len))
 }
 
 // Its data.
 pub fn data_of(p: MemoryWritePort, nets: &[u32]) -> &[u32]
     ensures { result.now ≡ (write_by p nets.now []).bits }
 {
-    lists::part_u32(
+    lists::part(
         nets,
         lists::usize_of_u32(p.addr_len),
         lists::usize_of_u32(p.data_len),
@@ -112,7 +112,7 @@ pub fn data_of(p: MemoryWritePort, nets: &[u32]) -> &[u32]
 pub fn mask_of(p: MemoryWritePort, nets: &[u32]) -> &[u32]
     ensures { result.now ≡ (write_by p nets.now []).mask }
 {
-    lists::part_u32(
+    lists::part(
         nets,
         lists::usize_of_u32(p.addr_len) + lists::usize_of_u32(p.data_len),
         lists::usize_of_u32(p.mask_len),
@@ -123,20 +123,20 @@ pub fn mask_of(p: MemoryWritePort, nets: &[u32]) -> &[u32]
 pub fn read_addr_of(p: MemoryReadPort, nets: &[u32]) -> &[u32]
     ensures { result.now ≡ (read_by p nets.now []).addr }
 {
-    lists::part_u32(nets, 0, lists::usize_of_u32(p.addr_len))
+    lists::part(nets, 0, lists::usize_of_u32(p.addr_len))
 }
 
 // The clear, reset and init trits of a read port with these trits.
 pub fn clear_of(p: MemoryReadPort, trits: &[u8]) -> &[u8]
     ensures { result.now ≡ part 0 p.clear_len trits.now }
 {
-    lists::part_u8(trits, 0, lists::usize_of_u32(p.clear_len))
+    lists::part(trits, 0, lists::usize_of_u32(p.clear_len))
 }
 
 pub fn reset_of(p: MemoryReadPort, trits: &[u8]) -> &[u8]
     ensures { result.now ≡ part p.clear_len p.reset_len trits.now }
 {
-    lists::part_u8(
+    lists::part(
         trits,
         lists::usize_of_u32(p.clear_len),
         lists::usize_of_u32(p.reset_len),
@@ -146,7 +146,7 @@ pub fn reset_of(p: MemoryReadPort, trits: &[u8]) -> &[u8]
 pub fn init_of(p: MemoryReadPort, trits: &[u8]) -> &[u8]
     ensures { result.now ≡ part (p.clear_len + p.reset_len) p.init_len trits.now }
 {
-    lists::part_u8(
+    lists::part(
         trits,
         lists::usize_of_u32(p.clear_len) + lists::usize_of_u32(p.reset_len),
         lists::usize_of_u32(p.init_len),
@@ -229,7 +229,7 @@ pub fn write_nets(m: Memory, nets: &[u32], i: usize) -> &[u32]
         return &nets[..0];
     }
     let p = m.write_ports[i];
-    lists::part_u32(nets, write_start(m, i), write_size(p))
+    lists::part(nets, write_start(m, i), write_size(p))
 }
 
 // The nets of read port i.
@@ -240,7 +240,7 @@ pub fn read_nets(m: Memory, nets: &[u32], i: usize) -> &[u32]
         return &nets[..0];
     }
     let p = m.read_ports[i];
-    lists::part_u32(nets, read_start(m, i), lists::usize_of_u32(p.addr_len))
+    lists::part(nets, read_start(m, i), lists::usize_of_u32(p.addr_len))
 }
 
 // The trits of read port i, also where it has no flip-flop.
@@ -251,7 +251,7 @@ pub fn read_trits(m: Memory, trits: &[u8], i: usize) -> &[u8]
         return &trits[..0];
     }
     let p = m.read_ports[i];
-    lists::part_u8(trits, trit_start(m, i), trit_size(p))
+    lists::part(trits, trit_start(m, i), trit_size(p))
 }
 
 // The mask of write port i.
@@ -282,7 +282,7 @@ pub fn output_start(m: Memory, i: usize) -> usize
     ensures by_index { (nets trits : List ℕ) → result ≡ output_start (memory_of m nets trits) i }
     ensures upper_bound { result ≤ 0x800000000 }
 {
-    let end = lists::smaller(i, ports_used(m.read_count));
+    let end = i.min(ports_used(m.read_count));
     let mut at: usize = 0;
     let mut j = 0;
     while j < end {
@@ -297,7 +297,7 @@ pub fn output_start(m: Memory, i: usize) -> usize
 pub fn data_count(p: MemoryWritePort, nets: &[u32]) -> usize
     ensures { (result ≡ length (write_by p nets.now []).bits) × (result < 0x100000000) }
 {
-    let bits = lists::part_u32(
+    let bits = lists::part(
         nets,
         lists::usize_of_u32(p.addr_len),
         lists::usize_of_u32(p.data_len),

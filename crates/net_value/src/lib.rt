@@ -257,9 +257,9 @@ pub fn value_slice(v: &[u32], start: usize, end: usize) -> &[u32]
 pub fn store_zext(out: &mut [u32], v: &[u32], n: usize)
     ensures { out.new ≡ sets out.old 0 (zext v.now n) }
 {
-    lists::copy_u32(out, 0, v);
+    lists::copy(out, 0, v);
     if v.len() < n {
-        lists::fill_u32(out, v.len(), n - v.len(), 0);
+        lists::fill(out, v.len(), n - v.len(), 0);
     }
 }
 

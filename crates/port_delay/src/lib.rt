@@ -52,9 +52,9 @@ fn emit_plain(
     ensures { Gave (add_dff_of (new_flip_flop bits.now (control_of clock))) (lent st log.old) (lent result log.new) (take (length bits.now) out.new) }
 {
     let n = bits.len();
-    lists::fill_u8(trits, 0, n, rules::TRIT_X);
+    lists::fill(trits, 0, n, rules::TRIT_X);
     let c = plain_controls(clock);
-    let xs = lists::part_u8(trits, 0, n);
+    let xs = lists::part(trits, 0, n);
     let after = log_entries::emit_dff(log, st, c, bits, xs, xs, xs);
     lists::store_run(out, 0, st.next, after.next);
     after
@@ -81,9 +81,9 @@ fn emit_mask(
     ensures { Gave (add_dedup_dff_of (mask_delay all_x (length mask.now) mask.now (control_of clock))) (lent st log.old) (lent result log.new) (take (length mask.now) out.new) }
 {
     let n = mask.len();
-    lists::fill_u8(trits, 0, n, start_trit(all_x));
+    lists::fill(trits, 0, n, start_trit(all_x));
     let c = plain_controls(clock);
-    let own = lists::part_u8(trits, 0, n);
+    let own = lists::part(trits, 0, n);
     merge_dff::emit_dedup_dff_with(
         log, st, out, column, kx, ky, at, clears, resets, inits, c, mask, own, own, own,
     )

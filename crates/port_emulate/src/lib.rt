@@ -69,9 +69,9 @@ fn store_port(
     let x = lists::usize_of_u32(p.addr_len);
     let y = lists::usize_of_u32(p.data_len);
     let z = lists::usize_of_u32(p.mask_len);
-    lists::copy_u32(nets, at, lists::part_u32(a, 0, x));
-    lists::copy_u32(nets, at + x, lists::part_u32(d, 0, y));
-    lists::copy_u32(nets, at + x + y, lists::part_u32(k, 0, z));
+    lists::copy(nets, at, lists::part(a, 0, x));
+    lists::copy(nets, at + x, lists::part(d, 0, y));
+    lists::copy(nets, at + x + y, lists::part(k, 0, z));
 }
 
 // Write port j, delayed where a read port reads before it writes: its flip-flops' results take the place of its nets.
@@ -99,7 +99,7 @@ fn delay_port(
     requires { PortReady m nets.old j at p }
     ensures { PortDone m all_x j nets.old nets.new (lent st log.old) (lent result log.new) }
 {
-    let own = lists::part_u32(nets, at, net_memory::write_size(p));
+    let own = lists::part(nets, at, net_memory::write_size(p));
     let after = emit_port(
         log, st, a, d, k, column, kx, ky, places, own_trits, clears, resets, inits, all_x, m, j, p,
         own,
@@ -178,7 +178,7 @@ fn emit_ports(
     while j < count {
         let p = m.write_ports[j];
         let size = net_memory::write_size(p);
-        let own = lists::part_u32(nets, at, size);
+        let own = lists::part(nets, at, size);
         state = emit_port(
             log, state, a, d, k, column, kx, ky, places, own_trits, clears, resets, inits, all_x,
             m, j, p, own,
@@ -257,7 +257,7 @@ fn emulate_in(
     ensures log_after { driven_of result nets.new trits.now [] log.new ≡ emulate_call (rooms_of nets.old trits.now) log.old (state_of st) (given_of m nets.old trits.now) }
     ensures emulated { Emulated m st nets.old nets.new result }
 {
-    let all_x = net_logic::is_undef(lists::part_u8(trits, 0, net_memory::init_size(m)));
+    let all_x = net_logic::is_undef(lists::part(trits, 0, net_memory::init_size(m)));
     let n = log_number(
         log.len(),
         st,

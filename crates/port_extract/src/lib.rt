@@ -26,7 +26,7 @@ fn output_part(m: Memory, output: &[u32], i: usize) -> &[u32]
     ensures by_index { (nets trits : List ℕ) → result.now ≡ output_slice (memory_of m nets trits) i output.now }
     ensures result_len_bound { length result.now < 0x100000000 }
 {
-    lists::part_u32(
+    lists::part(
         output,
         net_memory::output_start(m, i),
         net_memory::read_data_len(m, i),
@@ -58,7 +58,7 @@ fn put_addrs(room: &mut [u32], start: usize, m: Memory, nets: &[u32], list: &[u3
     let mut j = 0;
     while j < list.len() {
         let addr = net_memory::read_nets(m, nets, lists::usize_of_u32(list[j]));
-        lists::copy_u32(room, at, addr);
+        lists::copy(room, at, addr);
         at += addr.len();
         j += 1;
     }
@@ -75,7 +75,7 @@ fn put_values(room: &mut [u8], start: usize, m: Memory, trits: &[u8], list: &[u3
     let mut j = 0;
     while j < list.len() {
         let values = clocked_trits(m, trits, lists::usize_of_u32(list[j]));
-        lists::copy_u8(room, at, values);
+        lists::copy(room, at, values);
         at += values.len();
         j += 1;
     }
@@ -93,7 +93,7 @@ fn put_outputs(room: &mut [u32], m: Memory, output: &[u32], list: &[u32]) -> usi
     while j < list.len() {
         let k = lists::usize_of_u32(list[j]);
         let bits = output_part(m, output, k);
-        lists::copy_u32(room, at, bits);
+        lists::copy(room, at, bits);
         at += bits.len();
         j += 1;
     }
@@ -106,8 +106,8 @@ fn put_nets(room: &mut [u32], m: Memory, nets: &[u32], list: &[u32]) -> usize
     ensures value { result ≡ length (new_nets m nets.now list.now) }
     ensures room_after { room.new ≡ sets room.old 0 (new_nets m nets.now list.now) }
 {
-    let front = lists::part_u32(nets, 0, net_memory::reads_start(m));
-    lists::copy_u32(room, 0, front);
+    let front = lists::part(nets, 0, net_memory::reads_start(m));
+    lists::copy(room, 0, front);
     put_addrs(room, front.len(), m, nets, list)
 }
 
@@ -117,8 +117,8 @@ fn put_trits(room: &mut [u8], m: Memory, trits: &[u8], list: &[u32]) -> usize
     ensures value { result ≡ length (new_trits m trits.now list.now) }
     ensures room_after { room.new ≡ sets room.old 0 (new_trits m trits.now list.now) }
 {
-    let front = lists::part_u8(trits, 0, net_memory::init_size(m));
-    lists::copy_u8(room, 0, front);
+    let front = lists::part(trits, 0, net_memory::init_size(m));
+    lists::copy(room, 0, front);
     put_values(room, front.len(), m, trits, list)
 }
 

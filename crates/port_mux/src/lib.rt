@@ -152,13 +152,13 @@ fn emit_mux<'a>(
     let n = lists::usize_of_u32(p.data_len);
     let kr = net_memory::wide::wide_log(m.width, n);
     let raddr = net_memory::read_nets(m, nets, i);
-    lists::copy_u32(under, 0, bits);
+    lists::copy(under, 0, bits);
     if !masked {
         return port_overlay::emit_pair(
             log, st, under, seen, cover, sel, spare, kx, ky, at, m, nets, j, kr, raddr, n,
         );
     }
-    lists::copy_u32(over, 0, mask);
+    lists::copy(over, 0, mask);
     port_masked::emit_masked_pair(
         log, st, under, over, seen, cover, sel, spare, kx, ky, at, m, nets, j, kr, raddr, n,
     )
@@ -222,9 +222,9 @@ fn store(to: &mut [u32], from: &[u32; rules::MAX_MERGE], n: usize, wanted: bool)
     ensures to_after { to.new ≡ sets to.old 0 (wanted_of wanted (take n from.now)) }
     ensures from_len { length from.now ≡ max_merge }
 {
-    let part = lists::part_u32(from, 0, n);
+    let part = lists::part(from, 0, n);
     if wanted {
-        lists::copy_u32(to, 0, part);
+        lists::copy(to, 0, part);
     }
 }
 

@@ -91,7 +91,7 @@ fn relation_to(p: MemoryReadPort, j: usize) -> u8
     ensures { result ≡ get_or (part 0 p.relations_len p.relations) j 0 }
 {
     let relations = p.relations;
-    let named = lists::part_u8(&relations, 0, lists::usize_of_u32(p.relations_len));
+    let named = lists::part(&relations, 0, lists::usize_of_u32(p.relations_len));
     if named.len() <= j {
         return UNDEFINED;
     }

@@ -93,10 +93,10 @@ fn emit_port(
     ensures output_value { is_over (state_of result.state) ≡ false → with_output (memory_of m nets.now trits.now) i (up_from result.first (result.last - result.first)) output.now ≡ (unmap_reset (memory_of m nets.now trits.now) i incl output.now (own_flip_flop m trits.now i c) st.next).value.output }
 {
     let relations = p.relations;
-    let all = lists::part_u8(&relations, 0, p.relations_len as usize);
+    let all = lists::part(&relations, 0, p.relations_len as usize);
     let rels = port_unreset::wanted_relations(all, incl);
     let own = net_memory::read_trits(m, trits, i);
-    let from = lists::part_u32(output, net_memory::output_start(m, i), p.data_len as usize);
+    let from = lists::part(output, net_memory::output_start(m, i), p.data_len as usize);
     port_reset_emit::emit_reset(
         log,
         st,

@@ -77,8 +77,8 @@ fn emit_mask(
     requires { (n ≤ max_merge) × (n ≤ length over.now) × (n ≤ length out.old) × (n ≤ length ones.old) × (n ≤ length starts.old) }
     ensures { Gave (add_dedup_dff_of (mask_behind (controls_of c) initial n (take n over.now))) (lent st log.old) (lent result log.new) (take n out.new) }
 {
-    lists::fill_u8(ones, 0, n, 1);
-    lists::fill_u8(starts, 0, n, start_trit(initial));
+    lists::fill(ones, 0, n, 1);
+    lists::fill(starts, 0, n, start_trit(initial));
     let own = &ones[..n];
     merge_dff::emit_dedup_dff_with(
         log,
@@ -188,8 +188,8 @@ fn start_over(under: &mut [u32; rules::MAX_MERGE], over: &mut [u32; rules::MAX_M
     requires { n ≤ max_merge }
     ensures { (take n under.new ≡ replicate n X) × (take n over.new ≡ replicate n 0) }
 {
-    lists::fill_u32(under, 0, n, rules::NET_X);
-    lists::fill_u32(over, 0, n, 0);
+    lists::fill(under, 0, n, rules::NET_X);
+    lists::fill(over, 0, n, 0);
 }
 
 // A port of n nets with these relations, controls and trits, whose outputs are `from`.

@@ -71,7 +71,7 @@ fn settle_at(m: Memory, p: MemoryReadPort, j: usize) -> MemoryReadPort
 fn settle_port(m: Memory, p: MemoryReadPort) -> MemoryReadPort
     ensures { (x y : List ℕ) → result ≡ settled_by (is_read m x y) p }
 {
-    let count = lists::smaller(lists::usize_of_u32(p.relations_len), rules::MAX_PORTS);
+    let count = lists::usize_of_u32(p.relations_len).min(rules::MAX_PORTS);
     let mut out = p;
     let mut j = 0;
     while j < count {

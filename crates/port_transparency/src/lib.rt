@@ -30,14 +30,14 @@ struct Tested {
 fn less(a: u32, b: u32) -> usize
     ensures { result ≡ a - b }
 {
-    lists::usize_of_u32(lists::minus(a, b))
+    lists::usize_of_u32(a.saturating_sub(b))
 }
 
 // An address without the bits that select a part of the wider port's data: `k` is the other port's.
 fn addr_rest(addr: &[u32], k: u32, own: u32) -> &[u32]
     ensures { result.now ≡ drop (k - own) addr.now }
 {
-    let d = lists::smaller(less(k, own), addr.len());
+    let d = less(k, own).min(addr.len());
     &addr[d..]
 }
 
@@ -139,8 +139,8 @@ fn emit_seen<'a>(
     if kr < kw {
         return seen_narrower(log, st, bits, mask, select, wdata, wmask, n);
     }
-    lists::copy_u32(bits, 0, wdata);
-    lists::copy_u32(mask, 0, wmask);
+    lists::copy(bits, 0, wdata);
+    lists::copy(mask, 0, wmask);
     st
 }
 
@@ -156,7 +156,7 @@ fn emit_same(
     requires { (length waddr.now ≤ max_merge) × (length raddr.now ≤ max_merge) × (max_merge ≤ length x.old) × (max_merge ≤ length y.old) }
     ensures { Gave (add_eq_of (zext raddr.now (length waddr.now)) (zext waddr.now (length raddr.now))) (lent st log.old) (lent result log.new) st.next }
 {
-    let n = lists::larger(waddr.len(), raddr.len());
+    let n = waddr.len().max(raddr.len());
     net_value::store_zext(x, raddr, waddr.len());
     net_value::store_zext(y, waddr, raddr.len());
     log_entries::emit_eq(log, st, &x[..n], &y[..n])
@@ -180,7 +180,7 @@ fn emit_covered(
     requires { Sized bits.now mask.now n × (max_merge ≤ length under.old) × (max_merge ≤ length sel.old) × (max_merge ≤ length nets.old) }
     ensures { Gave (covered same mask.now bits.now (take n under.old)) (lent st log.old) (lent result log.new) (take n under.new) }
 {
-    lists::fill_u32(nets, 0, n, 0);
+    lists::fill(nets, 0, n, 0);
     let s1 = merge_mux::emit::emit_dedup_mux_with(
         log,
         st,
@@ -203,7 +203,7 @@ fn emit_covered(
         bits,
         &under[..n],
     );
-    lists::copy_u32(under, 0, &nets[..n]);
+    lists::copy(under, 0, &nets[..n]);
     s2
 }
 
@@ -287,7 +287,7 @@ fn emit_over(
         &nets[..n],
         &over[..n],
     );
-    lists::copy_u32(over, 0, &sel[..n]);
+    lists::copy(over, 0, &sel[..n]);
     s2
 }
 

@@ -54,9 +54,9 @@ fn emit_port(
     ensures last_value { is_over (state_of result.state) ≡ false → result.last ≡ st.next + (read_port m i).data_len }
 {
     let relations = p.relations;
-    let rels = lists::part_u8(&relations, 0, p.relations_len as usize);
+    let rels = lists::part(&relations, 0, p.relations_len as usize);
     let own = net_memory::read_trits(m, trits, i);
-    let from = lists::part_u32(output, net_memory::output_start(m, i), p.data_len as usize);
+    let from = lists::part(output, net_memory::output_start(m, i), p.data_len as usize);
     port_overlay::emit_unmap(
         log,
         st,
@@ -170,7 +170,7 @@ fn port_short_at(m: Memory, nets: &[u32], i: usize, p: MemoryReadPort) -> bool
 {
     let f = p.flip_flop;
     let relations = p.relations;
-    let rels = lists::part_u8(&relations, 0, p.relations_len as usize);
+    let rels = lists::part(&relations, 0, p.relations_len as usize);
     let kr = net_memory::wide::wide_log(m.width, p.data_len as usize);
     match f {
         MemoryReadFlipFlop::None => false,

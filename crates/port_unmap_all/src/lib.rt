@@ -59,9 +59,9 @@ fn emit_port(
     ensures last_value { p.data_len ≤ max_merge → is_over (state_of result.state) ≡ false → result.last ≡ st.next + p.data_len }
 {
     let relations = p.relations;
-    let rels = lists::part_u8(&relations, 0, p.relations_len as usize);
+    let rels = lists::part(&relations, 0, p.relations_len as usize);
     let own = net_memory::read_trits(m, trits, i);
-    let from = lists::part_u32(output, net_memory::output_start(m, i), p.data_len as usize);
+    let from = lists::part(output, net_memory::output_start(m, i), p.data_len as usize);
     port_overlay::emit_unmap(
         log,
         st,
@@ -207,7 +207,7 @@ pub fn emit_unmap_all(
 ) -> LogState
     ensures { Gave (unmapped_all (memory_of m nets.now trits.now) output.now (sets after.old 0 output.now)) (lent st log.old) (lent result log.new) after.new }
 {
-    lists::copy_u32(after, 0, output);
+    lists::copy(after, 0, output);
     emit_ports(
         log, st, after, under, bits, mask, sel, spare, kx, ky, at, m, nets, trits, output,
     )

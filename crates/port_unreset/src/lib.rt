@@ -67,7 +67,7 @@ pub fn port_plain(
     ensures { result ≡ is_plain incl (clocked_by c p (read_trits m trits.now i)) }
 {
     let relations = p.relations;
-    let rels = lists::part_u8(&relations, 0, p.relations_len as usize);
+    let rels = lists::part(&relations, 0, p.relations_len as usize);
     let own = net_memory::read_trits(m, trits, i);
     is_plain(c, net_memory::init_of(p, own), rels, incl)
 }
@@ -158,7 +158,7 @@ pub fn blank(trits: &mut [u8], m: Memory, i: usize)
     let clear = lists::usize_of_u32(p.clear_len);
     let reset = lists::usize_of_u32(p.reset_len);
     let init = lists::usize_of_u32(p.init_len);
-    lists::fill_u8(trits, start, clear, rules::TRIT_X);
-    lists::fill_u8(trits, start + clear, reset, rules::TRIT_X);
-    lists::fill_u8(trits, start + clear + reset, init, rules::TRIT_X);
+    lists::fill(trits, start, clear, rules::TRIT_X);
+    lists::fill(trits, start + clear, reset, rules::TRIT_X);
+    lists::fill(trits, start + clear + reset, init, rules::TRIT_X);
 }

@@ -78,8 +78,8 @@ pub fn put_arrays(out: &mut [u8], at: usize, ts: &[u8])
     let mut j: usize = 0;
     while j < n {
         let g = pack(ts, 8 * j);
-        lists::put_u8(out, at + j, g.known);
-        lists::put_u8(out, at + n + j, g.value);
+        lists::put(out, at + j, g.known);
+        lists::put(out, at + n + j, g.value);
         j += 1;
     }
 }
@@ -121,7 +121,7 @@ pub fn spread(image: &mut [u8], at: usize, count: usize, known: u8, value: u8)
     let mut v = value;
     let mut i: usize = 0;
     while i < n {
-        lists::put_u8(image, at + i, trit_by(k % 2, v % 2));
+        lists::put(image, at + i, trit_by(k % 2, v % 2));
         k = k / 2;
         v = v / 2;
         i += 1;

@@ -186,15 +186,15 @@ fn middle_of(bytes: &[u8]) -> usize
 pub fn known_array(bytes: &[u8]) -> &[u8]
     ensures { (result.now ≡ part head_bytes (array_bytes (size_trits (head_sizes bytes.now))) bytes.now) × (length result.now < many_trits) }
 {
-    let end = lists::smaller(middle_of(bytes), bytes.len());
-    let start = lists::smaller(rules::HEAD_BYTES, end);
+    let end = middle_of(bytes).min(bytes.len());
+    let start = rules::HEAD_BYTES.min(end);
     &bytes[start..end]
 }
 
 pub fn value_array(bytes: &[u8]) -> &[u8]
     ensures { result.now ≡ drop (head_bytes + array_bytes (size_trits (head_sizes bytes.now))) bytes.now }
 {
-    let start = lists::smaller(middle_of(bytes), bytes.len());
+    let start = middle_of(bytes).min(bytes.len());
     &bytes[start..]
 }
 

@@ -30,7 +30,7 @@ fn put_text(out: &mut [u8], at: usize, text: &[u8]) -> usize
     requires { at + length text.now ≤ max_place }
     ensures { Put out.old at text.now out.new result }
 {
-    lists::copy_u8(out, at, text);
+    lists::copy(out, at, text);
     at + text.len()
 }
 

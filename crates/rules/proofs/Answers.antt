@@ -8,9 +8,12 @@ use mathlib.Core.List.{List}
 use lib.Seq.{sets}
 use lib.Dec.{eqb}
 use borrow.Author.Tests.{ne_eqb, eqb-true, eqb-false}
-use Rattle.lists.specs.Choice.{leaves}
-use Rattle.lists.proofs.Choice.{leaves_refused, leaves_accepted}
+use Rattle.lists.specs.Choice.{leaves, ◌or_else◌}
+use Rattle.lists.proofs.Choice.{leaves_refused, leaves_accepted, else_first, else_rest}
 use Rattle.rules.specs.Answers.{Answer, Refused, Accepted, answer_of, Filled, filled}
+use Rattle.rules.specs.Refusal.{number}
+use Rattle.rules.specs.declared.numbers.Refusal.{Refusal}
+use Rattle.rules.specs.declared.numbers.Refusal.TheVariants.{TooLarge, BadShape, BadDepth, BadValue, BadGranularity, RowTooLong, BadEntries, BadSoftMask, BadWideLogs, ResultTooLarge, WriteClocksDiffer, ReadClocksDiffer, MixedRelations, ShortAddress, OutOfRange, BadHead, BadSizes, BadBits, NoRoom, NetsFull, Unclocked, NotLaidOut}
 
 module _ {A : Type 0} where
   pub answer_refused : (n : ℕ) (a : A) → n ≢ 0 → answer_of n a ≡ Refused n
@@ -78,3 +81,52 @@ filled-kept n k out l e h = λ i. record { number = sym e i; out = sym (leaves_r
 pub filled-done : (n : ℕ) (out l after : List ℕ) → n ≡ 0 → after ≡ sets out 0 l → ◌≡◌ {A = Filled} (record { number = 0; out = after }) (filled n out l)
 unfolding filled
 filled-done n out l after e h = λ i. record { number = sym e i; out = (h ∙ sym (leaves_accepted n out (sets out 0 l) e)) i }
+
+-- ---- a machine's answer: a refusal is never 0, so it is its call's number, and an accepted answer is one where no number refuses
+pub number_nonzero : (e : Refusal) → number e ≢ 0
+number_nonzero TooLarge h = omega arith
+number_nonzero BadShape h = omega arith
+number_nonzero BadDepth h = omega arith
+number_nonzero BadValue h = omega arith
+number_nonzero BadGranularity h = omega arith
+number_nonzero RowTooLong h = omega arith
+number_nonzero BadEntries h = omega arith
+number_nonzero BadSoftMask h = omega arith
+number_nonzero BadWideLogs h = omega arith
+number_nonzero ResultTooLarge h = omega arith
+number_nonzero WriteClocksDiffer h = omega arith
+number_nonzero ReadClocksDiffer h = omega arith
+number_nonzero MixedRelations h = omega arith
+number_nonzero ShortAddress h = omega arith
+number_nonzero OutOfRange h = omega arith
+number_nonzero BadHead h = omega arith
+number_nonzero BadSizes h = omega arith
+number_nonzero BadBits h = omega arith
+number_nonzero NoRoom h = omega arith
+number_nonzero NetsFull h = omega arith
+number_nonzero Unclocked h = omega arith
+number_nonzero NotLaidOut h = omega arith
+
+-- the number of a call is not 0 where a refusal has it
+pub refused_by : (e : Refusal) (n : ℕ) → number e ≡ n → n ≢ 0
+refused_by e n h z = number_nonzero e (h ∙ z)
+
+module _ {A : Type 0} where
+  pub answer_err : (e : Refusal) (n : ℕ) (a : A) → number e ≡ n → Refused (number e) ≡ answer_of n a
+  answer_err e n a h = refused n a (number e) h (number_nonzero e)
+
+  pub answer_ok : (n : ℕ) (a b : A) → 0 ≡ n → b ≡ a → Accepted b ≡ answer_of n a
+  answer_ok n a b h q = accepted n a b (sym h) q
+
+pub filled_err : (e : Refusal) (n : ℕ) (out l : List ℕ) → number e ≡ n → ◌≡◌ {A = Filled} (record { number = number e; out = out }) (filled n out l)
+filled_err e n out l h = filled_refused n (number e) out out l h (refused_by e n h) refl
+
+pub filled_ok : (n : ℕ) (out l after : List ℕ) → 0 ≡ n → after ≡ sets out 0 l → ◌≡◌ {A = Filled} (record { number = 0; out = after }) (filled n out l)
+filled_ok n out l after h q = filled_accepted n 0 out after l h (sym h) q
+
+-- the first of two refusals that there is
+pub else_err : (e : Refusal) (n rest : ℕ) → number e ≡ n → number e ≡ (n or_else rest)
+else_err e n rest h = h ∙ sym (else_first n rest (refused_by e n h))
+
+pub else_ok : (n rest k : ℕ) → 0 ≡ n → k ≡ rest → k ≡ (n or_else rest)
+else_ok n rest k h q = q ∙ sym (else_rest n rest (sym h))

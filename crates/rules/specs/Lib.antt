@@ -18,5 +18,6 @@ pub mod Refusals
 pub mod Patch
 pub mod Lister
 pub mod Answers
+pub mod Refusal
 pub mod Examples
 pub mod Beside

@@ -78,7 +78,7 @@ fn lay(image: &mut [u8], m: Memory, trits: &[u8], p: Params, entries: &[u32]) ->
 {
     let laid = image_state::laid_out(p, entries);
     let n = net_memory::init_size(m);
-    let number = image_state::fill(image, laid, lists::part_u8(trits, 0, n));
+    let number = image_state::fill(image, laid, lists::part(trits, 0, n));
     laid
 }
 

@@ -427,7 +427,7 @@ fn data_blank(
     let mut row = [0u32; rules::MAX_MERGE];
     let mut starts = [0usize; 16];
     arrange_rows(&mut row, olds, width, entries, v);
-    lists::fill_u32(to, 0, to.len(), rules::NET_X);
+    lists::fill(to, 0, to.len(), rules::NET_X);
     data_pieces(
         to,
         g,
@@ -595,7 +595,7 @@ fn trit_blank(
     let mut row = [0u8; rules::MAX_MERGE];
     let mut starts = [0usize; 16];
     trit_rows(&mut row, olds, width, entries, v);
-    lists::fill_u8(to, 0, to.len(), rules::TRIT_X);
+    lists::fill(to, 0, to.len(), rules::TRIT_X);
     trit_pieces(
         to,
         g,

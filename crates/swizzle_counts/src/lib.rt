@@ -44,7 +44,7 @@ fn plus(a: Needs, b: Needs) -> Needs
         nets: a.nets + b.nets,
         room: a.room + b.room,
         trits: a.trits + b.trits,
-        scratch: lists::larger(a.scratch, b.scratch),
+        scratch: a.scratch.max(b.scratch),
     }
 }
 

@@ -115,7 +115,7 @@ fn keep(out: &mut [u32], found: usize, same: bool, g: u32) -> usize
     if same {
         return found;
     }
-    lists::put_u32(out, found, g);
+    lists::put(out, found, g);
     found + 1
 }
 
@@ -125,7 +125,7 @@ fn changing_of(out: &mut [u32], m: Memory, nets: &[u32], gs: &[u32], bit: usize)
     ensures by_index { (trits : List ℕ) → result ≡ length (changing (memory_of m nets.now trits) bit (writes_of m nets.now) gs.now) }
     ensures by_index_2 { (trits : List ℕ) → out.new ≡ sets out.old 0 (changing (memory_of m nets.now trits) bit (writes_of m nets.now) gs.now) }
 {
-    let end = lists::smaller(net_memory::ports_used(m.write_count), gs.len());
+    let end = net_memory::ports_used(m.write_count).min(gs.len());
     let width = lists::usize_of_u32(m.width);
     let mut found: usize = 0;
     let mut at: usize = 0;
@@ -133,7 +133,7 @@ fn changing_of(out: &mut [u32], m: Memory, nets: &[u32], gs: &[u32], bit: usize)
     while i < end {
         let p = m.write_ports[i];
         let size = net_memory::write_size(p);
-        let part = lists::part_u32(nets, at, size);
+        let part = lists::part(nets, at, size);
         let same = port_same(p, part, width, bit);
         found = keep(out, found, same, gs[i]);
         at += size;
@@ -150,7 +150,7 @@ fn bit_padding(m: Memory, nets: &[u32], gs: &[u32], bit: usize, n: usize) -> usi
 {
     let mut kept = [0u32; rules::MAX_PORTS];
     let count = changing_of(&mut kept, m, nets, gs, bit);
-    padding_of(lists::part_u32(&kept, 0, count), n)
+    padding_of(lists::part(&kept, 0, count), n)
 }
 
 // Stores `count` times None and then a bit, and says how many entries there are then.
@@ -159,8 +159,8 @@ fn put_bit(out: &mut [u32], n: usize, count: usize, bit: u32) -> usize
     ensures value { result ≡ n + count + 1 }
     ensures out_after { out.new ≡ sets out.old n (replicate count None ++ (bit ∷ [])) }
 {
-    lists::fill_u32(out, n, count, rules::NO_BIT);
-    lists::put_u32(out, n + count, bit);
+    lists::fill(out, n, count, rules::NO_BIT);
+    lists::put(out, n + count, bit);
     n + count + 1
 }
 
@@ -178,7 +178,7 @@ fn put_entries(out: &mut [u32], m: Memory, nets: &[u32], gs: &[u32]) -> usize
         bit += 1;
     }
     let last = padding_of(gs, n);
-    lists::fill_u32(out, n, last, rules::NO_BIT);
+    lists::fill(out, n, last, rules::NO_BIT);
     n + last
 }
 

@@ -337,7 +337,7 @@ fn image_start(g: WideMemory, n: usize) -> usize
     ensures { result ≡ start_by g n }
 {
     let full = lists::usize_of_u32(g.full);
-    let low = lists::smaller(n, full);
+    let low = n.min(full);
     let high = n - low;
     let rows = low * lists::usize_of_u32(g.full_depth) + high * lists::usize_of_u32(g.part_depth);
     rows * lists::usize_of_u32(g.unit)
@@ -364,56 +364,56 @@ pub fn write_addr(g: WideMemory, nets: &[u32], n: usize, j: usize) -> &[u32]
     ensures { (trits image : List ℕ) → result.now ≡ (write_at (memory_at g nets.now trits image n).memory j).addr }
 {
     let p = write_addr_part(g, n, j);
-    lists::part_u32(nets, p.start, p.size)
+    lists::part(nets, p.start, p.size)
 }
 
 pub fn write_data(g: WideMemory, nets: &[u32], n: usize, j: usize) -> &[u32]
     ensures { (trits image : List ℕ) → result.now ≡ (write_at (memory_at g nets.now trits image n).memory j).bits }
 {
     let p = write_data_part(g, n, j);
-    lists::part_u32(nets, p.start, p.size)
+    lists::part(nets, p.start, p.size)
 }
 
 pub fn write_mask(g: WideMemory, nets: &[u32], n: usize, j: usize) -> &[u32]
     ensures { (trits image : List ℕ) → result.now ≡ (write_at (memory_at g nets.now trits image n).memory j).mask }
 {
     let p = write_mask_part(g, n, j);
-    lists::part_u32(nets, p.start, p.size)
+    lists::part(nets, p.start, p.size)
 }
 
 pub fn read_addr(g: WideMemory, nets: &[u32], n: usize, i: usize) -> &[u32]
     ensures { (trits image : List ℕ) → result.now ≡ (read_at_of (memory_at g nets.now trits image n).memory i).addr }
 {
     let p = read_addr_part(g, n, i);
-    lists::part_u32(nets, p.start, p.size)
+    lists::part(nets, p.start, p.size)
 }
 
 pub fn clear_of(g: WideMemory, trits: &[u8], n: usize, i: usize) -> &[u8]
     ensures { (nets image : List ℕ) → result.now ≡ clear_at (memory_at g nets trits.now image n).memory i }
 {
     let p = clear_part(g, n, i);
-    lists::part_u8(trits, p.start, p.size)
+    lists::part(trits, p.start, p.size)
 }
 
 pub fn reset_of(g: WideMemory, trits: &[u8], n: usize, i: usize) -> &[u8]
     ensures { (nets image : List ℕ) → result.now ≡ reset_at (memory_at g nets trits.now image n).memory i }
 {
     let p = reset_part(g, n, i);
-    lists::part_u8(trits, p.start, p.size)
+    lists::part(trits, p.start, p.size)
 }
 
 pub fn init_of(g: WideMemory, trits: &[u8], n: usize, i: usize) -> &[u8]
     ensures { (nets image : List ℕ) → result.now ≡ init_at (memory_at g nets trits.now image n).memory i }
 {
     let p = init_part(g, n, i);
-    lists::part_u8(trits, p.start, p.size)
+    lists::part(trits, p.start, p.size)
 }
 
 pub fn image_of(g: WideMemory, image: &[u8], n: usize) -> &[u8]
     ensures { (nets trits : List ℕ) → result.now ≡ (memory_at g nets trits image.now n).memory.init }
 {
     let p = image_part(g, n);
-    lists::part_u8(image, p.start, p.size)
+    lists::part(image, p.start, p.size)
 }
 
 // ---- the outputs

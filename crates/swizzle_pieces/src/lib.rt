@@ -114,7 +114,7 @@ fn load_piece(scratch: &mut [u32], at: usize, entries: &[u32], n: Pieces, x: u32
     ensures { scratch.new ≡ load_one n entries.now x at scratch.old }
 {
     let size = piece_size(n);
-    lists::fill_u32(scratch, at, size, rules::NET_X);
+    lists::fill(scratch, at, size, rules::NET_X);
     load_rows(scratch, at, entries, n, x);
 }
 

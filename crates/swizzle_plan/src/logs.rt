@@ -32,14 +32,14 @@ fn wide_bad(s: MemorySwizzle, old: u32, new: u32) -> bool
     if s.hard_addr_bits < new {
         return true;
     }
-    new < lists::minus(old, low_softs(old, s.soft_addr_bits_mask))
+    new < old.saturating_sub(low_softs(old, s.soft_addr_bits_mask))
 }
 
 // One of these is.
 fn wides_bad(s: MemorySwizzle, olds: &[u32], news: &[u32]) -> bool
     ensures { (es ws rs : List ℕ) → result ≡ any (λ x. bad_wide (plan_of s es ws rs) x.0 x.1) (pairs olds.now news.now) }
 {
-    let end = lists::smaller(olds.len(), news.len());
+    let end = olds.len().min(news.len());
     let mut i = 0;
     while i < end {
         if wide_bad(s, olds[i], news[i]) {
@@ -61,7 +61,7 @@ pub fn write_logs(m: Memory, nets: &[u32]) -> [u32; 8]
     while i < count {
         let p = m.write_ports[i];
         let size = net_memory::write_size(p);
-        let part = lists::part_u32(nets, at, size);
+        let part = lists::part(nets, at, size);
         logs[i] = net_memory::wide::wide_log(m.width, net_memory::data_count(p, part));
         at += size;
         i += 1;
@@ -78,14 +78,14 @@ fn writes_bad(m: Memory, nets: &[u32], s: MemorySwizzle, news: &[u32]) -> bool
         return true;
     }
     let logs = write_logs(m, nets);
-    wides_bad(s, lists::part_u32(&logs, 0, count), news)
+    wides_bad(s, lists::part(&logs, 0, count), news)
 }
 
 // One of the listed read ports has a bad new wide log.
 fn listed_bad(m: Memory, ports: &[u32], s: MemorySwizzle, news: &[u32]) -> bool
     ensures { (nets trits es ws rs : List ℕ) → result ≡ any (λ x. bad_wide (plan_of s es ws rs) x.0 x.1) (pairs (read_logs (memory_of m nets trits) ports.now) news.now) }
 {
-    let end = lists::smaller(ports.len(), news.len());
+    let end = ports.len().min(news.len());
     let mut i = 0;
     while i < end {
         let bits = net_memory::read_data_len(m, lists::usize_of_u32(ports[i]));
@@ -136,5 +136,5 @@ pub fn all_logs_bad(
 {
     let ports = [0u32, 1, 2, 3, 4, 5, 6, 7];
     let count = net_memory::ports_used(m.read_count);
-    logs_bad(m, nets, lists::part_u32(&ports, 0, count), s, writes, reads)
+    logs_bad(m, nets, lists::part(&ports, 0, count), s, writes, reads)
 }

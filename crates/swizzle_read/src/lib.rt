@@ -76,7 +76,7 @@ fn mux_addr(
     ensures { Addressed (addr_by clocked (control_of clock) (control_of enable) mux.now) room.old room.new (lent st log.old) (lent result log.new) }
 {
     if !clocked {
-        lists::copy_u32(room, 0, mux);
+        lists::copy(room, 0, mux);
         return st;
     }
     let xs = [rules::TRIT_X; MUX_ROOM];

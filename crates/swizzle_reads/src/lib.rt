@@ -309,7 +309,7 @@ fn read_split(
     let trits_at = g.trits_at;
     let f = r.flip_flop;
     let state = emit_port(log, st, scratch, p, z, s, c, mux, entries, output);
-    lists::copy_u32(nets_to, nets_at, hw);
+    lists::copy(nets_to, nets_at, hw);
     put_clock(trits_to, trits_at, f, p, z, s, r, trits, entries);
     let size = lists::usize_of_u32(size_of(z, s));
     let memory = put_port(g.memory, i, port_of(s, r, st.next));
@@ -423,7 +423,7 @@ fn port_at(
     let r = m.read_ports[i];
     let own = net_memory::read_nets(m, nets, i);
     let kinds = net_memory::read_trits(m, trits, i);
-    let out = lists::part_u32(output, at, lists::usize_of_u32(r.data_len));
+    let out = lists::part(output, at, lists::usize_of_u32(r.data_len));
     let new = wide_at(wide, i);
     read_port(
         log, nets_to, trits_to, scratch, g, i, p, z, new, r, own, kinds, entries, out,

@@ -76,10 +76,10 @@ fn bits_of(base: u32, olds: &[u32], news: &[u32]) -> [u32; rules::MAX_PORTS]
     ensures { result ≡ in_eight (map (λ x. base + x.1 - x.0) (pairs olds.now news.now)) }
 {
     let mut bits = [0u32; rules::MAX_PORTS];
-    let end = lists::smaller(olds.len(), news.len());
+    let end = olds.len().min(news.len());
     let mut i = 0;
     while i < end {
-        bits[i] = lists::minus(base + news[i], olds[i]);
+        bits[i] = (base + news[i]).saturating_sub(olds[i]);
         i += 1;
     }
     bits
@@ -91,7 +91,7 @@ fn write_bits(m: Memory, nets: &[u32], base: u32, news: &[u32]) -> [u32; rules::
     ensures { (trits : List ℕ) → result ≡ in_eight (map (λ x. base + x.1 - x.0) (pairs (write_logs (memory_of m nets.now trits)) news.now)) }
 {
     let logs = swizzle_plan::logs::write_logs(m, nets);
-    let olds = lists::part_u32(&logs, 0, net_memory::ports_used(m.write_count));
+    let olds = lists::part(&logs, 0, net_memory::ports_used(m.write_count));
     bits_of(base, olds, news)
 }
 
@@ -101,7 +101,7 @@ fn read_bits(m: Memory, ports: &[u32], base: u32, news: &[u32]) -> [u32; rules::
     ensures { (nets trits : List ℕ) → result ≡ in_eight (map (λ x. base + x.1 - x.0) (pairs (read_logs (memory_of m nets trits) ports.now) news.now)) }
 {
     let logs = read_logs(m, ports);
-    let olds = lists::part_u32(&logs, 0, ports.len());
+    let olds = lists::part(&logs, 0, ports.len());
     bits_of(base, olds, news)
 }
 

@@ -235,7 +235,7 @@ fn pad(to: &mut [u32], len: u32, want: u32) -> u32
     if want <= len {
         return len;
     }
-    lists::fill_u32(
+    lists::fill(
         to,
         lists::usize_of_u32(len),
         lists::usize_of_u32(want - len),

@@ -52,7 +52,7 @@ fn emit_piece(
 {
     let after = log_entries::emit_eq(log, st, mux, number);
     if mux.len() == 0 {
-        lists::copy_u32(piece, 0, mask);
+        lists::copy(piece, 0, mask);
         return after;
     }
     merge_mux::emit::emit_kept_mux(
@@ -241,7 +241,7 @@ fn masks_in(
     let n = lists::usize_of_u32(p.olds) * len;
     let mut row = [0u32; rules::MAX_MERGE];
     swizzle_columns::mask_row(&mut row, p, entries, mask);
-    lists::fill_u32(to, 0, to.len(), 0);
+    lists::fill(to, 0, to.len(), 0);
     write_row(
         log,
         st,

@@ -114,7 +114,7 @@ fn place_in(
     if to.len() < next {
         return none;
     }
-    lists::copy_u32(to, at, hw);
+    lists::copy(to, at, hw);
     let state = place_nets(log, st, to, from, size, p, mux, entries, bits, mask);
     Placing {
         state,
@@ -173,8 +173,8 @@ fn place_port(
         to,
         at,
         wide_port(q, mems, s),
-        lists::part_u32(&hw, 0, n),
-        lists::part_u32(&mux, 0, k),
+        lists::part(&hw, 0, n),
+        lists::part(&mux, 0, k),
         entries,
         bits,
         mask,
@@ -221,7 +221,7 @@ pub fn swizzle_writes<'a>(
 ) -> Written
     ensures { (trits : List ℕ) → Gave (placed_from (memory_of m nets.now trits) (layout_by q entries.now) mems m.write_ports 0 (take (min max_ports m.write_count) wide.now) (none_filled to.old)) (lent st log.old) (lent result.state log.new) (record { room = to.new; at = result.used; ports = result.ports }) }
 {
-    let count = lists::smaller(net_memory::ports_used(m.write_count), wide.len());
+    let count = net_memory::ports_used(m.write_count).min(wide.len());
     let none = WideWritePort {
         addr_len: 0,
         wide: 0,

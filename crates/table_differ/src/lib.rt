@@ -16,7 +16,7 @@ fn put_text(out: &mut [u8], at: usize, text: &[u8]) -> usize
     requires { at + length text.now ≤ max_place }
     ensures { Put out.old at text.now out.new result }
 {
-    lists::copy_u8(out, at, text);
+    lists::copy(out, at, text);
     at + text.len()
 }
 
@@ -57,7 +57,7 @@ fn put_trits(out: &mut [u8], at: usize, width: u32, row: &[u8]) -> usize
     put_text(
         out,
         at,
-        lists::part_u8(&line, 0, lists::usize_of_u32(width)),
+        lists::part(&line, 0, lists::usize_of_u32(width)),
     )
 }
 
@@ -128,8 +128,8 @@ fn put_all(out: &mut [u8], depth: u32, width: u32, a: &[u8], b: &[u8]) -> Spot
             s,
             row,
             width,
-            lists::part_u8(a, from, w),
-            lists::part_u8(b, from, w),
+            lists::part(a, from, w),
+            lists::part(b, from, w),
         );
         from += w;
         row += 1;

@@ -40,7 +40,7 @@ fn put_bits(out: &mut [u8], at: usize, rows: &[u8], from: usize, width: u32) -> 
     let mut left = width;
     while 0 < left {
         left -= 1;
-        lists::put_u8(
+        lists::put(
             out,
             next,
             char_byte(trit_at(rows, from + lists::usize_of_u32(left))),
@@ -56,7 +56,7 @@ fn put_row(out: &mut [u8], at: usize, rows: &[u8], from: usize, width: u32) -> u
     ensures { (out.new ≡ sets out.old at (bits_text rows.now from width (10 ∷ []))) × (result ≡ at + (width + 1)) }
 {
     let end = put_bits(out, at, rows, from, width);
-    lists::put_u8(out, end, 10);
+    lists::put(out, end, 10);
     end + 1
 }
 

@@ -85,9 +85,9 @@ fn params_of(words: &[u32], count: u32) -> Params
     Params {
         depth: word_at(words, 0),
         width: word_at(words, 1),
-        soft_mask: word_at(words, lists::minus(count, 3)),
-        hard: word_at(words, lists::minus(count, 2)),
-        unit: word_at(words, lists::minus(count, 1)),
+        soft_mask: word_at(words, count.saturating_sub(3)),
+        hard: word_at(words, count.saturating_sub(2)),
+        unit: word_at(words, count.saturating_sub(1)),
     }
 }
 
@@ -111,11 +111,11 @@ fn entries_of(words: &[u32], count: u32, width: u32) -> Entries
             list: room,
         };
     }
-    let n = lists::minus(count, 5);
-    lists::copy_u32(
+    let n = count.saturating_sub(5);
+    lists::copy(
         &mut room,
         0,
-        lists::part_u32(words, 2, lists::usize_of_u32(n)),
+        lists::part(words, 2, lists::usize_of_u32(n)),
     );
     Entries { len: n, list: room }
 }

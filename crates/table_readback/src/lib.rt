@@ -103,7 +103,7 @@ fn shown(out: &mut [u8], line: &[u8], depth: u32, width: u32, rows: &[u8]) -> An
     if out.len() - n < size {
         return Answer::Refused(20);
     }
-    lists::copy_u8(out, 0, line);
+    lists::copy(out, 0, line);
     put_behind(out, n, depth, width, rows);
     Answer::Accepted(n + size)
 }
@@ -138,7 +138,7 @@ fn against(out: &mut [u8], depth: u32, width: u32, rows: &[u8], t: Table) -> Ans
     ensures { end_as result out.new ≡ text_end out.old (diff_text depth width rows.now (take (depth * width) t.rows)) }
 {
     let theirs = t.rows;
-    let ts = lists::part_u8(&theirs, 0, trits_of(depth, width));
+    let ts = lists::part(&theirs, 0, trits_of(depth, width));
     differences(out, depth, width, rows, ts)
 }
 
@@ -198,7 +198,7 @@ fn record_end(
 {
     let n = record_bytes(z);
     let mut rows = [0u8; table_read::MAX_TRITS];
-    let number = record_rows(&mut rows, p, entries, z, lists::part_u8(after, 0, n));
+    let number = record_rows(&mut rows, p, entries, z, lists::part(after, 0, n));
     if number != 0 {
         return Answer::Refused(number);
     }
@@ -207,8 +207,8 @@ fn record_end(
         line,
         p.depth,
         p.width,
-        lists::part_u8(&rows, 0, trits_of(p.depth, p.width)),
-        lists::part_u8(after, n, after.len()),
+        lists::part(&rows, 0, trits_of(p.depth, p.width)),
+        lists::part(after, n, after.len()),
     )
 }
 
@@ -239,7 +239,7 @@ fn head_end(out: &mut [u8], line: &[u8], after: &[u8], t: Table) -> Answer
     }
     let p = t.params;
     let entries = t.entries;
-    let es = lists::part_u32(&entries, 0, lists::usize_of_u32(t.len));
+    let es = lists::part(&entries, 0, lists::usize_of_u32(t.len));
     let laid = image_state::laid_out(p, es);
     sized_end(out, line, p, es, after, image_state::sizes_of(laid))
 }
@@ -263,7 +263,7 @@ pub fn read_back(out: &mut [u8], text: &[u8]) -> Answer
     ensures { end_as result out.new ≡ back_call out.old text.now }
 {
     let n = line_end(text);
-    let line = lists::part_u8(text, 0, n);
-    let after = lists::part_u8(text, n, text.len());
+    let line = lists::part(text, 0, n);
+    let after = lists::part(text, n, text.len());
     head_end(out, line, after, table_read::read_table(line))
 }

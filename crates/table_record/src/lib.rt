@@ -69,8 +69,8 @@ fn split_table(out: &mut [u8], t: Table) -> Answer
     let p = t.params;
     let entries = t.entries;
     let rows = t.rows;
-    let es = lists::part_u32(&entries, 0, lists::usize_of_u32(t.len));
-    let ts = lists::part_u8(&rows, 0, trits_of(p));
+    let es = lists::part(&entries, 0, lists::usize_of_u32(t.len));
+    let ts = lists::part(&rows, 0, trits_of(p));
     let w = record_of(out, p, es, ts);
     answer_of(w)
 }

@@ -20,10 +20,10 @@ fn put_row(room: &mut [u8], at: usize, p: Params, entries: &[u32], image: &[u8],
 {
     let mut bits = [0u8; rules::MAX_WIDTH as usize];
     image_rows::read_row(&mut bits, p, entries, image, row);
-    lists::copy_u8(
+    lists::copy(
         room,
         at,
-        lists::part_u8(&bits, 0, lists::usize_of_u32(p.width)),
+        lists::part(&bits, 0, lists::usize_of_u32(p.width)),
     );
 }
 

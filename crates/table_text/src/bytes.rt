@@ -110,10 +110,10 @@ pub fn hex_of(b: u32) -> u32
 {
     let small = pick(
         both(97 <= b, b <= 102),
-        lists::minus(b, 87),
-        pick(both(65 <= b, b <= 70), lists::minus(b, 55), 16),
+        b.saturating_sub(87),
+        pick(both(65 <= b, b <= 70), b.saturating_sub(55), 16),
     );
-    pick(is_digit(b), lists::minus(b, 48), small)
+    pick(is_digit(b), b.saturating_sub(48), small)
 }
 
 pub fn letter_of(k: u64) -> u32

@@ -82,7 +82,7 @@ fn line_break(h: Head) -> Head
 fn digit(h: Head, b: u32) -> Head
     ensures { result ≡ head_digit h b }
 {
-    let value = crate::bytes::more_ten(h.value, lists::minus(b, 48));
+    let value = crate::bytes::more_ten(h.value, b.saturating_sub(48));
     pick_head(h.kind <= 1, made(1, h.field, h.count, value), bad(h))
 }
 
@@ -152,7 +152,7 @@ fn store(words: &mut [u32], h: Head, b: u32)
     ensures { words.new ≡ head_stored h b words.old }
 {
     if both(h.kind == 1, is_stop(b)) {
-        lists::put_u32(
+        lists::put(
             words,
             lists::usize_of_u32(h.count),
             crate::bytes::low_word(h.value),

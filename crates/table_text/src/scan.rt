@@ -93,7 +93,7 @@ fn trit(depth: u32, width: u32, s: Scan) -> Scan
     ensures { result ≡ scan_trit depth width s }
 {
     let left = left_of(width, s);
-    let next = made(1, s.line, s.row, lists::minus(left, 1), 0);
+    let next = made(1, s.line, s.row, left.saturating_sub(1), 0);
     pick_scan(
         s.row < depth,
         pick_scan(left == 0, turned(s, 13), next),
@@ -159,7 +159,7 @@ fn place(width: u32, s: Scan) -> usize
     requires { width ≤ max_width }
     ensures { result ≡ place_of width s }
 {
-    let left = lists::minus(left_of(width, s), 1);
+    let left = left_of(width, s).saturating_sub(1);
     lists::usize_of_u32(s.row) * lists::usize_of_u32(width) + lists::usize_of_u32(left)
 }
 
@@ -175,7 +175,7 @@ fn store(rows: &mut [u8], depth: u32, width: u32, s: Scan, b: u32)
     ensures { rows.new ≡ scan_stored depth width s b rows.old }
 {
     if is_stored(depth, width, s, b) {
-        lists::put_u8(rows, place(width, s), trit_byte(b));
+        lists::put(rows, place(width, s), trit_byte(b));
     }
 }
 

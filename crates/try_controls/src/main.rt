@@ -2,7 +2,6 @@
 // Every lent word holds a pattern before a call, and every word of log, state and result is compared after it with what a plain computation expects.
 #![tactic(auto)]
 
-use lists::copy_u32;
 use log_entries::LogState;
 use log_requests::{ControlsAnswer, NetAnswer};
 use net_flip_flop::Controls;
@@ -102,7 +101,7 @@ fn pos_net(w: Wire, next: u32) -> u32 {
 fn put_not(want: &mut [u32], at: usize, w: Wire, next: u32) {
     if w.neg {
         let entry = [2u32, 1, next, 1, w.net];
-        copy_u32(want, at, &entry);
+        lists::copy(want, at, &entry);
     }
 }
 
@@ -268,7 +267,7 @@ fn put_gated(want: &mut [u32], reset: Wire, enable: Wire, next: u32) {
     let entry = [3u32, 1, third, 2, x, y];
     put_not(want, 3, reset, next);
     put_not(want, at, enable, second);
-    copy_u32(want, after_not(at, enable), &entry);
+    lists::copy(want, after_not(at, enable), &entry);
 }
 
 // The reset that the call gives.

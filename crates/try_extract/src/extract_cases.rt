@@ -173,7 +173,7 @@ fn listed(t: Tally, c: Case, count: usize, port: u32, size: usize, number: u32) 
     refused(
         t,
         c,
-        lists::part_u32(&list, 0, count),
+        lists::part(&list, 0, count),
         lend(size, size, size),
         number,
     )

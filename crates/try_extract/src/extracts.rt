@@ -31,18 +31,18 @@ fn call(
     let trits = case::trits_of(c);
     let outs = case::outs_of(c);
     let m = c.m;
-    let a = lists::smaller(lent.nets, room_nets.len());
-    let b = lists::smaller(lent.trits, room_trits.len());
-    let e = lists::smaller(lent.outs, room_outs.len());
+    let a = lent.nets.min(room_nets.len());
+    let b = lent.trits.min(room_trits.len());
+    let e = lent.outs.min(room_outs.len());
     port_extract::extract_read_ports(
         &mut room_nets[0..a],
         &mut room_trits[0..b],
         &mut room_outs[0..e],
         m,
-        lists::part_u32(&nets, 0, c.nets),
-        lists::part_u8(&trits, 0, c.trits),
+        lists::part(&nets, 0, c.nets),
+        lists::part(&trits, 0, c.trits),
         list,
-        lists::part_u32(&outs, 0, c.outs),
+        lists::part(&outs, 0, c.outs),
     )
 }
 

@@ -14,7 +14,7 @@ fn last_net(next: u32) -> u32
     if MAX_NETS < next {
         return MAX_NETS - 1;
     }
-    lists::minus(next, 1)
+    next.saturating_sub(1)
 }
 
 // The i-th cell net, or the last.
@@ -63,7 +63,7 @@ pub fn spoil(s: &mut [u32], n: usize, next: u32)
     ensures { s.new ≡ spoiled s.old n next }
 {
     if 0 < n {
-        lists::put_u32(s, n - 1, bad_net(next));
+        lists::put(s, n - 1, bad_net(next));
     }
 }
 

@@ -70,6 +70,6 @@ pub fn set_trits(trits: &mut [u8], bad: bool, place: usize)
 {
     fill_trits(trits);
     if bad {
-        lists::put_u8(trits, place, BAD_CODE);
+        lists::put(trits, place, BAD_CODE);
     }
 }

@@ -14,14 +14,14 @@ pub fn both(a: bool, b: bool) -> bool
 pub fn word(n: usize) -> u32
     ensures { result ≡ min n most }
 {
-    lists::smaller(n, MOST as usize) as u32
+    n.min(MOST as usize) as u32
 }
 
 // A sum of two lengths, each a million at the most.
 pub fn plus(a: usize, b: usize) -> usize
     ensures { result ≡ min a most + min b most }
 {
-    lists::smaller(a, MOST as usize) + lists::smaller(b, MOST as usize)
+    a.min(MOST as usize) + b.min(MOST as usize)
 }
 
 // A difference, 0 where there is none.

@@ -87,7 +87,7 @@ fn told_sum(rt: &impl Print, out: &[u8], n: usize, want: u64) -> io::Result<()> 
     rt.print(n)?;
     say_if(
         rt,
-        try_kit::sums::sum_of(lists::part_u8(out, 0, n)) == want,
+        try_kit::sums::sum_of(lists::part(out, 0, n)) == want,
         " same",
         " DIFFERENT",
     )?;

@@ -1,6 +1,6 @@
 // The ten requests that log one entry: 720 cases each, of five lengths, four rooms and six next free nets; with good values, with a bad net in the first
 // or in the second value, with a bad select or control, with a bad trit code, and with one value a bit longer than the other.
-use lists::{copy_u8_to_u32, copy_u32, put_u32};
+use lists::copy_u8_to_u32;
 use log_entries::LogState;
 use log_requests::Answer;
 use rules::{FIRST_CELL, MAX_MERGE};
@@ -172,30 +172,30 @@ fn put_head(want: &mut [u32], c: Case) {
     let first = if c.kind == 10 { 0 } else { c.next };
     let count = minus(entry_words(c.kind, c.n, c.m), 4);
     let head = [c.kind, word(results(c.kind, c.n)), first, word(count)];
-    copy_u32(want, c.used, &head);
+    lists::copy(want, c.used, &head);
 }
 
 // Two values, from a place on.
 fn put_two(want: &mut [u32], at: usize, a: &[u32], b: &[u32]) {
-    copy_u32(want, at, a);
-    copy_u32(want, plus(at, a.len()), b);
+    lists::copy(want, at, a);
+    lists::copy(want, plus(at, a.len()), b);
 }
 
 fn put_mux(want: &mut [u32], c: Case, a: &[u32], b: &[u32]) {
     let at = plus(c.used, 4);
     if c.neg {
-        put_u32(want, at, FIRST_CELL);
+        lists::put(want, at, FIRST_CELL);
         put_two(want, plus(at, 1), b, a);
     } else {
-        put_u32(want, at, 1);
+        lists::put(want, at, 1);
         put_two(want, plus(at, 1), a, b);
     }
 }
 
 fn put_shift(want: &mut [u32], c: Case, a: &[u32], b: &[u32]) {
     let at = plus(c.used, 4);
-    put_u32(want, at, STRIDE);
-    put_u32(want, plus(at, 1), word(b.len()));
+    lists::put(want, at, STRIDE);
+    lists::put(want, plus(at, 1), word(b.len()));
     put_two(want, plus(at, 2), b, a);
 }
 
@@ -209,7 +209,7 @@ fn bad_control(c: Case) -> u32 {
 
 fn put_controls(want: &mut [u32], at: usize, over: bool) {
     let nine = [0u32, 2, 0, 0, 1, 2, 0, 1, flag(over)];
-    copy_u32(want, at, &nine);
+    lists::copy(want, at, &nine);
 }
 
 fn flag(test: bool) -> u32 {
@@ -221,7 +221,7 @@ fn flag(test: bool) -> u32 {
 
 fn put_dff(want: &mut [u32], c: Case, a: &[u32], trits: &[u8]) {
     let at = plus(c.used, 4);
-    copy_u32(want, at, a);
+    lists::copy(want, at, a);
     put_controls(want, plus(at, c.n), c.neg);
     put_dff_trits(want, plus(plus(at, c.n), 9), c.n, trits);
 }
@@ -246,7 +246,7 @@ fn put_entry(want: &mut [u32], c: Case, a: &[u32], b: &[u32], trits: &[u8]) {
     let kind = c.kind;
     match kind {
         1 => {}
-        2 => copy_u32(want, plus(c.used, 4), a),
+        2 => lists::copy(want, plus(c.used, 4), a),
         5 => put_mux(want, c, a, b),
         7 => put_shift(want, c, a, b),
         8 => put_shift(want, c, a, b),

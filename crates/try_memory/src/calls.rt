@@ -59,8 +59,8 @@ pub(crate) fn look(c: Case, call: u32, port: usize) -> u64 {
     let m = c.m;
     answer(
         m,
-        lists::part_u32(&nets, 0, c.nets),
-        lists::part_u8(&trits, 0, c.trits),
+        lists::part(&nets, 0, c.nets),
+        lists::part(&trits, 0, c.trits),
         call,
         port,
     )
@@ -73,8 +73,8 @@ pub(crate) fn number(c: Case, next: u32, one: bool, two: bool, four: bool) -> u3
     let m = c.m;
     net_check::memory_number(
         m,
-        lists::part_u32(&nets, 0, c.nets),
-        lists::part_u8(&trits, 0, c.trits),
+        lists::part(&nets, 0, c.nets),
+        lists::part(&trits, 0, c.trits),
         next,
         one,
         two,

@@ -3,7 +3,6 @@
 // expects, which finds the distinct pairs by a plain search.
 #![tactic(auto)]
 
-use lists::{copy_u32, put_u32};
 use log_entries::LogState;
 use log_requests::Answer;
 use rules::{FIRST_CELL, MAX_MERGE, MAX_NETS};
@@ -49,8 +48,8 @@ fn keep_pair(kx: &mut [u32], ky: &mut [u32], place: usize, kept: usize, x: u32, 
     if place < kept {
         return kept;
     }
-    put_u32(kx, kept, x);
-    put_u32(ky, kept, y);
+    lists::put(kx, kept, x);
+    lists::put(ky, kept, y);
     plus(kept, 1)
 }
 
@@ -62,7 +61,7 @@ fn keep(a: &[u32], b: &[u32], kx: &mut [u32], ky: &mut [u32], at: &mut [u32]) ->
         let x = word_at(a, i);
         let y = word_at(b, i);
         let place = place_of(kx, ky, kept, x, y);
-        put_u32(at, i, word(place));
+        lists::put(at, i, word(place));
         kept = keep_pair(kx, ky, place, kept, x, y);
         i += 1;
     }
@@ -85,13 +84,13 @@ fn put_mux(
     let y = net_value::value_slice(ky, 0, kept);
     let first = plus(used, 5);
     let second = plus(first, kept);
-    copy_u32(want, used, &head);
+    lists::copy(want, used, &head);
     if neg {
-        copy_u32(want, second, x);
-        copy_u32(want, first, y);
+        lists::copy(want, second, x);
+        lists::copy(want, first, y);
     } else {
-        copy_u32(want, first, x);
-        copy_u32(want, second, y);
+        lists::copy(want, first, x);
+        lists::copy(want, second, y);
     }
 }
 
@@ -99,7 +98,7 @@ fn put_mux(
 fn put_nets(out: &mut [u32], to: usize, next: u32, at: &[u32], n: usize) {
     let mut i: usize = 0;
     while i < n {
-        put_u32(out, plus(to, i), net_above(next, word_at(at, i) as usize));
+        lists::put(out, plus(to, i), net_above(next, word_at(at, i) as usize));
         i += 1;
     }
 }

@@ -46,7 +46,7 @@ fn long_row(
         1,
         depth,
         s,
-        lists::part_u32(&row, 0, count),
+        lists::part(&row, 0, count),
         lent,
         want,
     )
@@ -116,7 +116,7 @@ pub(crate) fn logs(t: Tally) -> Tally {
 // Width 2, depth 2, and so many of three entries; the memories, or number 7.
 fn named(t: Tally, count: usize, a: u32, b: u32, c: u32, mems: usize) -> Tally {
     let list = [a, b, c];
-    let names = lists::part_u32(&list, 0, count);
+    let names = lists::part(&list, 0, count);
     if mems == 0 {
         return bare(t, 2, 2, 4, plan(0, 1, 2), names, 0, refusal(7));
     }

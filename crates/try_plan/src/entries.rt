@@ -24,7 +24,7 @@ fn call(
     out: &mut [u32],
     lent: usize,
 ) -> DataSwizzle {
-    let n = lists::smaller(lent, out.len());
+    let n = lent.min(out.len());
     swizzle_entries::make_data_swizzle(&mut out[0..n], m, nets, trits, sizes)
 }
 

@@ -120,7 +120,7 @@ fn sizes(
         row(1, 2, 1),
         &nets,
         &[trit],
-        lists::part_u32(&list, 0, count),
+        lists::part(&list, 0, count),
         lent,
         number,
         want,
@@ -162,7 +162,7 @@ fn flat(t: Tally, size: u32, count: usize, number: u32) -> Tally {
         m,
         &none,
         &codes,
-        lists::part_u32(&list, 0, count),
+        lists::part(&list, 0, count),
         0,
         number,
         &none,
@@ -211,8 +211,8 @@ fn granules(t: Tally, width: u32, size: u32, lent: usize, number: u32, want: &[u
     made(
         t,
         m,
-        lists::part_u32(&nets, 0, net_memory::nets_total(m)),
-        lists::part_u8(&trits, 0, net_memory::trits_total(m)),
+        lists::part(&nets, 0, net_memory::nets_total(m)),
+        lists::part(&trits, 0, net_memory::trits_total(m)),
         &[size],
         lent,
         number,
@@ -224,7 +224,7 @@ fn granules(t: Tally, width: u32, size: u32, lent: usize, number: u32, want: &[u
 fn exact(t: Tally, width: u32, size: u32, step: usize, count: usize) -> Tally {
     let mut want = [0u32; 256];
     spread(&mut want, step);
-    granules(t, width, size, count, 0, lists::part_u32(&want, 0, count))
+    granules(t, width, size, count, 0, lists::part(&want, 0, count))
 }
 
 fn longer(t: Tally, width: u32, size: u32, lent: usize, number: u32) -> Tally {

@@ -132,11 +132,11 @@ fn no_bits(
     mux_refused(
         t,
         ports(8),
-        lists::part_u32(&list, 0, ports_count),
+        lists::part(&list, 0, ports_count),
         plan(mask, hard, 1),
         &[entry],
-        lists::part_u32(&logs, 0, writes),
-        lists::part_u32(&read_logs, 0, reads),
+        lists::part(&logs, 0, writes),
+        lists::part(&read_logs, 0, reads),
         number,
     )
 }

@@ -65,8 +65,8 @@ fn call(
     swizzle_sizes::swizzle_depths(
         out,
         m,
-        lists::part_u32(&nets, 0, net_memory::nets_total(m)),
-        lists::part_u8(&trits, 0, net_memory::trits_total(m)),
+        lists::part(&nets, 0, net_memory::nets_total(m)),
+        lists::part(&trits, 0, net_memory::trits_total(m)),
         s,
         entries,
         writes,
@@ -84,7 +84,7 @@ fn call_in(
     out: &mut [u32],
     lent: usize,
 ) -> u32 {
-    let n = lists::smaller(lent, out.len());
+    let n = lent.min(out.len());
     call(m, s, entries, writes, reads, &mut out[0..n])
 }
 
@@ -141,8 +141,8 @@ fn mux_call(
     let trits = [1u8; TRITS];
     swizzle_sizes::swizzle_mux_bits(
         m,
-        lists::part_u32(&nets, 0, net_memory::nets_total(m)),
-        lists::part_u8(&trits, 0, net_memory::trits_total(m)),
+        lists::part(&nets, 0, net_memory::nets_total(m)),
+        lists::part(&trits, 0, net_memory::trits_total(m)),
         list,
         s,
         entries,

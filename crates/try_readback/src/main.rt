@@ -32,7 +32,7 @@ fn write_refused(rt: &impl Print, n: u32) -> io::Result<()> {
 }
 
 fn write_front(rt: &impl Print, out: &[u8], size: usize) -> io::Result<()> {
-    rt.write_all(lists::part_u8(out, 0, size))
+    rt.write_all(lists::part(out, 0, size))
 }
 
 fn write_answer(rt: &impl Print, out: &[u8], answer: Answer) -> io::Result<()> {

@@ -482,7 +482,7 @@ fn deep_sizes() -> Sizes {
 
 // All its bytes are those that are wanted.
 fn whole_record(rt: &impl Print, bytes: &[u8]) -> io::Result<()> {
-    let sum = try_kit::sums::sum_of(lists::part_u8(bytes, 0, rules::MAX_RECORD));
+    let sum = try_kit::sums::sum_of(lists::part(bytes, 0, rules::MAX_RECORD));
     say(rt, "its bytes")?;
     say_if(rt, sum == LARGEST_SUM, " same\n", " DIFFERENT\n")
 }
@@ -501,9 +501,9 @@ fn largest(
         rt,
         back,
         "read the largest",
-        lists::part_u8(bytes, 0, rules::MAX_RECORD),
+        lists::part(bytes, 0, rules::MAX_RECORD),
         s,
-        lists::part_u8(image, 0, rules::MAX_IMAGE as usize),
+        lists::part(image, 0, rules::MAX_IMAGE as usize),
     )
 }
 

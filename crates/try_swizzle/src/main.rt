@@ -23,7 +23,7 @@ fn line(rt: &impl Print) -> io::Result<()> {
 
 // The first n words, on a line.
 fn words(rt: &impl Print, l: &[u32], n: usize) -> io::Result<()> {
-    let some = lists::part_u32(l, 0, n);
+    let some = lists::part(l, 0, n);
     let mut i: usize = 0;
     while i < some.len() {
         say(rt, some[i])?;
@@ -34,7 +34,7 @@ fn words(rt: &impl Print, l: &[u32], n: usize) -> io::Result<()> {
 
 // The first n trits.
 fn trits_of(rt: &impl Print, l: &[u8], n: usize) -> io::Result<()> {
-    let some = lists::part_u8(l, 0, n);
+    let some = lists::part(l, 0, n);
     let mut i: usize = 0;
     while i < some.len() {
         say(rt, lists::u32_of_u8(some[i]))?;

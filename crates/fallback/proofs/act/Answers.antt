@@ -16,10 +16,10 @@ pub lower_rows-requires : goal.lower_rows-requires
 lower_rows-requires c =
     let v = c.args in
     let e = c.emit_unmap_all-state in
-    rows_ready v.m v.nets.now v.trits.now v.output.now v.st v.log.now v.tables.now c.requires.0 c.if-m-eq0.false v.after.now e.new.after e.result e.new.log (search rules) c.requires.1 e.ensures (length v.output.now) refl c.part_u32-outs.result.now c.part_u32-outs.ensures.0
+    rows_ready v.m v.nets.now v.trits.now v.output.now v.st v.log.now v.tables.now c.requires.0 c.if-m-eq0.false v.after.now e.new.after e.result e.new.log (search rules) c.requires.1 e.ensures (length v.output.now) refl c.part-outs.result.now c.part-outs.ensures.part
 
 pub returns : goal.returns
 returns c =
     let v = c.args in
     let e = c.emit_unmap_all-state in
-    record { log_after = rows_ran v.m v.nets.now v.trits.now v.output.now v.st v.log.now v.tables.now c.requires.0 c.if-m-eq0.false v.after.now e.new.after e.result e.new.log (search rules) c.requires.1 e.ensures (length v.output.now) refl c.part_u32-outs.result.now c.part_u32-outs.ensures.0 (lent c.lower_rows.result c.lower_rows.new.log) c.lower_rows.ensures.log_after; tables_unchanged = c.lower_rows.ensures.tables_unchanged }
+    record { log_after = rows_ran v.m v.nets.now v.trits.now v.output.now v.st v.log.now v.tables.now c.requires.0 c.if-m-eq0.false v.after.now e.new.after e.result e.new.log (search rules) c.requires.1 e.ensures (length v.output.now) refl c.part-outs.result.now c.part-outs.ensures.part (lent c.lower_rows.result c.lower_rows.new.log) c.lower_rows.ensures.log_after; tables_unchanged = c.lower_rows.ensures.tables_unchanged }

@@ -7,9 +7,9 @@ use Rattle.fallback_masks.proofs.pieces_by.Goals as goal
 pub overflow_mul-result : goal.overflow_mul-result
 overflow_mul-result c =
     let v = c.args in
-    omega (arith, pieces_low v.depth v.rows _ v.wide _ c.smaller-most.ensures, c.requires.0)
+    omega (arith, pieces_low v.depth v.rows _ v.wide _ c.min-most.ensures, c.requires.0)
 
 pub returns : goal.returns
 returns c =
     let v = c.args in
-    (λ k e. pieces_is v.depth v.rows v.addr v.wide k _ _ _ c.smaller-bits.ensures (c.usize_of_u64.ensures ∙ c.two_to.ensures.0) c.smaller-most.ensures e, pieces_low v.depth v.rows _ v.wide _ c.smaller-most.ensures)
+    (λ k e. pieces_is v.depth v.rows v.addr v.wide k _ _ _ c.min-bits.ensures (c.usize_of_u64.ensures ∙ c.two_to.ensures.value) c.min-most.ensures e, pieces_low v.depth v.rows _ v.wide _ c.min-most.ensures)

@@ -14,4 +14,4 @@ overflow_cast-result c = omega (arith, c.two_to-rows.ensures.2)
 pub returns : goal.returns
 returns c =
     let v = c.args in
-    λ trits. plan_is v.m v.nets.now trits _ c.max_wide-k.result c.two_to-rows.result (c.max_wide-k.ensures trits) c.two_to-rows.ensures.0 refl refl refl (writes_length v.m _ c.well_formed.0 v.nets.now) (reads_length v.m _ c.well_formed.0 v.nets.now trits)
+    λ trits. plan_is v.m v.nets.now trits _ c.max_wide-k.result c.two_to-rows.result (c.max_wide-k.ensures trits) c.two_to-rows.ensures.value refl refl refl (writes_length v.m _ c.well_formed.0 v.nets.now) (reads_length v.m _ c.well_formed.0 v.nets.now trits)

@@ -18,4 +18,4 @@ shape_of-row c = c.loop-i.invariant.1
 
 pub returns : goal.returns
 returns c =
-    const_done c.args.row.now c.loop-i.row c.loop-i.i c.args.init.now c.loop-i.invariant.2 (omega (arith, c.smaller-n.ensures))
+    const_done c.args.row.now c.loop-i.row c.loop-i.i c.args.init.now c.loop-i.invariant.2 (omega (arith, c.min-n.ensures))

@@ -28,5 +28,5 @@ returns c =
     λ trits image. register_gave v.g (memory_at v.g v.nets.now trits image v.n).memory v.init.now c.usize_of_u32-w.result n c.requires q (take v.g.unit v.q.now) r
     (lent v.st v.log.now) (lent a.result a.new.log) (lent b.result b.new.log) (lent h.result h.new.log) a.ensures
     (subst (λ (x : Value). Gave (writes_by c.usize_of_u32-w.result (memory_at v.g v.nets.now trits image v.n).memory (write_numbers v.g) x) (lent a.result a.new.log) (lent b.result b.new.log) r)
-    (same_row c.usize_of_u32-w.result v.row.now c.copy_u32.new.to a.new.row c.part_u32.result.now c.part_u32.ensures.0 c.copy_u32.ensures (omega (arith, n, c.requires, c.part_u32-arg-2-1.given)) (omega (arith, n, c.requires, c.copy_u32-arg-1.given)) ∙ ap (λ (k : ℕ). take k a.new.row) n) (b.ensures trits image))
+    (same_row c.usize_of_u32-w.result v.row.now c.copy.new.to a.new.row c.part.result.now c.part.ensures.part c.copy.ensures (omega (arith, n, c.requires, c.part-arg-2-1.given)) (omega (arith, n, c.requires, c.copy-arg-1.given)) ∙ ap (λ (k : ℕ). take k a.new.row) n) (b.ensures trits image))
     (h.ensures ∙ ap (λ (k : ℕ). run (held_if c.usize_of_u32-w.result (clock_of v.g) v.init.now r (take k a.new.row)) (lent b.result b.new.log)) n)

@@ -42,7 +42,7 @@ ceil_div-chunks-requires c =
 
 pub overflow_sub-chunks : goal.overflow_sub-chunks
 overflow_sub-chunks c =
-    let chunks_are : c.ceil_div-chunks.result ≡ ceil_div c.args.p.depth (2 ^ (c.soft_bits-soft.result + c.args.p.hard)) = c.ceil_div-chunks.ensures ∙ (λ k. ceil_div (c.u64_of_u32.ensures k) (two_to_is _ _ c.if-soft-p-gt-ADDR_BITS.false c.two_to.ensures.0 k)) in
+    let chunks_are : c.ceil_div-chunks.result ≡ ceil_div c.args.p.depth (2 ^ (c.soft_bits-soft.result + c.args.p.hard)) = c.ceil_div-chunks.ensures ∙ (λ k. ceil_div (c.u64_of_u32.ensures k) (two_to_is _ _ c.if-soft-p-gt-ADDR_BITS.false c.two_to.ensures.value k)) in
     let deep : 0 < c.args.p.depth = omega (arith, c.if-p-eq0.false) in
     let some : 0 < c.ceil_div-chunks.result = subst (λ (n : ℕ). 0 < n) (sym chunks_are) (ceil_pos _ _ (power_pos _ (c.soft_bits-soft.result + c.args.p.hard) refl) deep) in
     some
@@ -50,11 +50,11 @@ overflow_sub-chunks c =
 pub overflow_cast-chunks : goal.overflow_cast-chunks
 overflow_cast-chunks c =
     let word : c.args.p.depth < 4294967296 = depth_word c.args.p _ c.well_formed.0 in
-    let chunks_are : c.ceil_div-chunks.result ≡ ceil_div c.args.p.depth (2 ^ (c.soft_bits-soft.result + c.args.p.hard)) = c.ceil_div-chunks.ensures ∙ (λ k. ceil_div (c.u64_of_u32.ensures k) (two_to_is _ _ c.if-soft-p-gt-ADDR_BITS.false c.two_to.ensures.0 k)) in
+    let chunks_are : c.ceil_div-chunks.result ≡ ceil_div c.args.p.depth (2 ^ (c.soft_bits-soft.result + c.args.p.hard)) = c.ceil_div-chunks.ensures ∙ (λ k. ceil_div (c.u64_of_u32.ensures k) (two_to_is _ _ c.if-soft-p-gt-ADDR_BITS.false c.two_to.ensures.value k)) in
     let few : c.ceil_div-chunks.result < 4294967296 = lt_of_le_of_lt (subst (λ (n : ℕ). n ≤ c.args.p.depth) (sym chunks_are) (ceil_self _ _ (power_pos _ (c.soft_bits-soft.result + c.args.p.hard) refl))) word in
     omega (arith, few)
 
 pub returns : goal.returns
 returns c =
-    let chunks_are : c.ceil_div-chunks.result ≡ ceil_div c.args.p.depth (2 ^ (c.soft_bits-soft.result + c.args.p.hard)) = c.ceil_div-chunks.ensures ∙ (λ k. ceil_div (c.u64_of_u32.ensures k) (two_to_is _ _ c.if-soft-p-gt-ADDR_BITS.false c.two_to.ensures.0 k)) in
+    let chunks_are : c.ceil_div-chunks.result ≡ ceil_div c.args.p.depth (2 ^ (c.soft_bits-soft.result + c.args.p.hard)) = c.ceil_div-chunks.ensures ∙ (λ k. ceil_div (c.u64_of_u32.ensures k) (two_to_is _ _ c.if-soft-p-gt-ADDR_BITS.false c.two_to.ensures.value k)) in
     λ es. c.top_bits.ensures ∙ ap (λ (n : ℕ). top_bits addr_bits (n - 1)) chunks_are ∙ mux_is c.args.p es _ c.soft_bits-soft.ensures

@@ -75,4 +75,4 @@ returns c =
     let s = c in
     filled-done (depths_refusal (length a.out.now) q) a.out.now _ _
     (depths_0 q _ told.0 (enough c.if-u64_of_usize-s.false c.u64_of_usize.ensures all_is))
-    (depths_stored q a.out.now _ _ _ _ _ _ full_is all_is deep_is part_is c.fill_u32.ensures c.fill_u32-2.ensures)
+    (depths_stored q a.out.now _ _ _ _ _ _ full_is all_is deep_is part_is c.fill.ensures c.fill-2.ensures)

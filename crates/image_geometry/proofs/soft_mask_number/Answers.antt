@@ -16,10 +16,10 @@ nonzero_rem-u64_of_u32 c = c.two_to.ensures.1
 
 pub returns-then-u64_of_u32-two_to-ne0 : goal.returns-then-u64_of_u32-two_to-ne0
 returns-then-u64_of_u32-two_to-ne0 c =
-    let rest : c.u64_of_u32.result % c.two_to.result ≡ c.args.depth % 2 ^ top_bits addr_bits c.args.mask = (λ k. c.u64_of_u32.ensures k % (two_to_is _ _ (subst (λ (n : ℕ). n ≤ 32) (sym c.top_bits.ensures) (tops_le 32 _)) c.two_to.ensures.0 ∙ ap (λ (n : ℕ). 2 ^ n) c.top_bits.ensures) k) in
+    let rest : c.u64_of_u32.result % c.two_to.result ≡ c.args.depth % 2 ^ top_bits addr_bits c.args.mask = (λ k. c.u64_of_u32.ensures k % (two_to_is _ _ (subst (λ (n : ℕ). n ≤ 32) (sym c.top_bits.ensures) (tops_le 32 _)) c.two_to.ensures.value ∙ ap (λ (n : ℕ). 2 ^ n) c.top_bits.ensures) k) in
     sym (soft_8 c.args.depth c.args.mask (λ e. c.if-u64_of_u32-two_to-ne0.true (rest ∙ e)))
 
 pub returns : goal.returns
 returns c =
-    let rest : c.u64_of_u32.result % c.two_to.result ≡ c.args.depth % 2 ^ top_bits addr_bits c.args.mask = (λ k. c.u64_of_u32.ensures k % (two_to_is _ _ (subst (λ (n : ℕ). n ≤ 32) (sym c.top_bits.ensures) (tops_le 32 _)) c.two_to.ensures.0 ∙ ap (λ (n : ℕ). 2 ^ n) c.top_bits.ensures) k) in
+    let rest : c.u64_of_u32.result % c.two_to.result ≡ c.args.depth % 2 ^ top_bits addr_bits c.args.mask = (λ k. c.u64_of_u32.ensures k % (two_to_is _ _ (subst (λ (n : ℕ). n ≤ 32) (sym c.top_bits.ensures) (tops_le 32 _)) c.two_to.ensures.value ∙ ap (λ (n : ℕ). 2 ^ n) c.top_bits.ensures) k) in
     sym (soft_0 c.args.depth c.args.mask (sym rest ∙ c.if-u64_of_u32-two_to-ne0.false))

@@ -13,5 +13,5 @@ unfolding call_at
 returns c =
     let a = c.args in
     let l = handed_on (layout_by a.p a.entries.now) in
-    let e = c.part_u8-part.ensures.0 ∙ (λ k. take (c.usize_of_u32-count.ensures.0 k) (drop (c.usize_of_u32-start.ensures.0 k) a.trits.now)) in
+    let e = c.part-part.ensures.part ∙ (λ k. take (c.usize_of_u32-count.ensures.0 k) (drop (c.usize_of_u32-start.ensures.0 k) a.trits.now)) in
     c.call_one.ensures ∙ (λ k. call_on l (record { row = get_or a.calls.now (4 * a.i) 0; trits = e k; room = c.usize_of_u32-room.ensures.0 k }) a.buffer.now)

@@ -42,8 +42,8 @@ loop-i-preserved c =
     let n = length a.calls.now / 4 in (
       omega (arith, c.loop-i-test.true),
       c.call_at-number.auto.buffer ∙ l.invariant.1,
-      c.put_u32.auto.to ∙ l.invariant.2,
-      numbers_again q a.calls.now a.trits.now l.i n (length a.buffer.now) l.buffer _ l.numbers _ _ _ c.loop-i-test.true l.invariant.1 c.call_at-number.ensures c.put_u32.ensures l.invariant.3,
+      c.put.auto.to ∙ l.invariant.2,
+      numbers_again q a.calls.now a.trits.now l.i n (length a.buffer.now) l.buffer _ l.numbers _ _ _ c.loop-i-test.true l.invariant.1 c.call_at-number.ensures c.put.ensures l.invariant.3,
       calls_again q a.calls.now a.trits.now l.i n l.buffer _ _ _ c.loop-i-test.true c.call_at-number.ensures l.invariant.4,
     )
 

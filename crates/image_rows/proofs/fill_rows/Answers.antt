@@ -45,4 +45,4 @@ returns c =
     let t = told in
     fill_done _ _ _ q (handed _ _ _ t) _ accepted
     (fill_is q (good_accepted q (passed _ _ _ t)) a.rows.now a.image.now _ _ _
-    (c.usize_of_u64.ensures ∙ size_is _ _ _ t) (fills _ _ _ accepted).1 c.fill_u8.ensures c.write_rows.ensures)
+    (c.usize_of_u64.ensures ∙ size_is _ _ _ t) (fills _ _ _ accepted).1 c.fill.ensures c.write_rows.ensures)

@@ -10,4 +10,4 @@ pub returns-then-to-trits : goal.returns-then-to-trits
 returns-then-to-trits c =
     let s = c in
     put_copy s.args.trits.now s.args.entries.now s.args.at s.args.from s.args.to s.args.plain s.args.image.now _ s.requires.plain c.if-to-plain.true s.requires.run_of.forward s.requires.run_of.within s.requires.run_of.short c.if-to-trits.true
-    (c.copy_u8.ensures ∙ ap (λ (n : ℕ). sets s.args.image.now n (take (s.args.to - s.args.from) (drop s.args.from s.args.trits.now))) c.usize_of_u64.ensures)
+    (c.copy.ensures ∙ ap (λ (n : ℕ). sets s.args.image.now n (take (s.args.to - s.args.from) (drop s.args.from s.args.trits.now))) c.usize_of_u64.ensures)

@@ -17,7 +17,7 @@ pub returns : goal.returns
 returns c =
     let a = c.args in
     let h = ltb-false _ _ (sym c.row_bad.ensures ∙ c.if-row_bad.false) in
-    record { value = made_short a.p a.entries.now _ h c.copy_u32.ensures; result_value = laid_made a.p a.entries.now _ h c.copy_u32.ensures }
+    record { value = made_short a.p a.entries.now _ h c.copy.ensures; result_value = laid_made a.p a.entries.now _ h c.copy.ensures }
 
 pub overflow_cast-result : goal.overflow_cast-result
 overflow_cast-result c = omega (arith, ltb-false max_row (length c.args.entries.now) (sym c.row_bad.ensures ∙ c.if-row_bad.false))

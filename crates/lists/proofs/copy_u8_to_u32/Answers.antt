@@ -1,22 +1,22 @@
 -- `lists::copy_u8_to_u32` meets its contract.
-use mathlib.Core.Path.{refl}
-use Prim.Native.Nat.{◌-◌}
-use native.Mathlib.Omega.{arith}
-use lib.ListN.{length-set}
+use Rattle.std.proofs.Common.{◌∙◌, ◌<◌, ◌+◌, ap, arith, length, set}
+use Rattle.std.proofs.lemmas.List.{get_or-take}
+use lib.ListN.{length-take}
 use Rattle.lists.proofs.Store.{copy_turn, copy_done}
+use Rattle.lists.proofs.Mids.{sets_from}
 use Rattle.lists.proofs.copy_u8_to_u32.Goals as goal
 
-pub loop-i-init : goal.loop-i-init
-loop-i-init c = (omega arith, refl, refl)
-
-pub overflow_cast-to : goal.overflow_cast-to
-overflow_cast-to c = omega (arith, c.shared_slice_known-in-loop-i-1.given c.loop-i.i)
-
 pub loop-i-preserved : goal.loop-i-preserved
-loop-i-preserved c = (omega arith, simp length-set c.loop-i.invariant.1, copy_turn _ _ _ _ _ c.loop-i.invariant.2 0 (omega arith))
-
-pub shape_of-to : goal.shape_of-to
-shape_of-to c = c.loop-i.invariant.1
+loop-i-preserved c =
+    let l = c.loop-i in
+    let room = length-take c.min-n.result c.args.from.now in
+    let h : l.i < length c.args.from.now = omega (arith, room) in
+    ap (set l.to (c.min-start.result + l.i)) (c.from.ensures ∙ get_or-take c.min-n.result c.args.from.now l.i 0 (omega (arith, room)))
+    ∙ copy_turn c.args.to.now l.to c.min-start.result l.i c.args.from.now l.invariant 0 h
 
 pub returns : goal.returns
-returns c = copy_done c.args.to.now c.loop-i.to c.args.at c.loop-i.i c.args.from.now c.loop-i.invariant.2 (omega arith)
+returns c =
+    let l = c.loop-i in
+    let room = length-take c.min-n.result c.args.from.now in
+    copy_done c.args.to.now l.to c.min-start.result l.i c.args.from.now l.invariant (omega (arith, room))
+    ∙ sets_from c.args.to.now c.args.from.now c.args.at c.min-start.result c.min-start.ensures

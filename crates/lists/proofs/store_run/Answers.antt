@@ -1,25 +1,25 @@
 -- `lists::store_run` meets its contract.
-use lib.ListN.{length-set}
-use mathlib.Core.Path.{refl}
-use Prim.Native.Nat.{◌-◌}
-use native.Mathlib.Omega.{arith}
-use Rattle.lists.proofs.Runs.{run_turn, run-done}
+use Rattle.std.proofs.Common.{◌∙◌, ◌≡◌, ◌+◌, ◌-◌, ◌<◌, ap, sym, min, arith, length, refl, replicate}
+use lib.ListN.{length-replicate, length-take, length-drop, get_or-replicate}
+use Rattle.lists.specs.Lists.{up_from}
+use Rattle.lists.proofs.UpFrom.{length_up, up_at}
+use Rattle.lists.proofs.Mids.{part_turn, part_done, part_room}
 use Rattle.lists.proofs.store_run.Goals as goal
 
-pub loop-i-init : goal.loop-i-init
-loop-i-init c = (omega arith, refl, omega arith, refl)
-
-pub loop-i-preserved : goal.loop-i-preserved
-loop-i-preserved c =
-    let h = c in
-    let v = h.args in
-    (omega arith, simp length-set h.loop-i.invariant.1, omega arith, run_turn v.to.now h.loop-i.to v.at v.first (v.last - v.first) h.loop-i.i h.loop-i.invariant.3 h.loop-i.number (omega arith) h.loop-i.invariant.2)
-
-pub shape_of-to : goal.shape_of-to
-shape_of-to c = c.loop-i.invariant.1
+pub loop-place-preserved : goal.loop-place-preserved
+loop-place-preserved c =
+    let l = c.loop-place in
+    let n = c.args.last - c.args.first in
+    let room = part_room c.args.to.now c.min-start.result c.min-n.result (c.min-start.result + c.min-n.result - c.min-start.result) (omega arith) (omega arith) in
+    let h : l.place-index < n = omega (arith, room) in
+    record {
+      number = omega arith;
+      items = part_turn _ l.place-items (up_from c.args.first n) l.place-index l.number 0 l.invariant.items (omega (arith, length_up c.args.first n)) (l.invariant.number ∙ sym (up_at c.args.first n l.place-index 0 h));
+    }
 
 pub returns : goal.returns
 returns c =
-    let h = c in
-    let v = h.args in
-    run-done v.to.now h.loop-i.to v.at v.first (v.last - v.first) h.loop-i.i h.loop-i.invariant.3 (omega arith)
+    let l = c.loop-place in
+    let n = c.args.last - c.args.first in
+    let room = part_room c.args.to.now c.min-start.result c.min-n.result (c.min-start.result + c.min-n.result - c.min-start.result) (omega arith) (omega arith) in
+    part_done c.args.to.now (up_from c.args.first n) l.place-items c.args.at c.min-start.result c.min-n.result l.place-index (omega arith) (omega arith) (omega (arith, length_up c.args.first n)) (omega (arith, room)) l.invariant.items

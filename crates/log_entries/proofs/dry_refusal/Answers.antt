@@ -10,4 +10,4 @@ returns-then-is_over c = dry_over c.args.room (state_of c.args.st) (state_of c.a
 pub returns : goal.returns
 returns c =
     let v = c.args in
-    c.room_refusal.ensures ∙ dry_room v.room (state_of v.st) (state_of v.dry) _ _ (sym c.is_over.ensures ∙ c.if-is_over.false) c.dry_start-start.ensures c.minus-nets.ensures
+    c.room_refusal.ensures ∙ dry_room v.room (state_of v.st) (state_of v.dry) _ _ (sym c.is_over.ensures ∙ c.if-is_over.false) c.dry_start-start.ensures c.saturating_sub-nets.ensures

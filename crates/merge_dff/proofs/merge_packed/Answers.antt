@@ -14,9 +14,9 @@ slice_bounds-emit_kept_dff-end c =
     let k = c in
     let v = k.args in
     let d = c.merge-k in
-    let n = c.smaller-n.result in
+    let n = c.min-n.result in
     let f = found v.bits.now v.ps.now v.kx.now v.ky.now v.at.now d.new.kx d.new.ky d.new.at n d.result k.requires
-    (c.smaller-n.ensures ∙ ap (min max_merge) c.smaller.ensures) d.ensures.value d.ensures.kx_after d.ensures.ky_after d.ensures.at_after in
+    (c.min-n.ensures ∙ ap (min max_merge) c.min.ensures) d.ensures.value d.ensures.kx_after d.ensures.ky_after d.ensures.at_after in
     f.in_kx
 
 pub slice_bounds-emit_kept_dff-end-2 : goal.slice_bounds-emit_kept_dff-end-2
@@ -24,9 +24,9 @@ slice_bounds-emit_kept_dff-end-2 c =
     let k = c in
     let v = k.args in
     let d = c.merge-k in
-    let n = c.smaller-n.result in
+    let n = c.min-n.result in
     let f = found v.bits.now v.ps.now v.kx.now v.ky.now v.at.now d.new.kx d.new.ky d.new.at n d.result k.requires
-    (c.smaller-n.ensures ∙ ap (min max_merge) c.smaller.ensures) d.ensures.value d.ensures.kx_after d.ensures.ky_after d.ensures.at_after in
+    (c.min-n.ensures ∙ ap (min max_merge) c.min.ensures) d.ensures.value d.ensures.kx_after d.ensures.ky_after d.ensures.at_after in
     sym (length-take-le _ _ f.in_kx)
 
 pub slice_bounds-emit_kept_dff-end-3 : goal.slice_bounds-emit_kept_dff-end-3
@@ -34,9 +34,9 @@ slice_bounds-emit_kept_dff-end-3 c =
     let k = c in
     let v = k.args in
     let d = c.merge-k in
-    let n = c.smaller-n.result in
+    let n = c.min-n.result in
     let f = found v.bits.now v.ps.now v.kx.now v.ky.now v.at.now d.new.kx d.new.ky d.new.at n d.result k.requires
-    (c.smaller-n.ensures ∙ ap (min max_merge) c.smaller.ensures) d.ensures.value d.ensures.kx_after d.ensures.ky_after d.ensures.at_after in
+    (c.min-n.ensures ∙ ap (min max_merge) c.min.ensures) d.ensures.value d.ensures.kx_after d.ensures.ky_after d.ensures.at_after in
     f.in_ky
 
 pub slice_bounds-emit_kept_dff-end-4 : goal.slice_bounds-emit_kept_dff-end-4
@@ -44,9 +44,9 @@ slice_bounds-emit_kept_dff-end-4 c =
     let k = c in
     let v = k.args in
     let d = c.merge-k in
-    let n = c.smaller-n.result in
+    let n = c.min-n.result in
     let f = found v.bits.now v.ps.now v.kx.now v.ky.now v.at.now d.new.kx d.new.ky d.new.at n d.result k.requires
-    (c.smaller-n.ensures ∙ ap (min max_merge) c.smaller.ensures) d.ensures.value d.ensures.kx_after d.ensures.ky_after d.ensures.at_after in
+    (c.min-n.ensures ∙ ap (min max_merge) c.min.ensures) d.ensures.value d.ensures.kx_after d.ensures.ky_after d.ensures.at_after in
     sym (length-take-le _ _ f.in_ky)
 
 pub slice_bounds-emit_kept_dff-end-6 : goal.slice_bounds-emit_kept_dff-end-6
@@ -54,9 +54,9 @@ slice_bounds-emit_kept_dff-end-6 c =
     let k = c in
     let v = k.args in
     let d = c.merge-k in
-    let n = c.smaller-n.result in
+    let n = c.min-n.result in
     let f = found v.bits.now v.ps.now v.kx.now v.ky.now v.at.now d.new.kx d.new.ky d.new.at n d.result k.requires
-    (c.smaller-n.ensures ∙ ap (min max_merge) c.smaller.ensures) d.ensures.value d.ensures.kx_after d.ensures.ky_after d.ensures.at_after in
+    (c.min-n.ensures ∙ ap (min max_merge) c.min.ensures) d.ensures.value d.ensures.kx_after d.ensures.ky_after d.ensures.at_after in
     sym (length-take-le _ _ f.in_at)
 
 pub emit_kept_dff-requires : goal.emit_kept_dff-requires
@@ -64,9 +64,9 @@ emit_kept_dff-requires c =
     let k = c in
     let v = k.args in
     let d = c.merge-k in
-    let n = c.smaller-n.result in
+    let n = c.min-n.result in
     let f = found v.bits.now v.ps.now v.kx.now v.ky.now v.at.now d.new.kx d.new.ky d.new.at n d.result k.requires
-    (c.smaller-n.ensures ∙ ap (min max_merge) c.smaller.ensures) d.ensures.value d.ensures.kx_after d.ensures.ky_after d.ensures.at_after in
+    (c.min-n.ensures ∙ ap (min max_merge) c.min.ensures) d.ensures.value d.ensures.kx_after d.ensures.ky_after d.ensures.at_after in
     kept_few v.bits.now v.ps.now d.new.kx d.new.ky d.new.at n d.result f
 
 pub returns : goal.returns
@@ -74,9 +74,9 @@ returns c =
     let k = c in
     let v = k.args in
     let d = c.merge-k in
-    let n = c.smaller-n.result in
+    let n = c.min-n.result in
     let f = found v.bits.now v.ps.now v.kx.now v.ky.now v.at.now d.new.kx d.new.ky d.new.at n d.result k.requires
-    (c.smaller-n.ensures ∙ ap (min max_merge) c.smaller.ensures) d.ensures.value d.ensures.kx_after d.ensures.ky_after d.ensures.at_after in
+    (c.min-n.ensures ∙ ap (min max_merge) c.min.ensures) d.ensures.value d.ensures.kx_after d.ensures.ky_after d.ensures.at_after in
     let p = c.emit_kept_dff in
     let l = lent v.st v.log.now in
     let l1 = lent p.result p.new.log in

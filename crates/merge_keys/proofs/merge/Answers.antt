@@ -15,9 +15,9 @@ pub returns : goal.returns
 returns c =
     let v = c.args in
     let q = c.merge_first in
-    let n = c.smaller-n.result in
+    let n = c.min-n.result in
     let size : n ≡ min (min max_merge (min (length v.kx.now) (min (length v.ky.now) (length v.at.now)))) (min (length v.x.now) (length v.y.now)) =
-    c.smaller-n.ensures ∙ rw (c.smaller-2.ensures, c.smaller-3.ensures, c.smaller-lent.ensures, c.smaller.ensures) in
+    c.min-n.ensures ∙ rw (c.min-2.ensures, c.min-3.ensures, c.min-lent.ensures, c.min.ensures) in
     let e = merging_first v.x.now v.y.now v.kx.now v.ky.now v.at.now n size in
     record {
       value = q.ensures.value ∙ ap (λ (ps : List Key2). length (kept same2 ps)) e;

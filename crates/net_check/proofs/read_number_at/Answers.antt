@@ -11,6 +11,6 @@ returns c =
     let v = c.args in
     let k = c.requires in
     let w = writes_length v.m _ c.well_formed.0 v.nets.now ∙ sym c.ports_used-writes.ensures.0 in
-    let x = c.part_u32-addr.ensures.0 ∙ (λ j. part (k.nets_at j) (c.addr_size.ensures.0 j) v.nets.now) in
-    let y = c.part_u8-values.ensures.0 ∙ (λ j. part (k.trits_at j) (c.trit_size.ensures.0 j) v.trits.now) in
+    let x = c.part-addr.ensures.part ∙ (λ j. part (k.nets_at j) (c.addr_size.ensures.0 j) v.nets.now) in
+    let y = c.part-values.ensures.part ∙ (λ j. part (k.trits_at j) (c.trit_size.ensures.0 j) v.trits.now) in
     read_is v.m v.nets.now v.trits.now v.next v.i _ k.there w _ _ _ x y c.read_number.ensures

@@ -9,5 +9,5 @@ use Rattle.net_memory.proofs.data_count.Goals as goal
 pub returns : goal.returns
 returns c =
     let v = c.args in
-    let e = c.part_u32-bits.ensures.0 ∙ (λ k. part (c.usize_of_u32.ensures.0 k) (c.usize_of_u32-2.ensures.0 k) v.nets.now) in
+    let e = c.part-bits.ensures.part ∙ (λ k. part (c.usize_of_u32.ensures.0 k) (c.usize_of_u32-2.ensures.0 k) v.nets.now) in
     (ap length e, omega arith)

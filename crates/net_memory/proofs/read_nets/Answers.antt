@@ -15,4 +15,4 @@ returns-then-ports_used-i c =
 pub returns : goal.returns
 returns c =
     let v = c.args in
-    (c.part_u32.ensures.0 ∙ (λ k. part (c.read_start.ensures.0 k) (c.usize_of_u32.ensures.0 k) v.nets.now) ∙ sym (nets_at v.m v.nets.now [] v.i (omega arith)), omega arith)
+    (c.part.ensures.part ∙ (λ k. part (c.read_start.ensures.0 k) (c.usize_of_u32.ensures.0 k) v.nets.now) ∙ sym (nets_at v.m v.nets.now [] v.i (omega arith)), omega arith)

@@ -15,4 +15,4 @@ returns-then-ports_used-i c =
 pub returns : goal.returns
 returns c =
     let v = c.args in
-    (c.part_u8.ensures.0 ∙ (λ k. part (c.trit_start.ensures.0 k) (c.trit_size.ensures.0 k) v.trits.now) ∙ sym (trits_at v.m [] v.trits.now v.i (omega arith)), omega arith)
+    (c.part.ensures.part ∙ (λ k. part (c.trit_start.ensures.0 k) (c.trit_size.ensures.0 k) v.trits.now) ∙ sym (trits_at v.m [] v.trits.now v.i (omega arith)), omega arith)

@@ -14,4 +14,4 @@ returns-then-ports_used-i c =
 pub returns : goal.returns
 returns c =
     let v = c.args in
-    c.part_u32.ensures.0 ∙ (λ k. part (c.write_start.ensures.0 k) (c.write_size.ensures.0 k) v.nets.now) ∙ sym (write_nets_at v.m v.nets.now v.i (omega arith))
+    c.part.ensures.part ∙ (λ k. part (c.write_start.ensures.0 k) (c.write_size.ensures.0 k) v.nets.now) ∙ sym (write_nets_at v.m v.nets.now v.i (omega arith))

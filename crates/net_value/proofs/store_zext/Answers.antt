@@ -12,9 +12,9 @@ returns-then-v-n c =
     let k = c in
     let m = k in
     let v = m.args in
-    k.fill_u32.ensures ∙ ap (λ (l : List ℕ). sets l (length v.v.now) (replicate (v.n - length v.v.now) 0)) m.copy_u32.ensures ∙ zext-filled v.v.now v.n v.out.now
+    k.fill.ensures ∙ ap (λ (l : List ℕ). sets l (length v.v.now) (replicate (v.n - length v.v.now) 0)) m.copy.ensures ∙ zext-filled v.v.now v.n v.out.now
 
 pub returns-else-v-n : goal.returns-else-v-n
 returns-else-v-n c =
     let m = c in
-    m.copy_u32.ensures ∙ zext-whole _ _ _ c.if-v-n.false
+    m.copy.ensures ∙ zext-whole _ _ _ c.if-v-n.false

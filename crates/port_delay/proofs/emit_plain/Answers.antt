@@ -12,5 +12,5 @@ pub returns : goal.returns
 returns c =
     let v = c.args in
     let n = length v.bits.now in
-    let q = c.part_u8-xs.ensures.0 ∙ first_filled v.trits.now c.fill_u8.new.to n 2 c.fill_u8.ensures (omega (arith, c.requires, c.fill_u8-arg-1.given)) ∙ undef_is n in
+    let q = c.part-xs.ensures.part ∙ first_filled v.trits.now c.fill.new.to n 2 c.fill.ensures (omega (arith, c.requires, c.fill-arg-1.given)) ∙ undef_is n in
     plain_gave v.bits.now _ v.out.now c.store_run.new.to (control_of v.clock) (controls_of c.plain_controls-c.result) (lent v.st v.log.now) (lent c.emit_dff-after.result c.emit_dff-after.new.log) c.plain_controls-c.ensures q c.emit_dff-after.ensures c.store_run.ensures (omega (arith, c.requires, c.store_run-arg-1.given))

@@ -22,7 +22,7 @@ returns-then-not-relates_to c =
     let e = c.emit_port-after in
     let l = lent v.st v.log.now in
     let l1 = lent e.result e.new.log in
-    let own = c.part_u32-own.ensures.0 ∙ ap (λ (n : ℕ). part v.at n v.nets.now) c.write_size.ensures.0 in
+    let own = c.part-own.ensures.part ∙ ap (λ (n : ℕ). part v.at n v.nets.now) c.write_size.ensures.0 in
     kept-done v.m v.nets.now v.j v.at v.p c.requires v.all_x (cut (write_by v.p (part v.at (write_size v.p) v.nets.now) []) v.a.now v.d.now v.k.now) e.new.a e.new.d e.new.k l l1
     (λ x y. sym (c.relates_to.ensures x y) ∙ not-true _ (ap not c.if-not-relates_to.true))
     (λ x y. subst (λ (o : List ℕ). Gave (delayed_by (is_read v.m x y v.j) v.all_x (write_by v.p o []) (cut (write_by v.p o []) v.a.now v.d.now v.k.now)) l l1 (cut_by (is_read v.m x y v.j) (write_by v.p o []) e.new.a e.new.d e.new.k)) own (e.ensures x y))
@@ -41,7 +41,7 @@ returns c =
     let s = c.store_port in
     let f = few_lens v.m v.nets.now v.j v.at v.p c.requires in
     let n = writes_length v.m _ c.well_formed.1.1.1.1.1.1.1.1.1.1.1.1.1.1.1.0 v.nets.now in
-    let own = c.part_u32-own.ensures.0 ∙ ap (λ (n : ℕ). part v.at n v.nets.now) c.write_size.ensures.0 in
+    let own = c.part-own.ensures.part ∙ ap (λ (n : ℕ). part v.at n v.nets.now) c.write_size.ensures.0 in
     stored_done v.m v.nets.now v.j v.at v.p c.requires s.new.nets e.new.a e.new.d e.new.k (omega (arith, f.1, s.ensures.a_len.0)) (omega (arith, f.2, s.ensures.a_len.1)) (omega (arith, f.3, s.ensures.a_len.2)) s.ensures.nets_after v.all_x (cut (write_by v.p (part v.at (write_size v.p) v.nets.now) []) v.a.now v.d.now v.k.now) l l1 (omega (arith, n, c.requires.there))
     (λ x y. sym (c.relates_to.ensures x y) ∙ not-false _ (ap not c.if-not-relates_to.false))
     (λ x y. subst (λ (o : List ℕ). Gave (delayed_by (is_read v.m x y v.j) v.all_x (write_by v.p o []) (cut (write_by v.p o []) v.a.now v.d.now v.k.now)) l l1 (cut_by (is_read v.m x y v.j) (write_by v.p o []) e.new.a e.new.d e.new.k)) own (e.ensures x y))

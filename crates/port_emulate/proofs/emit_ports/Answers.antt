@@ -37,12 +37,12 @@ loop-j-preserved c =
     let i : h.j < min max_ports m.write_count = omega (arith, c.loop-j-test.true, c.ports_used-count.ensures.0) in
     let w = write_port m h.j in
     let z = c.write_size-size.ensures.0 in
-    let own = c.part_u32-own.ensures.0 ∙ (λ x. part (h.invariant.2 x) (z x) v.nets.now) in
+    let own = c.part-own.ensures.part ∙ (λ x. part (h.invariant.2 x) (z x) v.nets.now) in
     let e = ap (λ (l : List ℕ). write_by w l []) own ∙ sym (writes_at m v.nets.now h.j i) in (
       p.auto.log ∙ h.invariant.0,
       omega (arith, h.invariant.1, c.write_size-size.ensures.1),
       (λ x. h.invariant.2 x + z x) ∙ sym (sum_take_more write_size no_write_port refl m.write_ports h.j),
-      λ x y. turn (is_read m x y) v.all_x (writes_of m v.nets.now) h.j (omega (arith, n, i)) c.requires (write_by w c.part_u32-own.result.now []) _ _ e (lent h.state h.log) (lent p.result p.new.log) (p.ensures x y) ∙ h.invariant.3 x y,
+      λ x y. turn (is_read m x y) v.all_x (writes_of m v.nets.now) h.j (omega (arith, n, i)) c.requires (write_by w c.part-own.result.now []) _ _ e (lent h.state h.log) (lent p.result p.new.log) (p.ensures x y) ∙ h.invariant.3 x y,
     )
 
 pub shape_of-log : goal.shape_of-log

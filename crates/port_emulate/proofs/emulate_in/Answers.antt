@@ -18,7 +18,7 @@ returns-then-n-ne0 c =
     let m = v.m in
     let x = v.nets.now in
     let y = v.trits.now in
-    let b = all_x_is m x y c.init_size.result c.part_u8.result.now c.is_undef-all_x.result c.init_size.ensures.0 c.part_u8.ensures.0 c.is_undef-all_x.ensures in
+    let b = all_x_is m x y c.init_size.result c.part.result.now c.is_undef-all_x.result c.init_size.ensures.0 c.part.ensures.part c.is_undef-all_x.ensures in
     let n = c.log_number-n.result in
     let e = refused_log m x y (length v.log.now) (state_of v.st) n c.requires (c.log_number-n.ensures y c.requires b) in
     record { log_after = call_refused m x y v.log.now v.st n e c.if-n-ne0.true; emulated = all-kept m v.st x n c.if-n-ne0.true }
@@ -35,7 +35,7 @@ returns c =
     let x = v.nets.now in
     let y = v.trits.now in
     let log = v.log.now in
-    let b = all_x_is m x y c.init_size.result c.part_u8.result.now c.is_undef-all_x.result c.init_size.ensures.0 c.part_u8.ensures.0 c.is_undef-all_x.ensures in
+    let b = all_x_is m x y c.init_size.result c.part.result.now c.is_undef-all_x.result c.init_size.ensures.0 c.part.ensures.part c.is_undef-all_x.ensures in
     let n = c.log_number-n.result in
     let z = c.log_number-n.ensures y c.requires b in
     let e = refused_log m x y (length log) (state_of v.st) n c.requires z in

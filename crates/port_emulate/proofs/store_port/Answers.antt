@@ -21,15 +21,15 @@ returns c =
     let x = c.usize_of_u32-x in
     let y = c.usize_of_u32-y in
     let z = c.usize_of_u32-z in
-    let qa = c.part_u32.ensures.0 ∙ ap (λ (n : ℕ). take n a) x.ensures.0 in
-    let qd = c.part_u32-2.ensures.0 ∙ ap (λ (n : ℕ). take n d) y.ensures.0 in
-    let qk = c.part_u32-3.ensures.0 ∙ ap (λ (n : ℕ). take n k) z.ensures.0 in
-    let l1 = c.copy_u32.new.to in
-    let l2 = c.copy_u32-2.new.to in
-    let l3 = c.copy_u32-3.new.to in
+    let qa = c.part.ensures.part ∙ ap (λ (n : ℕ). take n a) x.ensures.0 in
+    let qd = c.part-2.ensures.part ∙ ap (λ (n : ℕ). take n d) y.ensures.0 in
+    let qk = c.part-3.ensures.part ∙ ap (λ (n : ℕ). take n k) z.ensures.0 in
+    let l1 = c.copy.new.to in
+    let l2 = c.copy-2.new.to in
+    let l3 = c.copy-3.new.to in
     record {
       nets_after = three_stored v.nets.now l1 l2 l3 (take v.p.addr_len a) (take v.p.data_len d) (take v.p.mask_len k) v.at x.result y.result
-          (c.copy_u32.ensures ∙ ap (sets v.nets.now v.at) qa) (c.copy_u32-2.ensures ∙ ap (sets l1 (v.at + x.result)) qd) (c.copy_u32-3.ensures ∙ ap (sets l2 (v.at + x.result + y.result)) qk)
+          (c.copy.ensures ∙ ap (sets v.nets.now v.at) qa) (c.copy-2.ensures ∙ ap (sets l1 (v.at + x.result)) qd) (c.copy-3.ensures ∙ ap (sets l2 (v.at + x.result + y.result)) qk)
           (length_part 0 v.p.addr_len a (omega (arith, la, h)) ∙ sym x.ensures.0) (length_part 0 v.p.data_len d (omega (arith, ld, h)) ∙ sym y.ensures.0);
       a_len = (la, ld, lk);
     }

@@ -9,4 +9,4 @@ pub returns : goal.returns
 unfolding output_slice
 returns c =
     let v = c.args in
-    record { by_index = λ nets trits. c.part_u32.ensures.0 ∙ (λ k. part (c.output_start.ensures.by_index nets trits k) (c.read_data_len.ensures.by_index nets trits k) v.output.now); result_len_bound = omega (arith, c.read_data_len.ensures.upper_bound) }
+    record { by_index = λ nets trits. c.part.ensures.part ∙ (λ k. part (c.output_start.ensures.by_index nets trits k) (c.read_data_len.ensures.by_index nets trits k) v.output.now); result_len_bound = omega (arith, c.read_data_len.ensures.upper_bound) }

@@ -22,7 +22,7 @@ loop-j-preserved c =
     let i : h.loop-j.j < length l = omega arith in
     let e = c.read_nets-addr.ensures.0 ∙ ap f c.usize_of_u32.ensures.0 in
     let n = concat_more f l h.loop-j.j 0 i in
-    let s = c.copy_u32.ensures ∙ (λ k. sets (h.loop-j.invariant.2 k) h.loop-j.at (e k)) ∙ concat_stored f v.room.now v.start h.loop-j.at l h.loop-j.j 0 i h.loop-j.invariant.1 in
+    let s = c.copy.ensures ∙ (λ k. sets (h.loop-j.invariant.2 k) h.loop-j.at (e k)) ∙ concat_stored f v.room.now v.start h.loop-j.at l h.loop-j.j 0 i h.loop-j.invariant.1 in
     (omega arith, omega (arith, ap length n, length-append (concat_map f (take h.loop-j.j l)) (f (get_or l h.loop-j.j 0)), ap length e, h.loop-j.invariant.1), s, omega (arith, c.read_nets-addr.ensures.1, h.loop-j.invariant.3))
 
 pub shape_of-room : goal.shape_of-room

@@ -29,7 +29,7 @@ loop-j-preserved c =
       λ n t. let e = c.output_part-bits.ensures.by_index n t ∙ ap (g n t) c.usize_of_u32-k.ensures.0 in
           omega (arith, ap length (concat_more (g n t) l h.loop-j.j 0 i), length-append (concat_map (g n t) (take h.loop-j.j l)) (g n t (get_or l h.loop-j.j 0)), ap length e, h.loop-j.invariant.1 n t),
       λ n t. let e = c.output_part-bits.ensures.by_index n t ∙ ap (g n t) c.usize_of_u32-k.ensures.0 in
-          c.copy_u32.ensures ∙ (λ k. sets (h.loop-j.invariant.2 n t k) h.loop-j.at (e k)) ∙ concat_stored (g n t) v.room.now 0 h.loop-j.at l h.loop-j.j 0 i (plus_zero _ _ (h.loop-j.invariant.1 n t)),
+          c.copy.ensures ∙ (λ k. sets (h.loop-j.invariant.2 n t k) h.loop-j.at (e k)) ∙ concat_stored (g n t) v.room.now 0 h.loop-j.at l h.loop-j.j 0 i (plus_zero _ _ (h.loop-j.invariant.1 n t)),
       omega (arith, c.output_part-bits.ensures.result_len_bound, h.loop-j.invariant.3),
     )
 

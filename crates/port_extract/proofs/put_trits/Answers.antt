@@ -8,5 +8,5 @@ use Rattle.port_extract.proofs.put_trits.Goals as goal
 pub returns : goal.returns
 returns c =
     let v = c.args in
-    let e = c.part_u8-front.ensures.0 ∙ ap (λ (n : ℕ). part 0 n v.trits.now) c.init_size.ensures.0 in
-    record { value = joined_length _ _ _ _ e c.put_values.ensures.value; room_after = joined v.room.now _ _ _ _ _ e c.copy_u8.ensures c.put_values.ensures.room_after }
+    let e = c.part-front.ensures.part ∙ ap (λ (n : ℕ). part 0 n v.trits.now) c.init_size.ensures.0 in
+    record { value = joined_length _ _ _ _ e c.put_values.ensures.value; room_after = joined v.room.now _ _ _ _ _ e c.copy.ensures c.put_values.ensures.room_after }

@@ -11,12 +11,12 @@ pub returns-then-not-masked : goal.returns-then-not-masked
 returns-then-not-masked c =
     let v = c.args in
     let q = c.emit_pair in
-    gave_plain v.m v.nets.now v.trits.now v.i v.j v.masked v.bits.now v.mask.now c.requires.0 v.p c.requires.1 c.wide_log-kr.result c.usize_of_u32-n.result _ v.under.now c.copy_u32.new.to q.new.under (lent v.st v.log.now) (lent q.result q.new.log)
-    c.wide_log-kr.ensures.0 c.usize_of_u32-n.ensures.0 c.read_nets-raddr.ensures.0 c.copy_u32.ensures (omega (arith, c.copy_u32-arg-1.given)) v.over.now (not-true _ (ap not c.if-not-masked.true)) (q.ensures v.trits.now)
+    gave_plain v.m v.nets.now v.trits.now v.i v.j v.masked v.bits.now v.mask.now c.requires.0 v.p c.requires.1 c.wide_log-kr.result c.usize_of_u32-n.result _ v.under.now c.copy.new.to q.new.under (lent v.st v.log.now) (lent q.result q.new.log)
+    c.wide_log-kr.ensures.0 c.usize_of_u32-n.ensures.0 c.read_nets-raddr.ensures.0 c.copy.ensures (omega (arith, c.copy-arg-1.given)) v.over.now (not-true _ (ap not c.if-not-masked.true)) (q.ensures v.trits.now)
 
 pub returns : goal.returns
 returns c =
     let v = c.args in
     let q = c.emit_masked_pair in
-    gave_masked v.m v.nets.now v.trits.now v.i v.j v.masked v.bits.now v.mask.now c.requires.0 v.p c.requires.1 c.wide_log-kr.result c.usize_of_u32-n.result _ v.under.now c.copy_u32.new.to q.new.under (lent v.st v.log.now) (lent q.result q.new.log)
-    c.wide_log-kr.ensures.0 c.usize_of_u32-n.ensures.0 c.read_nets-raddr.ensures.0 c.copy_u32.ensures (omega (arith, c.copy_u32-arg-1.given)) v.over.now c.copy_u32-2.new.to q.new.over (not-false _ (ap not c.if-not-masked.false)) c.copy_u32-2.ensures (omega (arith, c.copy_u32-arg-2-1.given)) (q.ensures v.trits.now)
+    gave_masked v.m v.nets.now v.trits.now v.i v.j v.masked v.bits.now v.mask.now c.requires.0 v.p c.requires.1 c.wide_log-kr.result c.usize_of_u32-n.result _ v.under.now c.copy.new.to q.new.under (lent v.st v.log.now) (lent q.result q.new.log)
+    c.wide_log-kr.ensures.0 c.usize_of_u32-n.ensures.0 c.read_nets-raddr.ensures.0 c.copy.ensures (omega (arith, c.copy-arg-1.given)) v.over.now c.copy-2.new.to q.new.over (not-false _ (ap not c.if-not-masked.false)) c.copy-2.ensures (omega (arith, c.copy-arg-2-1.given)) (q.ensures v.trits.now)

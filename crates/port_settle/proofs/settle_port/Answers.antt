@@ -11,10 +11,10 @@ pub loop-j-init : goal.loop-j-init
 loop-j-init c = (λ x y. refl, omega arith)
 
 pub settle_at-out-requires : goal.settle_at-out-requires
-settle_at-out-requires c = omega (arith, c.loop-j-test.true, c.smaller-count.ensures)
+settle_at-out-requires c = omega (arith, c.loop-j-test.true, c.min-count.ensures)
 
 pub overflow_add-j : goal.overflow_add-j
-overflow_add-j c = omega (arith, c.loop-j-test.true, c.smaller-count.ensures)
+overflow_add-j c = omega (arith, c.loop-j-test.true, c.min-count.ensures)
 
 pub loop-j-smaller : goal.loop-j-smaller
 loop-j-smaller c = omega (arith, c.loop-j-test.true)
@@ -30,5 +30,5 @@ returns c =
     let m = c.args.m in
     let p = c.args.p in
     let h = c.loop-j in
-    let e : h.j ≡ min p.relations_len 8 = omega (arith, h.invariant.1, c.loop-j-test.false, c.smaller-count.ensures, c.usize_of_u32.ensures.0) in
+    let e : h.j ≡ min p.relations_len 8 = omega (arith, h.invariant.1, c.loop-j-test.false, c.min-count.ensures, c.usize_of_u32.ensures.0) in
     λ x y. h.invariant.0 x y ∙ relations_all (is_read m x y) p h.j (relations_8 p _ c.well_formed.1.0) e

@@ -10,7 +10,7 @@ use Rattle.port_transparency.proofs.addr_rest.Goals as goal
 pub returns : goal.returns
 returns c =
     let v = c.args in
-    let d = c.smaller-d.result in
-    let e : d ≡ min (v.k - v.own) (length v.addr.now) = c.smaller-d.ensures ∙ ap (λ (n : ℕ). min n (length v.addr.now)) c.less.ensures in
+    let d = c.min-d.result in
+    let e : d ≡ min (v.k - v.own) (length v.addr.now) = c.min-d.ensures ∙ ap (λ (n : ℕ). min n (length v.addr.now)) c.less.ensures in
     take_all (length v.addr.now - d) (drop d v.addr.now) (omega (arith, length-drop d v.addr.now))
     ∙ ap (λ (n : ℕ). drop n v.addr.now) e ∙ drop_most (v.k - v.own) v.addr.now

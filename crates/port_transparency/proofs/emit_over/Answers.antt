@@ -18,14 +18,14 @@ slice_bounds-emit_dedup_mux_with-end-2 c = sym (length-take-le _ _ (omega (arith
 pub slice_bounds-emit_dedup_mux_with-end-4 : goal.slice_bounds-emit_dedup_mux_with-end-4
 slice_bounds-emit_dedup_mux_with-end-4 c = sym (length-take-le _ _ (omega (arith, c.requires.0, c.requires.2)))
 
-pub slice_bounds-copy_u32-end-2 : goal.slice_bounds-copy_u32-end-2
-slice_bounds-copy_u32-end-2 c = sym (length-take-le _ _ (omega (arith, c.requires.0, c.requires.3, c.emit_dedup_mux_with-s2.auto.out)))
+pub slice_bounds-copy-end-2 : goal.slice_bounds-copy-end-2
+slice_bounds-copy-end-2 c = sym (length-take-le _ _ (omega (arith, c.requires.0, c.requires.3, c.emit_dedup_mux_with-s2.auto.out)))
 
 pub returns : goal.returns
 returns c =
     let v = c.args in
     let f = c.store_run in
     let q = c.emit_dedup_mux_with-s2 in
-    over-all v.same v.n v.mask.now v.over.now c.copy_u32.new.to v.nets.now f.new.to v.sel.now q.new.out
+    over-all v.same v.n v.mask.now v.over.now c.copy.new.to v.nets.now f.new.to v.sel.now q.new.out
     (lent v.st v.log.now) (lent c.emit_or-s1.result c.emit_or-s1.new.log) (lent q.result q.new.log) c.requires.0 c.requires.2 c.requires.3 c.requires.4 q.auto.out f.auto.to
-    c.emit_or-s1.ensures f.ensures q.ensures.log_after q.ensures.out_after c.copy_u32.ensures
+    c.emit_or-s1.ensures f.ensures q.ensures.log_after q.ensures.out_after c.copy.ensures

@@ -11,18 +11,18 @@ use Rattle.port_transparency.proofs.Covered.{zext_length, gave_eq}
 use Rattle.port_transparency.proofs.emit_same.Goals as goal
 
 pub slice_bounds-emit_eq-end-2 : goal.slice_bounds-emit_eq-end-2
-slice_bounds-emit_eq-end-2 c = sym (length-take-le _ _ (omega (arith, c.larger-n.ensures, c.store_zext.auto.out)))
+slice_bounds-emit_eq-end-2 c = sym (length-take-le _ _ (omega (arith, c.max-n.ensures, c.store_zext.auto.out)))
 
 pub slice_bounds-emit_eq-end-4 : goal.slice_bounds-emit_eq-end-4
-slice_bounds-emit_eq-end-4 c = sym (length-take-le _ _ (omega (arith, c.larger-n.ensures, c.store_zext-2.auto.out)))
+slice_bounds-emit_eq-end-4 c = sym (length-take-le _ _ (omega (arith, c.max-n.ensures, c.store_zext-2.auto.out)))
 
 pub returns : goal.returns
 returns c =
     let v = c.args in
     let w = v.waddr.now in
     let r = v.raddr.now in
-    let k = c.larger-n.result in
-    let e : k ≡ max (length w) (length r) = c.larger-n.ensures in
+    let k = c.max-n.result in
+    let e : k ≡ max (length w) (length r) = c.max-n.ensures in
     let p = c.emit_eq in
     gave_eq (zext r (length w)) (zext w (length r)) (take k c.store_zext.new.out) (take k c.store_zext-2.new.out) (lent v.st v.log.now) (lent p.result p.new.log)
     (zext_stored v.x.now c.store_zext.new.out r (length w) k c.store_zext.ensures (zext_length r (length w) ∙ sym e) (omega arith))

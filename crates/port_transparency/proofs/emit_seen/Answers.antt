@@ -45,5 +45,5 @@ returns c =
     let k : v.kw ≡ v.kr = omega arith in
     let s = f.even k in
     case_even v.kw v.kr v.waddr.now v.raddr.now v.wdata.now v.wmask.now v.n (lent v.st v.log.now) _ _ b a
-    (copied v.bits.now c.copy_u32.new.to v.wdata.now v.n c.copy_u32.ensures s (omega (arith, f.few, c.requires.1)))
-    (copied v.mask.now c.copy_u32-2.new.to v.wmask.now v.n c.copy_u32-2.ensures (f.masked ∙ s) (omega (arith, f.few, c.requires.2)))
+    (copied v.bits.now c.copy.new.to v.wdata.now v.n c.copy.ensures s (omega (arith, f.few, c.requires.1)))
+    (copied v.mask.now c.copy-2.new.to v.wmask.now v.n c.copy-2.ensures (f.masked ∙ s) (omega (arith, f.few, c.requires.2)))

@@ -10,4 +10,4 @@ returns-in-None c =
 pub returns-in-Some : goal.returns-in-Some
 returns-in-Some c =
     let v = c.args in
-    λ trits. at_some v.m v.nets.now trits v.i v.p c.requires.0 c.requires.1 _ c.in-Some.is c.pairs_short.result c.wide_log-kr.result _ _ c.wide_log-kr.ensures.0 c.read_nets.ensures.0 c.part_u8-rels.ensures.0 (c.pairs_short.ensures trits)
+    λ trits. at_some v.m v.nets.now trits v.i v.p c.requires.0 c.requires.1 _ c.in-Some.is c.pairs_short.result c.wide_log-kr.result _ _ c.wide_log-kr.ensures.0 c.read_nets.ensures.0 c.part-rels.ensures.part (c.pairs_short.ensures trits)

@@ -5,11 +5,11 @@ use Rattle.log_entries.specs.View.{lent}
 use Rattle.port_unmap_all.proofs.Port.{port_from}
 use Rattle.port_unmap_all.proofs.emit_port.Goals as goal
 
-pub slice_bounds-part_u8-end : goal.slice_bounds-part_u8-end
-slice_bounds-part_u8-end c = sym (relations_8 c.args.p _ c.well_formed.1.1.1.1.1.1.1.1.1.1.1.1.1.1.0)
+pub slice_bounds-part-end : goal.slice_bounds-part-end
+slice_bounds-part-end c = sym (relations_8 c.args.p _ c.well_formed.1.1.1.1.1.1.1.1.1.1.1.1.1.1.0)
 
 pub returns : goal.returns
 returns c =
     let v = c.args in
     let u = c.emit_unmap in
-    record { log_after = port_from v.m v.nets.now v.trits.now v.i v.c v.p c.requires.0 c.requires.1 v.output.now _ _ _ _ _ _ _ c.output_start.result (lent v.st v.log.now) (lent u.result.state u.new.log) (relations_8 v.p _ c.well_formed.1.1.1.1.1.1.1.1.1.1.1.1.1.1.0) c.read_nets.ensures.0 c.part_u8-rels.ensures.0 c.read_trits-own.ensures.0 c.clear_of.ensures c.reset_of.ensures c.init_of.ensures (c.output_start.ensures.by_index v.nets.now v.trits.now) c.part_u32-from.ensures.0 (u.ensures.by_index v.trits.now); last_value = u.ensures.last_value }
+    record { log_after = port_from v.m v.nets.now v.trits.now v.i v.c v.p c.requires.0 c.requires.1 v.output.now _ _ _ _ _ _ _ c.output_start.result (lent v.st v.log.now) (lent u.result.state u.new.log) (relations_8 v.p _ c.well_formed.1.1.1.1.1.1.1.1.1.1.1.1.1.1.0) c.read_nets.ensures.0 c.part-rels.ensures.part c.read_trits-own.ensures.0 c.clear_of.ensures c.reset_of.ensures c.init_of.ensures (c.output_start.ensures.by_index v.nets.now v.trits.now) c.part-from.ensures.part (u.ensures.by_index v.trits.now); last_value = u.ensures.last_value }

@@ -8,5 +8,5 @@ pub returns : goal.returns
 returns c =
     let v = c.args in
     let u = c.emit_ports in
-    let k = c.copy_u32 in
+    let k = c.copy in
     all_from (memory_of v.m v.nets.now v.trits.now) v.output.now v.after.now k.new.to (lent v.st v.log.now) (lent u.result u.new.log) u.new.after k.ensures u.ensures

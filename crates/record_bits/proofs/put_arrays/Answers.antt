@@ -36,10 +36,10 @@ loop-j-preserved c =
     let a = g.args in
     let ts = a.ts.now in
     let n = (length ts + 7) / 8 in
-    let e : q.put_u8-in-loop-j.new.to ≡ set (set l.out (a.at + l.j) g.pack-g.result.known) (a.at + n + l.j) g.pack-g.result.value =
-    q.put_u8-in-loop-j.ensures ∙ ap (λ (m : List ℕ). set m (a.at + n + l.j) g.pack-g.result.value) p.put_u8.ensures in (
+    let e : q.put-in-loop-j.new.to ≡ set (set l.out (a.at + l.j) g.pack-g.result.known) (a.at + n + l.j) g.pack-g.result.value =
+    q.put-in-loop-j.ensures ∙ ap (λ (m : List ℕ). set m (a.at + n + l.j) g.pack-g.result.value) p.put.ensures in (
       omega arith,
-      q.put_u8-in-loop-j.auto.to ∙ p.put_u8.auto.to ∙ l.invariant.1,
+      q.put-in-loop-j.auto.to ∙ p.put.auto.to ∙ l.invariant.1,
       ap (λ (m : List ℕ). stored m (map known_bit ts) (map value_bit ts) a.at n (l.j + 1)) e
           ∙ stored_turn l.out (map known_bit ts) (map value_bit ts) a.at n l.j g.pack-g.result.known g.pack-g.result.value (omega arith)
           (g.pack-g.ensures.0 ∙ ap byte_of (eight_bits known_bit (8 * l.j) ts)) (g.pack-g.ensures.1 ∙ ap byte_of (eight_bits value_bit (8 * l.j) ts))

@@ -28,7 +28,7 @@ loop-i-preserved c =
     let l = p.loop-i in
     let a = p.args in
     let e = trits_turn l.image a.at a.count l.k l.v l.i p.trit_by.result (omega arith) p.trit_by.ensures in
-    (omega arith, p.put_u8.auto.to ∙ l.invariant.1, ap (λ (m : List ℕ). sets m (a.at + (l.i + 1)) (trits_left a.count (l.k / 2) (l.v / 2) (l.i + 1))) p.put_u8.ensures ∙ e ∙ l.invariant.2)
+    (omega arith, p.put.auto.to ∙ l.invariant.1, ap (λ (m : List ℕ). sets m (a.at + (l.i + 1)) (trits_left a.count (l.k / 2) (l.v / 2) (l.i + 1))) p.put.ensures ∙ e ∙ l.invariant.2)
 
 pub shape_of-image : goal.shape_of-image
 shape_of-image c = c.loop-i.invariant.1

@@ -9,8 +9,8 @@ use Rattle.record_codec.proofs.known_array.Goals as goal
 
 pub returns : goal.returns
 returns c =
-    let s = c.smaller-start in
-    let e = c.smaller-end in
+    let s = c.min-start in
+    let e = c.min-end in
     let b = c.args.bytes.now in
     let n = array_bytes (size_trits (head_sizes b)) in
     let p : e.result ≡ min (12 + n) (length b) = e.ensures ∙ ap (λ (k : ℕ). min k (length b)) c.middle_of.ensures.0 in

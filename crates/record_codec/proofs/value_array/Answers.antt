@@ -10,7 +10,7 @@ use Rattle.record_codec.proofs.value_array.Goals as goal
 
 pub returns : goal.returns
 returns c =
-    let s = c.smaller-start in
+    let s = c.min-start in
     let b = c.args.bytes.now in
     let n = array_bytes (size_trits (head_sizes b)) in
     take_all (length b - s.result) (drop s.result b) (omega (arith, length-drop s.result b))

@@ -10,4 +10,4 @@ pub returns : goal.returns
 returns c =
     let v = c.args in
     let o = c.laid_out-laid in
-    (o.ensures.result_value, ap (λ (x : Filled). x.out) c.fill-number.ensures ∙ (λ i. (fill_call (o.ensures.result_value i) ((c.part_u8.ensures.0 ∙ ap (λ (k : ℕ). part 0 k v.trits.now) c.init_size-n.ensures.0) i) v.image.now).out))
+    (o.ensures.result_value, ap (λ (x : Filled). x.out) c.fill-number.ensures ∙ (λ i. (fill_call (o.ensures.result_value i) ((c.part.ensures.part ∙ ap (λ (k : ℕ). part 0 k v.trits.now) c.init_size-n.ensures.0) i) v.image.now).out))

@@ -36,7 +36,7 @@ data_pieces-requires c =
     let z : List ℕ = replicate 16 0 in
     let s : length (take v.olds z) ≡ v.olds = length-take-le v.olds z r.few_olds in
     let b : length (take n c.arrange_rows.new.out) ≡ n = length-take-le n c.arrange_rows.new.out (omega (arith, r.few, c.arrange_rows.auto.out)) in
-    let t = c.fill_u32.auto.to in
+    let t = c.fill.auto.to in
     record { good = (subst (λ (i : ℕ). Good v.g i) (sym t) r.good, omega (arith, t, k.requires.port.1)); v_len = (b ∙ ap (λ (i : ℕ). i * v.g.entries) (sym s), narrow_less v.olds (length (take v.olds z)) v.columns v.g.entries v.pieces v.pieces s (omega arith) k.requires.narrow) }
 
 pub returns : goal.returns
@@ -52,9 +52,9 @@ returns c =
     let a = c.arrange_rows in
     let p = c.data_pieces in
     let tr = bits_row v.olds v.width g.entries n v.entries.now v.v.now y a.new.out r.entries_are refl r.few a.ensures in
-    let bl = blank-room v.to.now c.fill_u32.new.to X c.fill_u32.ensures in
+    let bl = blank-room v.to.now c.fill.new.to X c.fill.ensures in
     let f = starts_by v.chunks v.columns g.entries in
     p.ensures
-    ∙ ap (λ (i : ℕ). spill_each g.mems g.rows g.unit g.entries (f i) (up_from 0 v.pieces) (take n a.new.out) c.fill_u32.new.to) s
-    ∙ ap (λ (l : List ℕ). spill_each g.mems g.rows g.unit g.entries (f v.olds) (up_from 0 v.pieces) l c.fill_u32.new.to) tr
+    ∙ ap (λ (i : ℕ). spill_each g.mems g.rows g.unit g.entries (f i) (up_from 0 v.pieces) (take n a.new.out) c.fill.new.to) s
+    ∙ ap (λ (l : List ℕ). spill_each g.mems g.rows g.unit g.entries (f v.olds) (up_from 0 v.pieces) l c.fill.new.to) tr
     ∙ ap (λ (l : List ℕ). spill_each g.mems g.rows g.unit g.entries (f v.olds) (up_from 0 v.pieces) (arrange X (all_sources v.olds v.width v.entries.now) v.v.now) l) bl

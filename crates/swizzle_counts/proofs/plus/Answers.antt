@@ -10,5 +10,5 @@ returns c =
       nets = v.a.nets + v.b.nets;
       room = v.a.room + v.b.room;
       trits = v.a.trits + v.b.trits;
-      scratch = c.larger.ensures i;
+      scratch = c.max.ensures i;
     }

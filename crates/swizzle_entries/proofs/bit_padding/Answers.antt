@@ -20,6 +20,6 @@ returns c =
       by_index = λ t. let g = changing (memory_of v.m v.nets.now t) v.bit (writes_of v.m v.nets.now) v.gs.now in
           let n = writes_length v.m _ c.well_formed.0 v.nets.now in
           let q : length g ≤ 8 = omega (arith, n, changing_le (memory_of v.m v.nets.now t) v.bit (writes_of v.m v.nets.now) v.gs.now) in
-          c.padding_of.ensures.0 ∙ ap (λ (l : List ℕ). padded l v.n) (c.part_u32.ensures.0 ∙ kept-part (replicate 8 0) _ g _ (c.changing_of-count.ensures.by_index_2 t) (c.changing_of-count.ensures.by_index t) q);
+          c.padding_of.ensures.0 ∙ ap (λ (l : List ℕ). padded l v.n) (c.part.ensures.part ∙ kept-part (replicate 8 0) _ g _ (c.changing_of-count.ensures.by_index_2 t) (c.changing_of-count.ensures.by_index t) q);
       upper_bound = c.padding_of.ensures.1;
     }

@@ -27,7 +27,7 @@ loop-i-preserved c =
     let n = writes_length v.m _ c.well_formed.1.0 v.nets.now in
     let i : l.i < min 8 v.m.write_count = omega arith in
     let g : l.i < length v.gs.now = omega arith in
-    let x = c.part_u32-part.ensures.0 ∙ (λ k. part (l.invariant.1 k) (c.write_size-size.ensures.0 k) v.nets.now) in
+    let x = c.part-part.ensures.part ∙ (λ k. part (l.invariant.1 k) (c.write_size-size.ensures.0 k) v.nets.now) in
     let u : (t : List ℕ) → c.port_same-same.result ≡ unchanged (memory_of v.m v.nets.now t) v.bit (get_or (writes_of v.m v.nets.now) l.i _) = λ t. port_unchanged v.m v.nets.now t v.bit l.i _ _ i x (λ m w. c.port_same-same.ensures m (w ∙ sym h.usize_of_u32-width.ensures.0)) in (
       omega arith,
       omega (arith, sum_take_more write_size no_write_port refl v.m.write_ports l.i),

@@ -16,4 +16,4 @@ pub returns : goal.returns
 returns c =
     let v = c.args in
     let e = c.if-same.false in
-    record { value = (sym (ap (λ (t : Bool). when t then v.found else v.found + 1) e), omega arith); out_after = c.put_u32.ensures ∙ sym (ap (λ (t : Bool). when t then v.out.now else set v.out.now v.found v.g) e) }
+    record { value = (sym (ap (λ (t : Bool). when t then v.found else v.found + 1) e), omega arith); out_after = c.put.ensures ∙ sym (ap (λ (t : Bool). when t then v.out.now else set v.out.now v.found v.g) e) }

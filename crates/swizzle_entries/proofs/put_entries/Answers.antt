@@ -39,7 +39,7 @@ loop-bit-preserved c =
 pub shape_of-out : goal.shape_of-out
 shape_of-out c =
     let l = c.loop-bit in
-    let e = simp length-sets at (ap length c.fill_u32.ensures) in
+    let e = simp length-sets at (ap length c.fill.ensures) in
     let f = simp length-sets at (ap length (l.invariant.3 [])) in
     e ∙ f
 
@@ -50,4 +50,4 @@ returns c =
     let l = h.loop-bit in
     let d : v.m.width ≤ l.bit = omega arith in
     let p = c.padding_of-last.ensures.0 in
-    record { by_index = λ t. omega (arith, l.invariant.2 t, ap length (last v.m v.nets.now t v.gs.now l.n l.bit d), length-replicate {A = ℕ} (padded v.gs.now l.n) None, p); by_index_2 = λ t. c.fill_u32.ensures ∙ ap (λ (k : ℕ). sets l.out l.n (replicate k None)) p ∙ sym (ap (sets l.out l.n) (last v.m v.nets.now t v.gs.now l.n l.bit d)) ∙ l.invariant.3 t }
+    record { by_index = λ t. omega (arith, l.invariant.2 t, ap length (last v.m v.nets.now t v.gs.now l.n l.bit d), length-replicate {A = ℕ} (padded v.gs.now l.n) None, p); by_index_2 = λ t. c.fill.ensures ∙ ap (λ (k : ℕ). sets l.out l.n (replicate k None)) p ∙ sym (ap (sets l.out l.n) (last v.m v.nets.now t v.gs.now l.n l.bit d)) ∙ l.invariant.3 t }

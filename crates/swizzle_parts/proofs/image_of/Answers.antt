@@ -5,4 +5,4 @@ use Rattle.swizzle_parts.proofs.image_of.Goals as goal
 pub returns : goal.returns
 returns c =
     let v = c.args in
-    λ nets trits. c.part_u8.ensures.0 ∙ c.image_part-p.ensures nets trits v.image.now
+    λ nets trits. c.part.ensures.part ∙ c.image_part-p.ensures nets trits v.image.now

@@ -5,4 +5,4 @@ use Rattle.swizzle_parts.proofs.reset_of.Goals as goal
 pub returns : goal.returns
 returns c =
     let v = c.args in
-    λ nets image. c.part_u8.ensures.0 ∙ c.reset_part-p.ensures nets v.trits.now image
+    λ nets image. c.part.ensures.part ∙ c.reset_part-p.ensures nets v.trits.now image

@@ -5,4 +5,4 @@ use Rattle.swizzle_parts.proofs.write_data.Goals as goal
 pub returns : goal.returns
 returns c =
     let v = c.args in
-    λ trits image. c.part_u32.ensures.0 ∙ c.write_data_part-p.ensures v.nets.now trits image
+    λ trits image. c.part.ensures.part ∙ c.write_data_part-p.ensures v.nets.now trits image

@@ -9,4 +9,4 @@ use Rattle.swizzle_pieces.proofs.load_piece.Goals as goal
 pub returns : goal.returns
 returns c =
     let v = c.args in
-    one_is v.n v.entries.now v.x v.at v.scratch.now c.fill_u32.new.to _ (c.fill_u32.ensures ∙ ap (λ (k : ℕ). sets v.scratch.now v.at (replicate k 4294967295)) c.piece_size-size.ensures) c.load_rows.ensures
+    one_is v.n v.entries.now v.x v.at v.scratch.now c.fill.new.to _ (c.fill.ensures ∙ ap (λ (k : ℕ). sets v.scratch.now v.at (replicate k 4294967295)) c.piece_size-size.ensures) c.load_rows.ensures

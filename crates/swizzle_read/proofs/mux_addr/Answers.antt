@@ -15,7 +15,7 @@ pub returns-then-not-clocked : goal.returns-then-not-clocked
 returns-then-not-clocked c =
     let v = c.args in
     let e : v.clocked ≡ false = not-true _ (ap not c.if-not-clocked.true) in
-    rw e (addr_plain (control_of v.clock) (control_of v.enable) v.mux.now v.room.now (lent v.st v.log.now) _ c.copy_u32.ensures)
+    rw e (addr_plain (control_of v.clock) (control_of v.enable) v.mux.now v.room.now (lent v.st v.log.now) _ c.copy.ensures)
 
 pub slice_bounds-addr_dff-end : goal.slice_bounds-addr_dff-end
 slice_bounds-addr_dff-end c =

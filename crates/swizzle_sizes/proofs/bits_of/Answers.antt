@@ -22,7 +22,7 @@ loop-i-preserved c =
     let h = c in
     let v = h.args in
     let l = h.loop-i in
-    (omega arith, pair_store v.olds.now v.news.now (λ (x : ℕ × ℕ). v.base + x.1 - x.0) l.bits _ l.i _ (omega arith) (omega arith) c.minus.ensures l.invariant.1)
+    (omega arith, pair_store v.olds.now v.news.now (λ (x : ℕ × ℕ). v.base + x.1 - x.0) l.bits _ l.i _ (omega arith) (omega arith) c.saturating_sub.ensures l.invariant.1)
 
 pub returns : goal.returns
 returns c =

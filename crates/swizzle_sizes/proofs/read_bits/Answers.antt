@@ -17,5 +17,5 @@ returns c =
     let h = c.requires.0 in
     λ nets trits. let L = read_logs (memory_of v.m nets trits) v.ports.now in
     let k : length L ≡ length v.ports.now = length-map v.ports.now (λ (i : ℕ). read_wide_log2 (memory_of v.m nets trits) (read_at_of (memory_of v.m nets trits) i)) in
-    let x = c.part_u32-olds.ensures.0 ∙ first_part (replicate 8 0) _ L _ (c.read_logs-logs.ensures nets trits) (sym k) (omega (arith, k, h)) in
+    let x = c.part-olds.ensures.part ∙ first_part (replicate 8 0) _ L _ (c.read_logs-logs.ensures nets trits) (sym k) (omega (arith, k, h)) in
     c.bits_of.ensures ∙ ap (λ (l : List ℕ). in_eight (map (λ (x : ℕ × ℕ). v.base + x.1 - x.0) (pairs l v.news.now))) x

@@ -18,5 +18,5 @@ returns c =
     let n = writes_length v.m _ c.well_formed.0 v.nets.now in
     λ trits. let L = write_logs (memory_of v.m v.nets.now trits) in
     let k = logs_length v.m v.nets.now trits in
-    let x = c.part_u32-olds.ensures.0 ∙ first_part (replicate 8 0) _ L _ (c.write_logs-logs.ensures trits) (c.ports_used.ensures.0 ∙ sym (k ∙ n)) (omega (arith, k, n)) in
+    let x = c.part-olds.ensures.part ∙ first_part (replicate 8 0) _ L _ (c.write_logs-logs.ensures trits) (c.ports_used.ensures.0 ∙ sym (k ∙ n)) (omega (arith, k, n)) in
     c.bits_of.ensures ∙ ap (λ (l : List ℕ). in_eight (map (λ (x : ℕ × ℕ). v.base + x.1 - x.0) (pairs l v.news.now))) x

@@ -15,4 +15,4 @@ returns-then-want-len c =
 pub returns : goal.returns
 returns c =
     let v = c.args in
-    record { value = omega (arith, c.if-want-len.false); to_after = c.fill_u32.ensures ∙ (λ i. sets v.to.now (c.usize_of_u32.ensures.0 i) (replicate (c.usize_of_u32-2.ensures.0 i) 0)) }
+    record { value = omega (arith, c.if-want-len.false); to_after = c.fill.ensures ∙ (λ i. sets v.to.now (c.usize_of_u32.ensures.0 i) (replicate (c.usize_of_u32-2.ensures.0 i) 0)) }

@@ -13,7 +13,7 @@ returns-then-mux-eq0 c =
     let d = c.emit_eq-after in
     let l = lent v.st v.log.now in
     let l1 = lent d.result d.new.log in
-    record { log_after = alone-run v.mux.now v.mask.now v.number.now v.x l l1 k.requires.1 d.ensures c.if-mux-eq0.true; piece_after = λ o. alone_value v.mux.now v.mask.now v.number.now v.x l l1 k.requires.1 d.ensures c.if-mux-eq0.true v.piece.now _ c.copy_u32.ensures }
+    record { log_after = alone-run v.mux.now v.mask.now v.number.now v.x l l1 k.requires.1 d.ensures c.if-mux-eq0.true; piece_after = λ o. alone_value v.mux.now v.mask.now v.number.now v.x l l1 k.requires.1 d.ensures c.if-mux-eq0.true v.piece.now _ c.copy.ensures }
 
 pub returns : goal.returns
 returns c =

@@ -38,7 +38,7 @@ write_row-requires c =
     let e : length (take n m.new.out) ≡ n = length-take-le n m.new.out (omega (arith, few, row_length v.p v.entries.now v.mask.now _ (length v.to.now) m.new.out c.requires.port m.ensures)) in
     record {
       row = record {
-        port = subst (λ (i : ℕ). PortFits v.p (length v.entries.now) i) (sym c.fill_u32.auto.to) c.requires.port;
+        port = subst (λ (i : ℕ). PortFits v.p (length v.entries.now) i) (sym c.fill.auto.to) c.requires.port;
         enough = e ∙ ap (λ (k : ℕ). k * length v.entries.now) c.usize_of_u32.ensures.0;
         few = omega (arith, e, few);
         short = c.requires.few;
@@ -55,5 +55,5 @@ returns c =
     let n : ℕ = c.usize_of_u32.result * length v.entries.now in
     let few : n ≤ 4096 = row_few v.p _ _ _ c.usize_of_u32.ensures.0 c.requires.port in
     let row = mask_row_lem v.p.olds v.p.width (length v.entries.now) n v.entries.now v.mask.now z m.new.out refl (ap (λ (k : ℕ). k * length v.entries.now) c.usize_of_u32.ensures.0) few (m.ensures ∙ mask_can v.p v.entries.now v.mask.now z (fits_tested v.p (length v.entries.now) size c.requires.port).1) in
-    let t = masks_by v.p v.mux.now v.entries.now v.mask.now size _ _ _ row (blank-room v.to.now c.fill_u32.new.to 0 c.fill_u32.ensures) c.usize_of_u32-2.ensures.0 in
+    let t = masks_by v.p v.mux.now v.entries.now v.mask.now size _ _ _ row (blank-room v.to.now c.fill.new.to 0 c.fill.ensures) c.usize_of_u32-2.ensures.0 in
     record { log_after = c.write_row.ensures.log_after ∙ ap (λ (x : Trace (List ℕ)). run x (lent v.st v.log.now)) t; to_after = λ o. c.write_row.ensures.to_after o ∙ ap (λ (x : Trace (List ℕ)). (x v.st.next).value) t }

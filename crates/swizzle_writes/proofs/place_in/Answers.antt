@@ -50,7 +50,7 @@ returns-then-to-next c =
     placed_not v.p v.hw.now v.mux.now v.entries.now v.bits.now v.mask.now v.at v.to.now (lent v.st v.log.now) (roomy_full v.p (length v.hw.now) v.at (length v.to.now) (omega (arith, c.if-hw-gt-ADDR_ROOM.false)) _ e (omega (arith, c.if-usize_of_u64-columns.false, c.usize_of_u64.ensures)) _ (λ i. c.usize_of_u32-3.ensures.0 i * e i) c.if-to-next.true)
 
 pub place_nets-state-requires : goal.place_nets-state-requires
-place_nets-state-requires c = omega (arith, c.if-to-next.false, c.copy_u32.auto.to)
+place_nets-state-requires c = omega (arith, c.if-to-next.false, c.copy.auto.to)
 
 pub overflow_cast-result : goal.overflow_cast-result
 overflow_cast-result c = omega (arith, c.if-hw-gt-ADDR_ROOM.false)
@@ -60,4 +60,4 @@ returns c =
     let v = c.args in
     let e : c.usize_of_u32.result * c.usize_of_u32-2.result ≡ v.p.mems * v.p.unit = (λ i. c.usize_of_u32.ensures.0 i * c.usize_of_u32-2.ensures.0 i) in
     let s : c.usize_of_u32-3.result * (c.usize_of_u32.result * c.usize_of_u32-2.result) ≡ v.p.rows * (v.p.mems * v.p.unit) = (λ i. c.usize_of_u32-3.ensures.0 i * e i) in
-    placed_gave v.p v.hw.now v.mux.now v.entries.now v.bits.now v.mask.now v.at v.to.now (lent v.st v.log.now) _ _ c.copy_u32.new.to _ s (roomy_fits v.p (length v.hw.now) v.at (length v.to.now) (omega (arith, c.if-hw-gt-ADDR_ROOM.false)) _ e (omega (arith, c.if-usize_of_u64-columns.false, c.usize_of_u64.ensures)) _ s c.if-to-next.false) c.copy_u32.ensures c.place_nets-state.ensures
+    placed_gave v.p v.hw.now v.mux.now v.entries.now v.bits.now v.mask.now v.at v.to.now (lent v.st v.log.now) _ _ c.copy.new.to _ s (roomy_fits v.p (length v.hw.now) v.at (length v.to.now) (omega (arith, c.if-hw-gt-ADDR_ROOM.false)) _ e (omega (arith, c.if-usize_of_u64-columns.false, c.usize_of_u64.ensures)) _ s c.if-to-next.false) c.copy.ensures c.place_nets-state.ensures

@@ -15,31 +15,31 @@ pub loop-j-init : goal.loop-j-init
 loop-j-init c = (refl, refl, λ trits l v g. g)
 
 pub offset_bounds-wide-j : goal.offset_bounds-wide-j
-offset_bounds-wide-j c = omega (arith, c.loop-j-test.true, c.smaller-count.ensures, c.ports_used.ensures.0, c.ports_used.ensures.1)
+offset_bounds-wide-j c = omega (arith, c.loop-j-test.true, c.min-count.ensures, c.ports_used.ensures.0, c.ports_used.ensures.1)
 
 pub bounds-wide-j : goal.bounds-wide-j
-bounds-wide-j c = omega (arith, c.loop-j-test.true, c.smaller-count.ensures, c.ports_used.ensures.0, c.ports_used.ensures.1)
+bounds-wide-j c = omega (arith, c.loop-j-test.true, c.min-count.ensures, c.ports_used.ensures.0, c.ports_used.ensures.1)
 
 pub offset_bounds-m-j : goal.offset_bounds-m-j
-offset_bounds-m-j c = omega (arith, c.loop-j-test.true, c.smaller-count.ensures, c.ports_used.ensures.0, c.ports_used.ensures.1)
+offset_bounds-m-j c = omega (arith, c.loop-j-test.true, c.min-count.ensures, c.ports_used.ensures.0, c.ports_used.ensures.1)
 
 pub bounds-m-j : goal.bounds-m-j
-bounds-m-j c = omega (arith, c.loop-j-test.true, c.smaller-count.ensures, c.ports_used.ensures.0, c.ports_used.ensures.1)
+bounds-m-j c = omega (arith, c.loop-j-test.true, c.min-count.ensures, c.ports_used.ensures.0, c.ports_used.ensures.1)
 
 pub offset_bounds-wide-j-in-loop-j : goal.offset_bounds-wide-j-in-loop-j
-offset_bounds-wide-j-in-loop-j c = omega (arith, c.loop-j-test.true, c.smaller-count.ensures, c.ports_used.ensures.0, c.ports_used.ensures.1)
+offset_bounds-wide-j-in-loop-j c = omega (arith, c.loop-j-test.true, c.min-count.ensures, c.ports_used.ensures.0, c.ports_used.ensures.1)
 
 pub bounds-wide-j-in-loop-j : goal.bounds-wide-j-in-loop-j
-bounds-wide-j-in-loop-j c = omega (arith, c.loop-j-test.true, c.smaller-count.ensures, c.ports_used.ensures.0, c.ports_used.ensures.1)
+bounds-wide-j-in-loop-j c = omega (arith, c.loop-j-test.true, c.min-count.ensures, c.ports_used.ensures.0, c.ports_used.ensures.1)
 
 pub offset_bounds-ports-j : goal.offset_bounds-ports-j
-offset_bounds-ports-j c = omega (arith, c.loop-j-test.true, c.smaller-count.ensures, c.ports_used.ensures.0, c.ports_used.ensures.1)
+offset_bounds-ports-j c = omega (arith, c.loop-j-test.true, c.min-count.ensures, c.ports_used.ensures.0, c.ports_used.ensures.1)
 
 pub bounds-ports-j : goal.bounds-ports-j
-bounds-ports-j c = omega (arith, c.loop-j-test.true, c.smaller-count.ensures, c.ports_used.ensures.0, c.ports_used.ensures.1)
+bounds-ports-j c = omega (arith, c.loop-j-test.true, c.min-count.ensures, c.ports_used.ensures.0, c.ports_used.ensures.1)
 
 pub overflow_add-j : goal.overflow_add-j
-overflow_add-j c = omega (arith, c.loop-j-test.true, c.smaller-count.ensures, c.ports_used.ensures.0, c.ports_used.ensures.1)
+overflow_add-j c = omega (arith, c.loop-j-test.true, c.min-count.ensures, c.ports_used.ensures.0, c.ports_used.ensures.1)
 
 pub loop-j-smaller : goal.loop-j-smaller
 loop-j-smaller c = omega (arith, c.loop-j-test.true)
@@ -49,8 +49,8 @@ loop-j-preserved c =
     let v = c.args in
     let h = c.loop-j in
     let p = c.place_at-p in
-    let a : h.j < min max_ports v.m.write_count = omega (arith, c.loop-j-test.true, c.smaller-count.ensures, c.ports_used.ensures.0, c.ports_used.ensures.1) in
-    let b : h.j < length v.wide.now = omega (arith, c.loop-j-test.true, c.smaller-count.ensures, c.ports_used.ensures.0, c.ports_used.ensures.1) in (
+    let a : h.j < min max_ports v.m.write_count = omega (arith, c.loop-j-test.true, c.min-count.ensures, c.ports_used.ensures.0, c.ports_used.ensures.1) in
+    let b : h.j < length v.wide.now = omega (arith, c.loop-j-test.true, c.min-count.ensures, c.ports_used.ensures.0, c.ports_used.ensures.1) in (
       p.auto.log ∙ h.invariant.0,
       p.auto.to ∙ h.invariant.1,
       λ trits. turn_by (memory_of v.m v.nets.now trits) (layout_by v.q v.entries.now) v.mems v.m.write_ports (min max_ports v.m.write_count) v.wide.now (none_filled v.to.now) (lent v.st v.log.now) h.j (record { room = h.to; at = h.at; ports = h.ports }) (record { room = p.new.to; next = p.result.next; addr_len_of = p.result.addr_len }) (lent h.state h.log) (lent p.result.state p.new.log) a b (h.invariant.2 trits) (p.ensures trits),
@@ -66,4 +66,4 @@ pub returns : goal.returns
 returns c =
     let v = c.args in
     let h = c.loop-j in
-    λ trits. end_by (memory_of v.m v.nets.now trits) (layout_by v.q v.entries.now) v.mems v.m.write_ports (min max_ports v.m.write_count) v.wide.now (none_filled v.to.now) (lent v.st v.log.now) h.j (record { room = h.to; at = h.at; ports = h.ports }) (lent h.state h.log) (omega (arith, c.loop-j-test.false, c.smaller-count.ensures, c.ports_used.ensures.0)) (h.invariant.2 trits)
+    λ trits. end_by (memory_of v.m v.nets.now trits) (layout_by v.q v.entries.now) v.mems v.m.write_ports (min max_ports v.m.write_count) v.wide.now (none_filled v.to.now) (lent v.st v.log.now) h.j (record { room = h.to; at = h.at; ports = h.ports }) (lent h.state h.log) (omega (arith, c.loop-j-test.false, c.min-count.ensures, c.ports_used.ensures.0)) (h.invariant.2 trits)

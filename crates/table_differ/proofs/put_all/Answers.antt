@@ -30,7 +30,7 @@ loop-row-preserved c =
       omega (arith, l.invariant.2, one_more l.row a.width, w),
       omega (arith, l.invariant.3, p.2),
       omega (arith, l.invariant.4, p.3),
-      left_turn a.width a.a.now a.b.now a.out.now l.out _ l.s.at _ l.s.count _ a.depth l.row l.from _ _ _ (omega arith) l.invariant.2 w c.part_u8.ensures.0 c.part_u8-in-loop-row.ensures.0 p.0 p.1 l.invariant.5,
+      left_turn a.width a.a.now a.b.now a.out.now l.out _ l.s.at _ l.s.count _ a.depth l.row l.from _ _ _ (omega arith) l.invariant.2 w c.part.ensures.part c.part-in-loop-row.ensures.part p.0 p.1 l.invariant.5,
     )
 
 pub shape_of-out : goal.shape_of-out

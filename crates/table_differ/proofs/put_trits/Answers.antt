@@ -9,11 +9,11 @@ use mathlib.Core.List.{[]}
 use Rattle.table_differ.proofs.put_trits.Goals as goal
 
 pub put_text-requires : goal.put_text-requires
-put_text-requires c = omega (arith, c.part_u8.ensures.1, c.usize_of_u32.ensures.0, c.requires.0, c.requires.1)
+put_text-requires c = omega (arith, c.part.ensures.most, c.usize_of_u32.ensures.0, c.requires.0, c.requires.1)
 
 pub returns : goal.returns
 returns c =
     let a = c.args in
     let t = bits_text a.row.now 0 a.width [] in
-    let w = put_as t (c.part_u8.ensures.0 ∙ row_text a.width _ a.row.now _ c.requires.1 c.usize_of_u32.ensures.0 c.put_rows.ensures.0) c.put_text.ensures in
+    let w = put_as t (c.part.ensures.part ∙ row_text a.width _ a.row.now _ c.requires.1 c.usize_of_u32.ensures.0 c.put_rows.ensures.0) c.put_text.ensures in
     (w, omega (arith, w.place, length_bits a.row.now 0 a.width, c.requires.1))

@@ -19,9 +19,9 @@ loop-left-preserved c =
     let l = c.loop-left in
     let a = c.args in (
       omega arith,
-      ap length c.put_u8.ensures ∙ length-set l.out l.next c.char_byte.result ∙ l.invariant.1,
+      ap length c.put.ensures ∙ length-set l.out l.next c.char_byte.result ∙ l.invariant.1,
       omega arith,
-      bits_turn a.rows.now l.out _ a.from l.next l.left c.char_byte.result c.trit_at.result c.usize_of_u32.result (omega arith) c.usize_of_u32.ensures.0 c.trit_at.ensures c.char_byte.ensures c.put_u8.ensures ∙ l.invariant.3,
+      bits_turn a.rows.now l.out _ a.from l.next l.left c.char_byte.result c.trit_at.result c.usize_of_u32.result (omega arith) c.usize_of_u32.ensures.0 c.trit_at.ensures c.char_byte.ensures c.put.ensures ∙ l.invariant.3,
     )
 
 pub shape_of-out : goal.shape_of-out

@@ -9,4 +9,4 @@ overflow_add-result c = omega (arith, c.put_bits-end.ensures.1, c.requires)
 pub returns : goal.returns
 returns c =
     let a = c.args in
-    (row_put a.rows.now a.out.now _ _ a.at a.from a.width c.put_bits-end.result c.put_bits-end.ensures.0 c.put_bits-end.ensures.1 c.put_u8.ensures, omega (arith, c.put_bits-end.ensures.1))
+    (row_put a.rows.now a.out.now _ _ a.at a.from a.width c.put_bits-end.result c.put_bits-end.ensures.0 c.put_bits-end.ensures.1 c.put.ensures, omega (arith, c.put_bits-end.ensures.1))

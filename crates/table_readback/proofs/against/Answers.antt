@@ -11,4 +11,4 @@ pub returns : goal.returns
 returns c =
     let a = c.args in
     c.differences.ensures
-    ∙ ap (λ (l : List ℕ). text_end a.out.now (diff_text a.depth a.width a.rows.now l)) (c.part_u8-ts.ensures.0 ∙ ap (λ (m : ℕ). take m a.t.rows) c.trits_of.ensures)
+    ∙ ap (λ (l : List ℕ). text_end a.out.now (diff_text a.depth a.width a.rows.now l)) (c.part-ts.ensures.part ∙ ap (λ (m : ℕ). take m a.t.rows) c.trits_of.ensures)

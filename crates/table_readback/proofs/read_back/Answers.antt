@@ -6,4 +6,4 @@ use Rattle.table_readback.proofs.read_back.Goals as goal
 pub returns : goal.returns
 returns c =
     let a = c.args in
-    by_line a.out.now a.text.now _ _ _ _ (parsed_of c.read_table.result) c.line_end-n.ensures.0 c.part_u8-line.ensures.0 c.part_u8-after.ensures.0 c.read_table.ensures c.head_end.ensures
+    by_line a.out.now a.text.now _ _ _ _ (parsed_of c.read_table.result) c.line_end-n.ensures.0 c.part-line.ensures.part c.part-after.ensures.part c.read_table.ensures c.head_end.ensures

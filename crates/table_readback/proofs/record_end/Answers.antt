@@ -15,7 +15,7 @@ returns-then-number-ne0 c =
     let q = layout_by a.p a.entries.now in
     let n = c.record_bytes-n.result in
     let f : Filled = filled_with c.record_rows-number.result c.record_rows-number.new.room in
-    by_record a.out.now a.line.now a.after.now q (view_sizes a.z) n _ f (take (length a.after.now) (drop n a.after.now)) _ c.record_bytes-n.ensures c.part_u8.ensures.0 refl c.record_rows-number.ensures (end_refused a.out.now a.line.now [] a.p.depth a.p.width f _ _ refl c.if-number-ne0.true)
+    by_record a.out.now a.line.now a.after.now q (view_sizes a.z) n _ f (take (length a.after.now) (drop n a.after.now)) _ c.record_bytes-n.ensures c.part.ensures.part refl c.record_rows-number.ensures (end_refused a.out.now a.line.now [] a.p.depth a.p.width f _ _ refl c.if-number-ne0.true)
 
 pub returns : goal.returns
 returns c =
@@ -23,4 +23,4 @@ returns c =
     let q = layout_by a.p a.entries.now in
     let n = c.record_bytes-n.result in
     let f : Filled = filled_with c.record_rows-number.result c.record_rows-number.new.room in
-    by_record a.out.now a.line.now a.after.now q (view_sizes a.z) n _ f _ _ c.record_bytes-n.ensures c.part_u8.ensures.0 c.part_u8-3.ensures.0 c.record_rows-number.ensures (c.behind_end.ensures ∙ end_rows a.out.now a.line.now [] a.p.depth a.p.width f _ _ c.if-number-ne0.false (c.part_u8-2.ensures.0 ∙ ap (λ (m : ℕ). take m c.record_rows-number.new.room) c.trits_of.ensures))
+    by_record a.out.now a.line.now a.after.now q (view_sizes a.z) n _ f _ _ c.record_bytes-n.ensures c.part.ensures.part c.part-3.ensures.part c.record_rows-number.ensures (c.behind_end.ensures ∙ end_rows a.out.now a.line.now [] a.p.depth a.p.width f _ _ c.if-number-ne0.false (c.part-2.ensures.part ∙ ap (λ (m : ℕ). take m c.record_rows-number.new.room) c.trits_of.ensures))

@@ -21,11 +21,11 @@ returns-then-out-n-2 c =
     text_refused a.out.now (a.line.now ++ t) (omega (arith, length-append a.line.now t, c.if-out-n-2.true, c.if-out-n.false, c.rows_size-size.ensures))
 
 pub put_behind-requires : goal.put_behind-requires
-put_behind-requires c = omega (arith, c.if-out-n.false, c.copy_u8.auto.to)
+put_behind-requires c = omega (arith, c.if-out-n.false, c.copy.auto.to)
 
 pub returns : goal.returns
 returns c =
     let a = c.args in
     let t = rows_shown a.depth a.width a.rows.now in
     let k = length-append a.line.now t in
-    text_accepted a.out.now (a.line.now ++ t) _ _ (sets_then a.out.now _ _ 0 (length a.line.now) a.line.now t c.copy_u8.ensures c.put_behind.ensures (omega arith)) (omega (arith, k, c.rows_size-size.ensures)) (omega (arith, k, c.rows_size-size.ensures, c.if-out-n-2.false, c.if-out-n.false))
+    text_accepted a.out.now (a.line.now ++ t) _ _ (sets_then a.out.now _ _ 0 (length a.line.now) a.line.now t c.copy.ensures c.put_behind.ensures (omega arith)) (omega (arith, k, c.rows_size-size.ensures)) (omega (arith, k, c.rows_size-size.ensures, c.if-out-n-2.false, c.if-out-n.false))

@@ -14,4 +14,4 @@ returns c =
     let last : List ℕ = c.record_of-w.new.out in
     let turned : Split → SplitEnd = λ s. record { answer = s; out = last } in
     ap turned c.answer_of.ensures
-    ∙ good_text a.t out last _ c.requires (c.record_of-w.ensures ∙ in_use a.t out _ _ _ _ c.part_u32-es.ensures.0 c.usize_of_u32.ensures.0 c.part_u8-ts.ensures.0 c.trits_of.ensures)
+    ∙ good_text a.t out last _ c.requires (c.record_of-w.ensures ∙ in_use a.t out _ _ _ _ c.part-es.ensures.part c.usize_of_u32.ensures.0 c.part-ts.ensures.part c.trits_of.ensures)

@@ -10,5 +10,5 @@ returns c =
     let a = c.args in
     let q = layout_by a.p a.entries.now in
     let pre = c.requires in
-    c.copy_u8.ensures
-    ∙ ap (sets a.room.now a.at) (c.part_u8.ensures.0 ∙ row_is q pre.0 a.image.now pre.1 a.row pre.2 _ _ _ c.read_row.ensures c.usize_of_u32.ensures.0)
+    c.copy.ensures
+    ∙ ap (sets a.room.now a.at) (c.part.ensures.part ∙ row_is q pre.0 a.image.now pre.1 a.row pre.2 _ _ _ c.read_row.ensures c.usize_of_u32.ensures.0)

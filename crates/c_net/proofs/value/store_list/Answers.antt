@@ -17,5 +17,5 @@ unfolding no_room_of
 returns c =
     let b = c in
     let v = b.args in
-    let whole = listed_accepted _ v.out.now v.list.now _ (rw (le-ltb _ _ b.if-out-list.false)) c.copy_u32.ensures in
+    let whole = listed_accepted _ v.out.now v.list.now _ (rw (le-ltb _ _ b.if-out-list.false)) c.copy.ensures in
     record { value = whole.0; out_after = whole.1 }

@@ -33,8 +33,8 @@ returns-then-is_over c =
     let e = cut_is v.s.now v.a.now v.b.now q.result q.ensures.within q.ensures.value in
     record { log_after = p.ensures.log_after ∙ ap (λ (t : Trace Value). run t (lent v.st v.log.now)) e; out_after = results_none _ _ _ _ (sym c.is_over.ensures ∙ c.if-is_over.true) }
 
-pub slice_bounds-copy_u32-end : goal.slice_bounds-copy_u32-end
-slice_bounds-copy_u32-end c = sym (length-take-le _ _ (omega (arith, c.bitwise_in-after.auto.nets, c.bits_of-n.ensures.within)))
+pub slice_bounds-copy-end : goal.slice_bounds-copy-end
+slice_bounds-copy-end c = sym (length-take-le _ _ (omega (arith, c.bitwise_in-after.auto.nets, c.bits_of-n.ensures.within)))
 
 pub returns : goal.returns
 returns c =
@@ -44,4 +44,4 @@ returns c =
     let e = cut_is v.s.now v.a.now v.b.now q.result q.ensures.within q.ensures.value in
     let o = sym c.is_over.ensures ∙ c.if-is_over.false in
     let w = cut_value v.s.now v.a.now v.b.now q.result q.ensures.within _ _ v.st.next (omega arith) (p.ensures.nets_after o) in
-    record { log_after = p.ensures.log_after ∙ ap (λ (t : Trace Value). run t (lent v.st v.log.now)) e; out_after = results_some _ _ _ _ _ o (c.copy_u32.ensures ∙ ap (sets v.out.now 0) (w ∙ ap (λ (t : Trace Value). (t v.st.next).value) e)) }
+    record { log_after = p.ensures.log_after ∙ ap (λ (t : Trace Value). run t (lent v.st v.log.now)) e; out_after = results_some _ _ _ _ _ o (c.copy.ensures ∙ ap (sets v.out.now 0) (w ∙ ap (λ (t : Trace Value). (t v.st.next).value) e)) }

@@ -19,4 +19,4 @@ overflow_mul-result c =
 
 pub returns : goal.returns
 returns c =
-    bad_product _ _ _ _ c.wide_log-k.ensures.0 (omega arith) (c.usize_of_u64-rows.ensures ∙ two_to_is _ _ (omega arith) c.two_to.ensures.0)
+    bad_product _ _ _ _ c.wide_log-k.ensures.0 (omega arith) (c.usize_of_u64-rows.ensures ∙ two_to_is _ _ (omega arith) c.two_to.ensures.value)

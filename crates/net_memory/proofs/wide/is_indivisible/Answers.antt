@@ -10,4 +10,4 @@ pub returns-then-k-gt-ADDR_BITS : goal.returns-then-k-gt-ADDR_BITS
 returns-then-k-gt-ADDR_BITS c = above _ _ (omega arith) c.if-k-gt-ADDR_BITS.true
 
 pub returns : goal.returns
-returns c = below _ _ _ (c.usize_of_u64-rows.ensures ∙ two_to_is _ _ (omega arith) c.two_to.ensures.0)
+returns c = below _ _ _ (c.usize_of_u64-rows.ensures ∙ two_to_is _ _ (omega arith) c.two_to.ensures.value)

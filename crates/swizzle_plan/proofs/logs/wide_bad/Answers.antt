@@ -16,4 +16,4 @@ returns-then-s-new c =
 pub returns : goal.returns
 unfolding bad_wide
 returns c =
-    λ es ws rs. (λ k. ltb c.args.new ((c.minus.ensures ∙ ap (λ (n : ℕ). c.args.old - n) c.low_softs.ensures.0) k)) ∙ sym (ap (λ (t : Bool). t || ltb c.args.new (c.args.old - softs c.args.old c.args.s.soft_addr_bits_mask)) (le-ltb _ _ c.if-s-new.false))
+    λ es ws rs. (λ k. ltb c.args.new ((c.saturating_sub.ensures ∙ ap (λ (n : ℕ). c.args.old - n) c.low_softs.ensures.0) k)) ∙ sym (ap (λ (t : Bool). t || ltb c.args.new (c.args.old - softs c.args.old c.args.s.soft_addr_bits_mask)) (le-ltb _ _ c.if-s-new.false))

@@ -24,7 +24,7 @@ loop-i-preserved c =
     let l = h.loop-i in
     let n = writes_length v.m _ h.well_formed.0 v.nets.now in
     let i : l.i < min 8 v.m.write_count = omega arith in
-    let x = c.part_u32-part.ensures.0 ∙ (λ k. part (l.invariant.1 k) (c.write_size-size.ensures.0 k) v.nets.now) in
+    let x = c.part-part.ensures.part ∙ (λ k. part (l.invariant.1 k) (c.write_size-size.ensures.0 k) v.nets.now) in
     let w : (t : List ℕ) → c.wide_log.result ≡ write_wide_log2 (memory_of v.m v.nets.now t) (get_or (writes_of v.m v.nets.now) l.i no_write_of) = λ t. c.wide_log.ensures.0 ∙ log_is v.m v.nets.now t l.i i _ _ x c.data_count.ensures.0 in (
       omega arith,
       omega (arith, sum_take_more write_size no_write_port refl v.m.write_ports l.i),

@@ -25,5 +25,5 @@ returns c =
     let n = writes_length v.m _ c.well_formed.0 v.nets.now in
     λ trits es rs. let L = write_logs (memory_of v.m v.nets.now trits) in
     let k = logs_length v.m v.nets.now trits in
-    let x = c.part_u32.ensures.0 ∙ first_part (replicate 8 0) _ L _ (c.write_logs-logs.ensures trits) (c.ports_used-count.ensures.0 ∙ sym (k ∙ n)) (omega (arith, k, n)) in
+    let x = c.part.ensures.part ∙ first_part (replicate 8 0) _ L _ (c.write_logs-logs.ensures trits) (c.ports_used-count.ensures.0 ∙ sym (k ∙ n)) (omega (arith, k, n)) in
     writes_by_lem v.s v.m v.nets.now trits es v.news.now rs _ (n ∙ sym c.ports_used-count.ensures.0) c.if-news-count.false _ (c.wides_bad.ensures es v.news.now rs ∙ ap (λ (l : List ℕ). any (λ (y : ℕ × ℕ). bad_wide (plan_of v.s es v.news.now rs) y.0 y.1) (pairs l v.news.now)) x)

@@ -5,4 +5,4 @@ use Rattle.table_text.proofs.head.digit.Goals as goal
 
 pub returns : goal.returns
 unfolding head_digit
-returns c = c.pick_head.ensures ∙ rw (c.bad.ensures, c.made.ensures, c.more_ten-value.ensures, c.minus.ensures) refl
+returns c = c.pick_head.ensures ∙ rw (c.bad.ensures, c.made.ensures, c.more_ten-value.ensures, c.saturating_sub.ensures) refl

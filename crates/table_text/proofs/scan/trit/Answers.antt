@@ -6,4 +6,4 @@ use Rattle.table_text.proofs.scan.trit.Goals as goal
 pub returns : goal.returns
 unfolding scan_trit
 returns c =
-    c.pick_scan-2.ensures ∙ rw (c.turned-2.ensures, c.pick_scan.ensures, c.turned.ensures, c.made-next.ensures, c.minus.ensures, c.left_of-left.ensures) refl
+    c.pick_scan-2.ensures ∙ rw (c.turned-2.ensures, c.pick_scan.ensures, c.turned.ensures, c.made-next.ensures, c.saturating_sub.ensures, c.left_of-left.ensures) refl

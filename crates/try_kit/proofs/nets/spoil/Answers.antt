@@ -9,7 +9,7 @@ pub returns-then-n-gt0 : goal.returns-then-n-gt0
 returns-then-n-gt0 c =
     let p = c in
     let a = p.args in
-    rw (lt-ltb _ _ p.if-n-gt0.true) (p.put_u32.ensures ∙ ap (set a.s.now (a.n - 1)) p.bad_net.ensures)
+    rw (lt-ltb _ _ p.if-n-gt0.true) (p.put.ensures ∙ ap (set a.s.now (a.n - 1)) p.bad_net.ensures)
 
 pub returns-else-n-gt0 : goal.returns-else-n-gt0
 returns-else-n-gt0 c = rw (le-ltb _ _ c.if-n-gt0.false)

@@ -9,7 +9,7 @@ pub returns-then-bad : goal.returns-then-bad
 returns-then-bad c =
     let b = c in
     let f = b in
-    rw b.if-bad.true (c.put_u8.ensures ∙ ap (λ (l : List ℕ). set l f.args.place 3) f.fill_trits.ensures)
+    rw b.if-bad.true (c.put.ensures ∙ ap (λ (l : List ℕ). set l f.args.place 3) f.fill_trits.ensures)
 
 pub returns-else-bad : goal.returns-else-bad
 returns-else-bad c = rw c.if-bad.false c.fill_trits.ensures

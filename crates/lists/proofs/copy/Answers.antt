@@ -1,0 +1,8 @@
+-- `lists::copy` meets its contract.
+use Rattle.std.proofs.Common.{◌∙◌, ap, arith, ◌++◌, take}
+use borrow.Rule.Slice.PartMut.{put_mid}
+use Rattle.lists.proofs.Mids.{stores_in_place, written}
+use Rattle.lists.proofs.copy.Goals as goal
+
+pub returns : goal.returns
+returns g c = written _ _ _ _ _ _ (omega arith) c.copy_from_slice.ensures.after (omega arith) (omega arith)
