@@ -1,4 +1,3 @@
--- Laws of answers with a number, of lists in lent room, and of what is no control.
-pub mod Codes
+-- Laws of lists in lent room, and of what is no control.
 pub mod Listed
 pub mod NoControl

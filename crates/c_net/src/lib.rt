@@ -3,12 +3,14 @@
 #![tactic(auto)]
 
 ghost use Rattle.std.specs.Prelude.{◌≡◌};
+ghost use Rattle.rules.specs.Refusal.{answer_by};
 ghost use Rattle.net_logic.specs.View.{bool_answer};
 ghost use Rattle.net_value.specs.View.{control_of, control_answer, net_answer};
-ghost use Rattle.c_net.specs.View.{flag_result, value_result, given_control, flagged_control, control_struct, control_result};
+ghost use Rattle.c_net.specs.View.{flag_result, value_result, given_control, flagged_control, control_struct, control_result, count_struct};
 
-use net_logic::BoolAnswer;
-use net_value::{ControlAnswer, ControlNet, Net, NetAnswer};
+use net_value::{ControlNet, Net};
+use rules::Refusal;
+use std::result;
 
 pub mod logic;
 pub mod value;
@@ -61,19 +63,19 @@ pub struct Count {
 }
 
 // The control that a struct gives. A polarity above 1 gives Neg(0), which is no control: calls refuse it by 4.
+#[tactic(auto, unfolding(crate::specs::View::given_control))]
 pub fn control_net(c: Control) -> ControlNet
     ensures { control_of result ≡ given_control c }
 {
-    if c.polarity == 0 {
-        return ControlNet::Pos(Net(c.net));
+    match c.polarity {
+        0 => ControlNet::Pos(Net(c.net)),
+        1 => ControlNet::Neg(Net(c.net)),
+        _ => ControlNet::Neg(Net(0)),
     }
-    if c.polarity == 1 {
-        return ControlNet::Neg(Net(c.net));
-    }
-    ControlNet::Neg(Net(0))
 }
 
 // The control beside a flag. A flag above 1 gives Neg(0), so that calls refuse it by 4 too.
+#[tactic(auto, unfolding(crate::specs::View::flagged_control))]
 pub fn flagged_control(c: Control, flag: u32) -> ControlNet
     ensures { control_of result ≡ flagged_control c flag }
 {
@@ -98,50 +100,55 @@ pub fn control_struct(c: ControlNet) -> Control
     }
 }
 
-fn flag_result(a: BoolAnswer) -> Result
+// A refusal's number, or 0 and a value.
+fn number_result(a: result::Result<u32, Refusal>) -> Result
+    ensures { result ≡ value_result (answer_by (λ n. n) a) }
+{
+    let (number, value) = match a {
+        Ok(value) => (0, value),
+        Err(refusal) => (refusal.number(), 0),
+    };
+    Result { number, value }
+}
+
+fn count_result(a: result::Result<usize, Refusal>) -> Count
+    ensures { result ≡ count_struct (answer_by (λ n. n) a) }
+{
+    match a {
+        Ok(count) => Count { number: 0, count },
+        Err(refusal) => Count {
+            number: refusal.number(),
+            count: 0,
+        },
+    }
+}
+
+fn flag_result(a: result::Result<bool, Refusal>) -> Result
     ensures { result ≡ flag_result (bool_answer a) }
 {
-    match a {
-        BoolAnswer::Refused(n) => Result {
-            number: n,
-            value: 0,
-        },
-        BoolAnswer::Accepted(b) => Result {
-            number: 0,
-            value: b as u32,
-        },
-    }
+    number_result(a.map(u32::from))
 }
 
-fn net_result(a: NetAnswer) -> Result
+fn net_result(a: result::Result<Net, Refusal>) -> Result
     ensures { result ≡ value_result (net_answer a) }
 {
-    match a {
-        NetAnswer::Refused(n) => Result {
-            number: n,
-            value: 0,
-        },
-        NetAnswer::Accepted(n) => Result {
-            number: 0,
-            value: n.0,
-        },
-    }
+    number_result(a.map(|net| net.0))
 }
 
-fn control_result(a: ControlAnswer) -> ControlResult
+fn control_result(a: result::Result<ControlNet, Refusal>) -> ControlResult
     ensures { result ≡ control_result (control_answer a) }
 {
     match a {
-        ControlAnswer::Refused(n) => ControlResult {
-            number: n,
+        Ok(control) => ControlResult {
+            number: 0,
+            control: control_struct(control),
+        },
+        Err(refusal) => ControlResult {
+            number: refusal.number(),
             control: Control {
                 polarity: 0,
                 net: 0,
             },
-        },
-        ControlAnswer::Accepted(c) => ControlResult {
-            number: 0,
-            control: control_struct(c),
         },
     }
 }

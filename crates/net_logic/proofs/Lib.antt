@@ -1,4 +1,3 @@
 -- Laws that several functions cite.
 pub mod Codes
-pub mod Parts
 pub mod Rooms

@@ -130,3 +130,11 @@ else_err e n rest h = h ∙ sym (else_first n rest (refused_by e n h))
 
 pub else_ok : (n rest k : ℕ) → 0 ≡ n → k ≡ rest → k ≡ (n or_else rest)
 else_ok n rest k h q = q ∙ sym (else_rest n rest (sym h))
+
+-- what a call leaves
+module _ {ℓ} {A : Type ℓ} where
+  pub left_err : (e : Refusal) (n : ℕ) (before after : A) → number e ≡ n → before ≡ leaves n before after
+  left_err e n before after h = sym (leaves_refused n before after (refused_by e n h))
+
+  pub left_ok : (n : ℕ) (before after : A) → 0 ≡ n → after ≡ leaves n before after
+  left_ok n before after h = sym (leaves_accepted n before after (sym h))

@@ -1,13 +1,8 @@
 -- The invariants of `net_logic::write_not`.
-use mathlib.Core.Path.{◌≡◌}
-use Prim.Native.Nat.{◌-◌, ◌≤◌}
-use lib.ListN.{length, take}
-use lib.Seq.{sets}
+use Rattle.std.proofs.Common.{◌≡◌, take}
+use Rattle.std.proofs.lemmas.List.Edits.{sets}
 use Rattle.rules.specs.Logic.{const_not}
 use Rattle.net_logic.proofs.write_not.Given as goal
 
 abbrev pub invariant-loop-i : goal.invariant-loop-i
-invariant-loop-i l = (l.i ≤ length l.a) × (length l.out ≡ length l.initial.out) × (l.out ≡ sets l.initial.out 0 (take l.i (const_not l.a)))
-
-abbrev pub decreases-loop-i : goal.decreases-loop-i
-decreases-loop-i l = length l.a - l.i
+invariant-loop-i l = l.out ≡ sets l.initial.out 0 (take l.i (const_not l.a))
