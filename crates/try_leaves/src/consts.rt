@@ -1,24 +1,20 @@
 // Trits and constants. The room that is lent holds 201 to 210 before each call.
-use net_logic::{BoolAnswer, TritAnswer};
+use net_logic::Trit;
+use rules::{Refusal, number_of};
 use try_kit::tally::{Tally, add};
 
 // An answer as a number: the number that refuses, or 100 and the value.
-fn trit_number(r: TritAnswer) -> u32 {
+fn trit_number(r: Result<Trit, Refusal>) -> u32 {
     match r {
-        TritAnswer::Refused(n) => n,
-        TritAnswer::Accepted(t) => 100 + net_logic::trit_code(t) as u32,
+        Ok(t) => 100 + u32::from(net_logic::trit_code(t)),
+        Err(refusal) => refusal.number(),
     }
 }
 
-pub(crate) fn bool_number(r: BoolAnswer) -> u32 {
+pub(crate) fn bool_number(r: Result<bool, Refusal>) -> u32 {
     match r {
-        BoolAnswer::Refused(n) => n,
-        BoolAnswer::Accepted(b) => {
-            if b {
-                return 101;
-            }
-            100
-        }
+        Ok(b) => 100 + u32::from(b),
+        Err(refusal) => refusal.number(),
     }
 }
 
@@ -74,7 +70,10 @@ pub(crate) fn undefs(t: Tally) -> Tally {
 // A part of 0 1 2 1 0.
 fn slice_case(t: Tally, start: usize, end: usize, number: u32, want: &[u8]) -> Tally {
     let a = [0u8, 1, 2, 1, 0];
-    let t = add(t, net_logic::slice_refusal(start, end, 5) == number);
+    let t = add(
+        t,
+        number_of(net_logic::slice_refusal(start, end, 5)) == number,
+    );
     add(t, net_logic::const_slice(&a, start, end) == want)
 }
 
@@ -96,7 +95,7 @@ fn holds(room: &[u8; 10], want: &[u8]) -> bool {
 
 fn not_case(t: Tally, a: &[u8], number: u32, want: &[u8]) -> Tally {
     let mut room = [201u8, 202, 203, 204, 205, 206, 207, 208, 209, 210];
-    let n = net_logic::const_not(&mut room, a);
+    let n = number_of(net_logic::const_not(&mut room, a));
     let t = add(t, n == number);
     add(t, holds(&room, want))
 }
@@ -130,14 +129,14 @@ pub(crate) fn nots(t: Tally) -> Tally {
 
 fn and_case(t: Tally, a: &[u8], b: &[u8], number: u32, want: &[u8]) -> Tally {
     let mut room = [201u8, 202, 203, 204, 205, 206, 207, 208, 209, 210];
-    let n = net_logic::const_and(&mut room, a, b);
+    let n = number_of(net_logic::const_and(&mut room, a, b));
     let t = add(t, n == number);
     add(t, holds(&room, want))
 }
 
 fn or_case(t: Tally, a: &[u8], b: &[u8], number: u32, want: &[u8]) -> Tally {
     let mut room = [201u8, 202, 203, 204, 205, 206, 207, 208, 209, 210];
-    let n = net_logic::const_or(&mut room, a, b);
+    let n = number_of(net_logic::const_or(&mut room, a, b));
     let t = add(t, n == number);
     add(t, holds(&room, want))
 }
@@ -178,10 +177,16 @@ pub(crate) fn pairs_refused(t: Tally) -> Tally {
 // Room of no bytes.
 pub(crate) fn no_room(t: Tally) -> Tally {
     let mut room: [u8; 0] = [];
-    let t = add(t, net_logic::const_not(&mut room, b"") == 0);
-    let t = add(t, net_logic::const_not(&mut room, b"\x00") == 20);
-    let t = add(t, net_logic::const_and(&mut room, b"", b"") == 0);
-    let t = add(t, net_logic::const_and(&mut room, b"\x00", b"\x00") == 20);
-    let t = add(t, net_logic::const_or(&mut room, b"", b"") == 0);
-    add(t, net_logic::const_or(&mut room, b"\x00", b"\x00") == 20)
+    let t = add(t, number_of(net_logic::const_not(&mut room, b"")) == 0);
+    let t = add(t, number_of(net_logic::const_not(&mut room, b"\x00")) == 20);
+    let t = add(t, number_of(net_logic::const_and(&mut room, b"", b"")) == 0);
+    let t = add(
+        t,
+        number_of(net_logic::const_and(&mut room, b"\x00", b"\x00")) == 20,
+    );
+    let t = add(t, number_of(net_logic::const_or(&mut room, b"", b"")) == 0);
+    add(
+        t,
+        number_of(net_logic::const_or(&mut room, b"\x00", b"\x00")) == 20,
+    )
 }

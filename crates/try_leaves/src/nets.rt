@@ -1,40 +1,37 @@
 // Nets, cells and controls at the borders of what is good.
 use crate::consts::bool_number;
-use net_value::{AsConst, CellIndex, ControlAnswer, ControlNet, Driver, Net, NetAnswer};
+use net_logic::Trit;
+use net_value::{CellIndex, ControlNet, Driver, Net};
+use rules::Refusal;
 use try_kit::tally::{Tally, add};
 
 // An answer as a number: a net, or 1,000,000,000,000 and the number that refuses.
-fn net_number(r: NetAnswer) -> u64 {
+fn net_number(r: Result<Net, Refusal>) -> u64 {
     match r {
-        NetAnswer::Refused(n) => 1000000000000 + n as u64,
-        NetAnswer::Accepted(n) => n.0 as u64,
+        Ok(net) => u64::from(net.0),
+        Err(refusal) => 1000000000000 + u64::from(refusal.number()),
     }
 }
 
 // A cell's number, or 1,000,000,000,000 and the constant's code.
 fn driver_number(d: Driver) -> u64 {
     match d {
-        Driver::Constant(t) => 1000000000000 + net_logic::trit_code(t) as u64,
-        Driver::Cell(c) => c.0 as u64,
+        Driver::Constant(t) => 1000000000000 + u64::from(net_logic::trit_code(t)),
+        Driver::Cell(c) => u64::from(c.0),
     }
 }
 
 // The constant's code, or 3.
-fn const_number(c: AsConst) -> u8 {
-    match c {
-        AsConst::None => 3,
-        AsConst::Some(t) => net_logic::trit_code(t),
-    }
+fn const_number(c: Option<Trit>) -> u8 {
+    c.map_or(3, net_logic::trit_code)
 }
 
 // Pos of a net: the net; Neg: 10,000,000,000 more; or 1,000,000,000,000 and the number that refuses.
-fn control_number(r: ControlAnswer) -> u64 {
+fn control_number(r: Result<ControlNet, Refusal>) -> u64 {
     match r {
-        ControlAnswer::Refused(n) => 1000000000000 + n as u64,
-        ControlAnswer::Accepted(c) => match c {
-            ControlNet::Pos(n) => n.0 as u64,
-            ControlNet::Neg(n) => 10000000000 + n.0 as u64,
-        },
+        Ok(ControlNet::Pos(net)) => u64::from(net.0),
+        Ok(ControlNet::Neg(net)) => 10000000000 + u64::from(net.0),
+        Err(refusal) => 1000000000000 + u64::from(refusal.number()),
     }
 }
 

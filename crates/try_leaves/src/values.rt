@@ -51,7 +51,7 @@ fn holds(room: &[u32; 4], want: &[u32]) -> bool {
 
 fn zext_case(t: Tally, v: &[u32], n: usize, number: u32, want: &[u32]) -> Tally {
     let mut room = [201u32, 202, 203, 204];
-    let r = net_value::zext(&mut room, v, n);
+    let r = rules::number_of(net_value::zext(&mut room, v, n));
     let t = add(t, r == number);
     add(t, holds(&room, want))
 }
@@ -109,8 +109,11 @@ pub(crate) fn no_room(t: Tally) -> Tally {
     let v = [5u32];
     let none: [u32; 0] = [];
     let mut room: [u32; 0] = [];
-    let t = add(t, net_value::zext(&mut room, &v, 1) == 20);
-    add(t, net_value::zext(&mut room, &none, 0) == 0)
+    let t = add(t, rules::number_of(net_value::zext(&mut room, &v, 1)) == 20);
+    add(
+        t,
+        rules::number_of(net_value::zext(&mut room, &none, 0)) == 0,
+    )
 }
 
 // Of the write address 10 11 12 and the read address 20 21.
@@ -119,7 +122,7 @@ fn select_case(t: Tally, kw: u32, kr: u32, number: u32, want: &[u32]) -> Tally {
     let raddr = [20u32, 21];
     let t = add(
         t,
-        net_value::narrower_select_refusal(&waddr, &raddr, kw, kr) == number,
+        rules::number_of(net_value::narrower_select_refusal(&waddr, &raddr, kw, kr)) == number,
     );
     add(
         t,
