@@ -5,7 +5,7 @@ ghost use Rattle.c_memory.specs.View.{given_net, given_write, given_clock, given
 use crate::{FlipFlop, ReadPort, WritePort};
 use c_net::Control;
 use net_flip_flop::Controls;
-use net_memory::{MemoryReadFlipFlop, MemoryReadPort, MemoryWritePort};
+use net_memory::{MemoryReadPort, MemoryWritePort};
 use net_value::{ControlNet, Net};
 
 // ---- from a caller's struct
@@ -64,13 +64,13 @@ fn controls_of(p: FlipFlop) -> Controls
     }
 }
 
-pub fn flip_flop_of(p: FlipFlop) -> MemoryReadFlipFlop
+pub fn flip_flop_of(p: FlipFlop) -> Option<Controls>
     ensures { result ≡ given_flip_flop p }
 {
     if p.clocked == 0 {
-        return MemoryReadFlipFlop::None;
+        return None;
     }
-    MemoryReadFlipFlop::Some(controls_of(p))
+    Some(controls_of(p))
 }
 
 fn fields_of(r: ReadPort) -> FlipFlop
@@ -189,12 +189,12 @@ fn clocked_struct(c: Controls) -> FlipFlop
     }
 }
 
-pub fn flip_flop_struct(f: MemoryReadFlipFlop) -> FlipFlop
+pub fn flip_flop_struct(f: Option<Controls>) -> FlipFlop
     ensures { result ≡ flip_flop_struct f }
 {
     match f {
-        MemoryReadFlipFlop::None => no_flip_flop(),
-        MemoryReadFlipFlop::Some(c) => clocked_struct(c),
+        None => no_flip_flop(),
+        Some(c) => clocked_struct(c),
     }
 }
 
@@ -287,7 +287,7 @@ pub(crate) fn zero_read() -> ReadPort
         init_len: 0,
         relations_len: 0,
         relations: [0u8; rules::MAX_PORTS],
-        flip_flop: MemoryReadFlipFlop::None,
+        flip_flop: None,
     };
     read_with(none, no_flip_flop())
 }

@@ -7,7 +7,7 @@ ghost use Rattle.port_unmap.specs.Call.{without};
 ghost use Rattle.port_unmap_all.specs.All.{all_bare};
 ghost use Rattle.fallback_bare.specs.Bare.{bare_of};
 
-use net_memory::{Memory, MemoryReadFlipFlop, MemoryReadPort};
+use net_memory::{Memory, MemoryReadPort};
 
 // A port without its flip-flop.
 fn bare_port(p: MemoryReadPort) -> MemoryReadPort
@@ -22,7 +22,7 @@ fn bare_port(p: MemoryReadPort) -> MemoryReadPort
         init_len: p.init_len,
         relations_len: p.relations_len,
         relations,
-        flip_flop: MemoryReadFlipFlop::None,
+        flip_flop: None,
     }
 }
 

@@ -13,7 +13,7 @@ ghost use Rattle.rules.specs.Refusals.{mem_number, mem_refusal, number_by_of};
 ghost use Rattle.net_check.specs.Number.{write_number, read_number, ReadsFrom, no_read_of};
 
 use net_flip_flop::Controls;
-use net_memory::{Memory, MemoryReadFlipFlop, MemoryReadPort, MemoryWritePort};
+use net_memory::{Memory, MemoryReadPort, MemoryWritePort};
 
 fn product(a: u32, b: u32) -> u64
     ensures { result ≡ a * b }
@@ -184,8 +184,8 @@ fn read_shape_bad(width: u32, writes: usize, p: MemoryReadPort, nets: &[u32], tr
         return true;
     }
     match f {
-        MemoryReadFlipFlop::None => false,
-        MemoryReadFlipFlop::Some(_) => flip_flop_shape_bad(writes, p, trits),
+        None => false,
+        Some(_) => flip_flop_shape_bad(writes, p, trits),
     }
 }
 
@@ -198,8 +198,8 @@ fn read_nets_bad(next: u32, p: MemoryReadPort, nets: &[u32], trits: &[u8]) -> bo
         return true;
     }
     match f {
-        MemoryReadFlipFlop::None => false,
-        MemoryReadFlipFlop::Some(c) => flip_flop_nets_bad(next, c, p, trits),
+        None => false,
+        Some(c) => flip_flop_nets_bad(next, c, p, trits),
     }
 }
 
@@ -294,8 +294,8 @@ fn long_relations(p: MemoryReadPort) -> bool
 {
     let f = p.flip_flop;
     match f {
-        MemoryReadFlipFlop::None => false,
-        MemoryReadFlipFlop::Some(_) => rules::MAX_PORTS < lists::usize_of_u32(p.relations_len),
+        None => false,
+        Some(_) => rules::MAX_PORTS < lists::usize_of_u32(p.relations_len),
     }
 }
 

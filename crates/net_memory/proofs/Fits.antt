@@ -1,17 +1,14 @@
 -- What a memory's view holds fits the arrays that it is read from.
-use mathlib.Core.Path.{◌≡◌, sym, ◌∙◌, subst}
 use Prim.Native.Nat.{ℕ, ◌+◌, ◌≤◌}
 use native.Mathlib.Nat.{le_refl}
 use native.Mathlib.Omega.{arith}
-use mathlib.Core.Option.{Option, none, some}
 use mathlib.Core.List.{List, [], ◌∷◌, ◌++◌}
 use lib.ListN.{length, take, drop, length-append, length-take, length-drop}
 use Rattle.lists.specs.Lists.{sum_by, part, concat_map}
 use Rattle.lists.specs.Views.{views}
-use Rattle.rules.specs.Value.{Value}
-use Rattle.rules.specs.Cell.{ReadFlipFlop, ReadPort, Mem, held, port_nets, flip_flop_trits, port_trits, flat_nets, flat_trits}
-use Rattle.net_memory.specs.declared.MemoryReadFlipFlop.{MemoryReadFlipFlop}
-use Rattle.net_memory.specs.declared.MemoryReadFlipFlop.TheVariants.{None, Some}
+use Rattle.rules.specs.Cell.{ReadPort, held, port_nets, flip_flop_trits, port_trits, flat_nets, flat_trits}
+use Rattle.net_memory.specs.FlipFlop.{MemoryReadFlipFlop}
+use Rattle.std.specs.Prelude.{None, Some}
 use Rattle.net_memory.specs.declared.MemoryWritePort.{MemoryWritePort}
 use Rattle.net_memory.specs.declared.MemoryReadPort.{MemoryReadPort}
 use Rattle.net_memory.specs.declared.Memory.{Memory}

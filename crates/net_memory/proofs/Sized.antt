@@ -1,9 +1,9 @@
 -- What a memory by value tells of the lengths of its arrays.
-use mathlib.Core.Path.{◌≡◌, sym, ◌∙◌}
+use mathlib.Core.Path.{◌≡◌, ◌∙◌}
 use Prim.Native.Nat.{ℕ, min}
 use native.Mathlib.Omega.{arith}
 use mathlib.Core.List.{List, []}
-use lib.ListN.{length, drop, length-map, length-take}
+use lib.ListN.{length, drop, length-take}
 use mir.Val.{Val}
 use denote.Laws.{Is}
 use denote.Struct.Declared as declared

@@ -1,9 +1,10 @@
 -- Laws of wide logs and of the test of a depth.
 use mathlib.Core.Path.{◌≡◌, refl, sym, ap, ◌∙◌}
-use Prim.Native.Nat.{ℕ, ◌-◌, ◌*◌, ◌/◌, ◌%◌, ◌^◌, ◌<◌, ◌≤◌}
+use Prim.Native.Nat.{ℕ, ◌-◌, ◌*◌, ◌/◌, ◌%◌, ◌^◌, ◌<◌, ◌≤◌, min}
 use native.Mathlib.Nat.{div-zero, mod-eq_of_lt, pow-le-pow_right}
 use native.Mathlib.Omega.{arith}
 use mathlib.Core.Bool.{Bool, true, false, not, ◌||◌}
+use lib.Count.{count_leading_zeros}
 use lib.Dec.{eqb, ltb}
 use borrow.Author.Tests.{le-ltb, lt-ltb}
 use Rattle.rules.specs.Numbers.{top_bits}
@@ -11,7 +12,7 @@ use Rattle.rules.specs.Cell.{wide_log2}
 use Rattle.rules.specs.Conditions.{bad_data_len, indivisible}
 use Rattle.rules.specs.Refusals.{wide_log2_refusal}
 use Rattle.rules.specs.Answers.{Refused, Accepted, answer_of, wide_log2_call}
-use Rattle.rules.proofs.Walks.{tops_zero}
+use Rattle.rules.proofs.Walks.{tops_zero, tops_leading, tops_capped}
 
 -- ---- wideLog2
 pub log_no_width : (width size : ℕ) → width ≡ 0 → 0 ≡ wide_log2 width size
@@ -69,3 +70,7 @@ log_refused width size e = rw e
 pub log_accepted : (width size k : ℕ) → bad_data_len width size ≡ false → k ≡ wide_log2 width size → Accepted k ≡ wide_log2_call width size
 unfolding wide_log2_call wide_log2_refusal answer_of
 log_accepted width size k e q = rw e (ap Accepted q)
+
+-- ---- the bits of a word, by its leading zeros
+pub top_bits_leading : (word zeros : ℕ) → zeros ≡ count_leading_zeros 64 word → min 32 (64 - zeros) ≡ top_bits 32 word
+top_bits_leading word zeros e = omega (arith, tops_leading 64 word, tops_capped 32 32 word)

@@ -1,9 +1,8 @@
 -- What the answer of `wide_log2` is in terms of the rules.
-use Rattle.std.specs.Prelude.{ℕ}
-use Rattle.rules.specs.Answers as rules
-use Rattle.net_memory.specs.declared.wide.WideLog2.{WideLog2}
-use Rattle.net_memory.specs.declared.wide.WideLog2.TheVariants.{Refused, Accepted}
+use Rattle.std.specs.Prelude.{ℕ, Result}
+use Rattle.rules.specs.Answers.{Answer}
+use Rattle.rules.specs.Refusal.{answer_by}
+use Rattle.rules.specs.declared.numbers.Refusal.{Refusal}
 
-abbrev pub wide_of : WideLog2 → rules.Answer ℕ
-wide_of (Refused n) = rules.Refused n
-wide_of (Accepted k) = rules.Accepted k
+abbrev pub wide_of : Result ℕ Refusal → Answer ℕ
+wide_of = answer_by (λ k. k)

@@ -20,14 +20,7 @@ pub struct MemoryWritePort {
     pub clock: ControlNet,
 }
 
-// A read port's flip-flop, or none.
-#[derive(Clone, Copy)]
-pub enum MemoryReadFlipFlop {
-    None,
-    Some(Controls),
-}
-
-// The relations are codes: 0 Undefined, 1 ReadBeforeWrite, 2 Transparent.
+// The flip-flop is none where the port has no clock. The relations are codes: 0 Undefined, 1 ReadBeforeWrite, 2 Transparent.
 #[derive(Clone, Copy)]
 pub struct MemoryReadPort {
     pub addr_len: u32,
@@ -37,7 +30,7 @@ pub struct MemoryReadPort {
     pub init_len: u32,
     pub relations_len: u32,
     pub relations: [u8; rules::MAX_PORTS],
-    pub flip_flop: MemoryReadFlipFlop,
+    pub flip_flop: Option<Controls>,
 }
 
 #[derive(Clone, Copy)]
@@ -55,57 +48,49 @@ pub struct Memory {
 pub fn ports_used(count: u32) -> usize
     ensures { (result ≡ min max_ports count) × (result ≤ max_ports) }
 {
-    rules::MAX_PORTS.min(lists::usize_of_u32(count))
+    rules::MAX_PORTS.min(count as usize)
 }
 
 // How many nets a write port has.
 pub fn write_size(p: MemoryWritePort) -> usize
     ensures { (result ≡ write_size p) × (result < 0x300000000) }
 {
-    lists::usize_of_u32(p.addr_len)
-        + lists::usize_of_u32(p.data_len)
-        + lists::usize_of_u32(p.mask_len)
+    p.addr_len as usize + p.data_len as usize + p.mask_len as usize
 }
 
 // How many nets a read port has.
 pub fn addr_size(p: MemoryReadPort) -> usize
     ensures { (result ≡ addr_size p) × (result < 0x100000000) }
 {
-    lists::usize_of_u32(p.addr_len)
+    p.addr_len as usize
 }
 
 // How many initial trits a memory has.
 pub fn init_size(m: Memory) -> usize
     ensures { (result ≡ m.init_len) × (result < 0x100000000) }
 {
-    lists::usize_of_u32(m.init_len)
+    m.init_len as usize
 }
 
 // How many trits a read port has.
 pub fn trit_size(p: MemoryReadPort) -> usize
     ensures { (result ≡ trit_size p) × (result < 0x300000000) }
 {
-    lists::usize_of_u32(p.clear_len)
-        + lists::usize_of_u32(p.reset_len)
-        + lists::usize_of_u32(p.init_len)
+    p.clear_len as usize + p.reset_len as usize + p.init_len as usize
 }
 
 // The address of a write port with these nets.
 pub fn addr_of(p: MemoryWritePort, nets: &[u32]) -> &[u32]
     ensures { result.now ≡ (write_by p nets.now []).addr }
 {
-    lists::part(nets, 0, lists::usize_of_u32(p.addr_len))
+    lists::part(nets, 0, p.addr_len as usize)
 }
 
 // Its data.
 pub fn data_of(p: MemoryWritePort, nets: &[u32]) -> &[u32]
     ensures { result.now ≡ (write_by p nets.now []).bits }
 {
-    lists::part(
-        nets,
-        lists::usize_of_u32(p.addr_len),
-        lists::usize_of_u32(p.data_len),
-    )
+    lists::part(nets, p.addr_len as usize, p.data_len as usize)
 }
 
 // Its mask.
@@ -114,8 +99,8 @@ pub fn mask_of(p: MemoryWritePort, nets: &[u32]) -> &[u32]
 {
     lists::part(
         nets,
-        lists::usize_of_u32(p.addr_len) + lists::usize_of_u32(p.data_len),
-        lists::usize_of_u32(p.mask_len),
+        p.addr_len as usize + p.data_len as usize,
+        p.mask_len as usize,
     )
 }
 
@@ -123,24 +108,20 @@ pub fn mask_of(p: MemoryWritePort, nets: &[u32]) -> &[u32]
 pub fn read_addr_of(p: MemoryReadPort, nets: &[u32]) -> &[u32]
     ensures { result.now ≡ (read_by p nets.now []).addr }
 {
-    lists::part(nets, 0, lists::usize_of_u32(p.addr_len))
+    lists::part(nets, 0, p.addr_len as usize)
 }
 
 // The clear, reset and init trits of a read port with these trits.
 pub fn clear_of(p: MemoryReadPort, trits: &[u8]) -> &[u8]
     ensures { result.now ≡ part 0 p.clear_len trits.now }
 {
-    lists::part(trits, 0, lists::usize_of_u32(p.clear_len))
+    lists::part(trits, 0, p.clear_len as usize)
 }
 
 pub fn reset_of(p: MemoryReadPort, trits: &[u8]) -> &[u8]
     ensures { result.now ≡ part p.clear_len p.reset_len trits.now }
 {
-    lists::part(
-        trits,
-        lists::usize_of_u32(p.clear_len),
-        lists::usize_of_u32(p.reset_len),
-    )
+    lists::part(trits, p.clear_len as usize, p.reset_len as usize)
 }
 
 pub fn init_of(p: MemoryReadPort, trits: &[u8]) -> &[u8]
@@ -148,8 +129,8 @@ pub fn init_of(p: MemoryReadPort, trits: &[u8]) -> &[u8]
 {
     lists::part(
         trits,
-        lists::usize_of_u32(p.clear_len) + lists::usize_of_u32(p.reset_len),
-        lists::usize_of_u32(p.init_len),
+        p.clear_len as usize + p.reset_len as usize,
+        p.init_len as usize,
     )
 }
 
@@ -158,12 +139,9 @@ fn write_start(m: Memory, i: usize) -> usize
     requires { i ≤ max_ports }
     ensures { (result ≡ write_start m i) × (result ≤ i * 0x300000000) }
 {
-    let mut at: usize = 0;
-    let mut j = 0;
-    while j < i {
-        let p = m.write_ports[j];
-        at += write_size(p);
-        j += 1;
+    let mut at = 0;
+    for port in &m.write_ports[..i] {
+        at += write_size(*port);
     }
     at
 }
@@ -182,11 +160,8 @@ fn read_start(m: Memory, i: usize) -> usize
     ensures { (result ≡ read_start m i) × (result ≤ 0x1800000000 + i * 0x100000000) }
 {
     let mut at = reads_start(m);
-    let mut j = 0;
-    while j < i {
-        let p = m.read_ports[j];
-        at += lists::usize_of_u32(p.addr_len);
-        j += 1;
+    for port in &m.read_ports[..i] {
+        at += addr_size(*port);
     }
     at
 }
@@ -196,12 +171,9 @@ fn trit_start(m: Memory, i: usize) -> usize
     requires { i ≤ max_ports }
     ensures { (result ≡ trit_start m i) × (result ≤ 0x100000000 + i * 0x300000000) }
 {
-    let mut at = lists::usize_of_u32(m.init_len);
-    let mut j = 0;
-    while j < i {
-        let p = m.read_ports[j];
-        at += trit_size(p);
-        j += 1;
+    let mut at = m.init_len as usize;
+    for port in &m.read_ports[..i] {
+        at += trit_size(*port);
     }
     at
 }
@@ -240,7 +212,7 @@ pub fn read_nets(m: Memory, nets: &[u32], i: usize) -> &[u32]
         return &nets[..0];
     }
     let p = m.read_ports[i];
-    lists::part(nets, read_start(m, i), lists::usize_of_u32(p.addr_len))
+    lists::part(nets, read_start(m, i), p.addr_len as usize)
 }
 
 // The trits of read port i, also where it has no flip-flop.
@@ -274,7 +246,7 @@ pub fn read_data_len(m: Memory, i: usize) -> usize
         return 0;
     }
     let p = m.read_ports[i];
-    lists::usize_of_u32(p.data_len)
+    p.data_len as usize
 }
 
 // Where the outputs of read port i start; their end where there is no such port.
@@ -283,12 +255,9 @@ pub fn output_start(m: Memory, i: usize) -> usize
     ensures upper_bound { result ≤ 0x800000000 }
 {
     let end = i.min(ports_used(m.read_count));
-    let mut at: usize = 0;
-    let mut j = 0;
-    while j < end {
-        let p = m.read_ports[j];
-        at += lists::usize_of_u32(p.data_len);
-        j += 1;
+    let mut at = 0;
+    for port in &m.read_ports[..end] {
+        at += port.data_len as usize;
     }
     at
 }
@@ -297,10 +266,6 @@ pub fn output_start(m: Memory, i: usize) -> usize
 pub fn data_count(p: MemoryWritePort, nets: &[u32]) -> usize
     ensures { (result ≡ length (write_by p nets.now []).bits) × (result < 0x100000000) }
 {
-    let bits = lists::part(
-        nets,
-        lists::usize_of_u32(p.addr_len),
-        lists::usize_of_u32(p.data_len),
-    );
+    let bits = lists::part(nets, p.addr_len as usize, p.data_len as usize);
     bits.len()
 }

@@ -26,8 +26,8 @@ use Rattle.merge_mux.proofs.Spread.{length_spread}
 use Rattle.rules.specs.Logic.{is_undef, undef, zeros}
 use Rattle.rules.specs.Ports.{Driving, relates_to, delayed, delay_writes, settled_flip_flop, settled_port, emulate_read_before_write}
 use Rattle.rules.specs.Refusals.{Rooms, no_rooms, driving_refusal, alone}
-use Rattle.net_memory.specs.declared.MemoryReadFlipFlop.{MemoryReadFlipFlop}
-use Rattle.net_memory.specs.declared.MemoryReadFlipFlop.TheVariants.{None, Some}
+use Rattle.net_memory.specs.FlipFlop.{MemoryReadFlipFlop}
+use Rattle.std.specs.Prelude.{None, Some}
 use Rattle.net_memory.specs.declared.MemoryWritePort.{MemoryWritePort}
 use Rattle.net_memory.specs.declared.MemoryReadPort.{MemoryReadPort}
 use Rattle.net_memory.specs.declared.Memory.{Memory}

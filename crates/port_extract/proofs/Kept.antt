@@ -5,8 +5,8 @@ use mathlib.Core.List.{List, [], append-nil}
 use lib.ListN.{length}
 use Rattle.lists.specs.Lists.{concat_map}
 use Rattle.rules.specs.Cell.{held, port_nets, flip_flop_trits, port_trits}
-use Rattle.net_memory.specs.declared.MemoryReadFlipFlop.{MemoryReadFlipFlop}
-use Rattle.net_memory.specs.declared.MemoryReadFlipFlop.TheVariants.{None, Some}
+use Rattle.net_memory.specs.FlipFlop.{MemoryReadFlipFlop}
+use Rattle.std.specs.Prelude.{None, Some}
 use Rattle.net_memory.specs.declared.MemoryWritePort.{MemoryWritePort}
 use Rattle.net_memory.specs.declared.MemoryReadPort.{MemoryReadPort}
 use Rattle.net_memory.specs.View.{write_size, trit_size, write_by, read_by, flip_flop_by}

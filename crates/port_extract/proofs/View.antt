@@ -15,7 +15,7 @@ use Rattle.lists.proofs.Views.{get_d_views, views_front}
 use Rattle.rules.specs.Limits.{max_ports}
 use Rattle.rules.specs.Cell.{ReadPort, read_at_of, with_reads, port_nets, port_trits, flat_nets, flat_trits}
 use Rattle.rules.specs.Ports.{extract_read_ports}
-use Rattle.net_memory.specs.declared.MemoryReadFlipFlop.{MemoryReadFlipFlop}
+use Rattle.net_memory.specs.FlipFlop.{MemoryReadFlipFlop}
 use Rattle.net_memory.specs.declared.MemoryReadPort.{MemoryReadPort}
 use Rattle.net_memory.specs.declared.Memory.{Memory}
 use Rattle.net_memory.specs.View.{no_read_port, write_ports_of, read_ports_of, write_size, addr_size, trit_size, no_trits, write_by, read_by, writes_of, reads_of, reads_start, read_port, memory_of, read_nets, read_trits, nets_total, trits_total}

@@ -7,8 +7,8 @@ use Rattle.rules.specs.Limits.{max_ports}
 use Rattle.rules.specs.Cell.{output_len, flat_nets, flat_trits}
 use Rattle.rules.specs.Ports.{Driving, extract_read_ports}
 use Rattle.rules.specs.Answers as rules
-use Rattle.net_memory.specs.declared.MemoryReadFlipFlop.{MemoryReadFlipFlop}
-use Rattle.net_memory.specs.declared.MemoryReadFlipFlop.TheVariants.{None, Some}
+use Rattle.net_memory.specs.FlipFlop.{MemoryReadFlipFlop}
+use Rattle.std.specs.Prelude.{None, Some}
 use Rattle.net_memory.specs.declared.MemoryReadPort.{MemoryReadPort}
 use Rattle.net_memory.specs.declared.Memory.{Memory}
 use Rattle.net_memory.specs.View.{no_read_port, read_ports_of, reads_start, memory_of, read_nets, read_trits, nets_total, trits_total}

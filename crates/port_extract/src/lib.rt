@@ -12,7 +12,7 @@ ghost use Rattle.net_memory.specs.View.{memory_of, read_nets};
 ghost use Rattle.net_memory.specs.Given.{given_of};
 ghost use Rattle.port_extract.specs.Extract.{extracted_of, kept_port, kept_trits, with_ports, new_nets, new_trits, extraction_of, new_output, NewStruct, ListedPorts, Ready};
 
-use net_memory::{Memory, MemoryReadFlipFlop, MemoryReadPort};
+use net_memory::{Memory, MemoryReadPort};
 
 // The number that refuses an extraction, or 0, and the memory after it.
 #[derive(Clone, Copy)]
@@ -43,8 +43,8 @@ fn clocked_trits(m: Memory, trits: &[u8], i: usize) -> &[u8]
     let p = m.read_ports[i];
     let f = p.flip_flop;
     match f {
-        MemoryReadFlipFlop::None => &trits[..0],
-        MemoryReadFlipFlop::Some(_) => net_memory::read_trits(m, trits, i),
+        None => &trits[..0],
+        Some(_) => net_memory::read_trits(m, trits, i),
     }
 }
 
@@ -129,13 +129,13 @@ fn kept_port(p: MemoryReadPort) -> MemoryReadPort
     let f = p.flip_flop;
     let mut q = p;
     match f {
-        MemoryReadFlipFlop::None => {
+        None => {
             q.clear_len = 0;
             q.reset_len = 0;
             q.init_len = 0;
             q
         }
-        MemoryReadFlipFlop::Some(_) => q,
+        Some(_) => q,
     }
 }
 

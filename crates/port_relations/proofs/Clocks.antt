@@ -20,8 +20,8 @@ use Rattle.rules.specs.Ports.{relates_to}
 use Rattle.rules.specs.Conditions.{clocks_differ, read_clocks_differ, mixed_relations, unclocked}
 use Rattle.rules.specs.Refusals.{mem_number, emulate_number}
 use Rattle.net_value.specs.View.{control_of}
-use Rattle.net_memory.specs.declared.MemoryReadFlipFlop.{MemoryReadFlipFlop}
-use Rattle.net_memory.specs.declared.MemoryReadFlipFlop.TheVariants.{None, Some}
+use Rattle.net_memory.specs.FlipFlop.{MemoryReadFlipFlop}
+use Rattle.std.specs.Prelude.{None, Some}
 use Rattle.net_memory.specs.declared.MemoryReadPort.{MemoryReadPort}
 use Rattle.net_memory.specs.declared.Memory.{Memory}
 use Rattle.net_memory.specs.Given.{clocked, given_of}

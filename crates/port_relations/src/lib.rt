@@ -12,7 +12,7 @@ ghost use Rattle.net_memory.specs.View.{memory_of};
 ghost use Rattle.net_memory.specs.Given.{clocked, given_of};
 ghost use Rattle.port_relations.specs.Clocked.{clock_of, other_clock, port_differs, has_relation, port_relates, flip_flops_from};
 
-use net_memory::{Memory, MemoryReadFlipFlop, MemoryReadPort};
+use net_memory::{Memory, MemoryReadPort};
 use net_value::{ControlNet, Net};
 
 // The codes of a relation, as rules/specs/Cell.antt has them.
@@ -28,8 +28,8 @@ fn is_clocked(p: MemoryReadPort) -> bool
 {
     let f = p.flip_flop;
     match f {
-        MemoryReadFlipFlop::None => false,
-        MemoryReadFlipFlop::Some(_) => true,
+        None => false,
+        Some(_) => true,
     }
 }
 
@@ -39,8 +39,8 @@ fn clock_of(p: MemoryReadPort) -> ControlNet
 {
     let f = p.flip_flop;
     match f {
-        MemoryReadFlipFlop::None => ControlNet::Pos(Net(0)),
-        MemoryReadFlipFlop::Some(c) => c.clock,
+        None => ControlNet::Pos(Net(0)),
+        Some(c) => c.clock,
     }
 }
 

@@ -25,8 +25,8 @@ use Rattle.net_flip_flop.specs.declared.Controls.{Controls}
 use Rattle.log_entries.specs.View.{state_of}
 use Rattle.log_entries.specs.declared.LogState as machine
 use Rattle.net_memory.specs.declared.Memory.{Memory}
-use Rattle.net_memory.specs.declared.MemoryReadFlipFlop.{MemoryReadFlipFlop}
-use Rattle.net_memory.specs.declared.MemoryReadFlipFlop.TheVariants.{Some}
+use Rattle.net_memory.specs.FlipFlop.{MemoryReadFlipFlop}
+use Rattle.std.specs.Prelude.{Some}
 use Rattle.net_memory.specs.View.{memory_of, reads_of, writes_of, read_port}
 use Rattle.net_memory.specs.Given.{given_of}
 use Rattle.net_memory.proofs.Fits.{nets_fit, trits_fit}

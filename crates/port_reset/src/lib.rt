@@ -12,7 +12,7 @@ ghost use Rattle.rules.specs.Refusals.{flip_flop_refusal, log_refusal, driven_re
 ghost use Rattle.rules.specs.Answers.{driven, unmap_reset_call};
 ghost use Rattle.log_entries.specs.Emission.{is_over, run};
 ghost use Rattle.log_entries.specs.View.{state_of, lent};
-ghost use Rattle.net_memory.specs.declared.MemoryReadFlipFlop.TheVariants.{Some};
+ghost use Rattle.std.specs.Prelude.{Some};
 ghost use Rattle.net_memory.specs.View.{memory_of, read_port};
 ghost use Rattle.net_memory.specs.Given.{given_of};
 ghost use Rattle.port_unmap.specs.Ready.{own_flip_flop};
@@ -22,7 +22,7 @@ ghost use Rattle.port_reset.specs.Call.{Acted, ResetStruct};
 
 use log_entries::LogState;
 use net_flip_flop::Controls;
-use net_memory::{Memory, MemoryReadFlipFlop, MemoryReadPort};
+use net_memory::{Memory, MemoryReadPort};
 use port_reset_emit::ResetNets;
 use port_unmap::Driven;
 
@@ -374,12 +374,12 @@ fn unmap_port(
 {
     let f = p.flip_flop;
     match f {
-        MemoryReadFlipFlop::None => Driven {
+        None => Driven {
             refusal: 22,
             memory: m,
             state: st,
         },
-        MemoryReadFlipFlop::Some(c) => {
+        Some(c) => {
             unmap_some(log, st, output, trits, m, nets, i, p, c, incl)
         }
     }

@@ -16,8 +16,8 @@ use Rattle.net_value.specs.declared.ControlNet.{ControlNet}
 use Rattle.net_value.specs.declared.ControlNet.TheVariants as machine
 use Rattle.net_value.specs.View.{control_of}
 use Rattle.net_flip_flop.specs.View.{controls_of}
-use Rattle.net_memory.specs.declared.MemoryReadFlipFlop.{MemoryReadFlipFlop}
-use Rattle.net_memory.specs.declared.MemoryReadFlipFlop.TheVariants.{None, Some}
+use Rattle.net_memory.specs.FlipFlop.{MemoryReadFlipFlop}
+use Rattle.std.specs.Prelude.{None, Some}
 use Rattle.net_memory.specs.declared.MemoryWritePort.{MemoryWritePort}
 use Rattle.net_memory.specs.declared.MemoryReadPort.{MemoryReadPort}
 use Rattle.net_memory.specs.declared.Memory.{Memory}

@@ -30,7 +30,7 @@ use Rattle.log_entries.specs.View.{state_of}
 use Rattle.log_entries.specs.declared.LogState as machine
 use Rattle.net_memory.specs.declared.Memory.{Memory}
 use Rattle.net_memory.specs.declared.MemoryReadPort.{MemoryReadPort}
-use Rattle.net_memory.specs.declared.MemoryReadFlipFlop.TheVariants.{None, Some}
+use Rattle.std.specs.Prelude.{None, Some}
 use Rattle.net_memory.specs.View.{no_read_port, with_read_port, memory_of, reads_of, writes_of, read_port, flip_flop_by, read_trits}
 use Rattle.net_memory.proofs.Ports.{read_of_view, reads_at, trits_at}
 use Rattle.net_check.proofs.Accept.{Valid, valid, sizes}

@@ -18,8 +18,8 @@ use Rattle.rules.specs.Conditions.{no_room_of}
 use Rattle.rules.specs.Log.{done}
 use Rattle.rules.specs.Ports.{Driving, unmap_dff, unmap_read_dff_of, unmap_read_dff}
 use Rattle.rules.specs.Refusals.{Rooms, no_rooms, driving_refusal}
-use Rattle.net_memory.specs.declared.MemoryReadFlipFlop.{MemoryReadFlipFlop}
-use Rattle.net_memory.specs.declared.MemoryReadFlipFlop.TheVariants.{None, Some}
+use Rattle.net_memory.specs.FlipFlop.{MemoryReadFlipFlop}
+use Rattle.std.specs.Prelude.{None, Some}
 use Rattle.net_memory.specs.declared.MemoryWritePort.{MemoryWritePort}
 use Rattle.net_memory.specs.declared.MemoryReadPort.{MemoryReadPort}
 use Rattle.net_memory.specs.declared.Memory.{Memory}

@@ -23,7 +23,7 @@ use native.Mathlib.Nat.{le_refl}
 use lib.Seq.{take-take}
 use Rattle.net_flip_flop.specs.declared.Controls.{Controls}
 use Rattle.net_memory.specs.declared.MemoryReadPort.{MemoryReadPort}
-use Rattle.net_memory.specs.declared.MemoryReadFlipFlop.TheVariants.{None, Some}
+use Rattle.std.specs.Prelude.{None, Some}
 use Rattle.net_memory.specs.View.{memory_of, reads_of, read_port, read_by, flip_flop_by, clocked_by, read_start, trit_start, addr_size, trit_size, read_nets}
 use Rattle.net_memory.proofs.Ports.{read_of_view, reads_none, reads_at, nets_at}
 use Rattle.net_memory.specs.Given.{given_of}

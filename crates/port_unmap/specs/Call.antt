@@ -6,7 +6,7 @@ use Rattle.rules.specs.Refusals.{Rooms}
 use Rattle.rules.specs.Answers as rules
 use Rattle.log_entries.specs.declared.LogState.{LogState}
 use Rattle.log_entries.specs.View.{state_of}
-use Rattle.net_memory.specs.declared.MemoryReadFlipFlop.TheVariants.{None}
+use Rattle.std.specs.Prelude.{None}
 use Rattle.net_memory.specs.declared.MemoryReadPort.{MemoryReadPort}
 use Rattle.net_memory.specs.declared.Memory.{Memory}
 use Rattle.net_memory.specs.View.{memory_of, read_port, with_read_port}

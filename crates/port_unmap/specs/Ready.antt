@@ -6,7 +6,7 @@ use Rattle.rules.specs.Cell.{ReadFlipFlop, read_at_of, transparent_ports}
 use Rattle.rules.specs.Conditions.{bad_write_shape, bad_read_shape, short_pair}
 use Rattle.net_flip_flop.specs.declared.Controls.{Controls}
 use Rattle.net_memory.specs.declared.Memory.{Memory}
-use Rattle.net_memory.specs.declared.MemoryReadFlipFlop.TheVariants.{Some}
+use Rattle.std.specs.Prelude.{Some}
 use Rattle.net_memory.specs.View.{memory_of, read_port, read_trits, clocked_by}
 
 -- the flip-flop of port i

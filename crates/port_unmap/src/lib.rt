@@ -18,7 +18,7 @@ ghost use Rattle.port_unmap.specs.Call.{unclocking, driving, rooms_of, driven_of
 
 use log_entries::LogState;
 use net_flip_flop::Controls;
-use net_memory::{Memory, MemoryReadFlipFlop, MemoryReadPort};
+use net_memory::{Memory, MemoryReadPort};
 use port_overlay::Unmapped;
 
 // The number that refuses an unmapping, or 0; the memory and the log's state after it.
@@ -173,8 +173,8 @@ fn port_short_at(m: Memory, nets: &[u32], i: usize, p: MemoryReadPort) -> bool
     let rels = lists::part(&relations, 0, p.relations_len as usize);
     let kr = net_memory::wide::wide_log(m.width, p.data_len as usize);
     match f {
-        MemoryReadFlipFlop::None => false,
-        MemoryReadFlipFlop::Some(_) => pairs_short(
+        None => false,
+        Some(_) => pairs_short(
             m,
             nets,
             net_memory::read_nets(m, nets, i),
@@ -226,7 +226,7 @@ fn unclock(m: Memory, i: usize, p: MemoryReadPort) -> Memory
         init_len: p.init_len,
         relations_len: p.relations_len,
         relations,
-        flip_flop: MemoryReadFlipFlop::None,
+        flip_flop: None,
     };
     let mut out = m;
     out.read_ports[i] = q;
@@ -316,12 +316,12 @@ fn unmap_port(
     let f = p.flip_flop;
     let n = log_entries::room_refusal(log.len(), st, 0, 0);
     match f {
-        MemoryReadFlipFlop::None => Driven {
+        None => Driven {
             refusal: n,
             memory: m,
             state: st,
         },
-        MemoryReadFlipFlop::Some(c) => unmap_clocked(log, st, output, m, nets, trits, i, p, c),
+        Some(c) => unmap_clocked(log, st, output, m, nets, trits, i, p, c),
     }
 }
 

@@ -16,7 +16,7 @@ ghost use Rattle.port_unmap_all.specs.All.{port_trace, unmapped_of, unmapped_at,
 
 use log_entries::LogState;
 use net_flip_flop::Controls;
-use net_memory::{Memory, MemoryReadFlipFlop, MemoryReadPort};
+use net_memory::{Memory, MemoryReadPort};
 use port_overlay::Unmapped;
 
 // Some transparent pair of a clocked read port has too few address bits.
@@ -147,8 +147,8 @@ fn emit_at(
     let p = m.read_ports[i];
     let f = p.flip_flop;
     match f {
-        MemoryReadFlipFlop::None => st,
-        MemoryReadFlipFlop::Some(c) => emit_clocked(
+        None => st,
+        Some(c) => emit_clocked(
             log, st, after, under, bits, mask, sel, spare, kx, ky, at, m, nets, trits, i, p, c,
             output,
         ),

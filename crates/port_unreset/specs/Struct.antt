@@ -6,8 +6,8 @@ use Rattle.rules.specs.Limits.{trit_x}
 use Rattle.rules.specs.Ports.{is_plain, no_transparent}
 use Rattle.net_value.specs.declared.ControlNet.TheVariants.{Pos}
 use Rattle.net_flip_flop.specs.declared.Controls.{Controls}
-use Rattle.net_memory.specs.declared.MemoryReadFlipFlop.{MemoryReadFlipFlop}
-use Rattle.net_memory.specs.declared.MemoryReadFlipFlop.TheVariants.{None, Some}
+use Rattle.net_memory.specs.FlipFlop.{MemoryReadFlipFlop}
+use Rattle.std.specs.Prelude.{None, Some}
 use Rattle.net_memory.specs.declared.MemoryReadPort.{MemoryReadPort}
 use Rattle.net_memory.specs.declared.Memory.{Memory}
 use Rattle.net_memory.specs.View.{read_port, read_trits, clocked_by, trit_start, trit_size, with_read_port}

@@ -10,7 +10,7 @@ ghost use Rattle.net_memory.specs.View.{clocked_by, read_trits, trit_start};
 ghost use Rattle.port_unreset.specs.Struct.{kept_relations, unreset_port, unreset, blanked};
 
 use net_flip_flop::Controls;
-use net_memory::{Memory, MemoryReadFlipFlop, MemoryReadPort};
+use net_memory::{Memory, MemoryReadPort};
 use net_value::{ControlNet, Net};
 
 // The relations that are to go.
@@ -118,7 +118,7 @@ fn unreset_port(p: MemoryReadPort, c: Controls, incl: bool) -> MemoryReadPort
         init_len: p.init_len,
         relations_len: p.relations_len,
         relations,
-        flip_flop: MemoryReadFlipFlop::Some(controls),
+        flip_flop: Some(controls),
     }
 }
 

@@ -1,11 +1,12 @@
 -- The walk over the bits of a row number: two rows of one memory never have one spot, and each spot lies inside the shape that the sizes give.
-use Prim.Native.Nat.{ℕ, zero, suc, ◌+◌, ◌-◌, ◌*◌, ◌/◌, ◌%◌, ◌^◌, ◌≤◌, ◌<◌, ◌∣◌}
+use Prim.Native.Nat.{ℕ, zero, suc, ◌+◌, ◌-◌, ◌*◌, ◌/◌, ◌%◌, ◌^◌, ◌≤◌, ◌<◌, ◌∣◌, min}
 use mathlib.Core.Path.{◌≡◌, refl, sym, ap, ◌∙◌, subst, subst₂}
 use mathlib.Core.Bool.{Bool, true, false, ◌||◌}
 use mathlib.Core.Logic.{◌⊎◌, inl, inr, ⊎_elim}
 use native.Mathlib.Decide.{dec_lt}
-use native.Mathlib.Nat.{dvd-mul_right, pow-succ', pow-suc, mul-div_cancel_left, eq-zero-or-pos, mul-le-mul_right, div-add-mod', mod-lt, div-div-eq-div-mul, mul-div-mul_left, div-one, mod-one, mul_assoc, mul_comm, mul_left_comm, zero-div, zero-mod, dvd_of_mod-eq-zero, mul-div_assoc, dvd_trans, mod-eq-zero_of_dvd}
+use native.Mathlib.Nat.{dvd-mul_right, pow-succ', pow-suc, mul-div_cancel_left, eq-zero-or-pos, mul-le-mul_right, div-add-mod', mod-lt, div-div-eq-div-mul, mul-div-mul_left, div-one, mod-one, mul_assoc, mul_comm, mul_left_comm, zero-div, zero-mod, dvd_of_mod-eq-zero, mul-div_assoc, dvd_trans, mod-eq-zero_of_dvd, suc-add}
 use native.Mathlib.Omega.{arith}
+use lib.Count.{count_leading_zeros}
 use lib.Dec.{eqb}
 use lib.Arith.{mod-mul}
 use lib.Pow.{pow_pos, pow-add, pow_mono}
@@ -285,3 +286,17 @@ pow_32 k l = pow_mono l
 pub top_none : (n m : ℕ) → n ≡ 0 → top_bits n m ≡ 0
 unfolding top_bits
 top_none n m e = ap (λ (k : ℕ). top_bits k m) e
+
+-- ---- the highest bit, by the zeros above it
+pub tops_leading : (n m : ℕ) → count_leading_zeros n m + top_bits n m ≡ n
+unfolding top_bits count_leading_zeros
+tops_leading zero m = refl
+tops_leading (suc n) zero = omega arith
+tops_leading (suc n) (suc m) = omega (arith, tops_leading n (suc m / 2), tops_pos n (suc m) (omega arith))
+
+-- among fewer bits
+pub tops_capped : (n k m : ℕ) → top_bits n m ≡ min n (top_bits (n + k) m)
+unfolding top_bits
+tops_capped zero k m = omega arith
+tops_capped (suc n) k zero = rw suc-add (omega arith)
+tops_capped (suc n) k (suc m) = rw suc-add (omega (arith, tops_capped n k (suc m / 2), tops_pos n (suc m) (omega arith), tops_pos (n + k) (suc m) (omega arith)))

@@ -22,8 +22,8 @@ use Rattle.rules.specs.Swizzle.{Split, split_by, split_addr, sources, repeating}
 use Rattle.rules.specs.Beside.Counts.{Count, plus, nothing, sum_counts, times_count, mux_count_of, dff_count, eq_count, void_count, replace_count, mask_nets, write_count_of, clocked_count, read_count_of}
 use Rattle.net_memory.specs.declared.Memory.{Memory}
 use Rattle.net_memory.specs.declared.MemoryReadPort.{MemoryReadPort}
-use Rattle.net_memory.specs.declared.MemoryReadFlipFlop.{MemoryReadFlipFlop}
-use Rattle.net_memory.specs.declared.MemoryReadFlipFlop.TheVariants.{None, Some}
+use Rattle.net_memory.specs.FlipFlop.{MemoryReadFlipFlop}
+use Rattle.std.specs.Prelude.{None, Some}
 use Rattle.net_memory.specs.View as view
 use Rattle.net_memory.specs.View.{memory_of, read_port, read_nets, write_port, write_nets, write_by, flip_flop_by, addr_size, trit_size, read_start, trit_start, write_start, write_size}
 use Rattle.net_memory.proofs.Ports.{read_of_view, reads_at, nets_at, write_of_view, writes_at, write_nets_at}

@@ -8,8 +8,8 @@ use Rattle.rules.specs.Value.{Value}
 use Rattle.rules.specs.Cell.{wide_log2}
 use Rattle.rules.specs.Swizzle.{Split, split_addr, repeating}
 use Rattle.net_memory.specs.declared.Memory.{Memory}
-use Rattle.net_memory.specs.declared.MemoryReadFlipFlop.{MemoryReadFlipFlop}
-use Rattle.net_memory.specs.declared.MemoryReadFlipFlop.TheVariants.{None, Some}
+use Rattle.net_memory.specs.FlipFlop.{MemoryReadFlipFlop}
+use Rattle.std.specs.Prelude.{None, Some}
 use Rattle.net_memory.specs.View.{read_port, read_nets, write_port, write_nets, write_by}
 use Rattle.image_geometry.specs.declared.Params.{Params}
 use Rattle.image_geometry.specs.View.{layout_by}

@@ -9,7 +9,8 @@ ghost use Rattle.swizzle_split.specs.Steps.{can_split};
 ghost use Rattle.swizzle_counts.specs.Needs.{no_needs, plus_needs, Most, port_most, split_of, Lengths, Ranges, read_from, is_clocked, read_needs, ReadFits, ReadsFit, reads_needs, mux_words, mux_nets, write_from, kept_nets, MaskFits, write_needs, WriteFits, WritesFit, writes_needs};
 
 use image_geometry::Params;
-use net_memory::{Memory, MemoryReadFlipFlop};
+use net_flip_flop::Controls;
+use net_memory::Memory;
 use swizzle_columns::WidePort;
 use swizzle_split::{Outcome, Split};
 
@@ -120,12 +121,12 @@ fn read_by(s: Split, rows: usize, columns: usize, len: usize, clocked: bool) -> 
     }
 }
 
-fn is_clocked(f: MemoryReadFlipFlop) -> bool
+fn is_clocked(f: Option<Controls>) -> bool
     ensures { result ≡ is_clocked f }
 {
     match f {
-        MemoryReadFlipFlop::None => false,
-        MemoryReadFlipFlop::Some(_) => true,
+        None => false,
+        Some(_) => true,
     }
 }
 

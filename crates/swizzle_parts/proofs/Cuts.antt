@@ -11,8 +11,8 @@ use Rattle.lists.proofs.Parts.{part-part}
 use Rattle.rules.specs.Limits.{max_ports}
 use Rattle.rules.specs.Cell.{WritePort, ReadPort, write_at, read_at_of}
 use Rattle.net_flip_flop.specs.declared.Controls.{Controls}
-use Rattle.net_memory.specs.declared.MemoryReadFlipFlop.{MemoryReadFlipFlop}
-use Rattle.net_memory.specs.declared.MemoryReadFlipFlop.TheVariants.{Some}
+use Rattle.net_memory.specs.FlipFlop.{MemoryReadFlipFlop}
+use Rattle.std.specs.Prelude.{Some}
 use Rattle.swizzle_result.specs.declared.WideMemory.{WideMemory}
 use Rattle.swizzle_result.specs.View.{own, whole, write_size, addr_size, trits_if}
 use Rattle.swizzle_parts.specs.Parts.{write_port, read_port, has_write, has_read, memory_at, clear_at, reset_at, init_at, write_start, read_start, trit_start}

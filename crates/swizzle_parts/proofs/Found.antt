@@ -26,8 +26,8 @@ use Rattle.swizzle_result.specs.declared.WideReadPort.{WideReadPort}
 use Rattle.swizzle_result.specs.declared.WideMemory.{WideMemory}
 use Rattle.rules.specs.Image.{depth_at}
 use Rattle.net_flip_flop.specs.declared.Controls.{Controls}
-use Rattle.net_memory.specs.declared.MemoryReadFlipFlop.{MemoryReadFlipFlop}
-use Rattle.net_memory.specs.declared.MemoryReadFlipFlop.TheVariants.{None, Some}
+use Rattle.net_memory.specs.FlipFlop.{MemoryReadFlipFlop}
+use Rattle.std.specs.Prelude.{None, Some}
 use Rattle.swizzle_result.specs.View.{own, whole, flip_flop_by, write_ports_of, read_ports_of, write_size, addr_size, trit_size, no_trits, write_by, read_by, reads_start, result_of, results_of}
 use Rattle.swizzle_parts.specs.Parts.{no_write_of, no_read_of, no_memory, write_port, read_port, small_write, small_read, is_small, Small, is_there, There, has_write, has_read, memory_at, clear_at, reset_at, init_at, write_nets, read_nets, read_trits}
 

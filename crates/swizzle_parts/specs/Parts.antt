@@ -6,7 +6,7 @@ use Rattle.rules.specs.Limits.{max_ports, max_wide, max_unit, max_columns, max_n
 use Rattle.rules.specs.Cell.{Mem, ReadFlipFlop, read_at_of, held}
 use Rattle.rules.specs.Ports.{Driving}
 use Rattle.net_value.specs.declared.ControlNet.TheVariants.{Pos}
-use Rattle.net_memory.specs.declared.MemoryReadFlipFlop.TheVariants.{None}
+use Rattle.std.specs.Prelude.{None}
 use Rattle.swizzle_result.specs.declared.WideWritePort.{WideWritePort}
 use Rattle.swizzle_result.specs.declared.WideReadPort.{WideReadPort}
 use Rattle.swizzle_result.specs.declared.WideMemory.{WideMemory}

@@ -10,7 +10,6 @@ ghost use Rattle.rules.specs.Cell.{write_at, read_at_of, output_slice};
 ghost use Rattle.swizzle_result.specs.View.{own, whole, write_ports_of, read_ports_of, write_size, trit_size, start_by, output_by};
 ghost use Rattle.swizzle_parts.specs.Parts.{small_write, small_read, is_small, Small, is_there, There, has_write, has_read, memory_at, read_port, write_start, read_start, trit_start, clear_at, reset_at, init_at, no_part};
 
-use net_memory::MemoryReadFlipFlop;
 use swizzle_result::{WideMemory, WideReadPort, WideWritePort};
 
 // A part of a lent array; 0, 0 where there is none.
@@ -124,8 +123,8 @@ fn trit_size(g: WideMemory, p: WideReadPort) -> usize
     let f = p.flip_flop;
     let n = whole(g, p.wide);
     match f {
-        MemoryReadFlipFlop::None => 0,
-        MemoryReadFlipFlop::Some(_) => n + (n + n),
+        None => 0,
+        Some(_) => n + (n + n),
     }
 }
 
@@ -294,8 +293,8 @@ pub fn clear_part(g: WideMemory, n: usize, i: usize) -> Part
     let p = g.read_ports[i];
     let f = p.flip_flop;
     match f {
-        MemoryReadFlipFlop::None => no_part(),
-        MemoryReadFlipFlop::Some(_) => own_part(g, n, i, 0),
+        None => no_part(),
+        Some(_) => own_part(g, n, i, 0),
     }
 }
 
@@ -310,8 +309,8 @@ pub fn reset_part(g: WideMemory, n: usize, i: usize) -> Part
     let f = p.flip_flop;
     let all = whole(g, p.wide);
     match f {
-        MemoryReadFlipFlop::None => no_part(),
-        MemoryReadFlipFlop::Some(_) => own_part(g, n, i, all),
+        None => no_part(),
+        Some(_) => own_part(g, n, i, all),
     }
 }
 
@@ -326,8 +325,8 @@ pub fn init_part(g: WideMemory, n: usize, i: usize) -> Part
     let f = p.flip_flop;
     let all = whole(g, p.wide);
     match f {
-        MemoryReadFlipFlop::None => no_part(),
-        MemoryReadFlipFlop::Some(_) => own_part(g, n, i, all + all),
+        None => no_part(),
+        Some(_) => own_part(g, n, i, all + all),
     }
 }
 

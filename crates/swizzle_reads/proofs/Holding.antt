@@ -15,8 +15,8 @@ use Rattle.rules.specs.Swizzle.{Split, WideRead, wide_flip_flop, add_voids, swiz
 use Rattle.rules.specs.Beside.Counts.{Count, read_count_of}
 use Rattle.rules.proofs.Traces.{bind_value}
 use Rattle.log_entries.specs.Emission.{Lent}
-use Rattle.net_memory.specs.declared.MemoryReadFlipFlop as flips
-use Rattle.net_memory.specs.declared.MemoryReadFlipFlop.{MemoryReadFlipFlop}
+use Rattle.std.specs.Prelude as flips
+use Rattle.net_memory.specs.FlipFlop.{MemoryReadFlipFlop}
 use Rattle.net_memory.specs.declared.MemoryReadPort.{MemoryReadPort}
 use Rattle.net_memory.specs.View.{addr_size, trit_size, flip_flop_by}
 use Rattle.swizzle_laws.proofs.ReadsCounts.{read_split_of}
@@ -53,8 +53,8 @@ unfolding EachClock both first later
 both_is x xs e = refl
 
 same_clock : (f : MemoryReadFlipFlop) (r : MemoryReadPort) (y : List ℕ) → SameFlipFlop f (part 0 r.relations_len r.relations) (flip_flop_by f r y)
-same_clock flips.TheVariants.None r y = tt
-same_clock (flips.TheVariants.Some f) r y = (refl, refl)
+same_clock flips.None r y = tt
+same_clock (flips.Some f) r y = (refl, refl)
 
 pub views_clock : (ps : List MemoryReadPort) (l k : List ℕ) → EachClock (views addr_size trit_size in_port ps l k)
 unfolding EachClock

@@ -19,8 +19,8 @@ use Rattle.rules.specs.Swizzle as swizzle
 use Rattle.rules.specs.Swizzle.{split_addr, split_by, clocked_addr, wide_flip_flop, swizzle_read}
 use Rattle.log_entries.specs.Emission.{Lent, run}
 use Rattle.net_value.specs.View.{control_of}
-use Rattle.net_memory.specs.declared.MemoryReadFlipFlop as flips
-use Rattle.net_memory.specs.declared.MemoryReadFlipFlop.{MemoryReadFlipFlop}
+use Rattle.std.specs.Prelude as flips
+use Rattle.net_memory.specs.FlipFlop.{MemoryReadFlipFlop}
 use Rattle.net_memory.specs.declared.MemoryReadPort.{MemoryReadPort}
 use Rattle.net_memory.specs.View.{read_by, flip_flop_by}
 use Rattle.image_geometry.specs.declared.Params.{Params}
@@ -160,14 +160,14 @@ module _ (p : Params) (z : Sizes) (es : List ℕ) (old new : ℕ) (addr hw mux :
     trits_unfold : (f : MemoryReadFlipFlop) (r : MemoryReadPort) (y : List ℕ) (at : ℕ) (room : List ℕ) → at + need_by f (size_by z s) ≤ length room
         → trits_by f p z s r y es at room ≡ sets room at (clock_trits q t (wide_flip_flop q t (flip_flop_by f r y)))
     unfolding wide_flip_flop
-    trits_unfold flips.TheVariants.None r y at room h = refl
-    trits_unfold (flips.TheVariants.Some f) r y at room h =
+    trits_unfold flips.None r y at room h = refl
+    trits_unfold (flips.Some f) r y at room h =
         three_rules q old new addr splittable (wide_by_of p z s) wide_means (size_by z s) wide_fits _ _ _ room at h
 
     need_is : (f : MemoryReadFlipFlop) (r : MemoryReadPort) (y : List ℕ) → need_by f (size_by z s) ≡ length (clock_trits q t (wide_flip_flop q t (flip_flop_by f r y)))
     unfolding wide_flip_flop
-    need_is flips.TheVariants.None r y = refl
-    need_is (flips.TheVariants.Some f) r y = sym (three_length q old new addr splittable (wide_by_of p z s) wide_means (size_by z s) wide_fits _ _ _)
+    need_is flips.None r y = refl
+    need_is (flips.Some f) r y = sym (three_length q old new addr splittable (wide_by_of p z s) wide_means (size_by z s) wide_fits _ _ _)
 
     -- ---- the whole port
     module _ (r : MemoryReadPort) (x y : List ℕ) (c : Clocking) (out : Value) (scratch : List ℕ) (i : ℕ) (g : Going)

@@ -13,8 +13,8 @@ use Rattle.rules.specs.Value.{Value, Control}
 use Rattle.rules.specs.Swizzle.{clocked_addr}
 use Rattle.net_value.specs.View.{control_of}
 use Rattle.net_flip_flop.specs.declared.Controls.{Controls}
-use Rattle.net_memory.specs.declared.MemoryReadFlipFlop.{MemoryReadFlipFlop}
-use Rattle.net_memory.specs.declared.MemoryReadFlipFlop.TheVariants.{None, Some}
+use Rattle.net_memory.specs.FlipFlop.{MemoryReadFlipFlop}
+use Rattle.std.specs.Prelude.{None, Some}
 use Rattle.net_memory.specs.declared.MemoryReadPort.{MemoryReadPort}
 use Rattle.net_memory.specs.View.{flip_flop_by}
 use Rattle.swizzle_columns.proofs.Fits.{bounded}

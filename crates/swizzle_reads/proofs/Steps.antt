@@ -11,8 +11,8 @@ use Rattle.rules.specs.Value.{Value}
 use Rattle.log_entries.specs.Emission.{Lent, run}
 use Rattle.net_value.specs.View.{control_of}
 use Rattle.net_flip_flop.specs.declared.Controls.{Controls}
-use Rattle.net_memory.specs.declared.MemoryReadFlipFlop.{MemoryReadFlipFlop}
-use Rattle.net_memory.specs.declared.MemoryReadFlipFlop.TheVariants.{None, Some}
+use Rattle.net_memory.specs.FlipFlop.{MemoryReadFlipFlop}
+use Rattle.std.specs.Prelude.{None, Some}
 use Rattle.net_memory.specs.declared.MemoryReadPort.{MemoryReadPort}
 use Rattle.image_geometry.specs.declared.Params.{Params}
 use Rattle.swizzle_split.specs.declared.Split.{Split}

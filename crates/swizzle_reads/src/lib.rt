@@ -19,7 +19,8 @@ ghost use Rattle.swizzle_reads.specs.Raw.{numbers_of, wide_by_of, size_by, piece
 use image_check::Checked;
 use image_geometry::Params;
 use log_entries::LogState;
-use net_memory::{Memory, MemoryReadFlipFlop, MemoryReadPort};
+use net_flip_flop::Controls;
+use net_memory::{Memory, MemoryReadPort};
 use net_value::{ControlNet, Net};
 use swizzle_columns::WidePort;
 use swizzle_pieces::Pieces;
@@ -83,16 +84,16 @@ fn size_of(z: Sizes, s: Split) -> u32
     two_to(s.new) * z.columns
 }
 
-fn clock_of(f: MemoryReadFlipFlop) -> Clocking
+fn clock_of(f: Option<Controls>) -> Clocking
     ensures { (r : ports.MemoryReadPort) (y : List ℕ) (a : Value) → addr_by result.clocked (control_of result.clock) (control_of result.enable) a ≡ clocked_addr (flip_flop_by f r y) a }
 {
     match f {
-        MemoryReadFlipFlop::None => Clocking {
+        None => Clocking {
             clocked: false,
             clock: ControlNet::Pos(Net(0)),
             enable: ControlNet::Pos(Net(0)),
         },
-        MemoryReadFlipFlop::Some(c) => {
+        Some(c) => {
             let clock = c.clock;
             let enable = c.enable;
             Clocking {
@@ -151,7 +152,7 @@ fn emit_port(
 fn put_clock(
     to: &mut [u8],
     at: usize,
-    f: MemoryReadFlipFlop,
+    f: Option<Controls>,
     p: Params,
     z: Sizes,
     s: Split,
@@ -162,7 +163,7 @@ fn put_clock(
     requires { (s.old ≤ max_wide) × (s.new ≤ max_wide) × (z.columns ≤ max_columns) }
     ensures { to.new ≡ trits_by f p z s r trits.now entries.now at to.old }
 {
-    if let MemoryReadFlipFlop::None = f {
+    if let None = f {
         return;
     }
     let w = WidePort {
@@ -187,11 +188,11 @@ fn put_clock(
 }
 
 // How many trits a port with this flip-flop has.
-fn need_of(f: MemoryReadFlipFlop, size: usize) -> usize
+fn need_of(f: Option<Controls>, size: usize) -> usize
     requires { size ≤ 524288 }
     ensures { result ≡ need_by f size }
 {
-    if let MemoryReadFlipFlop::None = f {
+    if let None = f {
         return 0;
     }
     size + (size + size)
@@ -236,7 +237,7 @@ fn fits(
     p: Params,
     z: Sizes,
     s: Split,
-    f: MemoryReadFlipFlop,
+    f: Option<Controls>,
     room: usize,
     next: u32,
     nets: usize,

@@ -16,8 +16,8 @@ use Rattle.lists.proofs.Stores.{take_stored}
 use Rattle.rules.specs.Cell.{WritePort, ReadFlipFlop, ReadPort}
 use Rattle.rules.specs.Geometry.{Layout, all_mems}
 use Rattle.rules.specs.Swizzle.{Split}
-use Rattle.net_memory.specs.declared.MemoryReadFlipFlop.{MemoryReadFlipFlop}
-use Rattle.net_memory.specs.declared.MemoryReadFlipFlop.TheVariants.{None, Some}
+use Rattle.net_memory.specs.FlipFlop.{MemoryReadFlipFlop}
+use Rattle.std.specs.Prelude.{None, Some}
 use Rattle.swizzle_laws.specs.Order.{ordered}
 use Rattle.swizzle_laws.proofs.Parts.{length_ordered}
 use Rattle.swizzle_result.specs.declared.WideWritePort.{WideWritePort}

@@ -12,8 +12,8 @@ use Rattle.rules.specs.Geometry.{Layout, columns}
 use Rattle.rules.specs.Swizzle.{Split, WideWrite, swizzle_write, WideRead, wide_flip_flop, add_voids, swizzle_read}
 use Rattle.net_value.specs.View.{control_of}
 use Rattle.net_flip_flop.specs.View.{controls_of}
-use Rattle.net_memory.specs.declared.MemoryReadFlipFlop.{MemoryReadFlipFlop}
-use Rattle.net_memory.specs.declared.MemoryReadFlipFlop.TheVariants.{None, Some}
+use Rattle.net_memory.specs.FlipFlop.{MemoryReadFlipFlop}
+use Rattle.std.specs.Prelude.{None, Some}
 use Rattle.swizzle_laws.proofs.Whole.{bits_whole, mask_whole, const_whole, voids_up}
 use Rattle.swizzle_result.specs.declared.WideWritePort.{WideWritePort}
 use Rattle.swizzle_result.specs.declared.WideReadPort.{WideReadPort}

@@ -17,8 +17,8 @@ use Rattle.rules.specs.Image.{depth_at, rows_before, mem_start, image_of}
 use Rattle.rules.specs.Swizzle.{Split, new_rows, mem_part, WideWrite, write_part, WideRead, flip_flop_part, read_part, mem_depth, result_mem}
 use Rattle.net_value.specs.View.{control_of}
 use Rattle.net_flip_flop.specs.View.{controls_of}
-use Rattle.net_memory.specs.declared.MemoryReadFlipFlop.{MemoryReadFlipFlop}
-use Rattle.net_memory.specs.declared.MemoryReadFlipFlop.TheVariants.{None, Some}
+use Rattle.net_memory.specs.FlipFlop.{MemoryReadFlipFlop}
+use Rattle.std.specs.Prelude.{None, Some}
 use Rattle.swizzle_laws.specs.Order.{ordered}
 use Rattle.swizzle_laws.proofs.Parts.{mem_part_lem, length_ordered}
 use Rattle.swizzle_result.specs.declared.WideWritePort.{WideWritePort}

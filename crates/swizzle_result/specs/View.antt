@@ -12,8 +12,8 @@ use Rattle.rules.specs.Image.{depth_at, rows_before}
 use Rattle.net_value.specs.View.{control_of}
 use Rattle.net_flip_flop.specs.declared.Controls.{Controls}
 use Rattle.net_flip_flop.specs.View.{controls_of}
-use Rattle.net_memory.specs.declared.MemoryReadFlipFlop.{MemoryReadFlipFlop}
-use Rattle.net_memory.specs.declared.MemoryReadFlipFlop.TheVariants.{None, Some}
+use Rattle.net_memory.specs.FlipFlop.{MemoryReadFlipFlop}
+use Rattle.std.specs.Prelude.{None, Some}
 use Rattle.swizzle_result.specs.declared.WideWritePort.{WideWritePort}
 use Rattle.swizzle_result.specs.declared.WideReadPort.{WideReadPort}
 use Rattle.swizzle_result.specs.declared.WideMemory.{WideMemory}

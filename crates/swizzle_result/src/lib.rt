@@ -4,7 +4,7 @@
 ghost use Rattle.std.specs.Prelude.{◌≡◌, ◌*◌};
 ghost use Rattle.swizzle_result.specs.View.{mems_of};
 
-use net_memory::MemoryReadFlipFlop;
+use net_flip_flop::Controls;
 use net_value::ControlNet;
 
 // A write port of all memories: the length of the address that they share, the new wide log, and the clock.
@@ -23,7 +23,7 @@ pub struct WideReadPort {
     pub first: u32,
     pub relations_len: u32,
     pub relations: [u8; rules::MAX_PORTS],
-    pub flip_flop: MemoryReadFlipFlop,
+    pub flip_flop: Option<Controls>,
 }
 
 // The memories: the full ones and all, the depth of a full one and of the others, and the columns of each.

@@ -5,7 +5,7 @@ use Rattle.rules.specs.Value.{Value}
 use Rattle.rules.specs.Geometry.{Layout, full_mems, all_mems, full_depth_of, part_depth_of}
 use Rattle.log_entries.specs.declared.LogState.{LogState}
 use Rattle.log_entries.specs.Emission.{Lent}
-use Rattle.net_memory.specs.declared.MemoryReadFlipFlop.TheVariants.{None}
+use Rattle.std.specs.Prelude.{None}
 use Rattle.net_memory.specs.declared.Memory.{Memory}
 use Rattle.net_memory.specs.View.{memory_of}
 use Rattle.image_geometry.specs.declared.Shape.{Shape}

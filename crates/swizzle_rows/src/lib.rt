@@ -12,7 +12,7 @@ ghost use Rattle.swizzle_rows.specs.Rows.{start_memory, none_yet_of, Measured, R
 use image_check::Checked;
 use image_geometry::{Params, Shape};
 use log_entries::LogState;
-use net_memory::{Memory, MemoryReadFlipFlop};
+use net_memory::Memory;
 use net_value::{ControlNet, Net};
 use swizzle_reads::Reads;
 use swizzle_result::{WideMemory, WideReadPort, WideWritePort};
@@ -35,7 +35,7 @@ fn start_memory(
         first: 0,
         relations_len: 0,
         relations,
-        flip_flop: MemoryReadFlipFlop::None,
+        flip_flop: None,
     };
     let read_ports = [none; rules::MAX_PORTS];
     WideMemory {

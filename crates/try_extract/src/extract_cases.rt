@@ -1,7 +1,7 @@
 // Extractions from the first memory, whose places memories::base names.
 use crate::case::{Case, of, with_lens, with_net, with_out, with_trit};
 use crate::extracts::{extracted, lend, refused};
-use net_memory::{Memory, MemoryReadFlipFlop, MemoryReadPort};
+use net_memory::{Memory, MemoryReadPort};
 use try_kit::samples::{base, clocked_port, read_by, with_read, with_sizes};
 use try_kit::tally::Tally;
 
@@ -11,12 +11,12 @@ fn port_0() -> MemoryReadPort {
 }
 
 fn port_1() -> MemoryReadPort {
-    read_by(3, 2, 1, 0, 2, 1, [3u8; 8], MemoryReadFlipFlop::None)
+    read_by(3, 2, 1, 0, 2, 1, [3u8; 8], None)
 }
 
 // Port 1 in a new memory: without its trits.
 fn kept_1() -> MemoryReadPort {
-    read_by(3, 2, 0, 0, 0, 1, [3u8; 8], MemoryReadFlipFlop::None)
+    read_by(3, 2, 0, 0, 0, 1, [3u8; 8], None)
 }
 
 fn port_2() -> MemoryReadPort {

@@ -1,6 +1,6 @@
 // Comparison of memories, field by field, with all eight places for ports.
 use net_flip_flop::Controls;
-use net_memory::{Memory, MemoryReadFlipFlop, MemoryReadPort, MemoryWritePort};
+use net_memory::{Memory, MemoryReadPort, MemoryWritePort};
 use net_value::ControlNet;
 
 fn same_control(a: ControlNet, b: ControlNet) -> bool {
@@ -40,15 +40,15 @@ fn same_controls(a: Controls, b: Controls) -> bool {
     same_control(enable, b_enable)
 }
 
-fn same_flip_flop(a: MemoryReadFlipFlop, b: MemoryReadFlipFlop) -> bool {
+fn same_flip_flop(a: Option<Controls>, b: Option<Controls>) -> bool {
     match a {
-        MemoryReadFlipFlop::None => match b {
-            MemoryReadFlipFlop::None => true,
-            MemoryReadFlipFlop::Some(_) => false,
+        None => match b {
+            None => true,
+            Some(_) => false,
         },
-        MemoryReadFlipFlop::Some(x) => match b {
-            MemoryReadFlipFlop::None => false,
-            MemoryReadFlipFlop::Some(y) => same_controls(x, y),
+        Some(x) => match b {
+            None => false,
+            Some(y) => same_controls(x, y),
         },
     }
 }

@@ -4,7 +4,7 @@ ghost use Rattle.net_value.specs.declared.ControlNet.TheVariants.{Pos, Neg};
 ghost use Rattle.try_kit.specs.Build.{write_of, read_of, some_of_of, memory_with, with_writes, with_reads, write_clocked, read_plain, usual_of, read_clocked, plain_of, base_of};
 
 use net_flip_flop::Controls;
-use net_memory::{Memory, MemoryReadFlipFlop, MemoryReadPort, MemoryWritePort};
+use net_memory::{Memory, MemoryReadPort, MemoryWritePort};
 use net_value::{ControlNet, Net};
 
 pub fn pos(n: u32) -> ControlNet
@@ -37,10 +37,10 @@ pub fn controls(
     clear: ControlNet,
     reset: ControlNet,
     enable: ControlNet,
-) -> MemoryReadFlipFlop
+) -> Option<Controls>
     ensures { result ≡ some_of_of clock clear reset enable }
 {
-    MemoryReadFlipFlop::Some(Controls {
+    Some(Controls {
         clock,
         clear,
         reset,
@@ -58,7 +58,7 @@ pub fn read_by(
     init: u32,
     count: u32,
     relations: [u8; 8],
-    flip_flop: MemoryReadFlipFlop,
+    flip_flop: Option<Controls>,
 ) -> MemoryReadPort
     ensures { result ≡ read_of addr bits clear reset init count relations flip_flop }
 {
@@ -145,11 +145,11 @@ pub fn write_port(addr: u32, bits: u32) -> MemoryWritePort
 pub fn read_port(addr: u32, bits: u32) -> MemoryReadPort
     ensures { result ≡ read_plain addr bits }
 {
-    read_by(addr, bits, 0, 0, 0, 0, [0u8; 8], MemoryReadFlipFlop::None)
+    read_by(addr, bits, 0, 0, 0, 0, [0u8; 8], None)
 }
 
 // The controls of most cases.
-pub fn usual() -> MemoryReadFlipFlop
+pub fn usual() -> Option<Controls>
     ensures { result ≡ usual_of }
 {
     controls(
@@ -182,7 +182,7 @@ pub fn plain(depth: u32, width: u32, init: u32) -> Memory
 pub fn base() -> Memory
     ensures { result ≡ base_of }
 {
-    let none = read_by(3, 2, 1, 0, 2, 1, [3u8; 8], MemoryReadFlipFlop::None);
+    let none = read_by(3, 2, 1, 0, 2, 1, [3u8; 8], None);
     let m = memory(8, 2, 16, 2, write_port(2, 4), 3, clocked_port(3, 2, 2));
     let m = with_write(m, 1, write_port(3, 2));
     let m = with_read(m, 0, clocked_port(1, 8, 2));

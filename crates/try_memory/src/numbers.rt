@@ -1,7 +1,8 @@
 // Memories that the numbers 1 to 4 refuse, and their neighbours that none does.
 use crate::calls;
 use crate::case::{Case, of, with_lens, with_net, with_trit};
-use net_memory::{Memory, MemoryReadFlipFlop};
+use net_flip_flop::Controls;
+use net_memory::Memory;
 use net_value::ControlNet;
 use try_kit::samples::{
     base, clocked_port, memory, neg, plain, pos, read_by, read_port, usual, with_read, with_write,
@@ -133,7 +134,7 @@ fn read(
     init: u32,
     count: u32,
     relations: [u8; 8],
-    flip_flop: MemoryReadFlipFlop,
+    flip_flop: Option<Controls>,
     n: u64,
 ) -> Tally {
     let p = read_by(3, 2, clear, reset, init, count, relations, flip_flop);
@@ -150,7 +151,7 @@ pub(crate) fn lens(t: Tally) -> Tally {
     let t = read(t, 2, 3, 2, 2, codes, f, 2);
     let t = read(t, 2, 2, 1, 2, codes, f, 2);
     let t = read(t, 2, 2, 2, 3, codes, f, 2);
-    let t = read(t, 1, 2, 0, 9, codes, MemoryReadFlipFlop::None, 0);
+    let t = read(t, 1, 2, 0, 9, codes, None, 0);
     let t = numbered(t, of(sized(8, 2, 15)), 2);
     numbered(t, of(sized(8, 2, 17)), 2)
 }
@@ -224,7 +225,7 @@ pub(crate) fn relations(t: Tally) -> Tally {
     let t = read(t, 2, 2, 2, 2, [2u8, 2, 3, 3, 3, 3, 3, 3], f, 0);
     let t = read(t, 2, 2, 2, 2, [3u8, 0, 0, 0, 0, 0, 0, 0], f, 4);
     let t = read(t, 2, 2, 2, 2, [0u8, 3, 0, 0, 0, 0, 0, 0], f, 4);
-    read(t, 2, 2, 2, 2, [3u8; 8], MemoryReadFlipFlop::None, 0)
+    read(t, 2, 2, 2, 2, [3u8; 8], None, 0)
 }
 
 // A control at each of five places: a write clock, and a clocked read port's.

@@ -72,7 +72,7 @@ pub(crate) fn unclocked(t: Tally) -> Tally {
         1,
         1,
         [2u8, 0, 0, 0, 0, 0, 0, 0],
-        net_memory::MemoryReadFlipFlop::None,
+        net_memory::None,
     );
     let st = LogState { used: 7, next: 200 };
     let r = port_unmap::unmap_read_dff(

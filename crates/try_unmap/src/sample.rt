@@ -1,6 +1,6 @@
 // A memory of the oracle's stored calls, its arrays, and the log that the Rust makes of it.
 use net_flip_flop::Controls;
-use net_memory::{Memory, MemoryReadFlipFlop, MemoryReadPort};
+use net_memory::{Memory, MemoryReadPort};
 use net_value::{ControlNet, Net};
 use try_kit::samples;
 
@@ -11,7 +11,7 @@ pub const NETS: u32 = 9;
 
 // 2 rows of 1 bit; a write port of 2 bits and no address, a read port of 1 bit with a flip-flop and a Transparent relation.
 pub(crate) fn memory() -> Memory {
-    let f = MemoryReadFlipFlop::Some(Controls {
+    let f = Some(Controls {
         clock: ControlNet::Pos(Net(5)),
         clear: ControlNet::Pos(Net(0)),
         reset: ControlNet::Pos(Net(0)),
@@ -37,8 +37,8 @@ pub(crate) fn trits() -> [u8; 5] {
 pub(crate) fn is_clocked(p: MemoryReadPort) -> bool {
     let f = p.flip_flop;
     match f {
-        MemoryReadFlipFlop::None => false,
-        MemoryReadFlipFlop::Some(_) => true,
+        None => false,
+        Some(_) => true,
     }
 }
 

@@ -4,7 +4,7 @@ use Prim.Native.Nat.{◌-◌}
 use mathlib.Core.Bool.{◌&&◌}
 use lib.Dec.{ltb}
 use Rattle.rules.specs.Limits.{max_ports}
-use Rattle.net_memory.specs.declared.MemoryReadFlipFlop.{MemoryReadFlipFlop}
+use Rattle.net_memory.specs.FlipFlop.{MemoryReadFlipFlop}
 use Rattle.net_memory.specs.Given.{clocked, long_relations}
 use Rattle.net_check.proofs.long_relations.Goals as goal
 

@@ -1,6 +1,5 @@
 -- `net_memory::nets_total` meets its contract.
 use mathlib.Core.Path.{ap, ◌∙◌}
-use Prim.Native.Nat.{◌-◌}
 use native.Mathlib.Omega.{arith}
 use Rattle.net_memory.specs.View.{nets_total, read_start}
 use Rattle.net_memory.proofs.nets_total.Goals as goal

@@ -1,6 +1,5 @@
 -- `net_memory::read_data_len` meets its contract.
 use mathlib.Core.Path.{sym, ap, ◌∙◌}
-use Prim.Native.Nat.{◌-◌}
 use native.Mathlib.Omega.{arith}
 use Rattle.rules.specs.Cell.{ReadPort}
 use Rattle.net_memory.proofs.Ports.{read_of_view, reads_none, reads_at}
@@ -14,4 +13,4 @@ returns-then-ports_used-i c =
 pub returns : goal.returns
 returns c =
     let v = c.args in
-    record { by_index = λ nets trits. c.usize_of_u32.ensures.0 ∙ sym (ap (λ (r : ReadPort). r.data_len) (read_of_view v.m nets trits v.i ∙ reads_at v.m nets trits v.i (omega arith))); upper_bound = omega arith }
+    record { by_index = λ nets trits. sym (ap (λ (r : ReadPort). r.data_len) (read_of_view v.m nets trits v.i ∙ reads_at v.m nets trits v.i (omega arith))); upper_bound = omega arith }

@@ -1,9 +1,10 @@
 -- `net_memory::read_nets` meets its contract.
-use mathlib.Core.Path.{sym, ◌∙◌}
-use Prim.Native.Nat.{◌-◌}
+use mathlib.Core.Path.{sym, ◌∙◌, ap}
+use Prim.Native.Nat.{ℕ}
 use native.Mathlib.Omega.{arith}
 use mathlib.Core.List.{[]}
 use Rattle.lists.specs.Lists.{part}
+use Rattle.net_memory.specs.View.{addr_size, read_port}
 use Rattle.net_memory.proofs.Ports.{nets_none, nets_at}
 use Rattle.net_memory.proofs.read_nets.Goals as goal
 
@@ -15,4 +16,4 @@ returns-then-ports_used-i c =
 pub returns : goal.returns
 returns c =
     let v = c.args in
-    (c.part.ensures.part ∙ (λ k. part (c.read_start.ensures.0 k) (c.usize_of_u32.ensures.0 k) v.nets.now) ∙ sym (nets_at v.m v.nets.now [] v.i (omega arith)), omega arith)
+    (c.part.ensures.part ∙ ap (λ (n : ℕ). part n (addr_size (read_port v.m v.i)) v.nets.now) c.read_start.ensures.0 ∙ sym (nets_at v.m v.nets.now [] v.i (omega arith)), omega arith)

@@ -1,6 +1,5 @@
 -- `net_memory::read_trits` meets its contract.
 use mathlib.Core.Path.{sym, ◌∙◌}
-use Prim.Native.Nat.{◌-◌}
 use native.Mathlib.Omega.{arith}
 use mathlib.Core.List.{[]}
 use Rattle.lists.specs.Lists.{part}

@@ -1,6 +1,5 @@
 -- `net_memory::reads_start` meets its contract.
 use mathlib.Core.Path.{ap, ◌∙◌}
-use Prim.Native.Nat.{◌-◌}
 use native.Mathlib.Omega.{arith}
 use Rattle.net_memory.specs.View.{write_start}
 use Rattle.net_memory.proofs.reads_start.Goals as goal

@@ -1,20 +1,10 @@
 -- `net_memory::trit_start` meets its contract.
-use mathlib.Core.Path.{◌≡◌, refl}
-use Prim.Native.Nat.{◌-◌}
-use native.Mathlib.Omega.{arith}
+use Rattle.std.proofs.Common.{refl, take, arith}
 use Rattle.lists.proofs.Sum.{sum_take_more}
-use Rattle.net_memory.specs.View.{no_read_port, trit_size}
+use Rattle.net_memory.specs.View.{trit_size, no_read_port}
 use Rattle.net_memory.proofs.trit_start.Goals as goal
 
-pub loop-j-init : goal.loop-j-init
-loop-j-init c = (omega arith, omega arith, omega arith)
-
-pub loop-j-preserved : goal.loop-j-preserved
-loop-j-preserved c =
-    let h = c in
-    (omega arith, omega (arith, sum_take_more trit_size no_read_port refl h.args.m.read_ports h.loop-j.j), omega arith)
-
-pub returns : goal.returns
-returns c =
-    let e : c.loop-j.j ≡ c.args.i = omega arith in
-    (rw (← e) c.loop-j.invariant.1, omega arith)
+pub loop-port-preserved : goal.loop-port-preserved
+loop-port-preserved c =
+    let l = c.loop-port in
+    record { sum = omega (arith, sum_take_more trit_size no_read_port refl (take c.args.i c.args.m.read_ports) l.port-index); most = omega arith }

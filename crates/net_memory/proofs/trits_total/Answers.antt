@@ -1,6 +1,5 @@
 -- `net_memory::trits_total` meets its contract.
 use mathlib.Core.Path.{ap, ◌∙◌}
-use Prim.Native.Nat.{◌-◌}
 use native.Mathlib.Omega.{arith}
 use Rattle.net_memory.specs.View.{trits_total, trit_start}
 use Rattle.net_memory.proofs.trits_total.Goals as goal

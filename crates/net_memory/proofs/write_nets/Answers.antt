@@ -1,6 +1,5 @@
 -- `net_memory::write_nets` meets its contract.
 use mathlib.Core.Path.{sym, ◌∙◌}
-use Prim.Native.Nat.{◌-◌}
 use native.Mathlib.Omega.{arith}
 use Rattle.lists.specs.Lists.{part}
 use Rattle.net_memory.proofs.Ports.{write_nets_none, write_nets_at}

@@ -2,7 +2,7 @@
 use mathlib.Core.Path.{◌∙◌}
 use Prim.Native.Nat.{◌-◌}
 use native.Mathlib.Omega.{arith}
-use Rattle.net_memory.specs.declared.MemoryReadFlipFlop.TheVariants.{None, Some}
+use Rattle.std.specs.Prelude.{None, Some}
 use Rattle.port_extract.proofs.View.{kept_none, kept_by}
 use Rattle.port_extract.proofs.clocked_trits.Goals as goal
 

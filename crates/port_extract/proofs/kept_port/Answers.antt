@@ -1,6 +1,6 @@
 -- `port_extract::kept_port` meets its contract.
 use mathlib.Core.Path.{sym, ap}
-use Rattle.net_memory.specs.declared.MemoryReadFlipFlop.{MemoryReadFlipFlop}
+use Rattle.net_memory.specs.FlipFlop.{MemoryReadFlipFlop}
 use Rattle.port_extract.specs.Extract.{kept_by_of}
 use Rattle.port_extract.proofs.kept_port.Goals as goal
 

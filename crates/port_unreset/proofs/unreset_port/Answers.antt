@@ -1,5 +1,5 @@
 -- `port_unreset::unreset_port` meets its contract.
-use Rattle.net_memory.specs.declared.MemoryReadFlipFlop.TheVariants.{Some}
+use Rattle.std.specs.Prelude.{Some}
 use Rattle.port_unreset.specs.Struct.{unreset_controls}
 use Rattle.port_unreset.proofs.unreset_port.Goals as goal
 

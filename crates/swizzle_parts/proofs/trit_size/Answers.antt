@@ -1,7 +1,7 @@
 -- `swizzle_parts::trit_size` meets its contract.
 use mathlib.Core.Path.{sym, ap, ◌∙◌}
 use Prim.Native.Nat.{◌+◌}
-use Rattle.net_memory.specs.declared.MemoryReadFlipFlop.{MemoryReadFlipFlop}
+use Rattle.net_memory.specs.FlipFlop.{MemoryReadFlipFlop}
 use Rattle.swizzle_result.specs.View.{whole, trits_if}
 use native.Mathlib.Omega.{arith}
 use Rattle.swizzle_parts.proofs.trit_size.Goals as goal

@@ -1,7 +1,7 @@
 -- `c_memory::ports::flip_flop_of` meets its contract.
 use mathlib.Core.Path.{ap}
 use borrow.Author.Tests.{eq-eqb, ne_eqb}
-use Rattle.net_memory.specs.declared.MemoryReadFlipFlop.TheVariants.{Some}
+use Rattle.std.specs.Prelude.{Some}
 use Rattle.c_memory.specs.View.{given_flip_flop}
 use Rattle.c_memory.proofs.ports.flip_flop_of.Goals as goal
 

@@ -1,7 +1,7 @@
 -- `c_memory::ports::zero_read` meets its contract.
 use lib.ListN.{replicate}
 use Rattle.net_memory.specs.declared.MemoryReadPort.{MemoryReadPort}
-use Rattle.net_memory.specs.declared.MemoryReadFlipFlop.TheVariants.{None}
+use Rattle.std.specs.Prelude.{None}
 use mathlib.Core.Path.{ap, ◌∙◌}
 use Rattle.c_memory.specs.View.{read_with}
 use Rattle.c_memory.proofs.ports.zero_read.Goals as goal
