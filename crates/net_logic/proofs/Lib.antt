@@ -1,3 +1,4 @@
 -- Laws that several functions cite.
 pub mod Codes
+pub mod Parts
 pub mod Rooms
