@@ -139,9 +139,10 @@ new_rows s = up_from 0 (2 ^ s.new)
 unfoldable pub sources : Layout → Split → List ℕ
 sources q s = concat_map (λ j. map (λ e. when eqb e None then None else j * q.width + e) q.entries) (old_rows s)
 
--- a None is blank
-unfoldable pub arrange : ℕ → List ℕ → List ℕ → List ℕ
-arrange blank es v = map (λ e. when eqb e None then blank else get_or v e blank) es
+module _ {A : Type 0} where
+  -- a None is blank
+  unfoldable pub arrange : A → List ℕ → List A → List A
+  arrange blank es v = map (λ e. when eqb e None then blank else get_or v e blank) es
 
 -- a None repeats what is before it
 unfoldable pub repeating : ℕ → List ℕ → List ℕ → List ℕ

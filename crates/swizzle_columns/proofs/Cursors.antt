@@ -157,45 +157,50 @@ module _ (g : Grid) (size : ℕ) (o : Good g size) where
     in_room h = omega (arith, index_lt i h, a.index_is)
 
 -- ---- the run: what is left from i on gives the whole
-module _ (g : Grid) where
-  abbrev pub left : ℕ → List ℕ → List ℕ → ℕ → List ℕ
+module _ {A : Type 0} (g : Grid) where
+  abbrev pub left : ℕ → List A → List A → ℕ → List A
   left start l ws i = spill g.mems g.rows g.unit l (start + i) (drop i ws)
 
-  pub run_starts : (start : ℕ) (l ws : List ℕ) → left start l ws 0 ≡ spill g.mems g.rows g.unit l start ws
+  pub run_starts : (start : ℕ) (l ws : List A) → left start l ws 0 ≡ spill g.mems g.rows g.unit l start ws
   run_starts start l ws = ap (λ (n : ℕ). spill g.mems g.rows g.unit l n ws) (add-zero start)
 
-  spill_cons : (l : List ℕ) (i w : ℕ) (ws : List ℕ)
+  spill_cons : (l : List A) (i : ℕ) (w : A) (ws : List A)
       → spill g.mems g.rows g.unit l i (w ∷ ws) ≡ spill g.mems g.rows g.unit (set l (home g.mems g.rows g.unit i) w) (suc i) ws
   unfolding spill
   spill_cons l i w ws = refl
 
-  pub run_turn : (start n i : ℕ) (l ws : List ℕ) (at : ℕ) → n ≤ length ws → i < n → at ≡ home g.mems g.rows g.unit (start + i)
-      → left start (set l at (get_or ws i 0)) (take n ws) (i + 1) ≡ left start l (take n ws) i
-  run_turn start n i l ws at m h e =
+  pub run_turn : (start n i : ℕ) (l ws : List A) (at : ℕ) (d : A) → n ≤ length ws → i < n → at ≡ home g.mems g.rows g.unit (start + i)
+      → left start (set l at (get_or ws i d)) (take n ws) (i + 1) ≡ left start l (take n ws) i
+  run_turn start n i l ws at d m h e =
       let x : start + (i + 1) ≡ suc (start + i) = omega arith in
       let y : i < length (take n ws) = omega (arith, length-take-le n ws m) in
-      let z : get_or ws i 0 ∷ drop (suc i) (take n ws) ≡ drop i (take n ws) =
-      ap (λ (w : ℕ). w ∷ drop (suc i) (take n ws)) (sym (get_or-take n ws i 0 h)) ∙ sym (drop-cons (take n ws) i 0 y) in
-      ap (λ (k : ℕ). spill g.mems g.rows g.unit (set l at (get_or ws i 0)) k (drop (i + 1) (take n ws))) x
-      ∙ ap (λ (k : ℕ). spill g.mems g.rows g.unit (set l at (get_or ws i 0)) (suc (start + i)) (drop k (take n ws))) (add-one i)
-      ∙ ap (λ (k : ℕ). spill g.mems g.rows g.unit (set l k (get_or ws i 0)) (suc (start + i)) (drop (suc i) (take n ws))) e
-      ∙ sym (spill_cons l (start + i) (get_or ws i 0) (drop (suc i) (take n ws)))
+      let z : get_or ws i d ∷ drop (suc i) (take n ws) ≡ drop i (take n ws) =
+      ap (λ (w : A). w ∷ drop (suc i) (take n ws)) (sym (get_or-take n ws i d h)) ∙ sym (drop-cons (take n ws) i d y) in
+      ap (λ (k : ℕ). spill g.mems g.rows g.unit (set l at (get_or ws i d)) k (drop (i + 1) (take n ws))) x
+      ∙ ap (λ (k : ℕ). spill g.mems g.rows g.unit (set l at (get_or ws i d)) (suc (start + i)) (drop k (take n ws))) (add-one i)
+      ∙ ap (λ (k : ℕ). spill g.mems g.rows g.unit (set l k (get_or ws i d)) (suc (start + i)) (drop (suc i) (take n ws))) e
+      ∙ sym (spill_cons l (start + i) (get_or ws i d) (drop (suc i) (take n ws)))
       ∙ ap (spill g.mems g.rows g.unit l (start + i)) z
 
-  pub run_ends : (start n i : ℕ) (l ws : List ℕ) → n ≤ length ws → n ≤ i → left start l (take n ws) i ≡ l
+  -- with the element as it is read
+  pub run_stored : (start n i : ℕ) (l ws : List A) (at : ℕ) (x d : A) → x ≡ get_or ws i d → n ≤ length ws → i < n → at ≡ home g.mems g.rows g.unit (start + i)
+      → left start (set l at x) (take n ws) (i + 1) ≡ left start l (take n ws) i
+  run_stored start n i l ws at x d q m h e = ap (λ (y : A). left start (set l at y) (take n ws) (i + 1)) q ∙ run_turn start n i l ws at d m h e
+
+  pub run_ends : (start n i : ℕ) (l ws : List A) → n ≤ length ws → n ≤ i → left start l (take n ws) i ≡ l
   unfolding spill
   run_ends start n i l ws m h = rw (drop_of_length-le (take n ws) {i = i} (omega (arith, length-take-le n ws m)))
 
-  pub run-whole : (size start n : ℕ) (l ws : List ℕ) → Good g size → n ≡ min (length ws) (size - start)
+  pub run-whole : (size start n : ℕ) (l ws : List A) → Good g size → n ≡ min (length ws) (size - start)
       → spill g.mems g.rows g.unit l start (take n ws) ≡ spill_fit g.mems g.rows g.unit l start ws
   unfolding spill_fit
   run-whole size start n l ws o e =
       ap (λ (k : ℕ). spill g.mems g.rows g.unit l start (take k ws)) (e ∙ ap (λ (k : ℕ). min (length ws) (k - start)) o.size_is)
 
-  spill_nil : (start : ℕ) (l : List ℕ) → l ≡ spill g.mems g.rows g.unit l start []
+  spill_nil : (start : ℕ) (l : List A) → l ≡ spill g.mems g.rows g.unit l start []
   unfolding spill
   spill_nil start l = refl
 
   -- none fit
-  pub run_none : (size start : ℕ) (l ws : List ℕ) → Good g size → 0 ≡ min (length ws) (size - start) → l ≡ spill_fit g.mems g.rows g.unit l start ws
+  pub run_none : (size start : ℕ) (l ws : List A) → Good g size → 0 ≡ min (length ws) (size - start) → l ≡ spill_fit g.mems g.rows g.unit l start ws
   run_none size start l ws o e = spill_nil start l ∙ run-whole size start 0 l ws o e

@@ -220,26 +220,9 @@ module _ (p : WidePort) (es v out : List ℕ) where
   mask_can e = rw e
 
 module _ (p : WidePort) (es v room : List ℕ) where
-  pub trits-sizes : sizes_fit p (length room) ≡ false → room ≡ trits_of p es v room
-  unfolding trits_of
-  trits-sizes e = rw e
-
-  pub trits_rows : sizes_fit p (length room) ≡ true → rows_fit p (length es) ≡ false → room ≡ trits_of p es v room
-  unfolding trits_of
-  trits_rows e f = rw (e, f)
-
   pub trits_can : sizes_fit p (length room) ≡ true → rows_fit p (length es) ≡ true → trits_of p es v room ≡ port_trits p es v (length room)
   unfolding trits_of
   trits_can e f = rw (e, f)
-
-module _ (p : WidePort) (es v room : List ℕ) where
-  pub bits_sizes : sizes_fit p (length room) ≡ false → room ≡ bits_of p es v room
-  unfolding bits_of
-  bits_sizes e = rw e
-
-  pub bits_rows : sizes_fit p (length room) ≡ true → rows_fit p (length es) ≡ false → room ≡ bits_of p es v room
-  unfolding bits_of
-  bits_rows e f = rw (e, f)
 
   pub bits_can : sizes_fit p (length room) ≡ true → rows_fit p (length es) ≡ true → bits_of p es v room ≡ port_bits p es v (length room)
   unfolding bits_of

@@ -4,7 +4,7 @@ pub mod Rows
 pub mod Walks
 pub mod Ports
 pub mod Rules
-pub mod TritRows
+pub mod Arrange
 pub mod Trits
 pub mod Fits
 pub mod Portal

@@ -13,7 +13,7 @@ use Rattle.swizzle_columns.specs.declared.Grid.{Grid}
 use Rattle.swizzle_columns.specs.Rows.{all_sources, starts_by}
 use Rattle.swizzle_columns.specs.Steps.{Good}
 use Rattle.swizzle_columns.specs.Jobs.{Narrow, Port}
-use Rattle.swizzle_columns.specs.Wide.{PortFits, grid_of, port_starts, port_bits, port_trits}
+use Rattle.swizzle_columns.specs.Wide.{PortFits, grid_of, port_starts, port_columns}
 use Rattle.swizzle_columns.proofs.Fits.{grid_good, port_asks, port_narrow, size_low}
 use Rattle.swizzle_columns.proofs.Walks.{narrow_less}
 
@@ -25,18 +25,11 @@ pub narrow_by : (p : WidePort) (len size : ℕ) (g : Grid) (cs n o : ℕ) → g 
     → Narrow o cs g.entries n
 narrow_by p len size g cs n o e ec en eo f = rw (e, ec, en, eo) (port_narrow p len size f)
 
-module _ (p : WidePort) (es : List ℕ) (g : Grid) (cs n o d : ℕ) (e : g ≡ grid_of p (length es)) (ec : cs ≡ p.mems * p.unit) (en : n ≡ p.pieces) (eo : o ≡ p.olds) (ed : d ≡ p.width) where
-  pub trits_by_lem : (v : List ℕ) (size : ℕ)
-      → spill_each g.mems g.rows g.unit g.entries (starts_by p.chunks cs g.entries o) (up_from 0 n) (arrange trit_x (all_sources o d es) v) (replicate size trit_x) ≡ port_trits p es v size
-  unfolding port_trits
-  trits_by_lem v size =
-      λ i. spill_each (e i).mems (e i).rows (e i).unit (e i).entries (starts_by p.chunks (ec i) (e i).entries (eo i)) (up_from 0 (en i)) (arrange trit_x (all_sources (eo i) (ed i) es) v) (replicate size trit_x)
-
-  pub bits_by : (v : List ℕ) (size : ℕ)
-      → spill_each g.mems g.rows g.unit g.entries (starts_by p.chunks cs g.entries o) (up_from 0 n) (arrange X (all_sources o d es) v) (replicate size X) ≡ port_bits p es v size
-  unfolding port_bits
-  bits_by v size =
-      λ i. spill_each (e i).mems (e i).rows (e i).unit (e i).entries (starts_by p.chunks (ec i) (e i).entries (eo i)) (up_from 0 (en i)) (arrange X (all_sources (eo i) (ed i) es) v) (replicate size X)
+module _ {A : Type 0} (blank : A) (p : WidePort) (es : List ℕ) (g : Grid) (cs n o d : ℕ) (e : g ≡ grid_of p (length es)) (ec : cs ≡ p.mems * p.unit) (en : n ≡ p.pieces) (eo : o ≡ p.olds) (ed : d ≡ p.width) where
+  pub columns_by : (v : List A) (size : ℕ)
+      → spill_each g.mems g.rows g.unit g.entries (starts_by p.chunks cs g.entries o) (up_from 0 n) (arrange blank (all_sources o d es) v) (replicate size blank) ≡ port_columns blank p es v size
+  columns_by v size =
+      λ i. spill_each (e i).mems (e i).rows (e i).unit (e i).entries (starts_by p.chunks (ec i) (e i).entries (eo i)) (up_from 0 (en i)) (arrange blank (all_sources (eo i) (ed i) es) v) (replicate size blank)
 
 -- piece x is one of those that can be counted
 pub narrow_one : (p : WidePort) (len size x : ℕ) (g : Grid) (cs o : ℕ) → g ≡ grid_of p len → cs ≡ p.mems * p.unit → o ≡ p.olds → x < p.pieces → PortFits p len size

@@ -41,36 +41,13 @@ get_d_past (x ∷ l) (suc n) d h = get_d_past l n d (omega arith)
 pub net_by : ℕ → List ℕ → ℕ → ℕ
 net_by none v s = when eqb s None then none else get_or v s X
 
-arrange_map : (es v : List ℕ) → arrange X es v ≡ map (net_by X v) es
-unfolding arrange net_by
-arrange_map es v = refl
-
-pub length_arrange : (es v : List ℕ) → length (arrange X es v) ≡ length es
-length_arrange es v = ap length (arrange_map es v) ∙ length-map es (net_by X v)
-
 pub length_row : (base : ℕ) (es : List ℕ) → length (row_sources base es) ≡ length es
 unfolding row_sources
 length_row base es = length-map es (source_of base)
 
-row_at : (base : ℕ) (es : List ℕ) (i : ℕ) → get_or (row_sources base es) i (source_of base 0) ≡ source_of base (get_or es i 0)
+pub row_at : (base : ℕ) (es : List ℕ) (i : ℕ) → get_or (row_sources base es) i (source_of base 0) ≡ source_of base (get_or es i 0)
 unfolding row_sources
 row_at base es i = get_or-map (source_of base) es i 0
-
-arranged_at : (base : ℕ) (es v : List ℕ) (i : ℕ) → get_or (arrange X (row_sources base es) v) i (net_by X v (source_of base 0)) ≡ net_by X v (source_of base (get_or es i 0))
-arranged_at base es v i =
-    ap (λ (l : List ℕ). get_or l i (net_by X v (source_of base 0))) (arrange_map (row_sources base es) v)
-    ∙ get_or-map (net_by X v) (row_sources base es) i (source_of base 0) ∙ ap (net_by X v) (row_at base es i)
-
-module _ (base : ℕ) (es v out₀ out : List ℕ) (at i : ℕ) (e : out ≡ sets out₀ at (take i (arrange X (row_sources base es) v))) where
-  pub arrange_turn : (n s : ℕ) → i < length es → s ≡ source_of base (get_or es i 0) → n ≡ (when eqb s None then X else get_or v s X)
-      → set out (at + i) n ≡ sets out₀ at (take (i + 1) (arrange X (row_sources base es) v))
-  unfolding net_by
-  arrange_turn n s h p q =
-      ap (set out (at + i)) (q ∙ ap (net_by X v) p ∙ sym (arranged_at base es v i))
-      ∙ copy_turn out₀ out at i (arrange X (row_sources base es) v) e (net_by X v (source_of base 0)) (omega (arith, length_arrange (row_sources base es) v, length_row base es))
-
-  pub arrange-done : length es ≤ i → out ≡ sets out₀ at (arrange X (row_sources base es) v)
-  arrange-done h = e ∙ ap (sets out₀ at) (take_all i (arrange X (row_sources base es) v) (omega (arith, length_arrange (row_sources base es) v, length_row base es)))
 
 -- ---- the mask of a row
 pub length_repeating : (last : ℕ) (es v : List ℕ) → length (repeating last es v) ≡ length es
@@ -148,22 +125,7 @@ repeating-joined last (e ∷ a) b v =
     let n = (when eqb e None then last else get_or v e X) in
     ap (λ (r : List ℕ). n ∷ r) (repeating-joined n a b v)
 
-arrange-joined : (a b v : List ℕ) → arrange X (a ++ b) v ≡ arrange X a v ++ arrange X b v
-unfolding arrange
-arrange-joined a b v = map_joined (λ e. when eqb e None then X else get_or v e X) a b
-
 module _ (olds width : ℕ) (es v out : List ℕ) (j base at : ℕ) (h : j < olds) (e : base ≡ j * width) where
-  -- a row's stores, and then those of the rows after it
-  pub arrange_row_turn : (out' : List ℕ) → out' ≡ sets out at (arrange X (row_sources base es) v)
-      → sets out' (at + length es) (arrange X (from_row_of olds width es (j + 1)) v) ≡ sets out at (arrange X (from_row_of olds width es j) v)
-  arrange_row_turn out' p =
-      let r = arrange X (row_sources base es) v in
-      let m : length es ≡ length r = sym (length_arrange (row_sources base es) v ∙ length_row base es) in
-      ap (λ (k : ℕ). sets out' (at + k) (arrange X (from_row_of olds width es (j + 1)) v)) m
-      ∙ ap (λ (l : List ℕ). sets l (at + length r) (arrange X (from_row_of olds width es (j + 1)) v)) p
-      ∙ sets_append r (arrange X (from_row_of olds width es (j + 1)) v) out at
-      ∙ ap (sets out at) (sym (ap (λ (l : List ℕ). arrange X l v) (from_step olds width es j base h e) ∙ arrange-joined (row_sources base es) (from_row_of olds width es (j + 1)) v))
-
   pub repeat_row_turn : (last n : ℕ) (out' : List ℕ) → n ≡ last_of last (row_sources base es) v → out' ≡ sets out at (repeating last (row_sources base es) v)
       → sets out' (at + length es) (repeating n (from_row_of olds width es (j + 1)) v) ≡ sets out at (repeating last (from_row_of olds width es j) v)
   repeat_row_turn last n out' q p =
@@ -176,27 +138,23 @@ module _ (olds width : ℕ) (es v out : List ℕ) (j base at : ℕ) (h : j < old
       ∙ ap (sets out at) (sym (ap (λ (l : List ℕ). repeating last l v) (from_step olds width es j base h e) ∙ repeating-joined last (row_sources base es) (from_row_of olds width es (j + 1)) v))
 
 module _ (olds width : ℕ) (es v out : List ℕ) (j at : ℕ) (h : olds ≤ j) where
-  pub arrange_rows_end : sets out at (arrange X (from_row_of olds width es j) v) ≡ out
-  unfolding arrange
-  arrange_rows_end = ap (λ (l : List ℕ). sets out at (arrange X l v)) (from_end olds width es j h)
-
   pub repeat_rows_end : (last : ℕ) → sets out at (repeating last (from_row_of olds width es j) v) ≡ out
   unfolding repeating
   repeat_rows_end last = ap (λ (l : List ℕ). sets out at (repeating last l v)) (from_end olds width es j h)
 
 -- ---- a piece's rows
-spill_at_cons : (M R U L a : ℕ) (s w l : List ℕ) → spill_at M R U L s (drop L w) (spill_fit M R U l a (take L w)) ≡ spill_at M R U L (a ∷ s) w l
+spill_at_cons : {A : Type 0} (M R U L a : ℕ) (s : List ℕ) (w l : List A) → spill_at M R U L s (drop L w) (spill_fit M R U l a (take L w)) ≡ spill_at M R U L (a ∷ s) w l
 unfolding spill_at
 spill_at_cons M R U L a s w l = refl
 
-module _ (M R U L : ℕ) (starts v l : List ℕ) (j at : ℕ) where
-  pub piece_turn : (l' : List ℕ) (start : ℕ) → j < length starts → start ≡ get_or starts j 0 → l' ≡ spill_fit M R U l start (take L (drop at v))
+module _ {A : Type 0} (M R U L : ℕ) (starts : List ℕ) (v l : List A) (j at : ℕ) where
+  pub piece_turn : (l' : List A) (start : ℕ) → j < length starts → start ≡ get_or starts j 0 → l' ≡ spill_fit M R U l start (take L (drop at v))
       → spill_at M R U L (drop (j + 1) starts) (drop (at + L) v) l' ≡ spill_at M R U L (drop j starts) (drop at v) l
   piece_turn l' start h p q =
       let d : start ∷ drop (j + 1) starts ≡ drop j starts =
       ap (λ (k : ℕ). k ∷ drop (j + 1) starts) p ∙ sym (rw (add-one, drop-cons starts j 0 h)) in
       ap (spill_at M R U L (drop (j + 1) starts) (drop (at + L) v)) q
-      ∙ ap (λ (w : List ℕ). spill_at M R U L (drop (j + 1) starts) w (spill_fit M R U l start (take L (drop at v)))) (sym (drop-drop L at v))
+      ∙ ap (λ (w : List A). spill_at M R U L (drop (j + 1) starts) w (spill_fit M R U l start (take L (drop at v)))) (sym (drop-drop L at v))
       ∙ spill_at_cons M R U L start (drop (j + 1) starts) (drop at v) l
       ∙ ap (λ (s : List ℕ). spill_at M R U L s (drop at v) l) d
 

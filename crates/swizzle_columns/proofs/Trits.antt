@@ -20,37 +20,31 @@ use Rattle.swizzle_columns.specs.declared.Grid.{Grid}
 use Rattle.swizzle_columns.specs.Steps.{Good}
 use Rattle.swizzle_columns.specs.Rows.{start_of, starts_by, all_sources}
 use Rattle.swizzle_columns.specs.Matches.{Laid}
-use Rattle.swizzle_columns.proofs.TritRows.{length_arrange}
+use Rattle.swizzle_columns.proofs.Arrange.{length_arrange}
 use Rattle.swizzle_columns.proofs.Ports.{length_sources}
 use Rattle.swizzle_columns.proofs.Rules.{sources_are, each_starts, starts_are}
 
 -- ---- the pieces in turn
-module _ (M R U L : ℕ) (starts : ℕ → List ℕ) (v : List ℕ) (N : ℕ) where
-  each_cons : (x : ℕ) (xs l : List ℕ) → spill_each M R U L starts (x ∷ xs) v l ≡ spill_each M R U L starts xs v (spill_at M R U L (starts x) v l)
+module _ {A : Type 0} (M R U L : ℕ) (starts : ℕ → List ℕ) (v : List A) (N : ℕ) where
+  each_cons : (x : ℕ) (xs : List ℕ) (l : List A) → spill_each M R U L starts (x ∷ xs) v l ≡ spill_each M R U L starts xs v (spill_at M R U L (starts x) v l)
   unfolding spill_each
   each_cons x xs l = refl
 
-  each_none : (l : List ℕ) → spill_each M R U L starts [] v l ≡ l
+  each_none : (l : List A) → spill_each M R U L starts [] v l ≡ l
   unfolding spill_each
   each_none l = refl
 
-  pub each_first : (l : List ℕ) → spill_each M R U L starts (up_from 0 (N - 0)) v l ≡ spill_each M R U L starts (up_from 0 N) v l
+  pub each_first : (l : List A) → spill_each M R U L starts (up_from 0 (N - 0)) v l ≡ spill_each M R U L starts (up_from 0 N) v l
   each_first l = ap (λ (k : ℕ). spill_each M R U L starts (up_from 0 k) v l) (sub-zero N)
 
-  pub each_turn : (x : ℕ) (l l' : List ℕ) → x < N → l' ≡ spill_at M R U L (starts x) v l
+  pub each_turn : (x : ℕ) (l l' : List A) → x < N → l' ≡ spill_at M R U L (starts x) v l
       → spill_each M R U L starts (up_from (x + 1) (N - (x + 1))) v l' ≡ spill_each M R U L starts (up_from x (N - x)) v l
   each_turn x l l' h e =
       ap (spill_each M R U L starts (up_from (x + 1) (N - (x + 1))) v) e
       ∙ sym (ap (λ (xs : List ℕ). spill_each M R U L starts xs v l) (count_step x N h) ∙ each_cons x (up_from (x + 1) (N - (x + 1))) l)
 
-  pub each_end : (x : ℕ) (l : List ℕ) → N ≤ x → spill_each M R U L starts (up_from x (N - x)) v l ≡ l
+  pub each_end : (x : ℕ) (l : List A) → N ≤ x → spill_each M R U L starts (up_from x (N - x)) v l ≡ l
   each_end x l h = ap (λ (xs : List ℕ). spill_each M R U L starts xs v l) (count_end x N h) ∙ each_none l
-
--- ---- the row
-pub trits_row : (olds width ge n : ℕ) (es v row row' : List ℕ) → length es ≡ ge → n ≡ olds * ge → n ≤ length row → row' ≡ sets row 0 (arrange trit_x (all_sources olds width es) v)
-    → take n row' ≡ arrange trit_x (all_sources olds width es) v
-trits_row olds width ge n es v row row' el e room q =
-    take_stored row row' _ n q (e ∙ ap (λ (k : ℕ). olds * k) (sym el) ∙ sym (length_arrange (all_sources olds width es) v ∙ length_sources olds width es)) room
 
 -- ---- the whole
 module _ (g : Grid) (columns pieces olds : ℕ) (chunks : ℕ) (width : ℕ) (entries v : List ℕ) (q : Layout) (s : Split) (m : Laid g columns pieces olds chunks width entries q s) (size : ℕ) (o : Good g size) where

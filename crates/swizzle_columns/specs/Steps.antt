@@ -36,5 +36,5 @@ pub record Steppable (c : Cursor) (g : Grid) : Type 0 where
   pub back_low : g.mems ≤ c.mem + 1 → g.unit ≤ c.bit + 1 → g.back ≤ c.index + 1
 
 -- so many entries for each start
-pub record Rowed (g : Grid) (starts bits : List ℕ) : Type 0 where
+pub record Rowed {A : Type 0} (g : Grid) (starts : List ℕ) (bits : List A) : Type 0 where
   pub enough : length bits ≡ length starts * g.entries

@@ -57,13 +57,16 @@ abbrev pub port_starts : WidePort → ℕ → ℕ → List ℕ
 port_starts p len = starts_by p.chunks (p.mems * p.unit) len p.olds
 
 -- the data and the trits of all columns
+module _ {A : Type 0} where
+  abbrev pub port_columns : A → WidePort → List ℕ → List A → ℕ → List A
+  port_columns blank p es v size =
+      spill_each p.mems p.rows p.unit (length es) (port_starts p (length es)) (up_from 0 p.pieces) (arrange blank (all_sources p.olds p.width es) v) (replicate size blank)
+
 unfoldable pub port_bits : WidePort → List ℕ → List ℕ → ℕ → List ℕ
-port_bits p es v size =
-    spill_each p.mems p.rows p.unit (length es) (port_starts p (length es)) (up_from 0 p.pieces) (arrange X (all_sources p.olds p.width es) v) (replicate size X)
+port_bits p es v size = port_columns X p es v size
 
 unfoldable pub port_trits : WidePort → List ℕ → List ℕ → ℕ → List ℕ
-port_trits p es v size =
-    spill_each p.mems p.rows p.unit (length es) (port_starts p (length es)) (up_from 0 p.pieces) (arrange trit_x (all_sources p.olds p.width es) v) (replicate size trit_x)
+port_trits p es v size = port_columns trit_x p es v size
 
 -- ---- any numbers: `room` is what a lent room holds before
 unfoldable pub stored_of : WidePort → ℕ → ℕ → List ℕ → List ℕ → List ℕ

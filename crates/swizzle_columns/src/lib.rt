@@ -1,17 +1,17 @@
 // The columns of a wide port, memory after memory: where the pieces of its old rows start, their stores, and a read port's trits.
 #![tactic(auto)]
 
-ghost use Rattle.std.specs.Prelude.{◌≡◌, ◌+◌, ◌-◌, ◌*◌, ◌<◌, ◌≤◌, min, length, get_or, replicate, eqb};
+ghost use Rattle.std.specs.Prelude.{◌≡◌, ◌+◌, ◌-◌, ◌*◌, ◌<◌, ◌≤◌, min, length, get_or, eqb};
 ghost use Rattle.std.proofs.lemmas.List.Edits.{sets};
 ghost use Rattle.lists.specs.Choice.{when◌then◌else◌};
 ghost use Rattle.lists.specs.Lists.{up_from};
-ghost use Rattle.rules.specs.Limits.{X, trit_x, None};
+ghost use Rattle.rules.specs.Limits.{X, None, max_merge};
 ghost use Rattle.rules.specs.Swizzle.{arrange, repeating};
 ghost use Rattle.swizzle_laws.specs.Stores.{spill_fit, spill_at, spill_each};
 ghost use Rattle.swizzle_columns.specs.Steps.{Good, At, next_of, Steppable, Rowed};
 ghost use Rattle.swizzle_columns.specs.Rows.{source_of, row_sources, all_sources, last_of, Based, Bases, start_of, starts_by};
-ghost use Rattle.swizzle_columns.specs.Wide.{sizes_fit, rows_fit, PortFits, grid_of, port_starts, can_store, Stores, stored_of, mask_row, port_bits, bits_of, port_trits, trits_of};
-ghost use Rattle.swizzle_columns.specs.Jobs.{Narrow, Port};
+ghost use Rattle.swizzle_columns.specs.Wide.{sizes_fit, rows_fit, PortFits, grid_of, port_starts, can_store, Stores, stored_of, mask_row, port_columns, bits_of, trits_of};
+ghost use Rattle.swizzle_columns.specs.Jobs.{Narrow};
 
 // How the columns of a port stand: so many memories, rows of the port, columns of a memory, and entries of a row; and the steps from the last
 // column of a memory's row to the same row of the next memory, and back to the first memory.
@@ -42,36 +42,26 @@ pub struct WidePort {
 const MAX_ROWS: u32 = 16;
 
 // Whether a port's columns are within the limits, and `size` counts those of all new rows.
+#[tactic(auto, unfolding(crate::specs::Wide::sizes_fit))]
 pub fn sizes_fit(p: WidePort, size: usize) -> bool
     ensures { result ≡ sizes_fit p size }
 {
-    if MAX_ROWS < p.rows {
-        return false;
-    }
-    let columns = lists::usize_of_u32(p.mems) * lists::usize_of_u32(p.unit);
-    if lists::usize_of_u64(rules::MAX_COLUMNS) < columns {
-        return false;
-    }
-    if size == 0 {
-        return false;
-    }
-    size == lists::usize_of_u32(p.rows) * columns
+    let columns = (p.mems as usize) * (p.unit as usize);
+    p.rows <= MAX_ROWS
+        && columns <= (rules::MAX_COLUMNS as usize)
+        && size != 0
+        && size == (p.rows as usize) * columns
 }
 
 // Whether a port's old rows and pieces are within the limits; each piece takes a net at least.
+#[tactic(auto, unfolding(crate::specs::Wide::rows_fit))]
 pub fn rows_fit(p: WidePort, len: usize) -> bool
     ensures { result ≡ rows_fit p len }
 {
-    if rules::MAX_ROW < len {
-        return false;
-    }
-    if MAX_ROWS < p.olds {
-        return false;
-    }
-    if rules::MAX_WIDTH < p.width {
-        return false;
-    }
-    p.pieces <= rules::MAX_NETS
+    len <= rules::MAX_ROW
+        && p.olds <= MAX_ROWS
+        && p.width <= rules::MAX_WIDTH
+        && p.pieces <= rules::MAX_NETS
 }
 
 // The grid of a port, with entries to a row.
@@ -79,9 +69,9 @@ fn grid_of(p: WidePort, len: usize, size: usize) -> Grid
     requires { PortFits p len size }
     ensures { result ≡ grid_of p len }
 {
-    let mems = lists::usize_of_u32(p.mems);
-    let rows = lists::usize_of_u32(p.rows);
-    let unit = lists::usize_of_u32(p.unit);
+    let mems = p.mems as usize;
+    let rows = p.rows as usize;
+    let unit = p.unit as usize;
     Grid {
         mems,
         rows,
@@ -97,7 +87,7 @@ fn columns_of(p: WidePort, len: usize, size: usize) -> usize
     requires { PortFits p len size }
     ensures { result ≡ p.mems * p.unit }
 {
-    lists::usize_of_u32(p.mems) * lists::usize_of_u32(p.unit)
+    (p.mems as usize) * (p.unit as usize)
 }
 
 // A column on the way: its place memory after memory, its bit and its memory.
@@ -176,15 +166,23 @@ fn net_of(v: &[u32], n: usize, none: u32) -> u32
     rules::NET_X
 }
 
-// Stores the data of an old row, entry after entry.
-fn arrange_row(out: &mut [u32], at: usize, base: usize, entries: &[u32], v: &[u32])
-    requires { Based base × (at + length entries.now ≤ length out.old) }
-    ensures { out.new ≡ sets out.old at (arrange X (row_sources base entries.now) v.now) }
+// The bit's net or trit; blank where there is no such bit.
+fn bit_of<T: Copy>(v: &[T], n: usize, blank: T) -> T
+    ensures { result ≡ (when eqb n None then blank else get_or v.now n blank) }
 {
-    let mut i: usize = 0;
-    while i < entries.len() {
-        out[at + i] = net_of(v, source(base, entries[i]), rules::NET_X);
-        i += 1;
+    if n != (rules::NO_BIT as usize) && n < v.len() {
+        return v[n];
+    }
+    blank
+}
+
+// Stores the data of an old row, or the trits of one kind, entry after entry.
+fn arrange_row<T: Copy>(out: &mut [T], at: usize, base: usize, entries: &[u32], v: &[T], blank: T)
+    requires { Based base × (at + length entries.now ≤ length out.old) }
+    ensures { out.new ≡ sets out.old at (arrange blank (row_sources base entries.now) v.now) }
+{
+    for (i, entry) in entries.iter().enumerate() {
+        out[at + i] = bit_of(v, source(base, *entry), blank);
     }
 }
 
@@ -202,28 +200,31 @@ fn repeat_row(
     ensures out_after { out.new ≡ sets out.old at (repeating before (row_sources base entries.now) v.now) }
 {
     let mut last = before;
-    let mut i: usize = 0;
-    while i < entries.len() {
-        last = net_of(v, source(base, entries[i]), last);
+    for (i, entry) in entries.iter().enumerate() {
+        last = net_of(v, source(base, *entry), last);
         out[at + i] = last;
-        i += 1;
     }
     last
 }
 
 // Stores the data of all old rows.
-fn arrange_rows(out: &mut [u32], olds: usize, width: usize, entries: &[u32], v: &[u32])
+fn arrange_rows<T: Copy>(
+    out: &mut [T],
+    olds: usize,
+    width: usize,
+    entries: &[u32],
+    v: &[T],
+    blank: T,
+)
     requires { Bases olds width (length entries.now) (length out.old) }
-    ensures { out.new ≡ sets out.old 0 (arrange X (all_sources olds width entries.now) v.now) }
+    ensures { out.new ≡ sets out.old 0 (arrange blank (all_sources olds width entries.now) v.now) }
 {
-    let mut at: usize = 0;
-    let mut base: usize = 0;
-    let mut j: usize = 0;
-    while j < olds {
-        arrange_row(out, at, base, entries, v);
+    let mut at = 0;
+    let mut base = 0;
+    for j in 0..olds {
+        arrange_row(out, at, base, entries, v, blank);
         at += entries.len();
         base += width;
-        j += 1;
     }
 }
 
@@ -233,14 +234,12 @@ fn repeat_rows(out: &mut [u32], olds: usize, width: usize, entries: &[u32], v: &
     ensures { out.new ≡ sets out.old 0 (repeating X (all_sources olds width entries.now) v.now) }
 {
     let mut last = rules::NET_X;
-    let mut at: usize = 0;
-    let mut base: usize = 0;
-    let mut j: usize = 0;
-    while j < olds {
+    let mut at = 0;
+    let mut base = 0;
+    for j in 0..olds {
         last = repeat_row(out, at, base, entries, v, last);
         at += entries.len();
         base += width;
-        j += 1;
     }
 }
 
@@ -250,7 +249,7 @@ fn start_of(chunks: u32, columns: usize, entries: usize, n: u32) -> usize
     ensures { result ≡ start_of chunks columns entries n }
 {
     let spot = image_geometry::walk_row(chunks, rules::ADDR_BITS, n);
-    lists::usize_of_u32(spot.row) * columns + lists::usize_of_u32(spot.chunk) * entries
+    (spot.row as usize) * columns + (spot.chunk as usize) * entries
 }
 
 // Where piece x starts for each old row.
@@ -259,26 +258,21 @@ fn piece_starts(starts: &mut [usize], chunks: u32, columns: usize, entries: usiz
     ensures { starts.new ≡ starts_by chunks columns entries (length starts.old) x }
 {
     let first = starts.len() * x;
-    let mut j: usize = 0;
-    while j < starts.len() {
+    for j in 0..starts.len() {
         starts[j] = start_of(chunks, columns, entries, (j + first) as u32);
-        j += 1;
     }
 }
 
 // Stores a run of nets from a column on.
-fn store_from(to: &mut [u32], g: Grid, start: usize, n: usize, v: &[u32])
+fn store_from<T: Copy>(to: &mut [T], g: Grid, start: usize, n: usize, v: &[T])
     requires good { Good g (length to.old) }
     requires n_nonzero { (0 < n) × (n ≡ min (length v.now) (length to.old - start)) × (length to.old ≤ 4611686018427387903) }
     ensures { to.new ≡ spill_fit g.mems g.rows g.unit to.old start v.now }
 {
     let mut c = cursor_at(g, to.len(), start);
-    let mut i: usize = 0;
-    while i < n {
-        let at = c.index;
-        to[at] = v[i];
+    for i in 0..n {
+        lists::put(to, c.index, v[i]);
         c = next(c, g);
-        i += 1;
     }
 }
 
@@ -290,7 +284,7 @@ fn fitting(room: usize, at: usize, want: usize) -> usize
 }
 
 // The same where there may be none.
-fn store_run(to: &mut [u32], g: Grid, start: usize, v: &[u32])
+fn store_run<T: Copy>(to: &mut [T], g: Grid, start: usize, v: &[T])
     requires { Good g (length to.old) × (length to.old ≤ 4611686018427387903) }
     ensures { to.new ≡ spill_fit g.mems g.rows g.unit to.old start v.now }
 {
@@ -302,41 +296,36 @@ fn store_run(to: &mut [u32], g: Grid, start: usize, v: &[u32])
 }
 
 // Stores a piece: so many entries from each start on.
-fn store_piece(to: &mut [u32], g: Grid, starts: &[usize], v: &[u32])
+fn store_piece<T: Copy>(to: &mut [T], g: Grid, starts: &[usize], v: &[T])
     requires good { Good g (length to.old) × (length to.old ≤ 4611686018427387903) }
     requires rowed { Rowed g starts.now v.now }
     ensures { to.new ≡ spill_at g.mems g.rows g.unit g.entries starts.now v.now to.old }
 {
-    let n = g.entries;
-    let mut at: usize = 0;
-    let mut j: usize = 0;
-    while j < starts.len() {
-        let end = at + n;
-        store_run(to, g, starts[j], &v[at..end]);
+    let mut at = 0;
+    for (j, start) in starts.iter().enumerate() {
+        let end = at + g.entries;
+        store_run(to, g, *start, &v[at..end]);
         at = end;
-        j += 1;
     }
 }
 
-// The data of a row stored as each piece.
-fn data_pieces(
-    to: &mut [u32],
+// A row stored as each piece.
+fn store_pieces<T: Copy>(
+    to: &mut [T],
     g: Grid,
     columns: usize,
     pieces: usize,
     chunks: u32,
     starts: &mut [usize],
-    v: &[u32],
+    v: &[T],
 )
     requires good { Good g (length to.old) × (length to.old ≤ 4611686018427387903) }
     requires v_len { (length v.now ≡ length starts.old * g.entries) × Narrow (length starts.old) columns g.entries pieces }
     ensures { to.new ≡ spill_each g.mems g.rows g.unit g.entries (starts_by chunks columns g.entries (length starts.old)) (up_from 0 pieces) v.now to.old }
 {
-    let mut x: usize = 0;
-    while x < pieces {
+    for x in 0..pieces {
         piece_starts(starts, chunks, columns, g.entries, x);
         store_piece(to, g, starts, v);
-        x += 1;
     }
 }
 
@@ -366,25 +355,18 @@ fn store_in(to: &mut [u32], p: WidePort, len: usize, v: &[u32], x: usize)
     let size = to.len();
     let g = grid_of(p, len, size);
     let columns = columns_of(p, len, size);
-    let olds = lists::usize_of_u32(p.olds);
+    let olds = p.olds as usize;
     let mut starts = [0usize; 16];
     store_at(to, g, columns, p.chunks, &mut starts[..olds], v, x);
 }
 
 // Whether a port is within the limits, its room as large as its columns, a row as long as its old rows, and x one of its pieces.
+#[tactic(auto, unfolding(crate::specs::Wide::can_store))]
 fn can_store(p: WidePort, len: usize, size: usize, n: usize, x: usize) -> bool
     ensures { result ≡ can_store p len size n x }
 {
-    if !sizes_fit(p, size) {
-        return false;
-    }
-    if !rows_fit(p, len) {
-        return false;
-    }
-    if n != lists::usize_of_u32(p.olds) * len {
-        return false;
-    }
-    x < lists::usize_of_u32(p.pieces)
+    let rows = rows_fit(p, len);
+    sizes_fit(p, size) && rows && n == (p.olds as usize) * len && x < (p.pieces as usize)
 }
 
 // Stores piece x of a port with so many entries to a row, in the order of the memories. Nothing is done where the port passes the limits, or the
@@ -392,252 +374,66 @@ fn can_store(p: WidePort, len: usize, size: usize, n: usize, x: usize) -> bool
 pub fn store_nets(to: &mut [u32], p: WidePort, len: usize, v: &[u32], x: usize)
     ensures { to.new ≡ stored_of p len x v.now to.old }
 {
-    if !can_store(p, len, to.len(), v.len(), x) {
-        return;
+    if can_store(p, len, to.len(), v.len(), x) {
+        store_in(to, p, len, v, x);
     }
-    store_in(to, p, len, v, x);
 }
 
 // The mask of all old rows of a port, entry after entry. Nothing is done where the port passes the limits.
 pub fn mask_row(out: &mut [u32; rules::MAX_MERGE], p: WidePort, entries: &[u32], v: &[u32])
     ensures { out.new ≡ mask_row p entries.now v.now out.old }
 {
-    if !rows_fit(p, entries.len()) {
-        return;
+    if rows_fit(p, entries.len()) {
+        repeat_rows(out, p.olds as usize, p.width as usize, entries, v);
     }
-    repeat_rows(
-        out,
-        lists::usize_of_u32(p.olds),
-        lists::usize_of_u32(p.width),
-        entries,
-        v,
-    );
 }
 
-// A write port's data in the order of the memories: their row, blank columns, then each piece.
-fn data_blank(
-    to: &mut [u32],
-    g: Grid,
-    columns: usize,
-    pieces: usize,
-    olds: usize,
-    chunks: u32,
-    width: usize,
-    entries: &[u32],
-    v: &[u32],
-)
-    requires port { Port g olds width (length entries.now) (length to.old) × (length to.old ≤ 4611686018427387903) }
-    requires narrow { Narrow olds columns g.entries pieces }
-    ensures { to.new ≡ spill_each g.mems g.rows g.unit g.entries (starts_by chunks columns g.entries olds) (up_from 0 pieces) (arrange X (all_sources olds width entries.now) v.now) (replicate (length to.old) X) }
-{
-    let n = olds * g.entries;
-    let mut row = [0u32; rules::MAX_MERGE];
-    let mut starts = [0usize; 16];
-    arrange_rows(&mut row, olds, width, entries, v);
-    lists::fill(to, 0, to.len(), rules::NET_X);
-    data_pieces(
-        to,
-        g,
-        columns,
-        pieces,
-        chunks,
-        &mut starts[..olds],
-        &row[..n],
-    );
-}
-
-// The same from a port within the limits.
-fn data_in(to: &mut [u32], p: WidePort, entries: &[u32], v: &[u32])
-    requires { PortFits p (length entries.now) (length to.old) }
-    ensures { to.new ≡ port_bits p entries.now v.now (length to.old) }
+// The columns of a port within the limits, for its data or its trits of one kind, in the order of the memories: their row in lent scratch, blank
+// columns, then each piece.
+fn columns_in<T: Copy>(to: &mut [T], row: &mut [T], p: WidePort, entries: &[u32], v: &[T], blank: T)
+    requires fits { PortFits p (length entries.now) (length to.old) }
+    requires scratch { length row.old ≡ max_merge }
+    ensures { to.new ≡ port_columns blank p entries.now v.now (length to.old) }
 {
     let size = to.len();
     let g = grid_of(p, entries.len(), size);
     let columns = columns_of(p, entries.len(), size);
-    let pieces = lists::usize_of_u32(p.pieces);
-    let olds = lists::usize_of_u32(p.olds);
-    let width = lists::usize_of_u32(p.width);
-    data_blank(to, g, columns, pieces, olds, p.chunks, width, entries, v);
+    let olds = p.olds as usize;
+    let n = olds * g.entries;
+    let mut starts = [0usize; 16];
+    arrange_rows(row, olds, p.width as usize, entries, v, blank);
+    lists::fill(to, 0, size, blank);
+    store_pieces(
+        to,
+        g,
+        columns,
+        p.pieces as usize,
+        p.chunks,
+        &mut starts[..olds],
+        &row[..n],
+    );
 }
 
 // A write port's data in the order of the memories. Nothing is done where the port passes the limits or the room is not as
 // large as its columns.
+#[tactic(auto, unfolding(crate::specs::Wide::bits_of, crate::specs::Wide::port_bits))]
 pub fn data_columns(to: &mut [u32], p: WidePort, entries: &[u32], v: &[u32])
     ensures { to.new ≡ bits_of p entries.now v.now to.old }
 {
-    if !sizes_fit(p, to.len()) {
-        return;
+    if sizes_fit(p, to.len()) && rows_fit(p, entries.len()) {
+        let mut row = [0u32; rules::MAX_MERGE];
+        columns_in(to, &mut row, p, entries, v, rules::NET_X);
     }
-    if !rows_fit(p, entries.len()) {
-        return;
-    }
-    data_in(to, p, entries, v);
-}
-
-// The trit of a bit; X where there is none.
-fn trit_of(v: &[u8], n: usize) -> u8
-    ensures { result ≡ (when eqb n None then trit_x else get_or v.now n trit_x) }
-{
-    if n == (rules::NO_BIT as usize) {
-        return rules::TRIT_X;
-    }
-    if n < v.len() {
-        return v[n];
-    }
-    rules::TRIT_X
-}
-
-// Stores the trits of an old row, entry after entry.
-fn trit_row(out: &mut [u8], at: usize, base: usize, entries: &[u32], v: &[u8])
-    requires { Based base × (at + length entries.now ≤ length out.old) }
-    ensures { out.new ≡ sets out.old at (arrange trit_x (row_sources base entries.now) v.now) }
-{
-    let mut i: usize = 0;
-    while i < entries.len() {
-        out[at + i] = trit_of(v, source(base, entries[i]));
-        i += 1;
-    }
-}
-
-// Stores the trits of all old rows.
-fn trit_rows(out: &mut [u8], olds: usize, width: usize, entries: &[u32], v: &[u8])
-    requires { Bases olds width (length entries.now) (length out.old) }
-    ensures { out.new ≡ sets out.old 0 (arrange trit_x (all_sources olds width entries.now) v.now) }
-{
-    let mut at: usize = 0;
-    let mut base: usize = 0;
-    let mut j: usize = 0;
-    while j < olds {
-        trit_row(out, at, base, entries, v);
-        at += entries.len();
-        base += width;
-        j += 1;
-    }
-}
-
-// Stores a run of trits from a column on.
-fn store_trits_from(to: &mut [u8], g: Grid, start: usize, n: usize, v: &[u8])
-    requires good { Good g (length to.old) }
-    requires n_nonzero { (0 < n) × (n ≡ min (length v.now) (length to.old - start)) × (length to.old ≤ 4611686018427387903) }
-    ensures { to.new ≡ spill_fit g.mems g.rows g.unit to.old start v.now }
-{
-    let mut c = cursor_at(g, to.len(), start);
-    let mut i: usize = 0;
-    while i < n {
-        let at = c.index;
-        to[at] = v[i];
-        c = next(c, g);
-        i += 1;
-    }
-}
-
-// The same where there may be none.
-fn store_trits_run(to: &mut [u8], g: Grid, start: usize, v: &[u8])
-    requires { Good g (length to.old) × (length to.old ≤ 4611686018427387903) }
-    ensures { to.new ≡ spill_fit g.mems g.rows g.unit to.old start v.now }
-{
-    let n = fitting(to.len(), start, v.len());
-    if n == 0 {
-        return;
-    }
-    store_trits_from(to, g, start, n, v);
-}
-
-// Stores a piece of trits: so many entries from each start on.
-fn store_trits_piece(to: &mut [u8], g: Grid, starts: &[usize], v: &[u8])
-    requires good { Good g (length to.old) × (length to.old ≤ 4611686018427387903) }
-    requires rowed { Rowed g starts.now v.now }
-    ensures { to.new ≡ spill_at g.mems g.rows g.unit g.entries starts.now v.now to.old }
-{
-    let n = g.entries;
-    let mut at: usize = 0;
-    let mut j: usize = 0;
-    while j < starts.len() {
-        let end = at + n;
-        store_trits_run(to, g, starts[j], &v[at..end]);
-        at = end;
-        j += 1;
-    }
-}
-
-// The trits of a row stored as each piece.
-fn trit_pieces(
-    to: &mut [u8],
-    g: Grid,
-    columns: usize,
-    pieces: usize,
-    chunks: u32,
-    starts: &mut [usize],
-    v: &[u8],
-)
-    requires good { Good g (length to.old) × (length to.old ≤ 4611686018427387903) }
-    requires v_len { (length v.now ≡ length starts.old * g.entries) × Narrow (length starts.old) columns g.entries pieces }
-    ensures { to.new ≡ spill_each g.mems g.rows g.unit g.entries (starts_by chunks columns g.entries (length starts.old)) (up_from 0 pieces) v.now to.old }
-{
-    let mut x: usize = 0;
-    while x < pieces {
-        piece_starts(starts, chunks, columns, g.entries, x);
-        store_trits_piece(to, g, starts, v);
-        x += 1;
-    }
-}
-
-// A read port's trits of one kind, in the order of the memories: their row, blank columns, then each piece.
-fn trit_blank(
-    to: &mut [u8],
-    g: Grid,
-    columns: usize,
-    pieces: usize,
-    olds: usize,
-    chunks: u32,
-    width: usize,
-    entries: &[u32],
-    v: &[u8],
-)
-    requires port { Port g olds width (length entries.now) (length to.old) × (length to.old ≤ 4611686018427387903) }
-    requires narrow { Narrow olds columns g.entries pieces }
-    ensures { to.new ≡ spill_each g.mems g.rows g.unit g.entries (starts_by chunks columns g.entries olds) (up_from 0 pieces) (arrange trit_x (all_sources olds width entries.now) v.now) (replicate (length to.old) trit_x) }
-{
-    let n = olds * g.entries;
-    let mut row = [0u8; rules::MAX_MERGE];
-    let mut starts = [0usize; 16];
-    trit_rows(&mut row, olds, width, entries, v);
-    lists::fill(to, 0, to.len(), rules::TRIT_X);
-    trit_pieces(
-        to,
-        g,
-        columns,
-        pieces,
-        chunks,
-        &mut starts[..olds],
-        &row[..n],
-    );
-}
-
-// The same from a port within the limits.
-fn trit_in(to: &mut [u8], p: WidePort, entries: &[u32], v: &[u8])
-    requires { PortFits p (length entries.now) (length to.old) }
-    ensures { to.new ≡ port_trits p entries.now v.now (length to.old) }
-{
-    let size = to.len();
-    let g = grid_of(p, entries.len(), size);
-    let columns = columns_of(p, entries.len(), size);
-    let pieces = lists::usize_of_u32(p.pieces);
-    let olds = lists::usize_of_u32(p.olds);
-    let width = lists::usize_of_u32(p.width);
-    trit_blank(to, g, columns, pieces, olds, p.chunks, width, entries, v);
 }
 
 // A clocked read port's trits of one kind in the order of the memories. Nothing is done where the port passes the limits or the room is not as
 // large as its columns.
+#[tactic(auto, unfolding(crate::specs::Wide::trits_of, crate::specs::Wide::port_trits))]
 pub fn trit_columns(to: &mut [u8], p: WidePort, entries: &[u32], v: &[u8])
     ensures { to.new ≡ trits_of p entries.now v.now to.old }
 {
-    if !sizes_fit(p, to.len()) {
-        return;
+    if sizes_fit(p, to.len()) && rows_fit(p, entries.len()) {
+        let mut row = [0u8; rules::MAX_MERGE];
+        columns_in(to, &mut row, p, entries, v, rules::TRIT_X);
     }
-    if !rows_fit(p, entries.len()) {
-        return;
-    }
-    trit_in(to, p, entries, v);
 }

@@ -1,16 +1,12 @@
 -- The invariants of `swizzle_columns::arrange_rows`.
 use mathlib.Core.Path.{◌≡◌}
-use Prim.Native.Nat.{◌-◌, ◌*◌, ◌≤◌}
+use Prim.Native.Nat.{◌*◌, ◌≤◌}
 use lib.ListN.{length}
 use lib.Seq.{sets}
-use Rattle.rules.specs.Limits.{X}
 use Rattle.rules.specs.Swizzle.{arrange}
 use Rattle.swizzle_columns.specs.Rows.{all_sources}
 use Rattle.swizzle_columns.proofs.Rows.{from_row_of}
 use Rattle.swizzle_columns.proofs.arrange_rows.Given as goal
 
 abbrev pub invariant-loop-j : goal.invariant-loop-j
-invariant-loop-j l = (l.j ≤ l.olds) × (length l.out ≡ length l.initial.out) × (l.at ≡ l.j * length l.entries) × (l.base ≡ l.j * l.width) × (sets l.out l.at (arrange X (from_row_of l.olds l.width l.entries l.j) l.v) ≡ sets l.initial.out 0 (arrange X (all_sources l.olds l.width l.entries) l.v))
-
-abbrev pub decreases-loop-j : goal.decreases-loop-j
-decreases-loop-j l = l.olds - l.j
+invariant-loop-j g l = (l.j ≤ l.olds) × (length l.out ≡ length l.initial.out) × (l.at ≡ l.j * length l.entries) × (l.base ≡ l.j * l.width) × (sets l.out l.at (arrange l.blank (from_row_of l.olds l.width l.entries l.j) l.v) ≡ sets l.initial.out 0 (arrange l.blank (all_sources l.olds l.width l.entries) l.v))

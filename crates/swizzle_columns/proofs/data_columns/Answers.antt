@@ -1,29 +1,8 @@
 -- `swizzle_columns::data_columns` meets its contract.
-use mathlib.Core.Path.{sym, ap, ◌∙◌}
-use Prim.Native.Nat.{◌-◌}
-use lib.ListN.{length}
-use Rattle.swizzle_columns.proofs.Fits.{fits_say, bits_sizes, bits_rows, bits_can}
-use borrow.Author.Tests.{not-true, not-false}
-use mathlib.Core.Bool.{not}
+use Rattle.std.proofs.Common.{◌∙◌, sym, length}
+use Rattle.swizzle_columns.proofs.Fits.{fits_say}
 use Rattle.swizzle_columns.proofs.data_columns.Goals as goal
 
-pub returns-then-not-sizes_fit : goal.returns-then-not-sizes_fit
-returns-then-not-sizes_fit c =
-    let v = c.args in
-    bits_sizes v.p v.entries.now v.v.now v.to.now (sym c.sizes_fit.ensures ∙ not-true _ (ap not c.if-not-sizes_fit.true))
-
-pub returns-then-not-rows_fit : goal.returns-then-not-rows_fit
-returns-then-not-rows_fit c =
-    let v = c.args in
-    bits_rows v.p v.entries.now v.v.now v.to.now (sym c.sizes_fit.ensures ∙ not-false _ (ap not c.if-not-sizes_fit.false)) (sym c.rows_fit.ensures ∙ not-true _ (ap not c.if-not-rows_fit.true))
-
-pub data_in-requires : goal.data_in-requires
-data_in-requires c =
-    let v = c.args in
-    fits_say v.p (length v.entries.now) (length v.to.now) (sym c.sizes_fit.ensures ∙ not-false _ (ap not c.if-not-sizes_fit.false)) (sym c.rows_fit.ensures ∙ not-false _ (ap not c.if-not-rows_fit.false))
-
-pub returns : goal.returns
-returns c =
-    let v = c.args in
-    c.data_in.ensures
-    ∙ sym (bits_can v.p v.entries.now v.v.now v.to.now (sym c.sizes_fit.ensures ∙ not-false _ (ap not c.if-not-sizes_fit.false)) (sym c.rows_fit.ensures ∙ not-false _ (ap not c.if-not-rows_fit.false)))
+pub columns_in-requires-clause-fits : goal.columns_in-requires-clause-fits
+columns_in-requires-clause-fits c =
+    let v = c.args in fits_say v.p (length v.entries.now) (length v.to.now) (sym c.sizes_fit.ensures ∙ c.if-sizes_fit.true) (sym c.rows_fit.ensures ∙ c.if-rows_fit.true)

@@ -1,6 +1,5 @@
 -- `swizzle_columns::piece_starts` meets its contract.
 use mathlib.Core.Path.{refl}
-use Prim.Native.Nat.{◌-◌}
 use native.Mathlib.Omega.{arith}
 use lib.ListN.{length, length-set}
 use Rattle.swizzle_columns.proofs.Walks.{starts_turn, starts_end, narrow_at}
@@ -8,9 +7,6 @@ use Rattle.swizzle_columns.proofs.piece_starts.Goals as goal
 
 pub overflow_mul-first : goal.overflow_mul-first
 overflow_mul-first c = omega (arith, c.requires.numbers)
-
-pub loop-j-init : goal.loop-j-init
-loop-j-init c = (omega arith, refl, refl)
 
 pub overflow_add-j : goal.overflow_add-j
 overflow_add-j c = omega (arith, c.requires.numbers)
@@ -28,9 +24,6 @@ loop-j-preserved c =
     let v = c.args in
     let w = h.loop-j.invariant in
     (omega arith, simp length-set w.1, starts_turn v.chunks v.columns v.entries (length v.starts.now) v.x v.starts.now h.loop-j.starts h.loop-j.j w.2 _ (omega arith) c.start_of.ensures)
-
-pub shape_of-starts : goal.shape_of-starts
-shape_of-starts c = c.loop-j.invariant.1
 
 pub returns : goal.returns
 returns c =

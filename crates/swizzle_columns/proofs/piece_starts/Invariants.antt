@@ -1,6 +1,6 @@
 -- The invariants of `swizzle_columns::piece_starts`.
 use mathlib.Core.Path.{◌≡◌}
-use Prim.Native.Nat.{◌-◌, ◌≤◌}
+use Prim.Native.Nat.{◌≤◌}
 use lib.ListN.{length, take}
 use lib.Seq.{sets}
 use Rattle.swizzle_columns.specs.Rows.{starts_by}
@@ -8,6 +8,3 @@ use Rattle.swizzle_columns.proofs.piece_starts.Given as goal
 
 abbrev pub invariant-loop-j : goal.invariant-loop-j
 invariant-loop-j l = (l.j ≤ length l.initial.starts) × (length l.starts ≡ length l.initial.starts) × (l.starts ≡ sets l.initial.starts 0 (take l.j (starts_by l.chunks l.columns l.entries (length l.initial.starts) l.x)))
-
-abbrev pub decreases-loop-j : goal.decreases-loop-j
-decreases-loop-j l = length l.initial.starts - l.j

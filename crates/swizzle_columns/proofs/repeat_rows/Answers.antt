@@ -1,6 +1,6 @@
 -- `swizzle_columns::repeat_rows` meets its contract.
 use mathlib.Core.Path.{refl, sym, ap, ◌∙◌}
-use Prim.Native.Nat.{ℕ, ◌-◌}
+use Prim.Native.Nat.{ℕ}
 use native.Mathlib.Omega.{arith}
 use mathlib.Core.List.{List}
 use lib.ListN.{length}
@@ -10,11 +10,6 @@ use native.Mathlib.Nat.{zero-mul}
 use Rattle.rules.specs.Swizzle.{repeating}
 use Rattle.swizzle_columns.proofs.Rows.{rows_in, row_next, from_first, repeat_row_turn, repeat_rows_end}
 use Rattle.swizzle_columns.proofs.repeat_rows.Goals as goal
-
-pub loop-j-init : goal.loop-j-init
-loop-j-init c =
-    let v = c.args in
-    (omega arith, refl, sym (zero-mul _), sym (zero-mul _), ap (λ (l : List ℕ). sets v.out.now 0 (repeating X l v.v.now)) (from_first v.olds v.width v.entries.now))
 
 pub repeat_row-last-requires : goal.repeat_row-last-requires
 repeat_row-last-requires c =
@@ -54,11 +49,13 @@ loop-j-preserved c =
     let p = c.repeat_row-last in
     (omega arith, p.auto.out ∙ w.1, row_next h.loop-j.j (length v.entries.now) h.loop-j.at w.2, row_next h.loop-j.j v.width h.loop-j.base w.3, repeat_row_turn v.olds v.width v.entries.now v.v.now h.loop-j.out h.loop-j.j h.loop-j.base h.loop-j.at c.loop-j-test.true w.3 h.loop-j.last p.result p.new.out p.ensures.value p.ensures.out_after ∙ w.4)
 
-pub shape_of-out : goal.shape_of-out
-shape_of-out c = c.loop-j.invariant.1
-
 pub returns : goal.returns
 returns c =
     let h = c in
     let v = c.args in
     sym (repeat_rows_end v.olds v.width v.entries.now v.v.now h.loop-j.out h.loop-j.j h.loop-j.at c.loop-j-test.false h.loop-j.last) ∙ h.loop-j.invariant.4
+
+pub loop-j-init : goal.loop-j-init
+loop-j-init c =
+    let v = c.args in
+    (omega arith, refl, sym (zero-mul _), sym (zero-mul _), ap (λ (l : List ℕ). sets v.out.now 0 (repeating X l v.v.now)) (from_first v.olds v.width v.entries.now))

@@ -1,6 +1,6 @@
 -- The invariants of `swizzle_columns::repeat_rows`.
 use mathlib.Core.Path.{◌≡◌}
-use Prim.Native.Nat.{◌-◌, ◌*◌, ◌≤◌}
+use Prim.Native.Nat.{◌*◌, ◌≤◌}
 use lib.ListN.{length}
 use lib.Seq.{sets}
 use Rattle.rules.specs.Limits.{X}
@@ -11,6 +11,3 @@ use Rattle.swizzle_columns.proofs.repeat_rows.Given as goal
 
 abbrev pub invariant-loop-j : goal.invariant-loop-j
 invariant-loop-j l = (l.j ≤ l.olds) × (length l.out ≡ length l.initial.out) × (l.at ≡ l.j * length l.entries) × (l.base ≡ l.j * l.width) × (sets l.out l.at (repeating l.last (from_row_of l.olds l.width l.entries l.j) l.v) ≡ sets l.initial.out 0 (repeating X (all_sources l.olds l.width l.entries) l.v))
-
-abbrev pub decreases-loop-j : goal.decreases-loop-j
-decreases-loop-j l = l.olds - l.j

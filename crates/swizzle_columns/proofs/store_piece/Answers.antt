@@ -3,25 +3,13 @@ use mathlib.Core.Path.{◌≡◌, refl, sym, ap, ◌∙◌, subst}
 use Prim.Native.Nat.{ℕ, ◌+◌, ◌-◌}
 use native.Mathlib.Omega.{arith}
 use lib.ListN.{length, take, drop, get_or}
-use native.Mathlib.Nat.{zero-mul}
 use Rattle.swizzle_laws.specs.Stores.{spill_fit}
 use Rattle.swizzle_columns.specs.Steps.{Good}
 use Rattle.swizzle_columns.proofs.Rows.{rows_in, row_next, piece_turn, piece_ends}
 use Rattle.swizzle_columns.proofs.store_piece.Goals as goal
 
-pub loop-j-init : goal.loop-j-init
-loop-j-init c = (omega arith, refl, sym (zero-mul _), refl)
-
 pub overflow_add-end : goal.overflow_add-end
-overflow_add-end c =
-    let h = c in
-    let k = c in
-    let v = k.args in
-    let x = rows_in (length v.starts.now) h.loop-j.j v.g.entries h.loop-j.at (length v.v.now) c.loop-j-test.true h.loop-j.invariant.2 (omega (arith, k.requires.rowed.enough)) in
-    omega (arith, x)
-
-pub offset_bounds-v-at : goal.offset_bounds-v-at
-offset_bounds-v-at c =
+overflow_add-end g c =
     let h = c in
     let k = c in
     let v = k.args in
@@ -29,7 +17,7 @@ offset_bounds-v-at c =
     omega (arith, x)
 
 pub slice_bounds-store_run-count : goal.slice_bounds-store_run-count
-slice_bounds-store_run-count c =
+slice_bounds-store_run-count g c =
     let h = c in
     let k = c in
     let v = k.args in
@@ -37,7 +25,7 @@ slice_bounds-store_run-count c =
     omega (arith, x)
 
 pub slice_bounds-store_run-start : goal.slice_bounds-store_run-start
-slice_bounds-store_run-start c =
+slice_bounds-store_run-start g c =
     let h = c in
     let k = c in
     let v = k.args in
@@ -45,7 +33,7 @@ slice_bounds-store_run-start c =
     omega (arith, x)
 
 pub slice_bounds-store_run-end : goal.slice_bounds-store_run-end
-slice_bounds-store_run-end c =
+slice_bounds-store_run-end g c =
     let h = c in
     let k = c in
     let v = k.args in
@@ -53,7 +41,7 @@ slice_bounds-store_run-end c =
     omega (arith, x)
 
 pub store_run-requires : goal.store_run-requires
-store_run-requires c =
+store_run-requires g c =
     let h = c in
     let k = c in
     let v = k.args in
@@ -61,7 +49,7 @@ store_run-requires c =
     (subst (λ (n : ℕ). Good v.g n) (sym w.1) k.requires.good.0, omega (arith, w.1, k.requires.good.1))
 
 pub loop-j-preserved : goal.loop-j-preserved
-loop-j-preserved c =
+loop-j-preserved g c =
     let h = c in
     let k = c in
     let v = k.args in
@@ -76,11 +64,8 @@ loop-j-preserved c =
           (p.ensures ∙ ap (λ (n : ℕ). spill_fit g.mems g.rows g.unit h.loop-j.to (get_or v.starts.now h.loop-j.j 0) (take n (drop h.loop-j.at v.v.now))) e) ∙ w.3,
     )
 
-pub shape_of-to : goal.shape_of-to
-shape_of-to c = c.loop-j.invariant.1
-
 pub returns : goal.returns
-returns c =
+returns g c =
     let h = c in
     let v = c.args in
     let g = v.g in

@@ -6,7 +6,7 @@ use Rattle.swizzle_columns.proofs.Cursors.{run_none}
 use Rattle.swizzle_columns.proofs.store_run.Goals as goal
 
 pub returns-then-n-eq0 : goal.returns-then-n-eq0
-returns-then-n-eq0 c =
+returns-then-n-eq0 g c =
     let k = c in
     let v = k.args in
     let e : 0 ≡ min (length v.v.now) (length v.to.now - v.start) = sym c.if-n-eq0.true ∙ c.fitting-n.ensures in

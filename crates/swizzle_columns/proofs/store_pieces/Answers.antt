@@ -1,6 +1,6 @@
--- `swizzle_columns::data_pieces` meets its contract.
-use mathlib.Core.Path.{◌≡◌, refl, sym, ap, ◌∙◌, subst}
-use Prim.Native.Nat.{ℕ, ◌-◌, ◌*◌}
+-- `swizzle_columns::store_pieces` meets its contract.
+use mathlib.Core.Path.{◌≡◌, sym, ap, ◌∙◌, subst}
+use Prim.Native.Nat.{ℕ, ◌*◌}
 use native.Mathlib.Omega.{arith}
 use mathlib.Core.List.{List}
 use lib.ListN.{length}
@@ -8,24 +8,18 @@ use Rattle.swizzle_laws.specs.Stores.{spill_at}
 use Rattle.swizzle_columns.specs.Steps.{Good}
 use Rattle.swizzle_columns.specs.Rows.{starts_by}
 use Rattle.swizzle_columns.proofs.Walks.{narrow_less}
-use Rattle.swizzle_columns.proofs.Trits.{each_first, each_turn, each_end}
-use Rattle.swizzle_columns.proofs.data_pieces.Goals as goal
-
-pub loop-x-init : goal.loop-x-init
-loop-x-init c =
-    let v = c.args in
-    let g = v.g in
-    (omega arith, refl, refl, each_first g.mems g.rows g.unit g.entries (starts_by v.chunks v.columns g.entries (length v.starts.now)) v.v.now v.pieces v.to.now)
+use Rattle.swizzle_columns.proofs.Trits.{each_turn, each_end}
+use Rattle.swizzle_columns.proofs.store_pieces.Goals as goal
 
 pub piece_starts-requires : goal.piece_starts-requires
-piece_starts-requires c =
+piece_starts-requires g c =
     let h = c in
     let k = c in
     let v = k.args in
     narrow_less (length v.starts.now) _ v.columns v.g.entries h.loop-x.x v.pieces h.loop-x.invariant.2 (omega arith) k.requires.v_len.1
 
 pub store_piece-requires : goal.store_piece-requires
-store_piece-requires c =
+store_piece-requires g c =
     let h = c in
     let k = c in
     let v = k.args in
@@ -33,14 +27,8 @@ store_piece-requires c =
     let s = c.piece_starts in
     record { good = (subst (λ (n : ℕ). Good v.g n) (sym w.1) k.requires.good.0, omega (arith, w.1, k.requires.good.1)); rowed = record { enough = k.requires.v_len.0 ∙ ap (λ (n : ℕ). n * v.g.entries) (sym (s.auto.starts ∙ w.2)) } }
 
-pub overflow_add-x : goal.overflow_add-x
-overflow_add-x c = omega (arith, c.loop-x-test.true, c.ranges)
-
-pub loop-x-smaller : goal.loop-x-smaller
-loop-x-smaller c = omega (arith, c.loop-x-test.true)
-
 pub loop-x-preserved : goal.loop-x-preserved
-loop-x-preserved c =
+loop-x-preserved g c =
     let h = c in
     let v = c.args in
     let g = v.g in
@@ -55,14 +43,8 @@ loop-x-preserved c =
       each_turn g.mems g.rows g.unit g.entries (starts_by v.chunks v.columns g.entries (length v.starts.now)) v.v.now v.pieces h.loop-x.x h.loop-x.to p.new.to c.loop-x-test.true (p.ensures ∙ ap (λ (l : List ℕ). spill_at g.mems g.rows g.unit g.entries l v.v.now h.loop-x.to) e) ∙ w.3,
     )
 
-pub shape_of-to : goal.shape_of-to
-shape_of-to c = c.loop-x.invariant.1
-
-pub shape_of-starts : goal.shape_of-starts
-shape_of-starts c = c.loop-x.invariant.2
-
 pub returns : goal.returns
-returns c =
+returns g c =
     let h = c in
     let v = c.args in
     let g = v.g in
