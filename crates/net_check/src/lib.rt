@@ -18,7 +18,7 @@ use net_memory::{Memory, MemoryReadPort, MemoryWritePort};
 fn product(a: u32, b: u32) -> u64
     ensures { result ≡ a * b }
 {
-    (a as u64) * (b as u64)
+    u64::from(a) * u64::from(b)
 }
 
 // The lower of two numbers, where 0 is none.
@@ -67,7 +67,7 @@ fn write_shape_bad(width: u32, p: MemoryWritePort, nets: &[u32]) -> bool
     }
     let addr = net_memory::addr_of(p, nets);
     let k = net_memory::wide::wide_log(width, bits.len());
-    lists::usize_of_u32(rules::ADDR_BITS) < addr.len() + lists::usize_of_u32(k)
+    (rules::ADDR_BITS as usize) < addr.len() + (k as usize)
 }
 
 // A net or the clock of a write port is bad.
@@ -103,16 +103,14 @@ fn writes_number(m: Memory, nets: &[u32], next: u32) -> u32
     ensures { (trits : List ℕ) → result ≡ least_by (write_number next (memory_of m nets.now trits)) (writes_of m nets.now) }
 {
     let count = net_memory::ports_used(m.write_count);
-    let mut number: u32 = 0;
-    let mut at: usize = 0;
-    let mut i = 0;
-    while i < count {
+    let mut number = 0;
+    let mut at = 0;
+    for i in 0..count {
         let p = m.write_ports[i];
         let size = net_memory::write_size(p);
         let part = lists::part(nets, at, size);
         number = lower(number, write_number(m.depth, m.width, next, p, part));
         at += size;
-        i += 1;
     }
     number
 }
@@ -129,15 +127,16 @@ fn relations_bad(p: MemoryReadPort) -> bool
     ensures { result ≡ any bad_relation (part 0 p.relations_len p.relations) }
 {
     let relations = p.relations;
-    let named = lists::part(&relations, 0, lists::usize_of_u32(p.relations_len));
+    let named = lists::part(&relations, 0, p.relations_len as usize);
     !net_logic::trits_good(named)
 }
 
 // A length of a clocked port's flip-flop is bad.
+#[tactic(auto, unfolding(rules::specs::Conditions::bad_flip_flop_shape, rules::specs::Conditions::bad_trit_lens))]
 fn flip_flop_shape_bad(writes: usize, p: MemoryReadPort, trits: &[u8]) -> bool
     ensures { (m : Mem) (f : Controls) → length m.writes ≡ writes → result ≡ bad_flip_flop_shape m p.data_len (clocked_by f p trits.now) }
 {
-    let len = lists::usize_of_u32(p.data_len);
+    let len = p.data_len as usize;
     if net_memory::clear_of(p, trits).len() != len {
         return true;
     }
@@ -173,14 +172,14 @@ fn flip_flop_nets_bad(next: u32, f: Controls, p: MemoryReadPort, trits: &[u8]) -
 fn read_shape_bad(width: u32, writes: usize, p: MemoryReadPort, nets: &[u32], trits: &[u8]) -> bool
     ensures { (m : Mem) → m.width ≡ width → length m.writes ≡ writes → result ≡ bad_read_shape m (read_by p nets.now trits.now) }
 {
-    let len = lists::usize_of_u32(p.data_len);
+    let len = p.data_len as usize;
     let f = p.flip_flop;
     if net_memory::wide::data_len_bad(width, len) {
         return true;
     }
     let addr = net_memory::read_addr_of(p, nets);
     let k = net_memory::wide::wide_log(width, len);
-    if lists::usize_of_u32(rules::ADDR_BITS) < addr.len() + lists::usize_of_u32(k) {
+    if (rules::ADDR_BITS as usize) < addr.len() + (k as usize) {
         return true;
     }
     match f {
@@ -215,7 +214,7 @@ fn read_number(
 ) -> u32
     ensures { (m : Mem) → m.depth ≡ depth → m.width ≡ width → length m.writes ≡ writes → result ≡ read_number next m (read_by p nets.now trits.now) }
 {
-    let k = net_memory::wide::wide_log(width, lists::usize_of_u32(p.data_len));
+    let k = net_memory::wide::wide_log(width, p.data_len as usize);
     let shape = read_shape_bad(width, writes, p, nets, trits);
     let rows = net_memory::wide::is_indivisible(depth, k);
     number_by(shape, rows, read_nets_bad(next, p, nets, trits))
@@ -248,14 +247,12 @@ fn reads_number(m: Memory, nets: &[u32], trits: &[u8], next: u32) -> u32
     let count = net_memory::ports_used(m.read_count);
     let mut at = net_memory::reads_start(m);
     let mut from = net_memory::init_size(m);
-    let mut number: u32 = 0;
-    let mut i = 0;
-    while i < count {
+    let mut number = 0;
+    for i in 0..count {
         let p = m.read_ports[i];
         number = lower(number, read_number_at(m, nets, trits, next, i, at, from));
         at += net_memory::addr_size(p);
         from += net_memory::trit_size(p);
-        i += 1;
     }
     number
 }
@@ -264,12 +261,13 @@ fn reads_number(m: Memory, nets: &[u32], trits: &[u8], next: u32) -> u32
 fn init_number(m: Memory, trits: &[u8]) -> u32
     ensures { result ≡ number_by_of (not (eqb (length (part 0 m.init_len trits.now)) (m.depth * m.width))) false (bad_trits (part 0 m.init_len trits.now)) }
 {
-    let init = lists::part(trits, 0, lists::usize_of_u32(m.init_len));
+    let init = lists::part(trits, 0, m.init_len as usize);
     let rows = init.len() as u64 != product(m.depth, m.width);
     number_by(rows, false, !net_logic::trits_good(init))
 }
 
 // A size is too large, or there are too many ports.
+#[tactic(auto, unfolding(rules::specs::Conditions::too_large, net_memory::specs::View::memory_of, net_memory::specs::Given::too_many_ports))]
 fn too_large(m: Memory) -> bool
     ensures { (nets trits : List ℕ) → result ≡ (too_large (memory_of m nets trits) || too_many_ports m) }
 {
@@ -282,10 +280,10 @@ fn too_large(m: Memory) -> bool
     if rules::MAX_BITS < product(m.depth, m.width) {
         return true;
     }
-    if rules::MAX_PORTS < lists::usize_of_u32(m.write_count) {
+    if rules::MAX_PORTS < m.write_count as usize {
         return true;
     }
-    rules::MAX_PORTS < lists::usize_of_u32(m.read_count)
+    rules::MAX_PORTS < m.read_count as usize
 }
 
 // A clocked port says more relations than there is place for.
@@ -295,7 +293,7 @@ fn long_relations(p: MemoryReadPort) -> bool
     let f = p.flip_flop;
     match f {
         None => false,
-        Some(_) => rules::MAX_PORTS < lists::usize_of_u32(p.relations_len),
+        Some(_) => rules::MAX_PORTS < p.relations_len as usize,
     }
 }
 
@@ -303,15 +301,9 @@ fn any_long_relations(m: Memory) -> bool
     ensures { result ≡ any long_relations (read_ports_of m) }
 {
     let count = net_memory::ports_used(m.read_count);
-    let mut i = 0;
-    while i < count {
-        let p = m.read_ports[i];
-        if long_relations(p) {
-            return true;
-        }
-        i += 1;
-    }
-    false
+    m.read_ports[..count]
+        .iter()
+        .any(|port| long_relations(*port))
 }
 
 // The arrays are not as long as the struct says.

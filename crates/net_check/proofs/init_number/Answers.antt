@@ -13,5 +13,5 @@ use Rattle.net_check.proofs.init_number.Goals as goal
 pub returns : goal.returns
 unfolding bad_trits
 returns c =
-    let i = c.part-init.ensures.part ∙ (λ k. part 0 (c.usize_of_u32.ensures.0 k) c.args.trits.now) in
+    let i = c.part-init.ensures.part in
     c.number_by.ensures ∙ (λ k. number_by_of (not (eqb (length (i k)) (c.product.ensures k))) false (not ((c.trits_good.ensures ∙ ap are_trits i) k)))

@@ -15,4 +15,4 @@ returns-in-None c = sym (ap (λ (f : MemoryReadFlipFlop). clocked f && ltb max_p
 pub returns-in-Some : goal.returns-in-Some
 unfolding long_relations
 returns-in-Some c =
-    (λ k. ltb 8 (c.usize_of_u32.ensures.0 k)) ∙ sym (ap (λ (f : MemoryReadFlipFlop). clocked f && ltb max_ports c.args.p.relations_len) c.in-Some.is)
+    sym (ap (λ (f : MemoryReadFlipFlop). clocked f && ltb max_ports c.args.p.relations_len) c.in-Some.is)

@@ -11,4 +11,4 @@ pub returns : goal.returns
 unfolding read_number read_wide_log2
 returns c =
     λ m d e w. c.number_by.ensures
-    ∙ (λ k. number_by_of (c.read_shape_bad-shape.ensures m e w k) ((c.is_indivisible-rows.ensures ∙ (λ j. indivisible (sym d j) ((c.wide_log-k.ensures.0 ∙ (λ i. wide_log2 (sym e i) (c.usize_of_u32.ensures.0 i))) j))) k) (c.read_nets_bad.ensures k))
+    ∙ (λ k. number_by_of (c.read_shape_bad-shape.ensures m e w k) ((c.is_indivisible-rows.ensures ∙ (λ j. indivisible (sym d j) ((c.wide_log-k.ensures.0 ∙ (λ i. wide_log2 (sym e i) c.args.p.data_len)) j))) k) (c.read_nets_bad.ensures k))

@@ -10,6 +10,3 @@ use Rattle.net_check.proofs.reads_number.Given as goal
 
 abbrev pub invariant-loop-i : goal.invariant-loop-i
 invariant-loop-i l = (l.i ≤ l.count) × (l.at ≡ reads_start l.m + sum_by addr_size (take l.i l.m.read_ports)) × (l.from ≡ l.m.init_len + sum_by trit_size (take l.i l.m.read_ports)) × (l.at ≤ 0x1800000000 + l.i * 0x100000000) × (l.from ≤ 0x100000000 + l.i * 0x300000000) × (least_by (read_number l.next (memory_of l.m l.nets l.trits)) (reads_of l.m l.nets l.trits) ≡ least l.number (least_by (read_number l.next (memory_of l.m l.nets l.trits)) (drop l.i (reads_of l.m l.nets l.trits))))
-
-abbrev pub decreases-loop-i : goal.decreases-loop-i
-decreases-loop-i l = l.count - l.i

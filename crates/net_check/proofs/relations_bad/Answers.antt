@@ -10,5 +10,5 @@ use Rattle.net_check.proofs.relations_bad.Goals as goal
 pub returns : goal.returns
 returns c =
     ap not c.trits_good.ensures
-    ∙ (λ k. not (are_trits ((c.part-named.ensures.part ∙ (λ j. part 0 (c.usize_of_u32.ensures.0 j) c.args.p.relations)) k)))
+    ∙ (λ k. not (are_trits (c.part-named.ensures.part k)))
     ∙ sym (relations_trits _)

@@ -26,4 +26,4 @@ returns c =
     λ m e.
     passed ((λ k. bad_data_len (e k) (length (sym c.data_of-bits.ensures k))) ∙ sym c.data_len_bad.ensures ∙ c.if-data_len_bad.false)
     (passed ((λ k. not (eqb (length (sym c.mask_of-mask.ensures k)) (length (sym c.data_of-bits.ensures k)))) ∙ ap not (eq-eqb _ _ c.if-mask-bits.false))
-    (λ k. ltb (c.usize_of_u32.ensures.0 k) (length (c.addr_of-addr.ensures k) + ((c.usize_of_u32-2.ensures.0 ∙ c.wide_log-k.ensures.0 ∙ (λ j. wide_log2 (sym e j) (length (c.data_of-bits.ensures j)))) k))))
+    (λ k. ltb 32 (length (c.addr_of-addr.ensures k) + ((c.wide_log-k.ensures.0 ∙ (λ j. wide_log2 (sym e j) (length (c.data_of-bits.ensures j)))) k))))

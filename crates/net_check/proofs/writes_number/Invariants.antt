@@ -11,6 +11,3 @@ use Rattle.net_check.proofs.writes_number.Given as goal
 
 abbrev pub invariant-loop-i : goal.invariant-loop-i
 invariant-loop-i l = (l.i ≤ l.count) × (l.at ≡ sum_by write_size (take l.i l.m.write_ports)) × (l.at ≤ l.i * 0x300000000) × ((trits : List ℕ) → least_by (write_number l.next (memory_of l.m l.nets trits)) (writes_of l.m l.nets) ≡ least l.number (least_by (write_number l.next (memory_of l.m l.nets trits)) (drop l.i (writes_of l.m l.nets))))
-
-abbrev pub decreases-loop-i : goal.decreases-loop-i
-decreases-loop-i l = l.count - l.i
