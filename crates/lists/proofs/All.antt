@@ -131,3 +131,13 @@ module _ {A : Type 0} (f : A → Bool) where
       or_one : (t : Bool) {u : Bool} → u ≡ true → (t || u) ≡ true
       or_one true q = refl
       or_one false q = q
+
+module _ {A B : Type 0} (f : A → Bool) (g : B → Bool) (d : A) (e : B) where
+  -- two tests that agree place by place
+  pub all_alike : (l : List A) (m : List B) → length l ≡ length m → ((i : ℕ) → i < length l → f (get_or l i d) ≡ g (get_or m i e)) → all f l ≡ all g m
+  all_alike [] [] h q = refl
+  all_alike [] (b ∷ m) h q = absurd (omega arith)
+  all_alike (a ∷ l) [] h q = absurd (omega arith)
+  all_alike (a ∷ l) (b ∷ m) h q =
+      let rest : all f l ≡ all g m = all_alike l m (omega arith) (λ i t. q (suc i) (omega arith)) in
+      λ k. q 0 (omega arith) k && rest k

@@ -1,20 +1,21 @@
 // The calls that only look at a memory: the length of its outputs, a port's part of them, and whether a fallback is possible.
 #![tactic(auto)]
 
-ghost use Rattle.std.specs.Prelude.{◌≡◌, List, ℕ, length};
-ghost use Rattle.lists.specs.Lists.{any};
+ghost use Rattle.std.specs.Prelude.{◌≡◌, List, ℕ, length, leb};
+ghost use Rattle.lists.specs.Lists.{all, any};
 ghost use Rattle.rules.specs.Value.{same_control};
 ghost use Rattle.rules.specs.Cell.{output_len};
 ghost use Rattle.rules.specs.Conditions.{bad_output_len, bad_port};
 ghost use Rattle.rules.specs.Fallback.{can_lower_fallback};
 ghost use Rattle.net_value.specs.View.{control_of};
+ghost use Rattle.net_memory.specs.declared.MemoryWritePort.{MemoryWritePort};
 ghost use Rattle.net_memory.specs.View.{memory_of};
 ghost use Rattle.rules.specs.Refusals.{driving_number, output_slice_refusal};
 ghost use Rattle.rules.specs.Answers.{output_len_call, output_slice_call, can_lower_fallback_call};
 ghost use Rattle.net_memory.specs.Given.{given_of};
 ghost use Rattle.port_outputs.specs.Calls.{len_of, slice_of, can_of};
 
-use net_memory::Memory;
+use net_memory::{Memory, MemoryWritePort};
 use net_value::ControlNet;
 
 // The answer of `output_len`.
@@ -108,19 +109,18 @@ pub fn read_port_output_slice(m: Memory, nets: &[u32], trits: &[u8], port: usize
 }
 
 // The two controls are the same net with the same sign.
+#[tactic(auto, unfolding(rules::specs::Value::same_control))]
 pub fn same_control(a: ControlNet, b: ControlNet) -> bool
     ensures { result ≡ same_control (control_of a) (control_of b) }
 {
-    match a {
-        ControlNet::Pos(n) => match b {
-            ControlNet::Pos(k) => n.0 == k.0,
-            ControlNet::Neg(_) => false,
-        },
-        ControlNet::Neg(n) => match b {
-            ControlNet::Pos(_) => false,
-            ControlNet::Neg(k) => n.0 == k.0,
-        },
-    }
+    a == b
+}
+
+// Every port of these has the clock.
+fn clocks_are(ports: &[MemoryWritePort], clock: ControlNet) -> bool
+    ensures { result ≡ all (λ (p : MemoryWritePort). same_control (control_of p.clock) (control_of clock)) ports.now }
+{
+    ports.iter().all(|port| same_control(port.clock, clock))
 }
 
 // Every write port has the first one's clock.
@@ -128,18 +128,7 @@ pub fn clocks_same(m: Memory) -> bool
     ensures { (nets trits : List ℕ) → result ≡ can_lower_fallback (memory_of m nets trits) }
 {
     let count = net_memory::ports_used(m.write_count);
-    let p = m.write_ports[0];
-    let first = p.clock;
-    let mut i = 0;
-    while i < count {
-        let q = m.write_ports[i];
-        let clock = q.clock;
-        if !same_control(clock, first) {
-            return false;
-        }
-        i += 1;
-    }
-    true
+    clocks_are(&m.write_ports[..count], m.write_ports[0].clock)
 }
 
 // A memory is legal for fallback lowering where all write ports have one clock.
@@ -153,17 +142,17 @@ pub fn can_lower_fallback(m: Memory, nets: &[u32], trits: &[u8]) -> CanLower
     CanLower::Accepted(clocks_same(m))
 }
 
+// A number of the list is not below the count.
+fn any_past(list: &[u32], count: usize) -> bool
+    ensures { result ≡ any (λ k. leb count k) list.now }
+{
+    list.iter().any(|number| count <= (*number as usize))
+}
+
 // A listed port is not there.
 pub fn port_missing(m: Memory, list: &[u32]) -> bool
     ensures { (nets trits : List ℕ) → result ≡ any (bad_port (memory_of m nets trits)) list.now }
 {
     let count = net_memory::ports_used(m.read_count);
-    let mut i = 0;
-    while i < list.len() {
-        if count <= lists::usize_of_u32(list[i]) {
-            return true;
-        }
-        i += 1;
-    }
-    false
+    any_past(list, count)
 }

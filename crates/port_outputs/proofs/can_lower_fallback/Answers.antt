@@ -1,6 +1,5 @@
 -- `port_outputs::can_lower_fallback` meets its contract.
 use mathlib.Core.Path.{sym, ap, ◌∙◌}
-use Prim.Native.Nat.{◌-◌}
 use Rattle.rules.specs.Answers.{Refused, Accepted, can_lower_fallback_call}
 use Rattle.rules.proofs.Answers.{answer_refused, answer_accepted}
 use Rattle.rules.specs.Fallback.{can_lower_fallback}

@@ -1,6 +1,5 @@
 -- `port_outputs::driving_number` meets its contract.
 use mathlib.Core.Path.{refl, ◌∙◌}
-use Prim.Native.Nat.{◌-◌}
 use mathlib.Core.Bool.{not}
 use Rattle.rules.specs.Conditions.{bad_value}
 use Rattle.rules.specs.Refusals.{mem_number, driving_number}

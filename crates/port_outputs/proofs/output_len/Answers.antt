@@ -1,6 +1,5 @@
 -- `port_outputs::output_len` meets its contract.
 use mathlib.Core.Path.{sym, ap, ◌∙◌}
-use Prim.Native.Nat.{◌-◌}
 use Rattle.rules.specs.Answers.{Refused, Accepted, output_len_call}
 use Rattle.rules.proofs.Answers.{answer_refused, answer_accepted}
 use Rattle.rules.specs.Cell.{output_len}

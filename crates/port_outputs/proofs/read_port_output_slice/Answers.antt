@@ -1,6 +1,5 @@
 -- `port_outputs::read_port_output_slice` meets its contract.
 use mathlib.Core.Path.{sym, ap, ◌∙◌}
-use Prim.Native.Nat.{◌-◌}
 use Rattle.rules.specs.Answers.{Refused, Accepted, output_slice_call}
 use Rattle.rules.proofs.Answers.{answer_refused, answer_accepted}
 use Rattle.rules.specs.Cell.{output_start, read_at_of}

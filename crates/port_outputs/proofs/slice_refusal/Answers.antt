@@ -1,6 +1,5 @@
 -- `port_outputs::slice_refusal` meets its contract.
 use mathlib.Core.Path.{sym, ◌∙◌}
-use Prim.Native.Nat.{◌-◌}
 use native.Mathlib.Omega.{arith}
 use Rattle.net_memory.proofs.Sized.{reads_length}
 use Rattle.port_outputs.proofs.Outputs.{port_out, port_in}
