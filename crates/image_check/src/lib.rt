@@ -114,7 +114,10 @@ pub fn check_layout(layout: Layout<'_>) -> Option<Shape>
         return None;
     }
     check_soft_mask(p.depth, p.soft_mask).ok()?;
-    if p.width != 0 && (rules::MAX_COLUMNS < s.columns || rules::MAX_IMAGE < s.trits) {
+    if p.width == 0 {
+        return Some(s);
+    }
+    if rules::MAX_COLUMNS < s.columns || rules::MAX_IMAGE < s.trits {
         return None;
     }
     Some(s)
