@@ -118,7 +118,11 @@ impl Cursor {
                 ..self
             };
         }
-        let step = if self.memory < g.full { g.full_step } else { g.part_step };
+        let step = if self.memory < g.full {
+            g.full_step
+        } else {
+            g.part_step
+        };
         Cursor {
             memory: self.memory + 1,
             bit: 0,
@@ -184,8 +188,8 @@ fn take_entries(room: &mut [u8], first: Cursor, g: Steps, entries: &[u32], image
 impl<'a> Rows<'a> {
     // The cursor at entry number `entry` of a row: the one division of a row's places.
     fn cursor_at(self, line: Line, entry: usize) -> Cursor
-        requires ready { ReadyRows self.entry }
-        requires number_lt_depth { (line.number < self.layout.params.depth) × (entry ≤ length self.entry.layout.entries.now) × OnSpot self.layout.params line }
+        requires ready { ReadyRows self }
+        requires number_lt_depth { (line.number < self.layout.params.depth) × (entry ≤ length self.layout.entries.now) × OnSpot self.layout.params line }
         ensures { At (layout_of self.entry.layout) line.number entry result }
     {
         let g = self.steps;
@@ -203,8 +207,8 @@ impl<'a> Rows<'a> {
 
     // Writes the trits of the entries from number `from` to below `to` to the places from `at` on.
     fn put_run(self, image: &mut [u8], at: u64, from: usize, to: usize, trits: &[u8])
-        requires run_of { RunOf at from to self.entry.layout.entries.now }
-        requires plain { Plain self.entry.layout.entries.now self.plain }
+        requires run_of { RunOf at from to self.layout.entries.now }
+        requires plain { Plain self.layout.entries.now self.plain }
         ensures { PutRun at self.entry.layout.entries.now from to trits.now image.old image.new }
     {
         if to <= self.plain && to <= trits.len() {
@@ -216,9 +220,9 @@ impl<'a> Rows<'a> {
 
     // Writes the trits of a row to its places, from the first entry's on: a run of places that follow each other at a time.
     fn put_entries(self, image: &mut [u8], first: Cursor, trits: &[u8])
-        requires lows { Lows first self.steps (length self.entry.layout.entries.now) }
-        requires entries_len_bound { (length self.entry.layout.entries.now ≤ max_row) × Plain self.entry.layout.entries.now self.plain }
-        ensures { image.new ≡ put_row (index_from self.steps first) self.entry.layout.entries.now 0 trits.now image.old }
+        requires lows { Lows first self.steps (length self.layout.entries.now) }
+        requires entries_len_bound { (length self.layout.entries.now ≤ max_row) × Plain self.layout.entries.now self.plain }
+        ensures { image.new ≡ put_row (index_from self.entry.steps first) self.entry.layout.entries.now 0 trits.now image.old }
     {
         let len = self.layout.entries.len();
         let mut c = first;
@@ -235,7 +239,7 @@ impl<'a> Rows<'a> {
 
     // Writes one row.
     fn write_row(self, image: &mut [u8], line: Line, trits: &[u8])
-        requires ready { ReadyRows self.entry }
+        requires ready { ReadyRows self }
         requires number_lt_depth { (line.number < self.layout.params.depth) × OnSpot self.layout.params line }
         ensures { image.new ≡ write_row (layout_of self.entry.layout) line.number trits.now image.old }
     {
@@ -245,9 +249,9 @@ impl<'a> Rows<'a> {
 
     // Writes every row, row 0 first, and goes from row to row.
     fn write_rows(self, image: &mut [u8], rows: &[u8])
-        requires ready { ReadyRows self.entry }
+        requires ready { ReadyRows self }
         requires rows_len { length rows.now ≡ self.layout.params.depth * self.layout.params.width }
-        ensures { image.new ≡ write_rows (layout_of self.entry.layout) rows.now self.layout.params.depth image.old }
+        ensures { image.new ≡ write_rows (layout_of self.entry.layout) rows.now self.entry.layout.params.depth image.old }
     {
         let p = self.layout.params;
         let width = p.width as usize;
@@ -261,7 +265,7 @@ impl<'a> Rows<'a> {
 
     // Takes one row.
     fn take_row(self, room: &mut [u8], row: u32, image: &[u8])
-        requires ready { ReadyRows self.entry }
+        requires ready { ReadyRows self }
         requires row_lt_depth { row < self.layout.params.depth }
         ensures { room.new ≡ take_row (index_of (layout_of self.entry.layout) row) self.entry.layout.entries.now 0 image.now room.old }
     {
@@ -271,13 +275,8 @@ impl<'a> Rows<'a> {
 }
 
 // Numbers 4, 15 and 20 of a patch, where the image has `size` trits.
-fn check_patch(
-    room: usize,
-    p: Params,
-    size: u64,
-    row: u32,
-    trits: &[u8],
-) -> Result<(), Refusal>
+#[tactic(auto, unfolding(rules::specs::Refusals::patch_refusal_by, rules::specs::Conditions::bad_trits, rules::specs::Conditions::not_below, rules::specs::Conditions::no_room_of))]
+fn check_patch(room: usize, p: Params, size: u64, row: u32, trits: &[u8]) -> Result<(), Refusal>
     ensures { number_of result ≡ patch_refusal_by p.width p.depth size row trits.now room }
 {
     if trits.len() != p.width as usize || !net_logic::trits_good(trits) {
@@ -316,6 +315,7 @@ pub fn patch_row(
 }
 
 // Numbers 2, 4 and 20 of rows to lay out, where the image has `size` trits.
+#[tactic(auto, unfolding(rules::specs::Beside::Layouts::fill_refusal_by, rules::specs::Conditions::bad_trits, rules::specs::Conditions::no_room_of))]
 fn check_fill(room: usize, p: Params, size: u64, rows: &[u8]) -> Result<(), Refusal>
     ensures { number_of result ≡ fill_refusal_by p.depth p.width size room rows.now }
 {
@@ -361,6 +361,7 @@ pub fn fill_rows(image: &mut [u8], layout: Layout<'_>, rows: &[u8]) -> Result<()
 }
 
 // Numbers 15 and 20 of a row read back, where the image has `size` trits.
+#[tactic(auto, unfolding(rules::specs::Beside::Layouts::read_row_refusal_by, rules::specs::Conditions::not_below, rules::specs::Conditions::no_room_of))]
 fn check_read(room: usize, p: Params, size: u64, len: usize, row: u32) -> Result<(), Refusal>
     ensures { number_of result ≡ read_row_refusal_by p.depth p.width size room len row }
 {
@@ -374,12 +375,7 @@ fn check_read(room: usize, p: Params, size: u64, len: usize, row: u32) -> Result
 }
 
 // The trits at a row's places in an image with this layout, into `room`.
-pub fn read_row(
-    room: &mut [u8],
-    layout: Layout<'_>,
-    image: &[u8],
-    row: u32,
-) -> Result<(), Refusal>
+pub fn read_row(room: &mut [u8], layout: Layout<'_>, image: &[u8], row: u32) -> Result<(), Refusal>
     ensures { filled_with (number_of result) room.new ≡ read_row_call (handed_on (layout_of layout.entry)) room.old image.now row }
 {
     let p = layout.params;

@@ -29,5 +29,5 @@ returns-then-self-eq0 c =
 
 pub returns : goal.returns
 returns c =
-    let chunks_are : c.div_ceil-chunks.result ≡ ceil_div c.args.self.depth (2 ^ (c.soft_bits-soft.result + c.args.self.hard)) = c.div_ceil-chunks.ensures ∙ ceil_is _ _ c.two_to.ensures.within.0 ∙ (λ k. ceil_div (c.from.ensures k) (two_to_is _ _ c.if-soft-self-gt-ADDR_BITS.false c.two_to.ensures.value k)) in
+    let chunks_are : c.div_ceil-chunks.result ≡ ceil_div c.args.self.depth (2 ^ (c.soft_bits-soft.result + c.args.self.hard)) = c.div_ceil-chunks.ensures ∙ ceil_is _ _ c.two_to.ensures.positive ∙ (λ k. ceil_div (c.from.ensures k) (two_to_is _ _ c.if-soft-self-gt-ADDR_BITS.false c.two_to.ensures.value k)) in
     λ es. c.top_bits.ensures ∙ ap (λ (n : ℕ). top_bits addr_bits (n - 1)) chunks_are ∙ mux_is c.args.self es _ c.soft_bits-soft.ensures
