@@ -13,10 +13,6 @@ use Rattle.table_read.proofs.layout_bad.Goals as goal
 pub slice_bounds-list-end : goal.slice_bounds-list-end
 slice_bounds-list-end c = omega arith
 
-pub slice_bounds-check_layout-end : goal.slice_bounds-check_layout-end
-slice_bounds-check_layout-end c =
-    sym (length-take-le _ _ (omega arith))
-
 pub returns-in-None : goal.returns-in-None
 returns-in-None c =
     let a = c.args in
