@@ -128,10 +128,14 @@ fn layout_bad(p: Params, e: Entries) -> bool
 {
     let n = lists::usize_of_u32(e.len);
     let list = e.list;
-    let checked = image_check::check_layout(p, &list[..n]);
+    let layout = image_geometry::Layout {
+        params: p,
+        entries: &list[..n],
+    };
+    let checked = image_check::check_layout(layout);
     match checked {
-        image_check::Checked::Bad => true,
-        image_check::Checked::Good(_) => false,
+        None => true,
+        Some(_) => false,
     }
 }
 

@@ -240,8 +240,11 @@ fn head_end(out: &mut [u8], line: &[u8], after: &[u8], t: Table) -> Answer
     let p = t.params;
     let entries = t.entries;
     let es = lists::part(&entries, 0, lists::usize_of_u32(t.len));
-    let laid = image_state::laid_out(p, es);
-    sized_end(out, line, p, es, after, image_state::sizes_of(laid))
+    let laid = image_state::Laid::laid_out(image_geometry::Layout {
+        params: p,
+        entries: es,
+    });
+    sized_end(out, line, p, es, after, laid.sized())
 }
 
 // Where the first line ends.

@@ -28,13 +28,13 @@ fn write_sized(out: &mut [u8], sized: Sized, image: &[u8]) -> Written
 pub fn record_of(out: &mut [u8], p: Params, entries: &[u32], rows: &[u8]) -> Written
     ensures { listed_of result out.new ≡ rows_record out.old (layout_by p entries.now) rows.now }
 {
-    let laid = image_state::laid_out(p, entries);
+    let laid = image_state::Laid::laid_out(image_geometry::Layout { params: p, entries });
     let mut image = [0u8; rules::MAX_IMAGE as usize];
-    let n = image_state::fill(&mut image, laid, rows);
+    let n = rules::number_of(laid.fill(&mut image, rows));
     if n != 0 {
         return Written::Refused(n);
     }
-    write_sized(out, image_state::sizes_of(laid), &image)
+    write_sized(out, laid.sized(), &image)
 }
 
 // The bytes of the record, the number that refuses it, or the line and the reason that refuse the text.

@@ -19,7 +19,8 @@ fn put_row(room: &mut [u8], at: usize, p: Params, entries: &[u32], image: &[u8],
     ensures { room.new ≡ sets room.old at (read_row (layout_by p entries.now) image.now row) }
 {
     let mut bits = [0u8; rules::MAX_WIDTH as usize];
-    image_rows::read_row(&mut bits, p, entries, image, row);
+    let layout = image_geometry::Layout { params: p, entries };
+    let _ = image_rows::read_row(&mut bits, layout, image, row);
     lists::copy(
         room,
         at,
@@ -59,7 +60,8 @@ fn rows_refusal(room: usize, p: Params, size: u64, len: usize) -> u32
 pub fn read_rows(room: &mut [u8], p: Params, entries: &[u32], image: &[u8]) -> u32
     ensures { filled_with result room.new ≡ read_rows_call (handed_on (layout_by p entries.now)) room.old image.now }
 {
-    let image_check::Checked::Good(s) = image_check::check_layout(p, entries) else {
+    let layout = image_geometry::Layout { params: p, entries };
+    let Some(s) = image_check::check_layout(layout) else {
         return 23;
     };
     let n = rows_refusal(room.len(), p, s.image_size, image.len());

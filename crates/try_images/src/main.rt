@@ -2,6 +2,10 @@
 // whole, after refused calls too.
 #![tactic(auto)]
 
+use image_geometry::{Layout, Params};
+use image_patches::Calls;
+use image_state::Laid;
+use rules::number_of;
 use std::io;
 
 fn number(rt: &impl Print, n: u64) -> io::Result<()> {
@@ -18,23 +22,15 @@ fn line(rt: &impl Print) -> io::Result<()> {
 }
 
 fn words(rt: &impl Print, s: &[u32]) -> io::Result<()> {
-    let mut i: usize = 0;
-    while i < s.len() {
-        number(rt, s[i] as u64)?;
-        i += 1;
+    for word in s {
+        number(rt, u64::from(*word))?;
     }
     line(rt)
 }
 
-fn all_trits(rt: &impl Print, s: &[u8; 40]) -> io::Result<()> {
-    trits(rt, s)
-}
-
 fn trits(rt: &impl Print, s: &[u8]) -> io::Result<()> {
-    let mut i: usize = 0;
-    while i < s.len() {
-        number(rt, s[i] as u64)?;
-        i += 1;
+    for trit in s {
+        number(rt, u64::from(*trit))?;
     }
     line(rt)
 }
@@ -42,26 +38,22 @@ fn trits(rt: &impl Print, s: &[u8]) -> io::Result<()> {
 // How many bytes of `a` from `from` on differ from those of `b`.
 fn differing(a: &[u8], b: &[u8], from: usize) -> u64 {
     let mut count: u64 = 0;
-    let mut i = from;
-    while i < a.len() {
-        if b.len() <= i {
-            count += 1;
-        } else if a[i] != b[i] {
+    for (i, byte) in a.iter().enumerate() {
+        if from <= i && b.get(i).copied() != Some(*byte) {
             count += 1;
         }
-        i += 1;
     }
     count
 }
 
 // The sizes of a layout.
-fn sizes(rt: &impl Print, p: image_geometry::Params, entries: &[u32]) -> io::Result<()> {
-    match image_geometry::measure(p, entries) {
-        image_geometry::Measured::Refused(n) => {
+fn sizes(rt: &impl Print, layout: Layout<'_>) -> io::Result<()> {
+    match layout.measure() {
+        Err(refusal) => {
             text(rt, "sizes refused")?;
-            number(rt, n as u64)?;
+            number(rt, u64::from(refusal.number()))?;
         }
-        image_geometry::Measured::Accepted(s) => {
+        Ok(s) => {
             text(rt, "sizes")?;
             number(rt, s.full_mems)?;
             number(rt, s.all_mems)?;
@@ -73,48 +65,42 @@ fn sizes(rt: &impl Print, p: image_geometry::Params, entries: &[u32]) -> io::Res
         }
     }
     text(rt, " mux")?;
-    number(rt, image_geometry::chunk_mux_bits(p) as u64)?;
+    number(rt, u64::from(layout.params.chunk_mux_bits()))?;
     line(rt)
 }
 
 // The tests of numbers 7, 8 and 10.
-fn tests(rt: &impl Print, p: image_geometry::Params, entries: &[u32]) -> io::Result<()> {
+fn tests(rt: &impl Print, layout: Layout<'_>) -> io::Result<()> {
+    let p = layout.params;
+    let entries = number_of(image_check::check_entries(p.width, layout.entries));
+    let mask = number_of(image_geometry::check_soft_mask(p.depth, p.soft_mask));
     text(rt, "tests")?;
-    number(rt, image_check::entries_number(p.width, entries) as u64)?;
-    number(
-        rt,
-        image_geometry::soft_mask_number(p.depth, p.soft_mask) as u64,
-    )?;
-    number(rt, image_geometry::result_number(p, entries) as u64)?;
+    number(rt, u64::from(entries))?;
+    number(rt, u64::from(mask))?;
+    number(rt, u64::from(number_of(layout.check_result())))?;
     line(rt)
 }
 
 // The depths, into six words that hold 77.
-fn depths(rt: &impl Print, p: image_geometry::Params, entries: &[u32]) -> io::Result<()> {
+fn depths(rt: &impl Print, layout: Layout<'_>) -> io::Result<()> {
     let mut out = [77u32; 6];
     text(rt, "depths")?;
-    number(rt, image_geometry::depths(&mut out, p, entries) as u64)?;
+    number(rt, u64::from(number_of(layout.depths(&mut out))))?;
     text(rt, " |")?;
     words(rt, &out)
 }
 
 // The place of an entry.
-fn place(
-    rt: &impl Print,
-    p: image_geometry::Params,
-    entries: &[u32],
-    row: u32,
-    entry: usize,
-) -> io::Result<()> {
+fn place(rt: &impl Print, layout: Layout<'_>, row: u32, entry: usize) -> io::Result<()> {
     text(rt, "place")?;
-    number(rt, row as u64)?;
+    number(rt, u64::from(row))?;
     number(rt, entry as u64)?;
-    match image_rows::place_of(p, entries, row, entry) {
-        image_rows::Placed::Refused(n) => {
+    match image_rows::place_of(layout, row, entry) {
+        Err(refusal) => {
             text(rt, " refused")?;
-            number(rt, n as u64)?;
+            number(rt, u64::from(refusal.number()))?;
         }
-        image_rows::Placed::Accepted(q) => {
+        Ok(q) => {
             text(rt, " at")?;
             number(rt, q.memory)?;
             number(rt, q.row)?;
@@ -126,76 +112,64 @@ fn place(
 }
 
 // A row read back, into six bytes that hold 9.
-fn read(rt: &impl Print, laid: image_state::Laid, image: &[u8], row: u32) -> io::Result<()> {
+fn read(rt: &impl Print, laid: &Laid, image: &[u8], row: u32) -> io::Result<()> {
     let mut room = [9u8; 6];
     text(rt, "read")?;
-    number(rt, row as u64)?;
+    number(rt, u64::from(row))?;
     number(
         rt,
-        image_state::read_row(&mut room, laid, image, row) as u64,
+        u64::from(number_of(laid.read_row(&mut room, image, row))),
     )?;
     text(rt, " |")?;
     trits(rt, &room)
 }
 
 // The record's sizes.
-fn record_sizes(rt: &impl Print, laid: image_state::Laid) -> io::Result<()> {
+fn record_sizes(rt: &impl Print, laid: &Laid) -> io::Result<()> {
     text(rt, "record")?;
-    match image_state::sizes_of(laid) {
-        image_state::Sized::Refused(n) => {
+    match laid.sizes() {
+        Err(refusal) => {
             text(rt, " refused")?;
-            number(rt, n as u64)?;
+            number(rt, u64::from(refusal.number()))?;
         }
-        image_state::Sized::Accepted(z) => {
-            number(rt, z.unit as u64)?;
-            number(rt, z.full as u64)?;
-            number(rt, z.full_depth as u64)?;
-            number(rt, z.partial as u64)?;
-            number(rt, z.partial_depth as u64)?;
+        Ok(z) => {
+            number(rt, u64::from(z.unit))?;
+            number(rt, u64::from(z.full))?;
+            number(rt, u64::from(z.full_depth))?;
+            number(rt, u64::from(z.partial))?;
+            number(rt, u64::from(z.partial_depth))?;
         }
     }
     line(rt)
 }
 
 // Every row below n.
-fn read_rows(rt: &impl Print, laid: image_state::Laid, image: &[u8; 40], n: u32) -> io::Result<()> {
-    let mut row: u32 = 0;
-    while row < n {
+fn read_rows(rt: &impl Print, laid: &Laid, image: &[u8], n: u32) -> io::Result<()> {
+    for row in 0..n {
         read(rt, laid, image, row)?;
-        row += 1;
     }
     Ok(())
 }
 
 // A row of an image of five trits.
-fn read_short(rt: &impl Print, laid: image_state::Laid, row: u32) -> io::Result<()> {
-    let image = [1u8, 0, 2, 1, 0];
-    read(rt, laid, &image, row)
-}
-
-fn read_whole(
-    rt: &impl Print,
-    laid: image_state::Laid,
-    image: &[u8; 40],
-    row: u32,
-) -> io::Result<()> {
-    read(rt, laid, image, row)
+fn read_short(rt: &impl Print, laid: &Laid, row: u32) -> io::Result<()> {
+    read(rt, laid, &[1u8, 0, 2, 1, 0], row)
 }
 
 // A patch of a copy of the image: its number, how many bytes it changed, and how many of them past the image's trits.
 fn patch(
     rt: &impl Print,
     image: &mut [u8; 40],
-    laid: image_state::Laid,
+    laid: &Laid,
     size: usize,
     row: u32,
     with: &[u8],
 ) -> io::Result<()> {
     let before = *image;
-    let n = image_state::patch(image, laid, row, with);
+    let n = number_of(laid.patch(image, row, with));
     text(rt, "patch")?;
-    number(rt, row as u64)?;
-    number(rt, n as u64)?;
+    number(rt, u64::from(row))?;
+    number(rt, u64::from(n))?;
     text(rt, " changed")?;
     number(rt, differing(&before, image, 0))?;
     number(rt, differing(&before, image, size))?;
@@ -203,58 +177,49 @@ fn patch(
 }
 
 // The places of a row's entries.
-fn row_places(
-    rt: &impl Print,
-    p: image_geometry::Params,
-    entries: &[u32],
-    row: u32,
-) -> io::Result<()> {
-    let mut i: usize = 0;
-    while i < entries.len() {
-        place(rt, p, entries, row, i)?;
-        i += 1;
+fn row_places(rt: &impl Print, layout: Layout<'_>, row: u32) -> io::Result<()> {
+    for i in 0..layout.entries.len() {
+        place(rt, layout, row, i)?;
     }
     Ok(())
 }
 
-fn places(rt: &impl Print, p: image_geometry::Params, entries: &[u32]) -> io::Result<()> {
-    let mut row: u32 = 0;
-    while row < p.depth {
-        row_places(rt, p, entries, row)?;
-        row += 1;
+fn places(rt: &impl Print, layout: Layout<'_>) -> io::Result<()> {
+    for row in 0..layout.params.depth {
+        row_places(rt, layout, row)?;
     }
     Ok(())
 }
 
 // Sizes, tests, depths and places of a layout.
-fn show(rt: &impl Print, p: image_geometry::Params, entries: &[u32]) -> io::Result<()> {
-    sizes(rt, p, entries)?;
-    tests(rt, p, entries)?;
-    depths(rt, p, entries)?;
-    places(rt, p, entries)
+fn show(rt: &impl Print, layout: Layout<'_>) -> io::Result<()> {
+    sizes(rt, layout)?;
+    tests(rt, layout)?;
+    depths(rt, layout)?;
+    places(rt, layout)
 }
 
 // The rows laid out in 40 bytes that hold 7.
-fn lay(rt: &impl Print, laid: image_state::Laid, rows: &[u8]) -> io::Result<[u8; 40]> {
+fn lay(rt: &impl Print, laid: &Laid, rows: &[u8]) -> io::Result<[u8; 40]> {
     let mut image = [7u8; 40];
     text(rt, "fill")?;
-    number(rt, image_state::fill(&mut image, laid, rows) as u64)?;
+    number(rt, u64::from(number_of(laid.fill(&mut image, rows))))?;
     text(rt, " |")?;
-    all_trits(rt, &image)?;
+    trits(rt, &image)?;
     Ok(image)
 }
 
 // The rows laid out in five bytes that hold 7, which are too few.
-fn lay_short(rt: &impl Print, laid: image_state::Laid, rows: &[u8]) -> io::Result<()> {
+fn lay_short(rt: &impl Print, laid: &Laid, rows: &[u8]) -> io::Result<()> {
     let mut image = [7u8; 5];
     text(rt, "fill")?;
-    number(rt, image_state::fill(&mut image, laid, rows) as u64)?;
+    number(rt, u64::from(number_of(laid.fill(&mut image, rows))))?;
     text(rt, " |")?;
     trits(rt, &image)
 }
 
 // Codes past X in rows of two bits: 4, but 2 where the length is wrong, and 4 where the room is short too.
-fn bad_codes(rt: &impl Print, laid: image_state::Laid) -> io::Result<()> {
+fn bad_codes(rt: &impl Print, laid: &Laid) -> io::Result<()> {
     lay(rt, laid, &[1u8, 0, 2, 1, 0, 3])?;
     lay(rt, laid, &[3u8, 0, 2, 1, 0, 0])?;
     lay(rt, laid, &[1u8, 0, 255, 1, 0, 0])?;
@@ -263,89 +228,91 @@ fn bad_codes(rt: &impl Print, laid: image_state::Laid) -> io::Result<()> {
     lay_short(rt, laid, &[1u8, 0, 2, 1, 0, 0])
 }
 
-fn params(
+fn layout<'a>(
     rt: &impl Print,
     depth: u32,
     width: u32,
-    mask: u32,
+    soft_mask: u32,
     hard: u32,
     unit: u32,
-) -> io::Result<image_geometry::Params> {
+    entries: &'a [u32],
+) -> io::Result<Layout<'a>> {
     text(rt, "layout")?;
-    number(rt, depth as u64)?;
-    number(rt, width as u64)?;
-    number(rt, mask as u64)?;
-    number(rt, hard as u64)?;
-    number(rt, unit as u64)?;
+    number(rt, u64::from(depth))?;
+    number(rt, u64::from(width))?;
+    number(rt, u64::from(soft_mask))?;
+    number(rt, u64::from(hard))?;
+    number(rt, u64::from(unit))?;
     line(rt)?;
-    Ok(image_geometry::Params {
+    let params = Params {
         depth,
         width,
-        soft_mask: mask,
+        soft_mask,
         hard,
         unit,
-    })
+    };
+    Ok(Layout { params, entries })
 }
 
 // The first starred example, its record's rows, and patches of each kind.
 fn two_wide(rt: &impl Print) -> io::Result<()> {
-    let p = params(rt, 3, 2, 0, 1, 2)?;
     let entries = [0u32, 1];
-    show(rt, p, &entries)?;
-    let laid = image_state::laid_out(p, &entries);
-    record_sizes(rt, laid)?;
-    bad_codes(rt, laid)?;
-    let mut image = lay(rt, laid, &[1u8, 0, 2, 1, 0, 0])?;
-    patch(rt, &mut image, laid, 6, 1, &[0u8, 2])?;
-    patch(rt, &mut image, laid, 6, 3, &[1u8, 1])?;
-    patch(rt, &mut image, laid, 6, 0, &[1u8, 3])?;
-    patch(rt, &mut image, laid, 6, 0, &[1u8])?;
-    all_trits(rt, &image)?;
-    read_rows(rt, laid, &image, 4)?;
-    read_short(rt, laid, 0)
+    let layout = layout(rt, 3, 2, 0, 1, 2, &entries)?;
+    show(rt, layout)?;
+    let laid = Laid::laid_out(layout);
+    record_sizes(rt, &laid)?;
+    bad_codes(rt, &laid)?;
+    let mut image = lay(rt, &laid, &[1u8, 0, 2, 1, 0, 0])?;
+    patch(rt, &mut image, &laid, 6, 1, &[0u8, 2])?;
+    patch(rt, &mut image, &laid, 6, 3, &[1u8, 1])?;
+    patch(rt, &mut image, &laid, 6, 0, &[1u8, 3])?;
+    patch(rt, &mut image, &laid, 6, 0, &[1u8])?;
+    trits(rt, &image)?;
+    read_rows(rt, &laid, &image, 4)?;
+    read_short(rt, &laid, 0)
 }
 
 // The second.
 fn three_wide(rt: &impl Print) -> io::Result<()> {
-    let p = params(rt, 3, 3, 0, 1, 2)?;
     let entries = [0u32, 1, 2];
-    show(rt, p, &entries)?;
-    let laid = image_state::laid_out(p, &entries);
-    record_sizes(rt, laid)?;
-    let mut image = lay(rt, laid, &[0u8, 1, 2, 1, 2, 0, 2, 0, 1])?;
-    patch(rt, &mut image, laid, 10, 2, &[1u8, 1, 1])?;
-    patch(rt, &mut image, laid, 10, 2, &[2u8, 0, 2])?;
-    all_trits(rt, &image)?;
-    read_rows(rt, laid, &image, 3)
+    let layout = layout(rt, 3, 3, 0, 1, 2, &entries)?;
+    show(rt, layout)?;
+    let laid = Laid::laid_out(layout);
+    record_sizes(rt, &laid)?;
+    let mut image = lay(rt, &laid, &[0u8, 1, 2, 1, 2, 0, 2, 0, 1])?;
+    patch(rt, &mut image, &laid, 10, 2, &[1u8, 1, 1])?;
+    patch(rt, &mut image, &laid, 10, 2, &[2u8, 0, 2])?;
+    trits(rt, &image)?;
+    read_rows(rt, &laid, &image, 3)
 }
 
 // A soft bit above a chunk bit that is not soft.
 fn soft_above(rt: &impl Print) -> io::Result<()> {
-    let p = params(rt, 8, 1, 4, 1, 1)?;
     let entries = [0u32];
-    show(rt, p, &entries)?;
-    let laid = image_state::laid_out(p, &entries);
-    record_sizes(rt, laid)?;
-    let image = lay(rt, laid, &[0u8, 1, 2, 0, 1, 1, 0, 2])?;
-    read_rows(rt, laid, &image, 8)
+    let layout = layout(rt, 8, 1, 4, 1, 1, &entries)?;
+    show(rt, layout)?;
+    let laid = Laid::laid_out(layout);
+    record_sizes(rt, &laid)?;
+    let image = lay(rt, &laid, &[0u8, 1, 2, 0, 1, 1, 0, 2])?;
+    read_rows(rt, &laid, &image, 8)
 }
 
 // Entries out of order, with None among them, a soft bit, and partial columns inside the last full memory.
 fn mixed(rt: &impl Print) -> io::Result<()> {
-    let p = params(rt, 6, 3, 1, 1, 3)?;
     let entries = [2u32, rules::NO_BIT, 0, 1];
-    show(rt, p, &entries)?;
-    let laid = image_state::laid_out(p, &entries);
-    record_sizes(rt, laid)?;
+    let layout = layout(rt, 6, 3, 1, 1, 3, &entries)?;
+    show(rt, layout)?;
+    let laid = Laid::laid_out(layout);
+    record_sizes(rt, &laid)?;
     let mut image = lay(
         rt,
-        laid,
+        &laid,
         &[0u8, 1, 2, 1, 0, 2, 2, 2, 0, 1, 1, 0, 0, 0, 1, 2, 1, 1],
     )?;
-    patch(rt, &mut image, laid, 27, 5, &[0u8, 0, 0])?;
-    patch(rt, &mut image, laid, 27, 4, &[2u8, 2, 2])?;
-    all_trits(rt, &image)?;
-    read_rows(rt, laid, &image, 6)
+    patch(rt, &mut image, &laid, 27, 5, &[0u8, 0, 0])?;
+    patch(rt, &mut image, &laid, 27, 4, &[2u8, 2, 2])?;
+    trits(rt, &image)?;
+    read_rows(rt, &laid, &image, 6)
 }
 
 // Calls on rows 0, 5, 6 (refused 15), 1 (4), 2 with too little room (20), 2, and 0 again.
@@ -361,19 +328,21 @@ fn list(
     rt: &impl Print,
     image: &mut [u8; 40],
     numbers: &mut [u32],
-    laid: image_state::Laid,
+    laid: &Laid,
     rows: &[u8],
 ) -> io::Result<()> {
     let calls = seven_calls();
     let all = [1u8, 1, 1, 0, 2, 0, 2, 1, 0, 0, 0, 0];
     text(rt, "list")?;
-    number(
-        rt,
-        image_patches::fill_and_patch(image, numbers, laid, rows, &calls, &all) as u64,
-    )?;
+    let list = Calls {
+        words: &calls,
+        trits: &all,
+    };
+    let n = image_patches::fill_then_patch(image, numbers, laid.layout(), rows, list);
+    number(rt, u64::from(number_of(n)))?;
     text(rt, " |")?;
     words(rt, numbers)?;
-    all_trits(rt, image)
+    trits(rt, image)
 }
 
 // The calls alone.
@@ -381,108 +350,117 @@ fn calls(
     rt: &impl Print,
     image: &mut [u8; 40],
     numbers: &mut [u32],
-    laid: image_state::Laid,
+    laid: &Laid,
 ) -> io::Result<()> {
     let calls = seven_calls();
     let all = [1u8, 1, 1, 0, 2, 0, 2, 1, 0, 0, 0, 0];
     text(rt, "calls")?;
-    number(
-        rt,
-        image_patches::patch_all(image, numbers, laid, &calls, &all) as u64,
-    )?;
+    let list = Calls {
+        words: &calls,
+        trits: &all,
+    };
+    let n = image_patches::patch_each(image, numbers, laid.layout(), list);
+    number(rt, u64::from(number_of(n)))?;
     text(rt, " |")?;
     words(rt, numbers)?;
-    all_trits(rt, image)
+    trits(rt, image)
 }
 
 // Lists of calls with room for nine numbers and, refused, for six; and by a state that no swizzle handed on.
 fn lists_of_calls(rt: &impl Print) -> io::Result<()> {
-    let p = params(rt, 6, 3, 1, 1, 3)?;
-    let laid = image_state::laid_out(p, &[2u32, rules::NO_BIT, 0, 1]);
+    let entries = [2u32, rules::NO_BIT, 0, 1];
+    let laid = Laid::laid_out(layout(rt, 6, 3, 1, 1, 3, &entries)?);
     let mut image = [7u8; 40];
-    list(rt, &mut image, &mut [77u32; 6], laid, &[2u8; 18])?;
-    calls(rt, &mut image, &mut [77u32; 6], laid)?;
-    list(rt, &mut image, &mut [77u32; 9], laid, &[2u8; 18])?;
-    read_rows(rt, laid, &image, 6)?;
-    list(rt, &mut image, &mut [77u32; 9], laid, &[2u8; 17])?;
-    list(rt, &mut image, &mut [77u32; 6], laid, &[3u8; 18])?;
-    calls(rt, &mut [7u8; 40], &mut [77u32; 7], laid)?;
-    list(
-        rt,
-        &mut image,
-        &mut [77u32; 6],
-        image_state::unset(),
-        &[2u8; 18],
-    )?;
-    calls(rt, &mut image, &mut [77u32; 9], image_state::unset())
+    list(rt, &mut image, &mut [77u32; 6], &laid, &[2u8; 18])?;
+    calls(rt, &mut image, &mut [77u32; 6], &laid)?;
+    list(rt, &mut image, &mut [77u32; 9], &laid, &[2u8; 18])?;
+    read_rows(rt, &laid, &image, 6)?;
+    list(rt, &mut image, &mut [77u32; 9], &laid, &[2u8; 17])?;
+    list(rt, &mut image, &mut [77u32; 6], &laid, &[3u8; 18])?;
+    calls(rt, &mut [7u8; 40], &mut [77u32; 7], &laid)?;
+    list(rt, &mut image, &mut [77u32; 6], &Laid::unset(), &[2u8; 18])?;
+    calls(rt, &mut image, &mut [77u32; 9], &Laid::unset())
 }
 
 // A state that no swizzle handed on.
 fn unset(rt: &impl Print) -> io::Result<()> {
-    let laid = image_state::unset();
-    record_sizes(rt, laid)?;
-    let mut image = lay(rt, laid, &[0u8])?;
-    patch(rt, &mut image, laid, 0, 0, &[0u8])?;
-    read_whole(rt, laid, &image, 0)
+    let laid = Laid::unset();
+    record_sizes(rt, &laid)?;
+    let mut image = lay(rt, &laid, &[0u8])?;
+    patch(rt, &mut image, &laid, 0, 0, &[0u8])?;
+    read(rt, &laid, &image, 0)
 }
 
 // The longest row, and a state that says one entry more.
 fn long_row(rt: &impl Print) -> io::Result<()> {
     let entries = [rules::NO_BIT; rules::MAX_ROW];
-    let mut laid = image_state::laid_out(params(rt, 2, 0, 0, 1, 1)?, &entries);
-    let mut image = lay(rt, laid, &[])?;
-    patch(rt, &mut image, laid, 0, 1, &[])?;
-    read_whole(rt, laid, &image, 1)?;
-    record_sizes(rt, laid)?;
+    let mut laid = Laid::laid_out(layout(rt, 2, 0, 0, 1, 1, &entries)?);
+    let mut image = lay(rt, &laid, &[])?;
+    patch(rt, &mut image, &laid, 0, 1, &[])?;
+    read(rt, &laid, &image, 1)?;
+    record_sizes(rt, &laid)?;
     laid.len = 257;
-    record_sizes(rt, laid)?;
-    let mut image = lay(rt, laid, &[])?;
-    patch(rt, &mut image, laid, 0, 1, &[])?;
-    read_whole(rt, laid, &image, 1)
+    record_sizes(rt, &laid)?;
+    let mut image = lay(rt, &laid, &[])?;
+    patch(rt, &mut image, &laid, 0, 1, &[])?;
+    read(rt, &laid, &image, 1)
 }
 
 // Numbers 7, 8 and 10, each with its neighbour that passes.
 fn numbers(rt: &impl Print) -> io::Result<()> {
-    tests(rt, params(rt, 2, 2, 0, 1, 2)?, &[1u32, 0])?;
-    tests(rt, params(rt, 2, 2, 0, 1, 2)?, &[0u32, 0])?;
-    tests(rt, params(rt, 2, 2, 0, 1, 2)?, &[0u32])?;
-    tests(rt, params(rt, 2, 2, 0, 1, 2)?, &[0u32, 1, 2])?;
-    tests(rt, params(rt, 2, 0, 0, 1, 2)?, &[rules::NO_BIT])?;
-    tests(rt, params(rt, 6, 1, 1, 2, 1)?, &[0u32])?;
-    tests(rt, params(rt, 5, 1, 1, 2, 1)?, &[0u32])?;
+    tests(rt, layout(rt, 2, 2, 0, 1, 2, &[1u32, 0])?)?;
+    tests(rt, layout(rt, 2, 2, 0, 1, 2, &[0u32, 0])?)?;
+    tests(rt, layout(rt, 2, 2, 0, 1, 2, &[0u32])?)?;
+    tests(rt, layout(rt, 2, 2, 0, 1, 2, &[0u32, 1, 2])?)?;
+    tests(rt, layout(rt, 2, 0, 0, 1, 2, &[rules::NO_BIT])?)?;
+    tests(rt, layout(rt, 6, 1, 1, 2, 1, &[0u32])?)?;
+    tests(rt, layout(rt, 5, 1, 1, 2, 1, &[0u32])?)?;
     tests(
         rt,
-        params(rt, 32768, 1, 0, 15, 1)?,
-        &[0u32, rules::NO_BIT, rules::NO_BIT, rules::NO_BIT],
+        layout(
+            rt,
+            32768,
+            1,
+            0,
+            15,
+            1,
+            &[0u32, rules::NO_BIT, rules::NO_BIT, rules::NO_BIT],
+        )?,
     )?;
     tests(
         rt,
-        params(rt, 32768, 1, 0, 15, 1)?,
-        &[
-            0u32,
-            rules::NO_BIT,
-            rules::NO_BIT,
-            rules::NO_BIT,
-            rules::NO_BIT,
-        ],
+        layout(
+            rt,
+            32768,
+            1,
+            0,
+            15,
+            1,
+            &[
+                0u32,
+                rules::NO_BIT,
+                rules::NO_BIT,
+                rules::NO_BIT,
+                rules::NO_BIT,
+            ],
+        )?,
     )?;
-    tests(rt, params(rt, 32769, 1, 0, 15, 1)?, &[0u32])
+    tests(rt, layout(rt, 32769, 1, 0, 15, 1, &[0u32])?)
 }
 
 // Chunks 1, 2 and 5, depths with a soft bit, and a memory of width 0.
 fn others(rt: &impl Print) -> io::Result<()> {
-    sizes(rt, params(rt, 1, 1, 0, 0, 1)?, &[0u32])?;
-    sizes(rt, params(rt, 2, 1, 0, 0, 1)?, &[0u32])?;
-    sizes(rt, params(rt, 5, 1, 0, 0, 1)?, &[0u32])?;
-    show(rt, params(rt, 4, 1, 2, 1, 1)?, &[0u32])?;
-    show(rt, params(rt, 6, 1, 1, 2, 1)?, &[0u32])?;
-    let p = params(rt, 2, 0, 0, 1, 1)?;
-    let laid = image_state::laid_out(p, &[]);
-    record_sizes(rt, laid)?;
-    let mut image = lay(rt, laid, &[])?;
-    patch(rt, &mut image, laid, 0, 1, &[])?;
-    patch(rt, &mut image, laid, 0, 2, &[])?;
-    read_whole(rt, laid, &image, 1)
+    sizes(rt, layout(rt, 1, 1, 0, 0, 1, &[0u32])?)?;
+    sizes(rt, layout(rt, 2, 1, 0, 0, 1, &[0u32])?)?;
+    sizes(rt, layout(rt, 5, 1, 0, 0, 1, &[0u32])?)?;
+    show(rt, layout(rt, 4, 1, 2, 1, 1, &[0u32])?)?;
+    show(rt, layout(rt, 6, 1, 1, 2, 1, &[0u32])?)?;
+    let laid = Laid::laid_out(layout(rt, 2, 0, 0, 1, 1, &[])?);
+    record_sizes(rt, &laid)?;
+    let mut image = lay(rt, &laid, &[])?;
+    patch(rt, &mut image, &laid, 0, 1, &[])?;
+    patch(rt, &mut image, &laid, 0, 2, &[])?;
+    read(rt, &laid, &image, 1)
 }
 
 fn main(rt: HostRuntime) -> io::Result<()> {

@@ -13,16 +13,12 @@ use Rattle.table_read.proofs.layout_bad.Goals as goal
 pub slice_bounds-list-end : goal.slice_bounds-list-end
 slice_bounds-list-end c = omega arith
 
-pub slice_bounds-check_layout-end : goal.slice_bounds-check_layout-end
-slice_bounds-check_layout-end c =
-    sym (length-take-le _ _ (omega arith))
-
-pub returns-in-Bad : goal.returns-in-Bad
-returns-in-Bad c =
+pub returns-in-None : goal.returns-in-None
+returns-in-None c =
     let a = c.args in
-    is_bad (layout_by a.p (take a.e.len a.e.list)) (sym (ap checked_of c.in-Bad.is) ∙ c.check_layout-checked.ensures ∙ ap (λ (n : ℕ). laid_shape (layout_by a.p (take n a.e.list))) c.usize_of_u32-n.ensures.0)
+    is_bad (layout_by a.p (take a.e.len a.e.list)) (sym (ap checked_of c.in-None.is) ∙ c.check_layout-checked.ensures ∙ ap (λ (n : ℕ). laid_shape (layout_by a.p (take n a.e.list))) c.usize_of_u32-n.ensures.0)
 
-pub returns-in-Good : goal.returns-in-Good
-returns-in-Good c =
+pub returns-in-Some : goal.returns-in-Some
+returns-in-Some c =
     let a = c.args in
-    is_good (layout_by a.p (take a.e.len a.e.list)) _ (sym (ap checked_of c.in-Good.is) ∙ c.check_layout-checked.ensures ∙ ap (λ (n : ℕ). laid_shape (layout_by a.p (take n a.e.list))) c.usize_of_u32-n.ensures.0)
+    is_good (layout_by a.p (take a.e.len a.e.list)) _ (sym (ap checked_of c.in-Some.is) ∙ c.check_layout-checked.ensures ∙ ap (λ (n : ℕ). laid_shape (layout_by a.p (take n a.e.list))) c.usize_of_u32-n.ensures.0)

@@ -7,9 +7,9 @@ pub returns-then-t-ne0 : goal.returns-then-t-ne0
 returns-then-t-ne0 c = bad_head_lem c.args.out.now c.args.line.now c.args.after.now c.args.t c.if-t-ne0.true
 
 pub sized_end-requires : goal.sized_end-requires
-sized_end-requires c = c.sizes_of.ensures.z_value
+sized_end-requires c = c.sized.ensures.z_value
 
 pub returns : goal.returns
 returns c =
     let a = c.args in
-    good_head a.out.now a.line.now a.after.now _ a.t _ _ (laid_of c.laid_out-laid.result) _ c.if-t-ne0.false c.part-es.ensures.part c.usize_of_u32.ensures.0 c.laid_out-laid.ensures.result_value c.sizes_of.ensures.result_value c.sized_end.ensures
+    good_head a.out.now a.line.now a.after.now _ a.t _ _ (laid_of c.laid_out-laid.result) _ c.if-t-ne0.false c.part-es.ensures.part c.usize_of_u32.ensures.0 c.laid_out-laid.ensures.result_value c.sized.ensures.result_value c.sized_end.ensures

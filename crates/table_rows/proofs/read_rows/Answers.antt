@@ -17,20 +17,20 @@ returns-in_default c =
 
 pub returns-then-n-ne0 : goal.returns-then-n-ne0
 returns-then-n-ne0 c =
-    let told : some (shape_by c.in-Good.s) ≡ laid_shape (layout_by c.args.p c.args.entries.now) = sym (ap checked_of c.in-Good.is) ∙ c.check_layout.ensures in
+    let told : some (shape_by c.in-Some.s) ≡ laid_shape (layout_by c.args.p c.args.entries.now) = sym (ap checked_of c.in-Some.is) ∙ c.check_layout.ensures in
     let number : c.rows_refusal-n.result ≡ read_rows_refusal_of (layout_by c.args.p c.args.entries.now) (length c.args.room.now) (length c.args.image.now) = c.rows_refusal-n.ensures ∙ rows_refusal_is (layout_by c.args.p c.args.entries.now) _ _ _ (size_is _ _ _ told) in
     let a = c.args in
     rows_refused _ _ _ (layout_by a.p a.entries.now) (handed _ _ _ told) _ number c.if-n-ne0.true
 
 pub put_all-requires : goal.put_all-requires
 put_all-requires c =
-    let told : some (shape_by c.in-Good.s) ≡ laid_shape (layout_by c.args.p c.args.entries.now) = sym (ap checked_of c.in-Good.is) ∙ c.check_layout.ensures in
+    let told : some (shape_by c.in-Some.s) ≡ laid_shape (layout_by c.args.p c.args.entries.now) = sym (ap checked_of c.in-Some.is) ∙ c.check_layout.ensures in
     let number : c.rows_refusal-n.result ≡ read_rows_refusal_of (layout_by c.args.p c.args.entries.now) (length c.args.room.now) (length c.args.image.now) = c.rows_refusal-n.ensures ∙ rows_refusal_is (layout_by c.args.p c.args.entries.now) _ _ _ (size_is _ _ _ told) in
     (passed _ _ _ told, rows_read_lem (layout_by c.args.p c.args.entries.now) _ _ (sym number ∙ c.if-n-ne0.false))
 
 pub returns : goal.returns
 returns c =
-    let told : some (shape_by c.in-Good.s) ≡ laid_shape (layout_by c.args.p c.args.entries.now) = sym (ap checked_of c.in-Good.is) ∙ c.check_layout.ensures in
+    let told : some (shape_by c.in-Some.s) ≡ laid_shape (layout_by c.args.p c.args.entries.now) = sym (ap checked_of c.in-Some.is) ∙ c.check_layout.ensures in
     let number : c.rows_refusal-n.result ≡ read_rows_refusal_of (layout_by c.args.p c.args.entries.now) (length c.args.room.now) (length c.args.image.now) = c.rows_refusal-n.ensures ∙ rows_refusal_is (layout_by c.args.p c.args.entries.now) _ _ _ (size_is _ _ _ told) in
     let a = c.args in
     rows_done _ _ _ (layout_by a.p a.entries.now) (handed _ _ _ told) _ (sym number ∙ c.if-n-ne0.false) c.put_all.ensures
