@@ -78,7 +78,7 @@ module _ {ℓ} {A : Type ℓ} (f : A → ℕ) where
   least_each (a ∷ l) zero d h e = (least_both_none (f a) (least_by f l) e).0
   least_each (a ∷ l) (suc i) d h e = least_each l i d (omega arith) (least_both_none (f a) (least_by f l) e).1
 
-module _ {ℓ} {A : Type ℓ} (f : A → Bool) where
+module _ {A : Type 0} (f : A → Bool) where
   step : (l : List A) (i : ℕ) (d : A) → i < length l → all f (drop i l) ≡ f (get_or l i d) && all f (drop (i + 1) l)
   step l i d h = rw (add-one, drop-cons l i d h)
 
@@ -91,7 +91,7 @@ module _ {ℓ} {A : Type ℓ} (f : A → Bool) where
   pub all_end : (l : List A) (i : ℕ) → i ≡ length l → all f (drop i l) ≡ all f l → true ≡ all f l
   all_end l i h e = sym (ap (all f) (ap (λ (n : ℕ). drop n l) h ∙ drop-length l)) ∙ e
 
-module _ {ℓ} {A : Type ℓ} (f : A → Bool) where
+module _ {A : Type 0} (f : A → Bool) where
   any_step : (l : List A) (i : ℕ) (d : A) → i < length l → any f (drop i l) ≡ f (get_or l i d) || any f (drop (i + 1) l)
   any_step l i d h = rw (add-one, drop-cons l i d h)
 
@@ -110,7 +110,7 @@ module _ {ℓ} {A : Type ℓ} (f : A → Bool) where
   any_at (a ∷ l) e zero d h = (or_false (f a) (any f l) e).0
   any_at (a ∷ l) e (suc j) d h = any_at l (or_false (f a) (any f l) e).1 j d (omega arith)
 
-module _ {ℓ} {A : Type ℓ} (f : A → Bool) where
+module _ {A : Type 0} (f : A → Bool) where
   pub all_take : (n : ℕ) (l : List A) → all f l ≡ true → all f (take n l) ≡ true
   all_take zero l e = refl
   all_take (suc n) [] e = refl
@@ -121,7 +121,7 @@ module _ {ℓ} {A : Type ℓ} (f : A → Bool) where
   all_drop (suc n) [] e = refl
   all_drop (suc n) (a ∷ l) e = all_drop n l (and_true (f a) (all f l) e).1
 
-module _ {ℓ} {A : Type ℓ} (f : A → Bool) where
+module _ {A : Type 0} (f : A → Bool) where
   -- one element for which the test holds is enough
   pub any_has : (l : List A) (i : ℕ) (d : A) → i < length l → f (get_or l i d) ≡ true → any f l ≡ true
   any_has [] i d h e = absurd (omega arith)

@@ -13,6 +13,11 @@ pub or_assoc : (a b c : Bool) → ((a || b) || c) ≡ (a || (b || c))
 or_assoc true b c = refl
 or_assoc false b c = refl
 
+module _ {A : Type 0} where
+  pub any-joined : (f : A → Bool) (a b : List A) → any f (a ++ b) ≡ (any f a || any f b)
+  any-joined f [] b = refl
+  any-joined f (x ∷ a) b = rw (any-joined f a b) (sym (or_assoc (f x) (any f a) (any f b)))
+
 module _ {ℓ} {A : Type ℓ} where
   pub take_joined : (n : ℕ) (a b : List A) → take n (a ++ b) ≡ take n a ++ take (n - length a) b
   take_joined n [] b = rw (take-nil {A = A} n, sub-zero)
@@ -23,10 +28,6 @@ module _ {ℓ} {A : Type ℓ} where
   drop_joined n [] b = rw (drop-nil {A = A} n, sub-zero)
   drop_joined zero (x ∷ a) b = rw zero-sub
   drop_joined (suc n) (x ∷ a) b = rw suc-sub-suc (drop_joined n a b)
-
-  pub any-joined : (f : A → Bool) (a b : List A) → any f (a ++ b) ≡ (any f a || any f b)
-  any-joined f [] b = refl
-  any-joined f (x ∷ a) b = rw (any-joined f a b) (sym (or_assoc (f x) (any f a) (any f b)))
 
   pub sum_joined : (f : A → ℕ) (a b : List A) → sum_by f (a ++ b) ≡ sum_by f a + sum_by f b
   sum_joined f [] b = sym (zero-add (sum_by f b))

@@ -1,16 +1,16 @@
 -- Functions of lists, for any element.
 use Rattle.std.specs.Prelude.{ℕ, zero, suc, ◌+◌, Bool, true, false, ◌&&◌, ◌||◌, List, [], ◌∷◌, ◌++◌, take, drop, eqb}
+use Rattle.std.specs.List.{list_all, list_any}
 use Rattle.lists.specs.Choice.{least}
 
-module _ {ℓ} {A : Type ℓ} where
+module _ {A : Type 0} where
   abbrev pub all : (A → Bool) → List A → Bool
-  all f [] = true
-  all f (a ∷ l) = f a && all f l
+  all = list_all
 
   abbrev pub any : (A → Bool) → List A → Bool
-  any f [] = false
-  any f (a ∷ l) = f a || any f l
+  any = list_any
 
+module _ {ℓ} {A : Type ℓ} where
   -- the sum of a number of each element
   abbrev pub sum_by : (A → ℕ) → List A → ℕ
   sum_by f [] = 0

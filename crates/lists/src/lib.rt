@@ -107,7 +107,8 @@ pub fn u64_of_usize(x: usize) -> u64
 // 2^k; 2^32 where k is above 32.
 pub fn two_to(k: u32) -> u64
     ensures value { result ≡ 2 ^ min k 32 }
-    ensures within { (0 < result) × (result ≤ 4294967296) }
+    ensures positive { 0 < result }
+    ensures most { result ≤ 4294967296 }
 {
     1 << k.min(32)
 }

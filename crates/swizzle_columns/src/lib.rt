@@ -282,12 +282,19 @@ fn store_from(to: &mut [u32], g: Grid, start: usize, n: usize, v: &[u32])
     }
 }
 
+// How many of `want` elements fit an array of length `room` from `at` on.
+fn fitting(room: usize, at: usize, want: usize) -> usize
+    ensures { result ≡ min want (room - at) }
+{
+    want.min(room.saturating_sub(at))
+}
+
 // The same where there may be none.
 fn store_run(to: &mut [u32], g: Grid, start: usize, v: &[u32])
     requires { Good g (length to.old) × (length to.old ≤ 4611686018427387903) }
     ensures { to.new ≡ spill_fit g.mems g.rows g.unit to.old start v.now }
 {
-    let n = lists::fitting(to.len(), start, v.len());
+    let n = fitting(to.len(), start, v.len());
     if n == 0 {
         return;
     }
@@ -529,7 +536,7 @@ fn store_trits_run(to: &mut [u8], g: Grid, start: usize, v: &[u8])
     requires { Good g (length to.old) × (length to.old ≤ 4611686018427387903) }
     ensures { to.new ≡ spill_fit g.mems g.rows g.unit to.old start v.now }
 {
-    let n = lists::fitting(to.len(), start, v.len());
+    let n = fitting(to.len(), start, v.len());
     if n == 0 {
         return;
     }

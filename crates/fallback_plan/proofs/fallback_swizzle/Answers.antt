@@ -6,10 +6,10 @@ use Rattle.fallback_plan.proofs.Logs.{plan_is}
 use Rattle.fallback_plan.proofs.fallback_swizzle.Goals as goal
 
 pub overflow_sub-result : goal.overflow_sub-result
-overflow_sub-result c = omega (arith, c.two_to-rows.ensures.1)
+overflow_sub-result c = omega (arith, c.two_to-rows.ensures.positive)
 
 pub overflow_cast-result : goal.overflow_cast-result
-overflow_cast-result c = omega (arith, c.two_to-rows.ensures.2)
+overflow_cast-result c = omega (arith, c.two_to-rows.ensures.most)
 
 pub returns : goal.returns
 returns c =

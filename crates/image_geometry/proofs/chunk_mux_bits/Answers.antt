@@ -35,8 +35,8 @@ returns-then-p-eq0 c =
 pub ceil_div-chunks-requires : goal.ceil_div-chunks-requires
 ceil_div-chunks-requires c =
     let word : c.args.p.depth < 4294967296 = depth_word c.args.p _ c.well_formed.0 in (
-      c.two_to.ensures.1,
-      omega (arith, c.two_to.ensures.2),
+      c.two_to.ensures.positive,
+      omega (arith, c.two_to.ensures.most),
       omega (arith, c.u64_of_u32.ensures, word),
     )
 

@@ -22,13 +22,13 @@ pub two_to-parts-requires : goal.two_to-parts-requires
 two_to-parts-requires c = tt
 
 pub nonzero_div-base : goal.nonzero_div-base
-nonzero_div-base c = c.two_to-parts.ensures.1
+nonzero_div-base c = c.two_to-parts.ensures.positive
 
 pub nonzero_div-chunks : goal.nonzero_div-chunks
-nonzero_div-chunks c = c.two_to-deep.ensures.1
+nonzero_div-chunks c = c.two_to-deep.ensures.positive
 
 pub nonzero_rem-part : goal.nonzero_rem-part
-nonzero_rem-part c = c.two_to-deep.ensures.1
+nonzero_rem-part c = c.two_to-deep.ensures.positive
 
 pub overflow_mul-len : goal.overflow_mul-len
 overflow_mul-len c =

@@ -12,7 +12,7 @@ pub two_to-requires : goal.two_to-requires
 two_to-requires c = tt
 
 pub nonzero_rem-u64_of_u32 : goal.nonzero_rem-u64_of_u32
-nonzero_rem-u64_of_u32 c = c.two_to.ensures.1
+nonzero_rem-u64_of_u32 c = c.two_to.ensures.positive
 
 pub returns-then-u64_of_u32-two_to-ne0 : goal.returns-then-u64_of_u32-two_to-ne0
 returns-then-u64_of_u32-two_to-ne0 c =

@@ -8,14 +8,14 @@ use Rattle.net_logic.proofs.trits_good.Goals as goal
 pub loop-i-init : goal.loop-i-init
 loop-i-init c = (omega arith, refl)
 
-pub larger-most-requires : goal.max-most-requires
+pub larger-most-requires : goal.larger-most-requires
 larger-most-requires c = tt
 
 pub loop-i-preserved : goal.loop-i-preserved
 loop-i-preserved c =
     let h = c in
     let l = h.args.a.now in
-    (omega arith, subst (λ (m : ℕ). Most l m (h.loop-i.i + 1)) (sym c.max-most.ensures) (most_turn l h.loop-i.most h.loop-i.i (omega arith) h.loop-i.invariant.1))
+    (omega arith, subst (λ (m : ℕ). Most l m (h.loop-i.i + 1)) (sym c.larger-most.ensures) (most_turn l h.loop-i.most h.loop-i.i (omega arith) h.loop-i.invariant.1))
 
 pub returns : goal.returns
 returns c =
