@@ -1,13 +1,13 @@
 -- What a caller's controls are in terms of the rules, the structs of the rules' answers, and what a request or a merge leaves.
-use Rattle.std.specs.Prelude.{ℕ, List, get_or}
+use Rattle.std.specs.Prelude.{ℕ, List, get_or, Result, Ok, Err}
 use Rattle.rules.specs.Value.{Value}
 use Rattle.rules.specs.Cell as cell
 use Rattle.rules.specs.Log as log
 use Rattle.rules.specs.Answers as answers
 use Rattle.log_entries.specs.declared.LogState.{LogState}
 use Rattle.log_entries.specs.View.{state_of}
-use Rattle.log_requests.specs.declared.Answer.{Answer}
-use Rattle.log_requests.specs.declared.Answer.TheVariants.{Refused, Accepted}
+use Rattle.rules.specs.Refusal as refusal
+use Rattle.rules.specs.declared.numbers.Refusal.{Refusal}
 use Rattle.c_net.specs.declared.Control.{Control}
 use Rattle.c_net.specs.View.{flag_code, is_set, given_control, flagged_control, control_struct}
 use Rattle.c_log.specs.declared.Controls.{Controls}
@@ -47,9 +47,9 @@ abbrev pub state_struct : log.LogState → LogState
 state_struct s = record { used = s.used; next = s.next }
 
 -- of a machine's answer
-abbrev pub logged_struct : LogState → Answer → Logged
-logged_struct st (Refused n) = record { number = n; state = st }
-logged_struct st (Accepted s) = record { number = 0; state = s }
+abbrev pub logged_struct : LogState → Result LogState Refusal → Logged
+logged_struct st (Err e) = record { number = refusal.number e; state = st }
+logged_struct st (Ok s) = record { number = 0; state = s }
 
 -- into_pos gives one net
 abbrev pub net_struct : LogState → answers.Answer (answers.After Value) → NetLogged

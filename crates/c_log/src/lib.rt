@@ -9,7 +9,8 @@ ghost use Rattle.c_log.specs.View.{given_controls, controls_struct, no_controls,
 
 use c_net::Control;
 use log_entries::LogState;
-use log_requests::{Answer, ControlsAnswer, NetAnswer};
+use log_requests::{PosNet, Remapped};
+use rules::Refusal;
 
 pub mod merges;
 pub mod requests;
@@ -80,36 +81,36 @@ pub fn controls_struct(c: net_flip_flop::Controls) -> Controls
         clear: c_net::control_struct(clear),
         reset: c_net::control_struct(reset),
         enable: c_net::control_struct(enable),
-        reset_over_enable: c.reset_over_enable as u32,
+        reset_over_enable: u32::from(c.reset_over_enable),
     }
 }
 
 // The answer of a request on the state st: one function for all requests and merges that give no more than the state.
-pub fn answer_struct(r: Answer, st: LogState) -> Logged
+pub fn answer_struct(r: Result<LogState, Refusal>, st: LogState) -> Logged
     ensures { result ≡ logged_struct st r }
 {
     match r {
-        Answer::Refused(n) => Logged {
-            number: n,
+        Err(e) => Logged {
+            number: e.number(),
             state: st,
         },
-        Answer::Accepted(state) => Logged { number: 0, state },
+        Ok(state) => Logged { number: 0, state },
     }
 }
 
-fn net_answer_struct(r: NetAnswer, st: LogState) -> NetLogged
+fn net_answer_struct(r: Result<PosNet, Refusal>, st: LogState) -> NetLogged
     ensures { result ≡ net_struct st (net_answer_of r) }
 {
     match r {
-        NetAnswer::Refused(n) => NetLogged {
-            number: n,
+        Err(e) => NetLogged {
+            number: e.number(),
             net: 0,
             state: st,
         },
-        NetAnswer::Accepted(n, state) => NetLogged {
+        Ok(made) => NetLogged {
             number: 0,
-            net: n.0,
-            state,
+            net: made.net.0,
+            state: made.state,
         },
     }
 }
@@ -131,19 +132,19 @@ fn no_controls() -> Controls
     }
 }
 
-fn controls_answer_struct(r: ControlsAnswer, st: LogState) -> ControlsLogged
+fn controls_answer_struct(r: Result<Remapped, Refusal>, st: LogState) -> ControlsLogged
     ensures { result ≡ new_controls_struct st (controls_answer_of r) }
 {
     match r {
-        ControlsAnswer::Refused(n) => ControlsLogged {
-            number: n,
+        Err(e) => ControlsLogged {
+            number: e.number(),
             controls: no_controls(),
             state: st,
         },
-        ControlsAnswer::Accepted(c, state) => ControlsLogged {
+        Ok(made) => ControlsLogged {
             number: 0,
-            controls: controls_struct(c),
-            state,
+            controls: controls_struct(made.controls),
+            state: made.state,
         },
     }
 }

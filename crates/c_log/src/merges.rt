@@ -10,6 +10,7 @@ ghost use Rattle.c_log.specs.View.{given_controls, merge_left_by};
 use crate::{Controls, Logged};
 use c_net::Control;
 use log_entries::LogState;
+use net_flip_flop::FlipFlop;
 
 // A mux in which equal bits are kept once.
 pub fn tablegoose_add_dedup_mux(
@@ -55,7 +56,13 @@ pub fn tablegoose_add_dedup_dff(
 ) -> Logged
     ensures { merge_left_by (add_dedup_dff_of (flip_flop (given_controls c) bits.now clear.now reset.now init.now) st.next).value result log.new out.new ≡ lent_merge (state_of st) (add_dedup_dff_call out.old log.old (state_of st) (flip_flop (given_controls c) bits.now clear.now reset.now init.now)) }
 {
-    let given = crate::controls_net(c);
-    let r = merge_dff::add_dedup_dff(log, st, out, given, bits, clear, reset, init);
+    let f = FlipFlop {
+        controls: crate::controls_net(c),
+        bits,
+        clear,
+        reset,
+        init,
+    };
+    let r = merge_dff::add_dedup_dff(log, st, out, f);
     crate::answer_struct(r, st)
 }

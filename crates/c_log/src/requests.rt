@@ -11,6 +11,7 @@ ghost use Rattle.c_log.specs.View.{given_controls, left_by, net_struct, new_cont
 use crate::{Controls, ControlsLogged, Logged, NetLogged};
 use c_net::Control;
 use log_entries::LogState;
+use net_flip_flop::FlipFlop;
 
 // Kind 1: so many new nets.
 pub fn tablegoose_add_void(log: &mut [u32], st: LogState, width: u32) -> Logged
@@ -107,8 +108,14 @@ pub fn tablegoose_add_dff(
 ) -> Logged
     ensures { left_by (up_from st.next (length bits.now)) result log.new ≡ lent_call (state_of st) (add_dff_call log.old (state_of st) (flip_flop (given_controls c) bits.now clear.now reset.now init.now)) }
 {
-    let given = crate::controls_net(c);
-    let r = log_requests::add_dff(log, st, given, bits, clear, reset, init);
+    let f = FlipFlop {
+        controls: crate::controls_net(c),
+        bits,
+        clear,
+        reset,
+        init,
+    };
+    let r = log_requests::add_dff(log, st, f);
     crate::answer_struct(r, st)
 }
 

@@ -27,13 +27,6 @@ pub count_words : (s : LogState) (w k : ℕ) → max_words < s.used + w → fals
 unfolding counts
 count_words s w k h = rw (lt-leb _ _ h)
 
-less_left : (a k b : ℕ) → a ≤ b → ltb k (b - a) ≡ ltb (a + k) b
-less_left a k b h = cases_le b (a + k) (λ g. le-ltb k (b - a) (omega arith) ∙ sym (le-ltb (a + k) b g)) (λ g. lt-ltb k (b - a) (omega arith) ∙ sym (lt-ltb (a + k) b g))
-
-pub count_nets : (s : LogState) (w k : ℕ) → s.used + w ≤ max_words → s.next ≤ X → ltb k (X - s.next) ≡ counts s w k
-unfolding counts
-count_nets s w k h g = rw (le-leb _ _ h) (less_left s.next k X g)
-
 pub counted : (s : LogState) (w k : ℕ) → counts s w k ≡ true → (s.used + w ≤ max_words) × (s.next + k < X)
 unfolding counts
 counted s w k e =
@@ -224,23 +217,6 @@ module _ {A B : Type 0} (t : Trace A) (g : A → B) (l : Lent) where
   run_same = rw append-nil
 
 -- ---- dry runs
-module _ (s : LogState) (n : ℕ) where
-  pub dry_from : n ≡ start_net s → record { used = 0; next = n } ≡ dry_start s
-  unfolding dry_start
-  dry_from e = rw e
-
-  pub start_low : s.next < n → n ≡ 2 → n ≡ start_net s
-  unfolding start_net
-  start_low h e = omega arith
-
-  pub start_high : n < s.next → n ≡ max_nets → n ≡ start_net s
-  unfolding start_net
-  start_high h e = omega arith
-
-  pub start_next : n ≡ s.next → 2 ≤ n → n ≤ max_nets → n ≡ start_net s
-  unfolding start_net
-  start_next e h g = omega arith
-
 module _ (room : ℕ) (s dry : LogState) where
   pub dry_over : is_over dry ≡ true → 20 ≡ dry_refusal room s dry
   unfolding dry_refusal

@@ -9,13 +9,15 @@ ghost use Rattle.std.proofs.lemmas.List.Edits.{sets};
 ghost use Rattle.rules.specs.Limits.{max_words};
 ghost use Rattle.rules.specs.Log.{entry, dff_operands, add_void_of, add_not_of, add_and_of, add_or_of, add_mux_of, mux_by, add_eq_of, add_shl_of, add_ushr_of, add_dff_of, replace_value_of};
 ghost use Rattle.rules.specs.Refusals.{room_refusal};
+ghost use Rattle.rules.specs.Refusal.{number_of};
 ghost use Rattle.net_value.specs.View.{control_of};
-ghost use Rattle.net_flip_flop.specs.View.{controls_of, flip_flop};
+ghost use Rattle.net_flip_flop.specs.View.{flip_flop_of};
 ghost use Rattle.log_entries.specs.Emission.{counts, overflowed, is_over, emit_words, run, dry_start, dry_refusal};
-ghost use Rattle.log_entries.specs.View.{state_of, lent};
+ghost use Rattle.log_entries.specs.View.{state_of, lent, kind_word};
 
-use net_flip_flop::Controls;
+use net_flip_flop::FlipFlop;
 use net_value::ControlNet;
+use rules::Refusal;
 
 // The words of the log that are used, and the next free net.
 #[repr(C)]
@@ -25,96 +27,112 @@ pub struct LogState {
     pub next: u32,
 }
 
-// 20 or 21 for so many words and nets, else 0.
-pub fn room_refusal(room: usize, st: LogState, words: usize, nets: usize) -> u32
-    ensures { result ≡ room_refusal room (state_of st) words nets }
-{
-    let used = st.used;
-    let next = st.next;
-    if room < used {
-        return 20;
+impl LogState {
+    // Whether so many words and nets fit, or why not.
+    #[tactic(auto, unfolding(rules::specs::Refusals::room_refusal, rules::specs::Conditions::log_full, rules::specs::Conditions::nets_full))]
+    pub fn room_refusal(self, room: usize, words: usize, nets: usize) -> Result<(), Refusal>
+        ensures { number_of result ≡ room_refusal room (state_of self) words nets }
+    {
+        let used = self.used;
+        if room < used || room - used < words || rules::MAX_WORDS < used + words {
+            return Err(Refusal::NoRoom);
+        }
+        let next = self.next;
+        if next < rules::FIRST_CELL || rules::MAX_NETS < next {
+            return Err(Refusal::NetsFull);
+        }
+        if ((rules::MAX_NETS - next) as usize) < nets {
+            return Err(Refusal::NetsFull);
+        }
+        Ok(())
     }
-    if room - used < words {
-        return 20;
-    }
-    if rules::MAX_WORDS < used + words {
-        return 20;
-    }
-    if next < rules::FIRST_CELL {
-        return 21;
-    }
-    if rules::MAX_NETS < next {
-        return 21;
-    }
-    let left = (rules::MAX_NETS - next) as usize;
-    if left < nets {
-        return 21;
-    }
-    0
-}
 
-// Whether so many words and nets can still be counted.
-fn can_count(st: LogState, words: usize, nets: usize) -> bool
-    ensures { result ≡ counts (state_of st) words nets }
-{
-    let used = st.used;
-    if rules::MAX_WORDS < used {
-        return false;
+    // Whether so many words and nets can still be counted.
+    #[tactic(auto, unfolding(crate::specs::Emission::counts))]
+    fn can_count(self, words: usize, nets: usize) -> bool
+        ensures { result ≡ counts (state_of self) words nets }
+    {
+        let used = self.used;
+        used <= rules::MAX_WORDS
+            && words <= rules::MAX_WORDS - used
+            && nets < ((rules::NET_X - self.next) as usize)
     }
-    if rules::MAX_WORDS - used < words {
-        return false;
+
+    // The state after an entry that would pass the numbers.
+    fn overflow(self) -> LogState
+        ensures { state_of result ≡ overflowed (state_of self) }
+    {
+        LogState {
+            used: self.used,
+            next: rules::NET_X,
+        }
     }
-    let left = (rules::NET_X - st.next) as usize;
-    nets < left
-}
 
-// The state after an entry that would pass the numbers.
-fn overflow(st: LogState) -> LogState
-    ensures { state_of result ≡ overflowed (state_of st) }
-{
-    LogState {
-        used: st.used,
-        next: rules::NET_X,
+    // Whether an entry would have passed them.
+    #[tactic(auto, unfolding(crate::specs::Emission::is_over))]
+    pub fn is_over(self) -> bool
+        ensures { result ≡ is_over (state_of self) }
+    {
+        self.next == rules::NET_X
     }
-}
 
-// Whether an entry would have passed them.
-pub fn is_over(st: LogState) -> bool
-    ensures { result ≡ is_over (state_of st) }
-{
-    st.next == rules::NET_X
-}
-
-// Where a dry run starts: no words, and the first fresh net of a call.
-pub fn dry_start(st: LogState) -> LogState
-    ensures { state_of result ≡ dry_start (state_of st) }
-{
-    let next = st.next;
-    if next < rules::FIRST_CELL {
-        return LogState {
+    // Where a dry run starts: no words, and the first fresh net of a call.
+    #[tactic(auto, unfolding(crate::specs::Emission::dry_start, rules::specs::Log::start_net))]
+    pub fn dry_start(self) -> LogState
+        ensures { state_of result ≡ dry_start (state_of self) }
+    {
+        LogState {
             used: 0,
-            next: rules::FIRST_CELL,
-        };
+            next: self.next.max(rules::FIRST_CELL).min(rules::MAX_NETS),
+        }
     }
-    if rules::MAX_NETS < next {
-        return LogState {
-            used: 0,
-            next: rules::MAX_NETS,
-        };
+
+    // Whether what a dry run needs fits, by the state after it, or why not.
+    pub fn dry_refusal(self, room: usize, dry: LogState) -> Result<(), Refusal>
+        ensures { number_of result ≡ dry_refusal room (state_of self) (state_of dry) }
+    {
+        if dry.is_over() {
+            return Err(Refusal::NoRoom);
+        }
+        let start = self.dry_start();
+        let nets = dry.next.saturating_sub(start.next);
+        self.room_refusal(room, dry.used, nets as usize)
     }
-    LogState { used: 0, next }
 }
 
-// 20 or 21 by the state after a dry run, else 0.
-pub fn dry_refusal(room: usize, st: LogState, dry: LogState) -> u32
-    ensures { result ≡ dry_refusal room (state_of st) (state_of dry) }
-{
-    if is_over(dry) {
-        return 20;
+// What an entry asks for.
+#[derive(Clone, Copy, Debug, PartialEq, Eq)]
+enum Kind {
+    Void,
+    Not,
+    And,
+    Or,
+    Mux,
+    Eq,
+    Shl,
+    Ushr,
+    Dff,
+    Replace,
+}
+
+impl Kind {
+    // The word with which its entries begin.
+    fn word(self) -> u32
+        ensures { result ≡ kind_word self }
+    {
+        match self {
+            Kind::Void => 1,
+            Kind::Not => 2,
+            Kind::And => 3,
+            Kind::Or => 4,
+            Kind::Mux => 5,
+            Kind::Eq => 6,
+            Kind::Shl => 7,
+            Kind::Ushr => 8,
+            Kind::Dff => 9,
+            Kind::Replace => 10,
+        }
     }
-    let start = dry_start(st);
-    let nets = dry.next.saturating_sub(start.next);
-    room_refusal(room, st, dry.used, nets as usize)
 }
 
 // Stores an entry's head and its operands in three parts.
@@ -131,25 +149,27 @@ fn store_parts(log: &mut [u32], at: usize, head: [u32; 4], x: &[u32], a: &[u32],
 }
 
 // An entry of so many results: its head, and its operands in three parts.
+#[tactic(auto, using(crate::proofs::Emission::counted))]
 fn emit_parts(
     log: &mut [u32],
     st: LogState,
-    kind: u32,
+    kind: Kind,
     width: usize,
     first: u32,
     x: &[u32],
     a: &[u32],
     b: &[u32],
 ) -> LogState
-    ensures { lent result log.new ≡ emit_words (lent st log.old) (entry kind width first (x.now ++ (a.now ++ b.now))) width }
+    ensures { lent result log.new ≡ emit_words (lent st log.old) (entry (kind_word kind) width first (x.now ++ (a.now ++ b.now))) width }
 {
     let used = st.used;
     let count = x.len() + (a.len() + b.len());
-    if !can_count(st, 4 + count, width) {
-        return overflow(st);
+    if !st.can_count(4 + count, width) {
+        return st.overflow();
     }
     let results = width as u32;
-    store_parts(log, used, [kind, results, first, count as u32], x, a, b);
+    let head = [kind.word(), results, first, count as u32];
+    store_parts(log, used, head, x, a, b);
     LogState {
         used: used + (4 + count),
         next: st.next + results,
@@ -157,46 +177,47 @@ fn emit_parts(
 }
 
 // Kind 1: so many new nets.
+#[tactic(auto, using(crate::proofs::Runs::run_void))]
 pub fn emit_void(log: &mut [u32], st: LogState, width: u32) -> LogState
     ensures { lent result log.new ≡ run (add_void_of width) (lent st log.old) }
 {
-    let none = [0u32; 0];
-    emit_parts(log, st, 1, width as usize, st.next, &none, &none, &none)
+    emit_parts(log, st, Kind::Void, width as usize, st.next, &[], &[], &[])
 }
 
 // Kind 2: the inverse of each net.
+#[tactic(auto, using(crate::proofs::Runs::run_not))]
 pub fn emit_not(log: &mut [u32], st: LogState, a: &[u32]) -> LogState
     ensures { lent result log.new ≡ run (add_not_of a.now) (lent st log.old) }
 {
-    let none = [0u32; 0];
-    emit_parts(log, st, 2, a.len(), st.next, &none, a, &none)
+    emit_parts(log, st, Kind::Not, a.len(), st.next, &[], a, &[])
 }
 
 // Kind 3.
+#[tactic(auto, using(crate::proofs::Runs::run_and))]
 pub fn emit_and(log: &mut [u32], st: LogState, a: &[u32], b: &[u32]) -> LogState
     ensures { lent result log.new ≡ run (add_and_of a.now b.now) (lent st log.old) }
 {
-    let none = [0u32; 0];
-    emit_parts(log, st, 3, a.len(), st.next, &none, a, b)
+    emit_parts(log, st, Kind::And, a.len(), st.next, &[], a, b)
 }
 
 // Kind 4.
+#[tactic(auto, using(crate::proofs::Runs::run_or))]
 pub fn emit_or(log: &mut [u32], st: LogState, a: &[u32], b: &[u32]) -> LogState
     ensures { lent result log.new ≡ run (add_or_of a.now b.now) (lent st log.old) }
 {
-    let none = [0u32; 0];
-    emit_parts(log, st, 4, a.len(), st.next, &none, a, b)
+    emit_parts(log, st, Kind::Or, a.len(), st.next, &[], a, b)
 }
 
 // Kind 5, by a net.
+#[tactic(auto, using(crate::proofs::Runs::run_mux))]
 fn emit_mux_by(log: &mut [u32], st: LogState, select: u32, a: &[u32], b: &[u32]) -> LogState
     ensures { lent result log.new ≡ run (mux_by select a.now b.now) (lent st log.old) }
 {
-    let x = [select];
-    emit_parts(log, st, 5, a.len(), st.next, &x, a, b)
+    emit_parts(log, st, Kind::Mux, a.len(), st.next, &[select], a, b)
 }
 
 // Kind 5: a Neg select is logged as its net with the two values exchanged.
+#[tactic(auto, unfolding(rules::specs::Log::add_mux_of))]
 pub fn emit_mux(log: &mut [u32], st: LogState, select: ControlNet, a: &[u32], b: &[u32]) -> LogState
     ensures { lent result log.new ≡ run (add_mux_of (control_of select) a.now b.now) (lent st log.old) }
 {
@@ -207,134 +228,103 @@ pub fn emit_mux(log: &mut [u32], st: LogState, select: ControlNet, a: &[u32], b:
 }
 
 // Kind 6: whether two values are equal, in one net.
+#[tactic(auto, using(crate::proofs::Runs::run_eq))]
 pub fn emit_eq(log: &mut [u32], st: LogState, a: &[u32], b: &[u32]) -> LogState
     ensures { lent result log.new ≡ run (add_eq_of a.now b.now) (lent st log.old) }
 {
-    let none = [0u32; 0];
-    emit_parts(log, st, 6, 1, st.next, &none, a, b)
+    emit_parts(log, st, Kind::Eq, 1, st.next, &[], a, b)
 }
 
 // Kinds 7 and 8: a value moved by select times stride.
 fn emit_shift(
     log: &mut [u32],
     st: LogState,
-    kind: u32,
+    kind: Kind,
     stride: u32,
     select: &[u32],
     a: &[u32],
 ) -> LogState
-    ensures { lent result log.new ≡ emit_words (lent st log.old) (entry kind (length a.now) st.next (stride ∷ length select.now ∷ select.now ++ a.now)) (length a.now) }
+    ensures { lent result log.new ≡ emit_words (lent st log.old) (entry (kind_word kind) (length a.now) st.next (stride ∷ length select.now ∷ select.now ++ a.now)) (length a.now) }
 {
     if rules::MAX_WORDS < select.len() {
-        return overflow(st);
+        return st.overflow();
     }
     let x = [stride, select.len() as u32];
     emit_parts(log, st, kind, a.len(), st.next, &x, select, a)
 }
 
 // Kind 7: up.
+#[tactic(auto, using(crate::proofs::Runs::run_shl))]
 pub fn emit_shl(log: &mut [u32], st: LogState, stride: u32, select: &[u32], a: &[u32]) -> LogState
     ensures { lent result log.new ≡ run (add_shl_of stride select.now a.now) (lent st log.old) }
 {
-    emit_shift(log, st, 7, stride, select, a)
+    emit_shift(log, st, Kind::Shl, stride, select, a)
 }
 
 // Kind 8: down.
+#[tactic(auto, using(crate::proofs::Runs::run_ushr))]
 pub fn emit_ushr(log: &mut [u32], st: LogState, stride: u32, select: &[u32], a: &[u32]) -> LogState
     ensures { lent result log.new ≡ run (add_ushr_of stride select.now a.now) (lent st log.old) }
 {
-    emit_shift(log, st, 8, stride, select, a)
+    emit_shift(log, st, Kind::Ushr, stride, select, a)
 }
 
 // Kind 10: each net of a value replaced by another.
+#[tactic(auto, using(crate::proofs::Runs::run_replace))]
 pub fn emit_replace(log: &mut [u32], st: LogState, from: &[u32], to: &[u32]) -> LogState
     ensures { lent result log.new ≡ run (replace_value_of from.now to.now) (lent st log.old) }
 {
-    let none = [0u32; 0];
-    emit_parts(log, st, 10, 0, 0, &none, from, to)
+    emit_parts(log, st, Kind::Replace, 0, 0, &[], from, to)
 }
 
 // The words of a flip-flop's trits, or more than a log has.
-fn trit_words(clear: &[u8], reset: &[u8], init: &[u8]) -> usize
-    ensures { result ≡ min (length clear.now + (length reset.now + length init.now)) (max_words + 1) }
+fn trit_words(f: FlipFlop) -> usize
+    ensures { result ≡ min (length f.entry.clear.now + (length f.entry.reset.now + length f.entry.init.now)) (max_words + 1) }
 {
-    let most = rules::MAX_WORDS + 1;
-    if most < clear.len() {
-        return most;
-    }
-    if most < reset.len() {
-        return most;
-    }
-    if most < init.len() {
-        return most;
-    }
-    let sum = clear.len() + (reset.len() + init.len());
-    if most < sum {
-        return most;
-    }
-    sum
+    let later = f.reset.len().saturating_add(f.init.len());
+    f.clear
+        .len()
+        .saturating_add(later)
+        .min(rules::MAX_WORDS + 1)
 }
 
 // Stores a flip-flop's trits.
-fn store_trits(log: &mut [u32], at: usize, clear: &[u8], reset: &[u8], init: &[u8])
-    requires { at + (length clear.now + (length reset.now + length init.now)) ≤ max_words }
-    ensures { log.new ≡ sets log.old at (clear.now ++ (reset.now ++ init.now)) }
+fn store_trits(log: &mut [u32], at: usize, f: FlipFlop)
+    requires { at + (length f.clear.now + (length f.reset.now + length f.init.now)) ≤ max_words }
+    ensures { log.new ≡ sets log.old at (f.entry.clear.now ++ (f.entry.reset.now ++ f.entry.init.now)) }
 {
-    lists::copy_u8_to_u32(log, at, clear);
-    let resets = at + clear.len();
-    lists::copy_u8_to_u32(log, resets, reset);
-    lists::copy_u8_to_u32(log, resets + reset.len(), init);
+    lists::copy_u8_to_u32(log, at, f.clear);
+    let resets = at + f.clear.len();
+    lists::copy_u8_to_u32(log, resets, f.reset);
+    lists::copy_u8_to_u32(log, resets + f.reset.len(), f.init);
 }
 
 // Stores the entry of a flip-flop.
-fn store_dff(
-    log: &mut [u32],
-    at: usize,
-    first: u32,
-    c: Controls,
-    bits: &[u32],
-    clear: &[u8],
-    reset: &[u8],
-    init: &[u8],
-)
-    requires { at + (4 + (length bits.now + (9 + (length clear.now + (length reset.now + length init.now))))) ≤ max_words }
-    ensures { log.new ≡ sets log.old at (entry 9 (length bits.now) first (dff_operands (flip_flop (controls_of c) bits.now clear.now reset.now init.now))) }
+fn store_dff(log: &mut [u32], at: usize, first: u32, f: FlipFlop)
+    requires { at + (4 + (length f.bits.now + (9 + (length f.clear.now + (length f.reset.now + length f.init.now))))) ≤ max_words }
+    ensures { log.new ≡ sets log.old at (entry 9 (length f.entry.bits.now) first (dff_operands (flip_flop_of f.entry))) }
 {
-    let count = bits.len() + (9 + (clear.len() + (reset.len() + init.len())));
-    let nine = net_flip_flop::controls_words(c);
-    let none = [0u32; 0];
-    store_parts(
-        log,
-        at,
-        [9, bits.len() as u32, first, count as u32],
-        bits,
-        &nine,
-        &none,
-    );
-    store_trits(log, at + (13 + bits.len()), clear, reset, init);
+    let width = f.bits.len();
+    let count = width + (9 + (f.clear.len() + (f.reset.len() + f.init.len())));
+    let nine = f.controls.words();
+    let head = [Kind::Dff.word(), width as u32, first, count as u32];
+    store_parts(log, at, head, f.bits, &nine, &[]);
+    store_trits(log, at + (13 + width), f);
 }
 
-// Kind 9: a flip-flop of controls, data, and clear, reset and init trits.
-pub fn emit_dff(
-    log: &mut [u32],
-    st: LogState,
-    c: Controls,
-    bits: &[u32],
-    clear: &[u8],
-    reset: &[u8],
-    init: &[u8],
-) -> LogState
-    ensures { lent result log.new ≡ run (add_dff_of (flip_flop (controls_of c) bits.now clear.now reset.now init.now)) (lent st log.old) }
+// Kind 9: a flip-flop.
+#[tactic(auto, using(crate::proofs::Emission::counted, crate::proofs::Dff::dff_whole))]
+pub fn emit_dff(log: &mut [u32], st: LogState, f: FlipFlop) -> LogState
+    ensures { lent result log.new ≡ run (add_dff_of (flip_flop_of f.entry)) (lent st log.old) }
 {
-    let used = st.used;
-    let trits = trit_words(clear, reset, init);
-    let words = 4 + (bits.len() + (9 + trits));
-    if !can_count(st, words, bits.len()) {
-        return overflow(st);
+    let width = f.bits.len();
+    let words = 4 + (width + (9 + trit_words(f)));
+    if !st.can_count(words, width) {
+        return st.overflow();
     }
-    store_dff(log, used, st.next, c, bits, clear, reset, init);
+    store_dff(log, st.used, st.next, f);
     LogState {
-        used: used + words,
-        next: st.next + (bits.len() as u32),
+        used: st.used + words,
+        next: st.next + (width as u32),
     }
 }

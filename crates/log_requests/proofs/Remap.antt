@@ -7,39 +7,14 @@ use mathlib.Core.List.{[], ◌∷◌}
 use lib.ListN.{get_or}
 use Rattle.lists.proofs.Choice.{if_true, if_false}
 use Rattle.rules.specs.Limits.{max_nets, X}
-use Rattle.rules.specs.Value.{Control, Pos, Neg, is_always, good_control}
+use Rattle.rules.specs.Value.{Control, Pos, Neg, is_always}
 use Rattle.rules.specs.Cell.{Controls}
 use Rattle.rules.specs.Log.{Trace, ◌>>=◌, done, request, into_pos_of, add_not_of, add_and_of, with_reset, remap_reset_over_enable_of, LogState, start_net}
-use Rattle.rules.specs.Conditions.{bad_control}
-use Rattle.rules.specs.Refusals.{control_number, remap_number}
 use Rattle.rules.proofs.Chain.{chains_into_pos}
 use Rattle.rules.proofs.Counted.{Counted, counted_done, counted_not, most_remap, start_le}
 use Rattle.log_entries.specs.Emission.{Lent, is_over, run}
 use Rattle.log_entries.proofs.Emission.{run-done, run_then, run_same, run_next, run-held}
 use Rattle.log_requests.specs.Remap.{nots_of, gated_reset}
-
--- ---- numbers
-module _ (next : ℕ) (c : Control) where
-  pub control_4 : good_control next c ≡ false → 4 ≡ control_number next c
-  unfolding control_number bad_control
-  control_4 e = rw e
-
-  pub control_0 : good_control next c ≡ true → 0 ≡ control_number next c
-  unfolding control_number bad_control
-  control_0 e = rw e
-
-module _ (next : ℕ) (c : Controls) where
-  pub remap_reset : good_control next c.reset ≡ false → 4 ≡ remap_number next c
-  unfolding remap_number bad_control
-  remap_reset e = rw e
-
-  pub remap_enable : good_control next c.reset ≡ true → good_control next c.enable ≡ false → 4 ≡ remap_number next c
-  unfolding remap_number bad_control
-  remap_enable e f = rw (e, f)
-
-  pub remap_0 : good_control next c.reset ≡ true → good_control next c.enable ≡ true → 0 ≡ remap_number next c
-  unfolding remap_number bad_control
-  remap_0 e f = rw (e, f)
 
 -- ---- into_pos
 pub counted_into_pos : (c : Control) → Counted (into_pos_of c) (5 * nots_of c) (nots_of c)

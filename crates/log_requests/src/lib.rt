@@ -7,325 +7,264 @@ ghost use Rattle.lists.specs.Lists.{up_from};
 ghost use Rattle.rules.specs.Log.{add_and_of, add_or_of, add_eq_of, add_shl_of, add_ushr_of, replace_value_of, into_pos_of, with_reset, remap_reset_over_enable_of};
 ghost use Rattle.rules.specs.Conditions.{bad_trit_lens, bad_trits};
 ghost use Rattle.rules.specs.Refusals.{room_refusal, value_number, pair_number, shift_number, mux_number, dff_number, control_number, remap_number, result_refusal};
+ghost use Rattle.rules.specs.Refusal.{number_of};
 ghost use Rattle.rules.specs.Answers.{add_void_call, add_not_call, add_pair_call, add_shift_call, add_mux_call, add_dff_call, into_pos_call, remap_call};
 ghost use Rattle.net_value.specs.View.{control_of};
-ghost use Rattle.net_flip_flop.specs.View.{controls_of, flip_flop};
+ghost use Rattle.net_flip_flop.specs.View.{controls_of, flip_flop_of};
 ghost use Rattle.log_entries.specs.Emission.{is_over, run};
 ghost use Rattle.log_entries.specs.View.{state_of, lent};
 ghost use Rattle.log_requests.specs.Answers.{logged_of, net_logged_of, controls_logged_of};
 ghost use Rattle.log_requests.specs.Remap.{nots_of, gated_reset};
 
 use log_entries::LogState;
-use net_flip_flop::Controls;
+use net_flip_flop::{Controls, FlipFlop};
 use net_value::{ControlNet, Net};
+use rules::Refusal;
 
-// The number of the refusal, or the state after the request.
+// A net, and the state after it was asked for.
 #[derive(Clone, Copy)]
-pub enum Answer {
-    Refused(u32),
-    Accepted(LogState),
+pub struct PosNet {
+    pub net: Net,
+    pub state: LogState,
 }
 
+// Controls, and the state after they were asked for.
 #[derive(Clone, Copy)]
-pub enum NetAnswer {
-    Refused(u32),
-    Accepted(Net, LogState),
-}
-
-#[derive(Clone, Copy)]
-pub enum ControlsAnswer {
-    Refused(u32),
-    Accepted(Controls, LogState),
+pub struct Remapped {
+    pub controls: Controls,
+    pub state: LogState,
 }
 
 // 4, 20 and 21 of a request of one value.
-fn value_refusal(room: usize, st: LogState, a: &[u32]) -> u32
-    ensures { result ≡ (value_number st.next a.now or_else room_refusal room (state_of st) (4 + length a.now) (length a.now)) }
+#[tactic(auto, using(lists::proofs::Choice::else_first, lists::proofs::Choice::else_rest), unfolding(rules::specs::Refusals::value_number, rules::specs::Conditions::bad_value))]
+fn value_refusal(room: usize, st: LogState, a: &[u32]) -> Result<(), Refusal>
+    ensures { number_of result ≡ (value_number st.next a.now or_else room_refusal room (state_of st) (4 + length a.now) (length a.now)) }
 {
     if !net_value::value_good(st.next, a) {
-        return 4;
+        return Err(Refusal::BadValue);
     }
-    log_entries::room_refusal(room, st, 4 + a.len(), a.len())
+    st.room_refusal(room, 4 + a.len(), a.len())
 }
 
 // 2 and 4 of two values.
-fn pair_number(next: u32, a: &[u32], b: &[u32]) -> u32
-    ensures { result ≡ pair_number next a.now b.now }
+#[tactic(auto, unfolding(rules::specs::Refusals::pair_number, rules::specs::Conditions::unequal, rules::specs::Conditions::bad_value))]
+fn pair_input_refusal(next: u32, a: &[u32], b: &[u32]) -> Result<(), Refusal>
+    ensures { number_of result ≡ pair_number next a.now b.now }
 {
     if a.len() != b.len() {
-        return 2;
+        return Err(Refusal::BadShape);
     }
-    if !net_value::value_good(next, a) {
-        return 4;
+    if !net_value::value_good(next, a) || !net_value::value_good(next, b) {
+        return Err(Refusal::BadValue);
     }
-    if !net_value::value_good(next, b) {
-        return 4;
-    }
-    0
+    Ok(())
 }
 
 // 2, 4, 20 and 21 of a request of two values that gives so many nets.
-fn pair_refusal(room: usize, st: LogState, a: &[u32], b: &[u32], nets: usize) -> u32
-    ensures { result ≡ (pair_number st.next a.now b.now or_else room_refusal room (state_of st) (4 + (length a.now + length b.now)) nets) }
+#[tactic(auto, using(rules::proofs::Answers::else_err, rules::proofs::Answers::else_ok))]
+fn pair_refusal(room: usize, st: LogState, a: &[u32], b: &[u32], nets: usize) -> Result<(), Refusal>
+    ensures { number_of result ≡ (pair_number st.next a.now b.now or_else room_refusal room (state_of st) (4 + (length a.now + length b.now)) nets) }
 {
-    let n = pair_number(st.next, a, b);
-    if n != 0 {
-        return n;
-    }
-    log_entries::room_refusal(room, st, 4 + (a.len() + b.len()), nets)
+    pair_input_refusal(st.next, a, b)?;
+    st.room_refusal(room, 4 + (a.len() + b.len()), nets)
 }
 
 // 4, 20 and 21 of a shift.
-fn shift_refusal(room: usize, st: LogState, select: &[u32], a: &[u32]) -> u32
-    ensures { result ≡ (shift_number st.next select.now a.now or_else room_refusal room (state_of st) (6 + (length select.now + length a.now)) (length a.now)) }
+#[tactic(auto, using(lists::proofs::Choice::else_first, lists::proofs::Choice::else_rest), unfolding(rules::specs::Refusals::shift_number, rules::specs::Conditions::bad_value))]
+fn shift_refusal(room: usize, st: LogState, select: &[u32], a: &[u32]) -> Result<(), Refusal>
+    ensures { number_of result ≡ (shift_number st.next select.now a.now or_else room_refusal room (state_of st) (6 + (length select.now + length a.now)) (length a.now)) }
 {
-    if !net_value::value_good(st.next, select) {
-        return 4;
+    if !net_value::value_good(st.next, select) || !net_value::value_good(st.next, a) {
+        return Err(Refusal::BadValue);
     }
-    if !net_value::value_good(st.next, a) {
-        return 4;
-    }
-    log_entries::room_refusal(room, st, 6 + (select.len() + a.len()), a.len())
+    st.room_refusal(room, 6 + (select.len() + a.len()), a.len())
 }
 
 // Kind 1: so many new nets.
-pub fn add_void(log: &mut [u32], st: LogState, width: u32) -> Answer
+pub fn add_void(log: &mut [u32], st: LogState, width: u32) -> Result<LogState, Refusal>
     ensures { logged_of (up_from st.next width) result log.new ≡ add_void_call log.old (state_of st) width }
 {
-    let n = log_entries::room_refusal(log.len(), st, 4, width as usize);
-    if n != 0 {
-        return Answer::Refused(n);
-    }
-    let after = log_entries::emit_void(log, st, width);
-    Answer::Accepted(after)
+    st.room_refusal(log.len(), 4, width as usize)?;
+    Ok(log_entries::emit_void(log, st, width))
 }
 
 // Kind 2: the inverse of each net.
-pub fn add_not(log: &mut [u32], st: LogState, a: &[u32]) -> Answer
+pub fn add_not(log: &mut [u32], st: LogState, a: &[u32]) -> Result<LogState, Refusal>
     ensures { logged_of (up_from st.next (length a.now)) result log.new ≡ add_not_call log.old (state_of st) a.now }
 {
-    let n = value_refusal(log.len(), st, a);
-    if n != 0 {
-        return Answer::Refused(n);
-    }
-    let after = log_entries::emit_not(log, st, a);
-    Answer::Accepted(after)
+    value_refusal(log.len(), st, a)?;
+    Ok(log_entries::emit_not(log, st, a))
 }
 
 // Kind 3: net by net.
-pub fn add_and(log: &mut [u32], st: LogState, a: &[u32], b: &[u32]) -> Answer
+pub fn add_and(log: &mut [u32], st: LogState, a: &[u32], b: &[u32]) -> Result<LogState, Refusal>
     ensures { logged_of (up_from st.next (length a.now)) result log.new ≡ add_pair_call add_and_of log.old (state_of st) a.now b.now }
 {
-    let n = pair_refusal(log.len(), st, a, b, a.len());
-    if n != 0 {
-        return Answer::Refused(n);
-    }
-    let after = log_entries::emit_and(log, st, a, b);
-    Answer::Accepted(after)
+    pair_refusal(log.len(), st, a, b, a.len())?;
+    Ok(log_entries::emit_and(log, st, a, b))
 }
 
 // Kind 4: net by net.
-pub fn add_or(log: &mut [u32], st: LogState, a: &[u32], b: &[u32]) -> Answer
+pub fn add_or(log: &mut [u32], st: LogState, a: &[u32], b: &[u32]) -> Result<LogState, Refusal>
     ensures { logged_of (up_from st.next (length a.now)) result log.new ≡ add_pair_call add_or_of log.old (state_of st) a.now b.now }
 {
-    let n = pair_refusal(log.len(), st, a, b, a.len());
-    if n != 0 {
-        return Answer::Refused(n);
-    }
-    let after = log_entries::emit_or(log, st, a, b);
-    Answer::Accepted(after)
+    pair_refusal(log.len(), st, a, b, a.len())?;
+    Ok(log_entries::emit_or(log, st, a, b))
 }
 
 // Kind 6: whether two values are equal, in one net.
-pub fn add_eq(log: &mut [u32], st: LogState, a: &[u32], b: &[u32]) -> Answer
+pub fn add_eq(log: &mut [u32], st: LogState, a: &[u32], b: &[u32]) -> Result<LogState, Refusal>
     ensures { logged_of st.next result log.new ≡ add_pair_call add_eq_of log.old (state_of st) a.now b.now }
 {
-    let n = pair_refusal(log.len(), st, a, b, 1);
-    if n != 0 {
-        return Answer::Refused(n);
-    }
-    let after = log_entries::emit_eq(log, st, a, b);
-    Answer::Accepted(after)
+    pair_refusal(log.len(), st, a, b, 1)?;
+    Ok(log_entries::emit_eq(log, st, a, b))
 }
 
 // Kind 10: each net of a value replaced by another's.
-pub fn replace_value(log: &mut [u32], st: LogState, from: &[u32], to: &[u32]) -> Answer
+pub fn replace_value(
+    log: &mut [u32],
+    st: LogState,
+    from: &[u32],
+    to: &[u32],
+) -> Result<LogState, Refusal>
     ensures { logged_of [] result log.new ≡ add_pair_call replace_value_of log.old (state_of st) from.now to.now }
 {
-    let n = pair_refusal(log.len(), st, from, to, 0);
-    if n != 0 {
-        return Answer::Refused(n);
-    }
-    let after = log_entries::emit_replace(log, st, from, to);
-    Answer::Accepted(after)
+    pair_refusal(log.len(), st, from, to, 0)?;
+    Ok(log_entries::emit_replace(log, st, from, to))
 }
 
 // Kind 7: a value moved up by select times stride.
-pub fn add_shl(log: &mut [u32], st: LogState, stride: u32, select: &[u32], a: &[u32]) -> Answer
+pub fn add_shl(
+    log: &mut [u32],
+    st: LogState,
+    stride: u32,
+    select: &[u32],
+    a: &[u32],
+) -> Result<LogState, Refusal>
     ensures { logged_of (up_from st.next (length a.now)) result log.new ≡ add_shift_call add_shl_of log.old (state_of st) stride select.now a.now }
 {
-    let n = shift_refusal(log.len(), st, select, a);
-    if n != 0 {
-        return Answer::Refused(n);
-    }
-    let after = log_entries::emit_shl(log, st, stride, select, a);
-    Answer::Accepted(after)
+    shift_refusal(log.len(), st, select, a)?;
+    Ok(log_entries::emit_shl(log, st, stride, select, a))
 }
 
 // Kind 8: down.
-pub fn add_ushr(log: &mut [u32], st: LogState, stride: u32, select: &[u32], a: &[u32]) -> Answer
+pub fn add_ushr(
+    log: &mut [u32],
+    st: LogState,
+    stride: u32,
+    select: &[u32],
+    a: &[u32],
+) -> Result<LogState, Refusal>
     ensures { logged_of (up_from st.next (length a.now)) result log.new ≡ add_shift_call add_ushr_of log.old (state_of st) stride select.now a.now }
 {
-    let n = shift_refusal(log.len(), st, select, a);
-    if n != 0 {
-        return Answer::Refused(n);
-    }
-    let after = log_entries::emit_ushr(log, st, stride, select, a);
-    Answer::Accepted(after)
+    shift_refusal(log.len(), st, select, a)?;
+    Ok(log_entries::emit_ushr(log, st, stride, select, a))
 }
 
 // 1, 2 and 4 of a mux, or of a merging one.
-pub fn mux_number(next: u32, select: ControlNet, a: &[u32], b: &[u32]) -> u32
-    ensures { result ≡ mux_number next (control_of select) a.now b.now }
+#[tactic(auto, unfolding(rules::specs::Refusals::mux_number, rules::specs::Conditions::long_value, rules::specs::Conditions::unequal, rules::specs::Conditions::bad_value))]
+pub fn mux_input_refusal(next: u32, select: ControlNet, a: &[u32], b: &[u32]) -> Result<(), Refusal>
+    ensures { number_of result ≡ mux_number next (control_of select) a.now b.now }
 {
-    if rules::MAX_MERGE < a.len() {
-        return 1;
-    }
-    if rules::MAX_MERGE < b.len() {
-        return 1;
+    if rules::MAX_MERGE < a.len() || rules::MAX_MERGE < b.len() {
+        return Err(Refusal::TooLarge);
     }
     if a.len() != b.len() {
-        return 2;
+        return Err(Refusal::BadShape);
     }
     if !net_value::select_good(next, select) {
-        return 4;
+        return Err(Refusal::BadValue);
     }
-    if !net_value::value_good(next, a) {
-        return 4;
+    if !net_value::value_good(next, a) || !net_value::value_good(next, b) {
+        return Err(Refusal::BadValue);
     }
-    if !net_value::value_good(next, b) {
-        return 4;
-    }
-    0
+    Ok(())
 }
 
 // 1, 2, 4, 20 and 21 of a mux.
-fn mux_refusal(room: usize, st: LogState, select: ControlNet, a: &[u32], b: &[u32]) -> u32
-    ensures { result ≡ (mux_number st.next (control_of select) a.now b.now or_else room_refusal room (state_of st) (5 + (length a.now + length b.now)) (length a.now)) }
+#[tactic(auto, using(rules::proofs::Answers::else_err, rules::proofs::Answers::else_ok))]
+fn mux_refusal(
+    room: usize,
+    st: LogState,
+    select: ControlNet,
+    a: &[u32],
+    b: &[u32],
+) -> Result<(), Refusal>
+    ensures { number_of result ≡ (mux_number st.next (control_of select) a.now b.now or_else room_refusal room (state_of st) (5 + (length a.now + length b.now)) (length a.now)) }
 {
-    let n = mux_number(st.next, select, a, b);
-    if n != 0 {
-        return n;
-    }
-    log_entries::room_refusal(room, st, 5 + (a.len() + b.len()), a.len())
+    mux_input_refusal(st.next, select, a, b)?;
+    st.room_refusal(room, 5 + (a.len() + b.len()), a.len())
 }
 
 // Kind 5: a mux.
-pub fn add_mux(log: &mut [u32], st: LogState, select: ControlNet, a: &[u32], b: &[u32]) -> Answer
+pub fn add_mux(
+    log: &mut [u32],
+    st: LogState,
+    select: ControlNet,
+    a: &[u32],
+    b: &[u32],
+) -> Result<LogState, Refusal>
     ensures { logged_of (up_from st.next (length a.now)) result log.new ≡ add_mux_call log.old (state_of st) (control_of select) a.now b.now }
 {
-    let n = mux_refusal(log.len(), st, select, a, b);
-    if n != 0 {
-        return Answer::Refused(n);
-    }
-    let after = log_entries::emit_mux(log, st, select, a, b);
-    Answer::Accepted(after)
+    mux_refusal(log.len(), st, select, a, b)?;
+    Ok(log_entries::emit_mux(log, st, select, a, b))
 }
 
 // Whether some trits of a flip-flop are not one to each bit.
-fn lens_bad(n: usize, clear: &[u8], reset: &[u8], init: &[u8]) -> bool
-    ensures { result ≡ bad_trit_lens n clear.now reset.now init.now }
+#[tactic(auto, unfolding(rules::specs::Conditions::bad_trit_lens))]
+fn lens_bad(f: FlipFlop) -> bool
+    ensures { result ≡ bad_trit_lens (length f.entry.bits.now) f.entry.clear.now f.entry.reset.now f.entry.init.now }
 {
-    if clear.len() != n {
-        return true;
-    }
-    if reset.len() != n {
-        return true;
-    }
-    init.len() != n
+    let n = f.bits.len();
+    f.clear.len() != n || f.reset.len() != n || f.init.len() != n
 }
 
 // Whether some trit code of a flip-flop is bad.
-fn trits_bad(clear: &[u8], reset: &[u8], init: &[u8]) -> bool
-    ensures { result ≡ (bad_trits clear.now || (bad_trits reset.now || bad_trits init.now)) }
+#[tactic(auto, unfolding(rules::specs::Conditions::bad_trits))]
+fn trits_bad(f: FlipFlop) -> bool
+    ensures { result ≡ (bad_trits f.entry.clear.now || (bad_trits f.entry.reset.now || bad_trits f.entry.init.now)) }
 {
-    if !net_logic::trits_good(clear) {
-        return true;
-    }
-    if !net_logic::trits_good(reset) {
-        return true;
-    }
-    !net_logic::trits_good(init)
+    !net_logic::trits_good(f.clear)
+        || !net_logic::trits_good(f.reset)
+        || !net_logic::trits_good(f.init)
 }
 
 // 2 and 4 of a flip-flop.
-pub fn dff_number(
-    next: u32,
-    c: Controls,
-    bits: &[u32],
-    clear: &[u8],
-    reset: &[u8],
-    init: &[u8],
-) -> u32
-    ensures { result ≡ dff_number next (flip_flop (controls_of c) bits.now clear.now reset.now init.now) }
+#[tactic(auto, unfolding(rules::specs::Refusals::dff_number, rules::specs::Refusals::bad_flip_flop_lens, rules::specs::Refusals::bad_flip_flop, rules::specs::Conditions::bad_value))]
+pub fn dff_input_refusal(next: u32, f: FlipFlop) -> Result<(), Refusal>
+    ensures { number_of result ≡ dff_number next (flip_flop_of f.entry) }
 {
-    if lens_bad(bits.len(), clear, reset, init) {
-        return 2;
+    if lens_bad(f) {
+        return Err(Refusal::BadShape);
     }
-    if !net_value::value_good(next, bits) {
-        return 4;
+    if !net_value::value_good(next, f.bits) || f.controls.is_bad(next) || trits_bad(f) {
+        return Err(Refusal::BadValue);
     }
-    if net_flip_flop::controls_bad(next, c) {
-        return 4;
-    }
-    if trits_bad(clear, reset, init) {
-        return 4;
-    }
-    0
+    Ok(())
 }
 
 // 2, 4, 20 and 21 of a flip-flop.
-fn dff_refusal(
-    room: usize,
-    st: LogState,
-    c: Controls,
-    bits: &[u32],
-    clear: &[u8],
-    reset: &[u8],
-    init: &[u8],
-) -> u32
-    ensures { result ≡ (dff_number st.next (flip_flop (controls_of c) bits.now clear.now reset.now init.now) or_else room_refusal room (state_of st) (13 + 4 * length bits.now) (length bits.now)) }
+#[tactic(auto, using(rules::proofs::Answers::else_err, rules::proofs::Answers::else_ok))]
+fn dff_refusal(room: usize, st: LogState, f: FlipFlop) -> Result<(), Refusal>
+    ensures { number_of result ≡ (dff_number st.next (flip_flop_of f.entry) or_else room_refusal room (state_of st) (13 + 4 * length f.entry.bits.now) (length f.entry.bits.now)) }
 {
-    let n = dff_number(st.next, c, bits, clear, reset, init);
-    if n != 0 {
-        return n;
-    }
-    log_entries::room_refusal(room, st, 13 + 4 * bits.len(), bits.len())
+    dff_input_refusal(st.next, f)?;
+    st.room_refusal(room, 13 + 4 * f.bits.len(), f.bits.len())
 }
 
-// Kind 9: a flip-flop of controls, data, and clear, reset and init trits.
-pub fn add_dff(
-    log: &mut [u32],
-    st: LogState,
-    c: Controls,
-    bits: &[u32],
-    clear: &[u8],
-    reset: &[u8],
-    init: &[u8],
-) -> Answer
-    ensures { logged_of (up_from st.next (length bits.now)) result log.new ≡ add_dff_call log.old (state_of st) (flip_flop (controls_of c) bits.now clear.now reset.now init.now) }
+// Kind 9: a flip-flop.
+pub fn add_dff(log: &mut [u32], st: LogState, f: FlipFlop) -> Result<LogState, Refusal>
+    ensures { logged_of (up_from st.next (length f.entry.bits.now)) result log.new ≡ add_dff_call log.old (state_of st) (flip_flop_of f.entry) }
 {
-    let n = dff_refusal(log.len(), st, c, bits, clear, reset, init);
-    if n != 0 {
-        return Answer::Refused(n);
-    }
-    let after = log_entries::emit_dff(log, st, c, bits, clear, reset, init);
-    Answer::Accepted(after)
+    dff_refusal(log.len(), st, f)?;
+    Ok(log_entries::emit_dff(log, st, f))
 }
 
 // The nots that into_pos logs: 1 where the control is Neg.
+#[tactic(auto, unfolding(crate::specs::Remap::nots_of))]
 fn nots(c: ControlNet) -> usize
-    ensures { (result ≡ nots_of (control_of c)) × (result ≤ 1) }
+    ensures value { result ≡ nots_of (control_of c) }
+    ensures most { result ≤ 1 }
 {
     match c {
         ControlNet::Pos(_) => 0,
@@ -334,21 +273,15 @@ fn nots(c: ControlNet) -> usize
 }
 
 // 4, 20 and 21 of into_pos.
-fn into_pos_refusal(room: usize, st: LogState, c: ControlNet) -> u32
-    ensures { result ≡ (control_number st.next (control_of c) or_else room_refusal room (state_of st) (5 * nots_of (control_of c)) (nots_of (control_of c))) }
+#[tactic(auto, using(lists::proofs::Choice::else_first, lists::proofs::Choice::else_rest), unfolding(rules::specs::Refusals::control_number, rules::specs::Conditions::bad_control))]
+fn into_pos_refusal(room: usize, st: LogState, c: ControlNet) -> Result<(), Refusal>
+    ensures { number_of result ≡ (control_number st.next (control_of c) or_else room_refusal room (state_of st) (5 * nots_of (control_of c)) (nots_of (control_of c))) }
 {
     if !net_value::control_good(st.next, c) {
-        return 4;
+        return Err(Refusal::BadValue);
     }
     let k = nots(c);
-    log_entries::room_refusal(room, st, 5 * k, k)
-}
-
-// A control's net, and the state after.
-#[derive(Clone, Copy)]
-struct PosNet {
-    net: Net,
-    state: LogState,
+    st.room_refusal(room, 5 * k, k)
 }
 
 // The net of a control, with a not where it is Neg.
@@ -357,52 +290,31 @@ fn emit_into_pos(log: &mut [u32], st: LogState, c: ControlNet) -> PosNet
     ensures net_value { result.net.0 ∷ [] ≡ (into_pos_of (control_of c) st.next).value }
 {
     match c {
-        ControlNet::Pos(n) => PosNet { net: n, state: st },
-        ControlNet::Neg(n) => {
-            let a = [n.0];
-            let after = log_entries::emit_not(log, st, &a);
-            PosNet {
-                net: Net(st.next),
-                state: after,
-            }
-        }
+        ControlNet::Pos(net) => PosNet { net, state: st },
+        ControlNet::Neg(n) => PosNet {
+            net: Net(st.next),
+            state: log_entries::emit_not(log, st, &[n.0]),
+        },
     }
 }
 
 // into_pos: a net that is the control.
-pub fn into_pos(log: &mut [u32], st: LogState, c: ControlNet) -> NetAnswer
+pub fn into_pos(log: &mut [u32], st: LogState, c: ControlNet) -> Result<PosNet, Refusal>
     ensures { net_logged_of result log.new ≡ into_pos_call log.old (state_of st) (control_of c) }
 {
-    let n = into_pos_refusal(log.len(), st, c);
-    if n != 0 {
-        return NetAnswer::Refused(n);
-    }
-    let done = emit_into_pos(log, st, c);
-    let net = done.net;
-    let state = done.state;
-    NetAnswer::Accepted(net, state)
-}
-
-// Controls, and the state after.
-#[derive(Clone, Copy)]
-struct Remapped {
-    controls: Controls,
-    state: LogState,
+    into_pos_refusal(log.len(), st, c)?;
+    Ok(emit_into_pos(log, st, c))
 }
 
 // The controls with another reset, which is over the enable.
+#[tactic(auto, unfolding(rules::specs::Log::with_reset))]
 fn with_reset(c: Controls, reset: ControlNet) -> Controls
     ensures { controls_of result ≡ with_reset (controls_of c) (control_of reset) }
 {
-    let clock = c.clock;
-    let clear = c.clear;
-    let enable = c.enable;
     Controls {
-        clock,
-        clear,
         reset,
-        enable,
         reset_over_enable: true,
+        ..c
     }
 }
 
@@ -411,18 +323,11 @@ fn emit_gated(log: &mut [u32], st: LogState, c: Controls) -> Remapped
     ensures log_after { lent result.state log.new ≡ run (gated_reset (controls_of c)) (lent st log.old) }
     ensures controls_value { is_over (state_of result.state) ≡ false → controls_of result.controls ≡ (gated_reset (controls_of c) st.next).value }
 {
-    let reset = c.reset;
-    let enable = c.enable;
-    let r = emit_into_pos(log, st, reset);
-    let s1 = r.state;
-    let e = emit_into_pos(log, s1, enable);
-    let s2 = e.state;
-    let x = r.net;
-    let y = e.net;
-    let a = [x.0];
-    let b = [y.0];
-    let state = log_entries::emit_and(log, s2, &a, &b);
-    let controls = with_reset(c, ControlNet::Pos(Net(s2.next)));
+    let reset = emit_into_pos(log, st, c.reset);
+    let enable = emit_into_pos(log, reset.state, c.enable);
+    let st = enable.state;
+    let state = log_entries::emit_and(log, st, &[reset.net.0], &[enable.net.0]);
+    let controls = with_reset(c, ControlNet::Pos(Net(st.next)));
     Remapped { controls, state }
 }
 
@@ -431,25 +336,15 @@ fn emit_remap(log: &mut [u32], st: LogState, c: Controls) -> Remapped
     ensures log_after { lent result.state log.new ≡ run (remap_reset_over_enable_of (controls_of c)) (lent st log.old) }
     ensures controls_value { is_over (state_of result.state) ≡ false → controls_of result.controls ≡ (remap_reset_over_enable_of (controls_of c) st.next).value }
 {
-    let reset = c.reset;
-    let enable = c.enable;
     if c.reset_over_enable {
         return Remapped {
             controls: c,
             state: st,
         };
     }
-    if net_value::is_always(reset, false) {
-        let controls = with_reset(c, reset);
+    if net_value::is_always(c.reset, false) || net_value::is_always(c.enable, true) {
         return Remapped {
-            controls,
-            state: st,
-        };
-    }
-    if net_value::is_always(enable, true) {
-        let controls = with_reset(c, reset);
-        return Remapped {
-            controls,
+            controls: with_reset(c, c.reset),
             state: st,
         };
     }
@@ -457,48 +352,37 @@ fn emit_remap(log: &mut [u32], st: LogState, c: Controls) -> Remapped
 }
 
 // 4 of the two controls that remap_reset_over_enable reads.
-fn remap_number(next: u32, c: Controls) -> u32
-    ensures { result ≡ remap_number next (controls_of c) }
+#[tactic(auto, unfolding(rules::specs::Refusals::remap_number, rules::specs::Conditions::bad_control))]
+fn remap_input_refusal(next: u32, c: Controls) -> Result<(), Refusal>
+    ensures { number_of result ≡ remap_number next (controls_of c) }
 {
-    let reset = c.reset;
-    let enable = c.enable;
-    if !net_value::control_good(next, reset) {
-        return 4;
+    if !net_value::control_good(next, c.reset) || !net_value::control_good(next, c.enable) {
+        return Err(Refusal::BadValue);
     }
-    if !net_value::control_good(next, enable) {
-        return 4;
-    }
-    0
+    Ok(())
 }
 
 // remap_reset_over_enable, of a flip-flop's controls or of a read port's.
-pub fn remap_reset_over_enable(log: &mut [u32], st: LogState, c: Controls) -> ControlsAnswer
+pub fn remap_reset_over_enable(
+    log: &mut [u32],
+    st: LogState,
+    c: Controls,
+) -> Result<Remapped, Refusal>
     ensures { controls_logged_of result log.new ≡ remap_call log.old (state_of st) (controls_of c) }
 {
-    let number = remap_number(st.next, c);
-    if number != 0 {
-        return ControlsAnswer::Refused(number);
-    }
-    let start = log_entries::dry_start(st);
-    let none = 0;
-    let dry = emit_remap(&mut log[..none], start, c);
-    let after = dry.state;
-    let n = log_entries::dry_refusal(log.len(), st, after);
-    if n != 0 {
-        return ControlsAnswer::Refused(n);
-    }
-    let done = emit_remap(log, st, c);
-    let controls = done.controls;
-    let state = done.state;
-    ControlsAnswer::Accepted(controls, state)
+    remap_input_refusal(st.next, c)?;
+    let dry = emit_remap(&mut [], st.dry_start(), c);
+    st.dry_refusal(log.len(), dry.state)?;
+    Ok(emit_remap(log, st, c))
 }
 
 // 20 where the result nets of a merge, one per bit, do not fit the room for them.
-pub fn result_refusal(room: usize, bits: &[u32]) -> u32
-    ensures { result ≡ result_refusal room bits.now }
+#[tactic(auto, unfolding(rules::specs::Refusals::result_refusal, rules::specs::Conditions::no_room_of))]
+pub fn result_refusal(room: usize, bits: &[u32]) -> Result<(), Refusal>
+    ensures { number_of result ≡ result_refusal room bits.now }
 {
     if room < bits.len() {
-        return 20;
+        return Err(Refusal::NoRoom);
     }
-    0
+    Ok(())
 }

@@ -6,7 +6,13 @@ use Rattle.rules.specs.Value.{Value}
 use Rattle.rules.specs.Cell.{Controls, FlipFlop}
 use Rattle.rules.specs.Log.{Trace, ◌>>=◌, done, add_dff_of}
 use Rattle.rules.specs.Merge.{same2, spread}
-use Rattle.net_flip_flop.specs.View.{flip_flop}
+use Rattle.net_flip_flop.specs.View.{controls_of, flip_flop}
+use Rattle.net_flip_flop.specs.declared.FlipFlop as machine
+use Rattle.merge_mux.specs.Results.{limited}
+
+-- a flip-flop with as many bits as a merge takes
+abbrev pub limited_dff : machine.FlipFlop → FlipFlop
+limited_dff f = flip_flop (controls_of f.controls) (limited f.bits.now) f.clear.now f.reset.now f.init.now
 
 -- reset, clear and init, a byte each
 abbrev pub pack_of : ℕ → ℕ → ℕ → ℕ

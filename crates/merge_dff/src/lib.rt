@@ -9,36 +9,36 @@ ghost use Rattle.rules.specs.Limits.{max_merge};
 ghost use Rattle.rules.specs.Log.{add_dff_of};
 ghost use Rattle.rules.specs.Merge.{spread, add_dedup_dff_of};
 ghost use Rattle.rules.specs.Refusals.{log_refusal, result_refusal, merge_dff_number};
+ghost use Rattle.rules.specs.Refusal.{number_of};
 ghost use Rattle.rules.specs.Answers.{add_dedup_dff_call};
 ghost use Rattle.log_requests.specs.Merged.{merged_of};
-ghost use Rattle.net_flip_flop.specs.View.{controls_of, flip_flop};
+ghost use Rattle.net_flip_flop.specs.View.{controls_of, flip_flop_of};
 ghost use Rattle.log_entries.specs.Emission.{is_over, run};
 ghost use Rattle.log_entries.specs.View.{state_of, lent};
 ghost use Rattle.merge_mux.specs.Results.{limited, results, Scratch};
-ghost use Rattle.merge_dff.specs.Packs.{pack_of, packed_byte, packs, unpacked, merge_packed, Bytes};
+ghost use Rattle.merge_dff.specs.Packs.{pack_of, packed_byte, packs, unpacked, merge_packed, limited_dff, Bytes};
 
 use log_entries::LogState;
-use log_requests::Answer;
-use net_flip_flop::Controls;
+use net_flip_flop::{Controls, FlipFlop};
+use rules::Refusal;
 
 // A bit's reset, clear and init trits in one word.
 fn pack(reset: u8, clear: u8, init: u8) -> u32
     ensures { result ≡ pack_of reset clear init }
 {
-    (reset as u32) + (256 * (clear as u32) + 65536 * (init as u32))
+    u32::from(reset) + (256 * u32::from(clear) + 65536 * u32::from(init))
 }
 
-// Packs the trits of each bit into `to`, as far as it reaches, and returns how many.
+// Packs the trits of each bit into `to`, as far as it reaches, and returns how many. Not of a whole FlipFlop: that a field's bytes are below 256, as
+// `bytes` says, did not prove.
 fn pack_trits(to: &mut [u32], reset: &[u8], clear: &[u8], init: &[u8]) -> usize
     ensures value { result ≡ min (length to.old) (length (packs reset.now clear.now init.now)) }
     ensures to_after { to.new ≡ sets to.old 0 (packs reset.now clear.now init.now) }
     ensures bytes { Bytes reset.now clear.now init.now }
 {
     let n = to.len().min(reset.len().min(clear.len().min(init.len())));
-    let mut i = 0;
-    while i < n {
+    for i in 0..n {
         to[i] = pack(reset[i], clear[i], init[i]);
-        i += 1;
     }
     n
 }
@@ -49,10 +49,8 @@ fn unpack_part(to: &mut [u8], ps: &[u32], by: u32)
     ensures { to.new ≡ sets to.old 0 (map (packed_byte by) ps.now) }
 {
     let n = ps.len().min(to.len());
-    let mut i = 0;
-    while i < n {
+    for i in 0..n {
         to[i] = (ps[i] / by % 256) as u8;
-        i += 1;
     }
 }
 
@@ -77,10 +75,14 @@ fn emit_kept_dff(
     unpack_part(reset, ps, 1);
     unpack_part(init, ps, 65536);
     let n = ps.len();
-    let cs = lists::part(clear, 0, n);
-    let rs = lists::part(reset, 0, n);
-    let is = lists::part(init, 0, n);
-    let after = log_entries::emit_dff(log, st, c, bits, cs, rs, is);
+    let f = FlipFlop {
+        controls: c,
+        bits,
+        clear: lists::part(clear, 0, n),
+        reset: lists::part(reset, 0, n),
+        init: lists::part(init, 0, n),
+    };
+    let after = log_entries::emit_dff(log, st, f);
     merge_mux::emit::spread_results(out, 0, st, after, at);
     after
 }
@@ -132,16 +134,12 @@ pub fn emit_dedup_dff_with(
     clears: &mut [u8; rules::MAX_MERGE],
     resets: &mut [u8; rules::MAX_MERGE],
     inits: &mut [u8; rules::MAX_MERGE],
-    c: Controls,
-    bits: &[u32],
-    clear: &[u8],
-    reset: &[u8],
-    init: &[u8],
+    f: FlipFlop,
 ) -> LogState
-    ensures log_after { lent result log.new ≡ run (add_dedup_dff_of (flip_flop (controls_of c) (limited bits.now) clear.now reset.now init.now)) (lent st log.old) }
-    ensures out_after { out.new ≡ results (is_over (state_of result)) out.old 0 (add_dedup_dff_of (flip_flop (controls_of c) (limited bits.now) clear.now reset.now init.now) st.next).value }
+    ensures log_after { lent result log.new ≡ run (add_dedup_dff_of (limited_dff f.entry)) (lent st log.old) }
+    ensures out_after { out.new ≡ results (is_over (state_of result)) out.old 0 (add_dedup_dff_of (limited_dff f.entry) st.next).value }
 {
-    let n = pack_trits(column, reset, clear, init);
+    let n = pack_trits(column, f.reset, f.clear, f.init);
     merge_packed(
         log,
         st,
@@ -152,25 +150,16 @@ pub fn emit_dedup_dff_with(
         clears,
         resets,
         inits,
-        c,
-        bits,
+        f.controls,
+        f.bits,
         lists::part(column, 0, n),
     )
 }
 
 // The same with scratch of its own.
-pub fn emit_dedup_dff(
-    log: &mut [u32],
-    st: LogState,
-    out: &mut [u32],
-    c: Controls,
-    bits: &[u32],
-    clear: &[u8],
-    reset: &[u8],
-    init: &[u8],
-) -> LogState
-    ensures log_after { lent result log.new ≡ run (add_dedup_dff_of (flip_flop (controls_of c) (limited bits.now) clear.now reset.now init.now)) (lent st log.old) }
-    ensures out_after { out.new ≡ results (is_over (state_of result)) out.old 0 (add_dedup_dff_of (flip_flop (controls_of c) (limited bits.now) clear.now reset.now init.now) st.next).value }
+pub fn emit_dedup_dff(log: &mut [u32], st: LogState, out: &mut [u32], f: FlipFlop) -> LogState
+    ensures log_after { lent result log.new ≡ run (add_dedup_dff_of (limited_dff f.entry)) (lent st log.old) }
+    ensures out_after { out.new ≡ results (is_over (state_of result)) out.old 0 (add_dedup_dff_of (limited_dff f.entry) st.next).value }
 {
     let mut column = [0u32; rules::MAX_MERGE];
     let mut kx = [0u32; rules::MAX_MERGE];
@@ -190,67 +179,36 @@ pub fn emit_dedup_dff(
         &mut clears,
         &mut resets,
         &mut inits,
-        c,
-        bits,
-        clear,
-        reset,
-        init,
+        f,
     )
 }
 
 // 1, 2 and 4 of a merging flip-flop.
-fn merge_number(
-    next: u32,
-    c: Controls,
-    bits: &[u32],
-    clear: &[u8],
-    reset: &[u8],
-    init: &[u8],
-) -> u32
-    ensures { result ≡ merge_dff_number next (flip_flop (controls_of c) bits.now clear.now reset.now init.now) }
+#[tactic(auto, unfolding(rules::specs::Refusals::merge_dff_number, rules::specs::Conditions::long_value))]
+fn merge_input_refusal(next: u32, f: FlipFlop) -> Result<(), Refusal>
+    ensures { number_of result ≡ merge_dff_number next (flip_flop_of f.entry) }
 {
-    if rules::MAX_MERGE < bits.len() {
-        return 1;
+    if rules::MAX_MERGE < f.bits.len() {
+        return Err(Refusal::TooLarge);
     }
-    log_requests::dff_number(next, c, bits, clear, reset, init)
+    log_requests::dff_input_refusal(next, f)
 }
 
 // The same, and 20 where the result nets do not fit the room for them.
-fn input_refusal(
-    room: usize,
-    next: u32,
-    c: Controls,
-    bits: &[u32],
-    clear: &[u8],
-    reset: &[u8],
-    init: &[u8],
-) -> u32
-    ensures { result ≡ (merge_dff_number next (flip_flop (controls_of c) bits.now clear.now reset.now init.now) or_else result_refusal room bits.now) }
+#[tactic(auto, using(rules::proofs::Answers::else_err, rules::proofs::Answers::else_ok))]
+fn input_refusal(room: usize, next: u32, f: FlipFlop) -> Result<(), Refusal>
+    ensures { number_of result ≡ (merge_dff_number next (flip_flop_of f.entry) or_else result_refusal room f.entry.bits.now) }
 {
-    let n = merge_number(next, c, bits, clear, reset, init);
-    if n != 0 {
-        return n;
-    }
-    log_requests::result_refusal(room, bits)
+    merge_input_refusal(next, f)?;
+    log_requests::result_refusal(room, f.bits)
 }
 
 // 20 and 21 of the log, by a dry run.
-fn log_refusal(
-    room: usize,
-    st: LogState,
-    c: Controls,
-    bits: &[u32],
-    clear: &[u8],
-    reset: &[u8],
-    init: &[u8],
-) -> u32
-    ensures { result ≡ log_refusal room (state_of st) (add_dedup_dff_of (flip_flop (controls_of c) (limited bits.now) clear.now reset.now init.now)) }
+fn log_refusal(room: usize, st: LogState, f: FlipFlop) -> Result<(), Refusal>
+    ensures { number_of result ≡ log_refusal room (state_of st) (add_dedup_dff_of (limited_dff f.entry)) }
 {
-    let mut no_log = [0u32; 0];
-    let mut no_out = [0u32; 0];
-    let start = log_entries::dry_start(st);
-    let dry = emit_dedup_dff(&mut no_log, start, &mut no_out, c, bits, clear, reset, init);
-    log_entries::dry_refusal(room, st, dry)
+    let dry = emit_dedup_dff(&mut [], st.dry_start(), &mut [], f);
+    st.dry_refusal(room, dry)
 }
 
 // add_dedup_dff: a flip-flop in which equal bits are kept once; the result net of each bit goes to `out`. A refused call changes nothing.
@@ -258,22 +216,11 @@ pub fn add_dedup_dff(
     log: &mut [u32],
     st: LogState,
     out: &mut [u32],
-    c: Controls,
-    bits: &[u32],
-    clear: &[u8],
-    reset: &[u8],
-    init: &[u8],
-) -> Answer
-    ensures { merged_of (add_dedup_dff_of (flip_flop (controls_of c) bits.now clear.now reset.now init.now) st.next).value result log.new out.new ≡ add_dedup_dff_call out.old log.old (state_of st) (flip_flop (controls_of c) bits.now clear.now reset.now init.now) }
+    f: FlipFlop,
+) -> Result<LogState, Refusal>
+    ensures { merged_of (add_dedup_dff_of (flip_flop_of f.entry) st.next).value result log.new out.new ≡ add_dedup_dff_call out.old log.old (state_of st) (flip_flop_of f.entry) }
 {
-    let n = input_refusal(out.len(), st.next, c, bits, clear, reset, init);
-    if n != 0 {
-        return Answer::Refused(n);
-    }
-    let k = log_refusal(log.len(), st, c, bits, clear, reset, init);
-    if k != 0 {
-        return Answer::Refused(k);
-    }
-    let after = emit_dedup_dff(log, st, out, c, bits, clear, reset, init);
-    Answer::Accepted(after)
+    input_refusal(out.len(), st.next, f)?;
+    log_refusal(log.len(), st, f)?;
+    Ok(emit_dedup_dff(log, st, out, f))
 }

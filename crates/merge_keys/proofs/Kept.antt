@@ -11,7 +11,7 @@ use borrow.Author.Tests.{eq-eqb, ne_eqb}
 use Rattle.lists.specs.Lists.{pairs}
 use Rattle.lists.specs.Distinct.{place_in}
 use Rattle.lists.proofs.Pairs.{pairs_size, pairs_at}
-use Rattle.lists.proofs.Distinct.{place_hit, place_miss, place_none, place_le}
+use Rattle.lists.proofs.Distinct.{place_hit, place_miss, place_none}
 use Rattle.rules.specs.Merge.{Key2, same2}
 use Rattle.merge_keys.specs.Keys.{Columns, Bounded}
 
@@ -51,6 +51,3 @@ module _ (kx ky : List ℕ) (count : ℕ) (c : Columns kx ky count) where
 
     pub past : count ≡ place_in same2 (x, y) standing
     past = sym (walk count (omega arith) ∙ none x y)
-
-  pub place_most : (x y : ℕ) → place_in same2 (x, y) standing ≤ count
-  place_most x y = rw length_standing at (place_le same2 (x, y) standing)

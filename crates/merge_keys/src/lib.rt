@@ -2,7 +2,7 @@
 // each its place among them.
 #![tactic(auto)]
 
-ghost use Rattle.std.specs.Prelude.{◌≡◌, ◌+◌, ◌-◌, ◌<◌, max, length, take, get_or, set, eqb};
+ghost use Rattle.std.specs.Prelude.{◌≡◌, ◌+◌, ◌-◌, ◌<◌, length, take, get_or, set, eqb};
 ghost use Rattle.std.proofs.lemmas.List.Edits.{sets};
 ghost use Rattle.lists.specs.Choice.{when◌then◌else◌};
 ghost use Rattle.lists.specs.Lists.{pairs};
@@ -15,29 +15,15 @@ fn find(kx: &[u32], ky: &[u32], count: usize, x: u32, y: u32) -> usize
     requires { Columns kx.now ky.now count }
     ensures { result ≡ place_in same2 (x, y) (take count (pairs kx.now ky.now)) }
 {
-    let mut j = 0;
-    while j < count {
-        if kx[j] == x {
-            if ky[j] == y {
-                return j;
-            }
+    for j in 0..count {
+        if kx[j] == x && ky[j] == y {
+            return j;
         }
-        j += 1;
     }
     count
 }
 
-// The larger of two words.
-fn larger_word(a: u32, b: u32) -> u32
-    ensures { result ≡ max a b }
-{
-    if a < b {
-        return b;
-    }
-    a
-}
-
-// The same for the key at i, which is the key before it as often as not: last is that key's place. A key whose first word is larger than any that
+// The place of the key at i, which is the key before it as often as not: last is that key's place. A key whose first word is larger than any that
 // is kept is new: nets that were made one after the other need no search.
 fn place_at(
     x: &[u32],
@@ -52,12 +38,8 @@ fn place_at(
     requires { Ready x.now y.now i kx.now ky.now count last × Bounded kx.now count most }
     ensures { result ≡ place_in same2 (get_or x.now i 0, get_or y.now i 0) (take count (pairs kx.now ky.now)) }
 {
-    if 0 < i {
-        if x[i - 1] == x[i] {
-            if y[i - 1] == y[i] {
-                return last;
-            }
-        }
+    if 0 < i && x[i - 1] == x[i] && y[i - 1] == y[i] {
+        return last;
     }
     if most < x[i] {
         return count;
@@ -95,16 +77,14 @@ fn merge_first(
     ensures ky_after { ky.new ≡ sets ky.old 0 (seconds (kept same2 (take n (pairs x.now y.now)))) }
     ensures at_after { at.new ≡ sets at.old 0 (places same2 (take n (pairs x.now y.now))) }
 {
-    let mut count: usize = 0;
-    let mut last: usize = 0;
-    let mut most: u32 = 0;
-    let mut i: usize = 0;
-    while i < n {
+    let mut count = 0;
+    let mut last = 0;
+    let mut most = 0;
+    for i in 0..n {
         last = place_at(x, y, i, kx, ky, count, last, most);
         count = keep(kx, ky, count, last, x[i], y[i]);
-        most = larger_word(most, x[i]);
+        most = most.max(x[i]);
         at[i] = last as u32;
-        i += 1;
     }
     count
 }

@@ -1,12 +1,12 @@
 -- The loop that stores the net of each bit: `out` is what `out₀` became after i of them.
 use mathlib.Core.Path.{◌≡◌, refl, sym, ap, ◌∙◌}
-use Prim.Native.Nat.{ℕ, ◌+◌, ◌<◌, ◌≤◌}
+use Prim.Native.Nat.{ℕ, ◌+◌, ◌<◌}
 use native.Mathlib.Omega.{arith}
 use mathlib.Core.Bool.{Bool, true, false}
 use mathlib.Core.List.{List}
 use lib.ListN.{length, take, get_or, set, length-map, get_or-map}
-use lib.Seq.{sets, take_all}
-use Rattle.lists.proofs.Store.{copy_turn, sets_room}
+use lib.Seq.{sets}
+use Rattle.lists.proofs.Store.{copy_turn}
 use Rattle.rules.specs.Limits.{X}
 use Rattle.rules.specs.Value.{Value}
 use Rattle.rules.specs.Merge.{spread}
@@ -24,13 +24,6 @@ module _ (out₀ out at : List ℕ) (to : ℕ) (v : Value) (i : ℕ) (e : out �
   pub spread_turn : (n : ℕ) → i < length at → n ≡ get_or v (get_or at i 0) X → set out (to + i) n ≡ sets out₀ to (take (i + 1) (spread at v))
   spread_turn n h f =
       ap (set out (to + i)) (f ∙ sym (spread_at at v i)) ∙ copy_turn out₀ out to i (spread at v) e (get_or v 0 X) (omega (arith, length_spread at v))
-
-  -- the room is full, or all are stored
-  pub spread_full : length out₀ ≤ to + i → i ≤ length at → out ≡ sets out₀ to (spread at v)
-  spread_full h g = e ∙ sets_room out₀ to i (spread at v) (omega (arith, length_spread at v)) h
-
-  pub spread-done : length at ≤ i → out ≡ sets out₀ to (spread at v)
-  spread-done h = e ∙ ap (sets out₀ to) (take_all i (spread at v) (omega (arith, length_spread at v)))
 
 -- ---- the room for the results
 module _ (over : Bool) (out : List ℕ) (to : ℕ) where

@@ -31,17 +31,10 @@ fn spread_nets(out: &mut [u32], to: usize, first: u32, width: u32, at: &[u32])
     requires { first + width ≤ X }
     ensures { out.new ≡ sets out.old to (spread at.now (up_from first width)) }
 {
-    if out.len() <= to {
-        return;
-    }
-    let room = out.len() - to;
-    let mut i = 0;
-    while i < at.len() {
-        if room <= i {
-            return;
-        }
-        out[to + i] = net_at(first, width, at[i]);
-        i += 1;
+    let start = to.min(out.len());
+    let n = at.len().min(out.len() - start);
+    for (i, place) in at[..n].iter().enumerate() {
+        out[start + i] = net_at(first, width, *place);
     }
 }
 
@@ -49,16 +42,11 @@ fn spread_nets(out: &mut [u32], to: usize, first: u32, width: u32, at: &[u32])
 pub fn spread_results(out: &mut [u32], to: usize, st: LogState, after: LogState, at: &[u32])
     ensures { out.new ≡ results (is_over (state_of after)) out.old to (spread at.now (up_from st.next (after.next - st.next))) }
 {
-    if log_entries::is_over(after) {
+    if after.is_over() {
         return;
     }
-    let first = st.next;
-    let last = after.next;
-    if last < first {
-        spread_nets(out, to, first, 0, at);
-        return;
-    }
-    spread_nets(out, to, first, last - first, at);
+    let width = after.next.saturating_sub(st.next);
+    spread_nets(out, to, st.next, width, at);
 }
 
 // A mux of kept bits, whose result nets go to each bit by its place, from `to` on.
@@ -145,14 +133,12 @@ fn run_end(s: &[u32], i: usize) -> usize
     ensures lower_bound { (i < result) × (result ≤ length s.now) }
 {
     let first = s[i];
-    let mut e = i + 1;
-    while e < s.len() {
+    for e in i + 1..s.len() {
         if s[e] != first {
             return e;
         }
-        e += 1;
     }
-    e
+    s.len()
 }
 
 // The mux of one run: a merging mux of the bits from i to e, by one net.
@@ -205,6 +191,7 @@ fn bitwise_in(
 {
     let mut state = st;
     let mut i = 0;
+    // goes from run to run, and not from index to index
     while i < s.len() {
         let e = run_end(s, i);
         state = mux_run(log, state, nets, kx, ky, at, s[i], a, b, i, e);
@@ -249,7 +236,7 @@ pub fn emit_bitwise_mux(
         &a[..n],
         &b[..n],
     );
-    if log_entries::is_over(after) {
+    if after.is_over() {
         return after;
     }
     lists::copy(out, 0, &nets[..n]);

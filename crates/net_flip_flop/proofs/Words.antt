@@ -1,12 +1,20 @@
 -- The words of a flip-flop's controls, one by one: two for each control, nine for all.
 use mathlib.Core.Path.{◌≡◌, refl, ap, ◌∙◌}
 use Prim.Native.Nat.{ℕ}
+use mathlib.Core.Bool.{Bool, true, false}
+use mir.Val.{bool_byte}
 use mathlib.Core.List.{List, [], ◌∷◌, ◌++◌}
 use lib.ListN.{get_or}
 use Rattle.rules.specs.Value.{Control, Pos, Neg, control_words}
 use Rattle.rules.specs.Cell.{Controls}
 use Rattle.rules.specs.Log.{flag}
 use Rattle.rules.specs.Beside.Decode.{controls_words}
+
+-- the word of a flag, as a cast gives it
+pub flag_byte : (b : Bool) → bool_byte b ≡ flag b
+unfolding flag
+flag_byte true = refl
+flag_byte false = refl
 
 -- the two words of a control, one by one
 two_words : (c : Control) (l : List ℕ) → get_or (control_words c) 0 0 ∷ get_or (control_words c) 1 0 ∷ l ≡ control_words c ++ l

@@ -1,9 +1,8 @@
-// cell/flip_flop.rs: the controls that a flip-flop and a clocked read port share, and the tests and words of a flip-flop's parts.
+// cell/flip_flop.rs: the controls that a flip-flop and a clocked read port share, a flip-flop's parts, and the tests and words of the controls.
 #![tactic(auto)]
 
 ghost use Rattle.std.specs.Prelude.{◌≡◌};
 ghost use Rattle.rules.specs.Value.{control_words};
-ghost use Rattle.rules.specs.Log.{flag};
 ghost use Rattle.rules.specs.Conditions.{bad_controls};
 ghost use Rattle.net_value.specs.View.{control_of};
 ghost use Rattle.rules.specs.Beside.Decode.{controls_words};
@@ -21,27 +20,18 @@ pub struct Controls {
     pub reset_over_enable: bool,
 }
 
-// Whether some control is bad below the next free net.
-pub fn controls_bad(next: u32, c: Controls) -> bool
-    ensures { result ≡ bad_controls next (controls_of c) }
-{
-    let clock = c.clock;
-    let clear = c.clear;
-    let reset = c.reset;
-    let enable = c.enable;
-    if !net_value::control_good(next, clock) {
-        return true;
-    }
-    if !net_value::control_good(next, clear) {
-        return true;
-    }
-    if !net_value::control_good(next, reset) {
-        return true;
-    }
-    !net_value::control_good(next, enable)
+// A flip-flop: its controls and data, and the trits that a clear, a reset and the start give.
+#[derive(Clone, Copy)]
+pub struct FlipFlop<'a> {
+    pub controls: Controls,
+    pub bits: &'a [u32],
+    pub clear: &'a [u8],
+    pub reset: &'a [u8],
+    pub init: &'a [u8],
 }
 
 // A control's two words: 0 Pos or 1 Neg, and the net.
+#[tactic(auto, unfolding(rules::specs::Value::control_words))]
 pub fn control_words(c: ControlNet) -> [u32; 2]
     ensures { result ≡ control_words (control_of c) }
 {
@@ -51,25 +41,29 @@ pub fn control_words(c: ControlNet) -> [u32; 2]
     }
 }
 
-// 1 for true, 0 for false.
-pub fn flag_word(b: bool) -> u32
-    ensures { result ≡ flag b }
-{
-    if b { 1 } else { 0 }
-}
+impl Controls {
+    // Whether some control is bad below the next free net.
+    #[tactic(auto, unfolding(rules::specs::Conditions::bad_controls, rules::specs::Conditions::bad_control))]
+    pub fn is_bad(self, next: u32) -> bool
+        ensures { result ≡ bad_controls next (controls_of self) }
+    {
+        !net_value::control_good(next, self.clock)
+            || !net_value::control_good(next, self.clear)
+            || !net_value::control_good(next, self.reset)
+            || !net_value::control_good(next, self.enable)
+    }
 
-// The words of the controls in a flip-flop's entry.
-pub fn controls_words(c: Controls) -> [u32; 9]
-    ensures { result ≡ controls_words (controls_of c) }
-{
-    let clock = c.clock;
-    let clear = c.clear;
-    let reset = c.reset;
-    let enable = c.enable;
-    let ck = control_words(clock);
-    let cl = control_words(clear);
-    let rs = control_words(reset);
-    let en = control_words(enable);
-    let roe = flag_word(c.reset_over_enable);
-    [ck[0], ck[1], cl[0], cl[1], rs[0], rs[1], en[0], en[1], roe]
+    // The words of the controls in a flip-flop's entry.
+    pub fn words(self) -> [u32; 9]
+        ensures { result ≡ controls_words (controls_of self) }
+    {
+        let [clock, clock_net] = control_words(self.clock);
+        let [clear, clear_net] = control_words(self.clear);
+        let [reset, reset_net] = control_words(self.reset);
+        let [enable, enable_net] = control_words(self.enable);
+        let over = u32::from(self.reset_over_enable);
+        [
+            clock, clock_net, clear, clear_net, reset, reset_net, enable, enable_net, over,
+        ]
+    }
 }

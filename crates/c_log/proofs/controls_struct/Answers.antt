@@ -1,15 +1,20 @@
 -- `c_log::controls_struct` meets its contract.
 use Rattle.c_net.specs.View.{flag_code}
+use mathlib.Core.Path.{◌≡◌, refl, ◌∙◌}
+use mathlib.Core.Bool.{Bool, true, false}
+use mir.Val.{bool_byte}
 use Rattle.c_log.proofs.controls_struct.Goals as goal
 
+-- the code of a flag, as a cast gives it
+code : (b : Bool) → bool_byte b ≡ flag_code b
+code true = refl
+code false = refl
+
 pub returns : goal.returns
-returns c =
-    let d = c in
-    let b = d in
-    λ i. record {
-      clock = b.control_struct.ensures i;
-      clear = b.control_struct-2.ensures i;
-      reset = d.control_struct-3.ensures i;
-      enable = d.control_struct-4.ensures i;
-      reset_over_enable = flag_code b.args.c.reset_over_enable;
-    }
+returns c = λ i. record {
+  clock = c.control_struct.ensures i;
+  clear = c.control_struct-2.ensures i;
+  reset = c.control_struct-3.ensures i;
+  enable = c.control_struct-4.ensures i;
+  reset_over_enable = (c.from.ensures ∙ code c.args.c.reset_over_enable) i;
+}

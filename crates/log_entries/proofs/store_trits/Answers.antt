@@ -12,5 +12,5 @@ returns c =
     let s1 = c.copy_u8_to_u32 in
     let s2 = c.copy_u8_to_u32-2 in
     let s3 = c.copy_u8_to_u32-3 in
-    sets_then v.log.now s1.new.to s3.new.to v.at (v.at + length v.clear.now) v.clear.now (v.reset.now ++ v.init.now) s1.ensures
-    (sets_then s1.new.to s2.new.to s3.new.to (v.at + length v.clear.now) (v.at + length v.clear.now + length v.reset.now) v.reset.now v.init.now s2.ensures s3.ensures refl) refl
+    sets_then v.log.now s1.new.to s3.new.to v.at (v.at + length v.f.clear.now) v.f.clear.now (v.f.reset.now ++ v.f.init.now) s1.ensures
+    (sets_then s1.new.to s2.new.to s3.new.to (v.at + length v.f.clear.now) (v.at + length v.f.clear.now + length v.f.reset.now) v.f.reset.now v.f.init.now s2.ensures s3.ensures refl) refl

@@ -7,18 +7,19 @@ use Rattle.rules.specs.Refusals.{pair_number, add_pair_refusal}
 use Rattle.rules.specs.Answers.{add_pair_call}
 use Rattle.rules.proofs.Counted.{counted_eq}
 use Rattle.rules.specs.Log.{add_eq_of}
+use Rattle.std.proofs.lemmas.Result.{err_from_is_err_and}
 use Rattle.log_requests.proofs.add_eq.Goals as goal
 
-pub returns-then-n-ne0 : goal.returns-then-n-ne0
+pub returns-in_err-pair_refusal : goal.returns-in_err-pair_refusal
 unfolding add_pair_call add_pair_refusal
-returns-then-n-ne0 c =
+returns-in_err-pair_refusal c =
     let v = c.args in
-    request_refused (v.st.next) (add_eq_of v.a.now v.b.now) (4 + (length v.a.now + length v.b.now)) (1) (pair_number v.st.next v.a.now v.b.now) _ (λ z. counted_eq v.a.now v.b.now) v.log.now (state_of v.st) c.pair_refusal-n.ensures c.if-n-ne0.true
+    let e = err_from_is_err_and c.from_residual.result c.from_residual.ensures.1 in
+    rw (e.1, e.2) (request_refused (v.st.next) (add_eq_of v.a.now v.b.now) (4 + (length v.a.now + length v.b.now)) (1) (pair_number v.st.next v.a.now v.b.now) (λ z. counted_eq v.a.now v.b.now) v.log.now (state_of v.st) _ c.in_err-pair_refusal.ensures)
 
 pub returns : goal.returns
 unfolding add_pair_call add_pair_refusal
 returns c =
     let v = c.args in
-    let q = c.pair_refusal-n in
-    let p = c.emit_eq-after in
-    request_accepted (v.st.next) (add_eq_of v.a.now v.b.now) (4 + (length v.a.now + length v.b.now)) (1) (pair_number v.st.next v.a.now v.b.now) q.result (λ z. counted_eq v.a.now v.b.now) v.log.now (state_of v.st) q.ensures p.new.log p.result c.if-n-ne0.false (λ z. value_eq v.a.now v.b.now v.st.next) p.ensures
+    let p = c.emit_eq in
+    request_accepted (v.st.next) (add_eq_of v.a.now v.b.now) (4 + (length v.a.now + length v.b.now)) (1) (pair_number v.st.next v.a.now v.b.now) (λ z. counted_eq v.a.now v.b.now) v.log.now (state_of v.st) p.new.log p.result c.in_ok-pair_refusal.ensures (λ z. value_eq v.a.now v.b.now v.st.next) p.ensures

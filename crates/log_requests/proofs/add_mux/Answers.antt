@@ -12,18 +12,19 @@ use Rattle.rules.specs.Log.{add_mux_of}
 use Rattle.lists.specs.Lists.{up_from}
 use Rattle.rules.proofs.Entries.{value_mux}
 use Rattle.log_requests.proofs.Numbers.{mux_lens}
+use Rattle.std.proofs.lemmas.Result.{err_from_is_err_and}
 use Rattle.log_requests.proofs.add_mux.Goals as goal
 
-pub returns-then-n-ne0 : goal.returns-then-n-ne0
+pub returns-in_err-mux_refusal : goal.returns-in_err-mux_refusal
 unfolding add_mux_call add_mux_refusal
-returns-then-n-ne0 c =
+returns-in_err-mux_refusal c =
     let v = c.args in
-    request_refused (up_from v.st.next (length v.a.now)) (add_mux_of (control_of v.select) v.a.now v.b.now) (5 + (length v.a.now + length v.b.now)) (length v.a.now) (mux_number v.st.next (control_of v.select) v.a.now v.b.now) _ (λ z. counted_mux (control_of v.select) v.a.now v.b.now (mux_lens v.st.next (control_of v.select) v.a.now v.b.now z).0) v.log.now (state_of v.st) c.mux_refusal-n.ensures c.if-n-ne0.true
+    let e = err_from_is_err_and c.from_residual.result c.from_residual.ensures.1 in
+    rw (e.1, e.2) (request_refused (up_from v.st.next (length v.a.now)) (add_mux_of (control_of v.select) v.a.now v.b.now) (5 + (length v.a.now + length v.b.now)) (length v.a.now) (mux_number v.st.next (control_of v.select) v.a.now v.b.now) (λ z. counted_mux (control_of v.select) v.a.now v.b.now (mux_lens v.st.next (control_of v.select) v.a.now v.b.now z).0) v.log.now (state_of v.st) _ c.in_err-mux_refusal.ensures)
 
 pub returns : goal.returns
 unfolding add_mux_call add_mux_refusal
 returns c =
     let v = c.args in
-    let q = c.mux_refusal-n in
-    let p = c.emit_mux-after in
-    request_accepted (up_from v.st.next (length v.a.now)) (add_mux_of (control_of v.select) v.a.now v.b.now) (5 + (length v.a.now + length v.b.now)) (length v.a.now) (mux_number v.st.next (control_of v.select) v.a.now v.b.now) q.result (λ z. counted_mux (control_of v.select) v.a.now v.b.now (mux_lens v.st.next (control_of v.select) v.a.now v.b.now z).0) v.log.now (state_of v.st) q.ensures p.new.log p.result c.if-n-ne0.false (λ z. sym (value_mux (control_of v.select) v.a.now v.b.now v.st.next (mux_lens v.st.next (control_of v.select) v.a.now v.b.now z).0)) p.ensures
+    let p = c.emit_mux in
+    request_accepted (up_from v.st.next (length v.a.now)) (add_mux_of (control_of v.select) v.a.now v.b.now) (5 + (length v.a.now + length v.b.now)) (length v.a.now) (mux_number v.st.next (control_of v.select) v.a.now v.b.now) (λ z. counted_mux (control_of v.select) v.a.now v.b.now (mux_lens v.st.next (control_of v.select) v.a.now v.b.now z).0) v.log.now (state_of v.st) p.new.log p.result c.in_ok-mux_refusal.ensures (λ z. sym (value_mux (control_of v.select) v.a.now v.b.now v.st.next (mux_lens v.st.next (control_of v.select) v.a.now v.b.now z).0)) p.ensures

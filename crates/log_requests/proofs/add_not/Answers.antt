@@ -8,18 +8,19 @@ use Rattle.rules.specs.Answers.{add_not_call}
 use Rattle.rules.proofs.Counted.{counted_not}
 use Rattle.rules.specs.Log.{add_not_of}
 use Rattle.lists.specs.Lists.{up_from}
+use Rattle.std.proofs.lemmas.Result.{err_from_is_err_and}
 use Rattle.log_requests.proofs.add_not.Goals as goal
 
-pub returns-then-n-ne0 : goal.returns-then-n-ne0
+pub returns-in_err-value_refusal : goal.returns-in_err-value_refusal
 unfolding add_not_call add_not_refusal
-returns-then-n-ne0 c =
+returns-in_err-value_refusal c =
     let v = c.args in
-    request_refused (up_from v.st.next (length v.a.now)) (add_not_of v.a.now) (4 + length v.a.now) (length v.a.now) (value_number v.st.next v.a.now) _ (λ z. counted_not v.a.now) v.log.now (state_of v.st) c.value_refusal-n.ensures c.if-n-ne0.true
+    let e = err_from_is_err_and c.from_residual.result c.from_residual.ensures.1 in
+    rw (e.1, e.2) (request_refused (up_from v.st.next (length v.a.now)) (add_not_of v.a.now) (4 + length v.a.now) (length v.a.now) (value_number v.st.next v.a.now) (λ z. counted_not v.a.now) v.log.now (state_of v.st) _ c.in_err-value_refusal.ensures)
 
 pub returns : goal.returns
 unfolding add_not_call add_not_refusal
 returns c =
     let v = c.args in
-    let q = c.value_refusal-n in
-    let p = c.emit_not-after in
-    request_accepted (up_from v.st.next (length v.a.now)) (add_not_of v.a.now) (4 + length v.a.now) (length v.a.now) (value_number v.st.next v.a.now) q.result (λ z. counted_not v.a.now) v.log.now (state_of v.st) q.ensures p.new.log p.result c.if-n-ne0.false (λ z. value_not v.a.now v.st.next) p.ensures
+    let p = c.emit_not in
+    request_accepted (up_from v.st.next (length v.a.now)) (add_not_of v.a.now) (4 + length v.a.now) (length v.a.now) (value_number v.st.next v.a.now) (λ z. counted_not v.a.now) v.log.now (state_of v.st) p.new.log p.result c.in_ok-value_refusal.ensures (λ z. value_not v.a.now v.st.next) p.ensures

@@ -8,18 +8,19 @@ use Rattle.rules.specs.Answers.{add_pair_call}
 use Rattle.rules.proofs.Counted.{counted_or}
 use Rattle.rules.specs.Log.{add_or_of}
 use Rattle.lists.specs.Lists.{up_from}
+use Rattle.std.proofs.lemmas.Result.{err_from_is_err_and}
 use Rattle.log_requests.proofs.add_or.Goals as goal
 
-pub returns-then-n-ne0 : goal.returns-then-n-ne0
+pub returns-in_err-pair_refusal : goal.returns-in_err-pair_refusal
 unfolding add_pair_call add_pair_refusal
-returns-then-n-ne0 c =
+returns-in_err-pair_refusal c =
     let v = c.args in
-    request_refused (up_from v.st.next (length v.a.now)) (add_or_of v.a.now v.b.now) (4 + (length v.a.now + length v.b.now)) (length v.a.now) (pair_number v.st.next v.a.now v.b.now) _ (λ z. counted_or v.a.now v.b.now) v.log.now (state_of v.st) c.pair_refusal-n.ensures c.if-n-ne0.true
+    let e = err_from_is_err_and c.from_residual.result c.from_residual.ensures.1 in
+    rw (e.1, e.2) (request_refused (up_from v.st.next (length v.a.now)) (add_or_of v.a.now v.b.now) (4 + (length v.a.now + length v.b.now)) (length v.a.now) (pair_number v.st.next v.a.now v.b.now) (λ z. counted_or v.a.now v.b.now) v.log.now (state_of v.st) _ c.in_err-pair_refusal.ensures)
 
 pub returns : goal.returns
 unfolding add_pair_call add_pair_refusal
 returns c =
     let v = c.args in
-    let q = c.pair_refusal-n in
-    let p = c.emit_or-after in
-    request_accepted (up_from v.st.next (length v.a.now)) (add_or_of v.a.now v.b.now) (4 + (length v.a.now + length v.b.now)) (length v.a.now) (pair_number v.st.next v.a.now v.b.now) q.result (λ z. counted_or v.a.now v.b.now) v.log.now (state_of v.st) q.ensures p.new.log p.result c.if-n-ne0.false (λ z. value_or v.a.now v.b.now v.st.next) p.ensures
+    let p = c.emit_or in
+    request_accepted (up_from v.st.next (length v.a.now)) (add_or_of v.a.now v.b.now) (4 + (length v.a.now + length v.b.now)) (length v.a.now) (pair_number v.st.next v.a.now v.b.now) (λ z. counted_or v.a.now v.b.now) v.log.now (state_of v.st) p.new.log p.result c.in_ok-pair_refusal.ensures (λ z. value_or v.a.now v.b.now v.st.next) p.ensures

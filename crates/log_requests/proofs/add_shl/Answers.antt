@@ -8,18 +8,19 @@ use Rattle.rules.specs.Answers.{add_shift_call}
 use Rattle.rules.proofs.Counted.{counted_shl}
 use Rattle.rules.specs.Log.{add_shl_of}
 use Rattle.lists.specs.Lists.{up_from}
+use Rattle.std.proofs.lemmas.Result.{err_from_is_err_and}
 use Rattle.log_requests.proofs.add_shl.Goals as goal
 
-pub returns-then-n-ne0 : goal.returns-then-n-ne0
+pub returns-in_err-shift_refusal : goal.returns-in_err-shift_refusal
 unfolding add_shift_call add_shift_refusal
-returns-then-n-ne0 c =
+returns-in_err-shift_refusal c =
     let v = c.args in
-    request_refused (up_from v.st.next (length v.a.now)) (add_shl_of v.stride v.select.now v.a.now) (6 + (length v.select.now + length v.a.now)) (length v.a.now) (shift_number v.st.next v.select.now v.a.now) _ (λ z. counted_shl v.stride v.select.now v.a.now) v.log.now (state_of v.st) c.shift_refusal-n.ensures c.if-n-ne0.true
+    let e = err_from_is_err_and c.from_residual.result c.from_residual.ensures.1 in
+    rw (e.1, e.2) (request_refused (up_from v.st.next (length v.a.now)) (add_shl_of v.stride v.select.now v.a.now) (6 + (length v.select.now + length v.a.now)) (length v.a.now) (shift_number v.st.next v.select.now v.a.now) (λ z. counted_shl v.stride v.select.now v.a.now) v.log.now (state_of v.st) _ c.in_err-shift_refusal.ensures)
 
 pub returns : goal.returns
 unfolding add_shift_call add_shift_refusal
 returns c =
     let v = c.args in
-    let q = c.shift_refusal-n in
-    let p = c.emit_shl-after in
-    request_accepted (up_from v.st.next (length v.a.now)) (add_shl_of v.stride v.select.now v.a.now) (6 + (length v.select.now + length v.a.now)) (length v.a.now) (shift_number v.st.next v.select.now v.a.now) q.result (λ z. counted_shl v.stride v.select.now v.a.now) v.log.now (state_of v.st) q.ensures p.new.log p.result c.if-n-ne0.false (λ z. value_shl v.stride v.select.now v.a.now v.st.next) p.ensures
+    let p = c.emit_shl in
+    request_accepted (up_from v.st.next (length v.a.now)) (add_shl_of v.stride v.select.now v.a.now) (6 + (length v.select.now + length v.a.now)) (length v.a.now) (shift_number v.st.next v.select.now v.a.now) (λ z. counted_shl v.stride v.select.now v.a.now) v.log.now (state_of v.st) p.new.log p.result c.in_ok-shift_refusal.ensures (λ z. value_shl v.stride v.select.now v.a.now v.st.next) p.ensures

@@ -9,18 +9,19 @@ use Rattle.rules.proofs.Counted.{counted_void}
 use Rattle.rules.specs.Log.{add_void_of}
 use Rattle.lists.specs.Lists.{up_from}
 use Rattle.rules.proofs.Entries.{value_void}
+use Rattle.std.proofs.lemmas.Result.{err_from_is_err_and}
 use Rattle.log_requests.proofs.add_void.Goals as goal
 
-pub returns-then-n-ne0 : goal.returns-then-n-ne0
+pub returns-in_err-room_refusal : goal.returns-in_err-room_refusal
 unfolding add_void_call add_void_refusal ◌or_else◌
-returns-then-n-ne0 c =
+returns-in_err-room_refusal c =
     let v = c.args in
-    request_refused (up_from v.st.next v.width) (add_void_of v.width) 4 v.width 0 _ (λ z. counted_void v.width) v.log.now (state_of v.st) c.room_refusal-n.ensures c.if-n-ne0.true
+    let e = err_from_is_err_and c.from_residual.result c.from_residual.ensures.1 in
+    rw (e.1, e.2) (request_refused (up_from v.st.next v.width) (add_void_of v.width) 4 v.width 0 (λ z. counted_void v.width) v.log.now (state_of v.st) _ c.in_err-room_refusal.ensures)
 
 pub returns : goal.returns
 unfolding add_void_call add_void_refusal ◌or_else◌
 returns c =
     let v = c.args in
-    let q = c.room_refusal-n in
-    let p = c.emit_void-after in
-    request_accepted (up_from v.st.next v.width) (add_void_of v.width) 4 v.width 0 q.result (λ z. counted_void v.width) v.log.now (state_of v.st) q.ensures p.new.log p.result c.if-n-ne0.false (λ z. sym (value_void v.width v.st.next)) p.ensures
+    let p = c.emit_void in
+    request_accepted (up_from v.st.next v.width) (add_void_of v.width) 4 v.width 0 (λ z. counted_void v.width) v.log.now (state_of v.st) p.new.log p.result c.in_ok-room_refusal.ensures (λ z. sym (value_void v.width v.st.next)) p.ensures

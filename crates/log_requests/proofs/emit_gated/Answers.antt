@@ -9,8 +9,8 @@ pub returns : goal.returns
 returns c =
     let v = c.args in
     let k = controls_of v.c in
-    let p = c.emit_into_pos-r in
-    let q = c.emit_into_pos-e in
+    let p = c.emit_into_pos-reset in
+    let q = c.emit_into_pos-enable in
     let r = c.emit_and-state in
     let l = lent v.st v.log.now in
     let l1 = lent p.result.state p.new.log in

@@ -13,4 +13,4 @@ pub returns-in-Neg : goal.returns-in-Neg
 returns-in-Neg c =
     let v = c.args in
     let l = lent v.st v.log.now in
-    rw c.in-Neg.is (record { log_after = neg_run _ _ l c.emit_not-after.ensures; net_value = neg_value _ v.st.next })
+    rw c.in-Neg.is (record { log_after = neg_run _ _ l c.emit_not.ensures; net_value = neg_value _ v.st.next })

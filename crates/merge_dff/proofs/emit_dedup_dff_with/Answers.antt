@@ -18,5 +18,5 @@ returns c =
     let q = c.pack_trits-n in
     let p = c.merge_packed in
     let s : length v.column.now ≡ max_merge = omega arith in
-    let e = rules_merge (controls_of v.c) v.bits.now v.clear.now v.reset.now v.init.now _ q.ensures.bytes (c.part.ensures.part ∙ column v.column.now q.new.to _ q.result q.ensures.to_after s q.ensures.value) in
+    let e = rules_merge (controls_of v.f.controls) v.f.bits.now v.f.clear.now v.f.reset.now v.f.init.now _ q.ensures.bytes (c.part.ensures.part ∙ column v.column.now q.new.to _ q.result q.ensures.to_after s q.ensures.value) in
     record { log_after = p.ensures.log_after ∙ ap (λ (t : Trace Value). run t (lent v.st v.log.now)) e; out_after = p.ensures.out_after ∙ ap (λ (t : Trace Value). results (is_over (state_of p.result)) v.out.now 0 (t v.st.next).value) e }

@@ -3,16 +3,16 @@ use Rattle.rules.specs.Merge.{add_dedup_dff_of}
 use Rattle.rules.proofs.Chain.{chains_dedup_dff}
 use Rattle.log_entries.specs.View.{state_of}
 use Rattle.log_entries.proofs.Emission.{dry_called}
-use Rattle.net_flip_flop.specs.View.{controls_of, flip_flop}
-use Rattle.merge_mux.specs.Results.{limited}
+use Rattle.net_flip_flop.specs.View.{controls_of}
 use Rattle.merge_dff.proofs.Call.{dedup_below}
+use Rattle.merge_dff.specs.Packs.{limited_dff}
 use Rattle.merge_dff.proofs.log_refusal.Goals as goal
 
 pub returns : goal.returns
 returns c =
     let v = c.args in
-    let f = flip_flop (controls_of v.c) (limited v.bits.now) v.clear.now v.reset.now v.init.now in
+    let f = limited_dff v.f in
     let p = c.emit_dedup_dff-dry in
     let q = c.dry_refusal in
-    dry_called (add_dedup_dff_of f) v.room (state_of v.st) _ (chains_dedup_dff f) (dedup_below (controls_of v.c) v.bits.now v.clear.now v.reset.now v.init.now (state_of v.st))
-    p.new.log _ (state_of p.result) q.result c.dry_start-start.ensures p.ensures.log_after q.ensures
+    dry_called (add_dedup_dff_of f) v.room (state_of v.st) _ (chains_dedup_dff f) (dedup_below (controls_of v.f.controls) v.f.bits.now v.f.clear.now v.f.reset.now v.f.init.now (state_of v.st))
+    p.new.log _ (state_of p.result) _ c.dry_start.ensures p.ensures.log_after q.ensures

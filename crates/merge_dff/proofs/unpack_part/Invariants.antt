@@ -1,14 +1,10 @@
 -- The invariants of `merge_dff::unpack_part`.
 use mathlib.Core.Path.{◌≡◌}
-use Prim.Native.Nat.{◌-◌, ◌≤◌}
 use mathlib.Core.List.{map}
-use lib.ListN.{length, take}
+use lib.ListN.{take}
 use lib.Seq.{sets}
 use Rattle.merge_dff.specs.Packs.{packed_byte}
 use Rattle.merge_dff.proofs.unpack_part.Given as goal
 
 abbrev pub invariant-loop-i : goal.invariant-loop-i
-invariant-loop-i l = (l.i ≤ l.n) × (length l.to ≡ length l.initial.to) × (l.to ≡ sets l.initial.to 0 (take l.i (map (packed_byte l.by) l.ps)))
-
-abbrev pub decreases-loop-i : goal.decreases-loop-i
-decreases-loop-i l = l.n - l.i
+invariant-loop-i l = l.to ≡ sets l.initial.to 0 (take l.i (map (packed_byte l.by) l.ps))

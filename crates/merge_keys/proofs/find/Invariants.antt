@@ -1,6 +1,6 @@
 -- The invariants of `merge_keys::find`.
 use mathlib.Core.Path.{◌≡◌}
-use Prim.Native.Nat.{◌+◌, ◌-◌, ◌≤◌}
+use Prim.Native.Nat.{◌+◌}
 use lib.ListN.{take, drop}
 use Rattle.lists.specs.Lists.{pairs}
 use Rattle.lists.specs.Distinct.{place_in}
@@ -8,7 +8,4 @@ use Rattle.rules.specs.Merge.{same2}
 use Rattle.merge_keys.proofs.find.Given as goal
 
 abbrev pub invariant-loop-j : goal.invariant-loop-j
-invariant-loop-j l = (l.j ≤ l.count) × (place_in same2 (l.x, l.y) (take l.count (pairs l.kx l.ky)) ≡ l.j + place_in same2 (l.x, l.y) (drop l.j (take l.count (pairs l.kx l.ky))))
-
-abbrev pub decreases-loop-j : goal.decreases-loop-j
-decreases-loop-j l = l.count - l.j
+invariant-loop-j l = place_in same2 (l.x, l.y) (take l.count (pairs l.kx l.ky)) ≡ l.j + place_in same2 (l.x, l.y) (drop l.j (take l.count (pairs l.kx l.ky)))

@@ -1,6 +1,6 @@
 -- `merge_keys::merge_first` meets its contract.
 use mathlib.Core.Path.{◌≡◌, refl}
-use Prim.Native.Nat.{◌-◌, ◌<◌}
+use Prim.Native.Nat.{◌<◌}
 use native.Mathlib.Omega.{arith}
 use lib.ListN.{get_or}
 use Rattle.merge_keys.proofs.Turn.{few, lengths, ready, room_left, place_few, turn, bound_turn}
@@ -17,34 +17,6 @@ place_at-last-requires c =
     let g : h.i < v.n = c.loop-i-test.true in
     (ready v.x.now v.y.now v.kx.now v.ky.now v.at.now h.kx h.ky h.at v.n h.count h.last h.i c.requires h.invariant.0 g, h.invariant.1)
 
-pub offset_bounds-x-i : goal.offset_bounds-x-i
-offset_bounds-x-i c =
-    let h = c.loop-i in
-    let v = c.args in
-    let g : h.i < v.n = c.loop-i-test.true in
-    omega (arith, c.requires.in_x, c.requires.in_y, c.requires.in_at, c.requires.few, few v.x.now v.y.now v.kx.now v.ky.now v.at.now h.kx h.ky h.at v.n h.count h.last h.i c.requires h.invariant.0, (lengths v.x.now v.y.now v.kx.now v.ky.now v.at.now h.kx h.ky h.at v.n h.count h.last h.i c.requires h.invariant.0).2)
-
-pub bounds-x-i : goal.bounds-x-i
-bounds-x-i c =
-    let h = c.loop-i in
-    let v = c.args in
-    let g : h.i < v.n = c.loop-i-test.true in
-    omega (arith, c.requires.in_x, c.requires.in_y, c.requires.in_at, c.requires.few, few v.x.now v.y.now v.kx.now v.ky.now v.at.now h.kx h.ky h.at v.n h.count h.last h.i c.requires h.invariant.0, (lengths v.x.now v.y.now v.kx.now v.ky.now v.at.now h.kx h.ky h.at v.n h.count h.last h.i c.requires h.invariant.0).2)
-
-pub offset_bounds-y-i : goal.offset_bounds-y-i
-offset_bounds-y-i c =
-    let h = c.loop-i in
-    let v = c.args in
-    let g : h.i < v.n = c.loop-i-test.true in
-    omega (arith, c.requires.in_x, c.requires.in_y, c.requires.in_at, c.requires.few, few v.x.now v.y.now v.kx.now v.ky.now v.at.now h.kx h.ky h.at v.n h.count h.last h.i c.requires h.invariant.0, (lengths v.x.now v.y.now v.kx.now v.ky.now v.at.now h.kx h.ky h.at v.n h.count h.last h.i c.requires h.invariant.0).2)
-
-pub bounds-y-i : goal.bounds-y-i
-bounds-y-i c =
-    let h = c.loop-i in
-    let v = c.args in
-    let g : h.i < v.n = c.loop-i-test.true in
-    omega (arith, c.requires.in_x, c.requires.in_y, c.requires.in_at, c.requires.few, few v.x.now v.y.now v.kx.now v.ky.now v.at.now h.kx h.ky h.at v.n h.count h.last h.i c.requires h.invariant.0, (lengths v.x.now v.y.now v.kx.now v.ky.now v.at.now h.kx h.ky h.at v.n h.count h.last h.i c.requires h.invariant.0).2)
-
 pub keep-count-requires : goal.keep-count-requires
 keep-count-requires c =
     let h = c.loop-i in
@@ -52,54 +24,12 @@ keep-count-requires c =
     let g : h.i < v.n = c.loop-i-test.true in
     room_left v.x.now v.y.now v.kx.now v.ky.now v.at.now h.kx h.ky h.at v.n h.count h.last h.i c.requires h.invariant.0 g
 
-pub offset_bounds-x-i-in-loop-i : goal.offset_bounds-x-i-in-loop-i
-offset_bounds-x-i-in-loop-i c =
-    let h = c.loop-i in
-    let v = c.args in
-    let g : h.i < v.n = c.loop-i-test.true in
-    omega (arith, c.requires.in_x, c.requires.in_y, c.requires.in_at, c.requires.few, few v.x.now v.y.now v.kx.now v.ky.now v.at.now h.kx h.ky h.at v.n h.count h.last h.i c.requires h.invariant.0, (lengths v.x.now v.y.now v.kx.now v.ky.now v.at.now h.kx h.ky h.at v.n h.count h.last h.i c.requires h.invariant.0).2)
-
-pub bounds-x-i-in-loop-i : goal.bounds-x-i-in-loop-i
-bounds-x-i-in-loop-i c =
-    let h = c.loop-i in
-    let v = c.args in
-    let g : h.i < v.n = c.loop-i-test.true in
-    omega (arith, c.requires.in_x, c.requires.in_y, c.requires.in_at, c.requires.few, few v.x.now v.y.now v.kx.now v.ky.now v.at.now h.kx h.ky h.at v.n h.count h.last h.i c.requires h.invariant.0, (lengths v.x.now v.y.now v.kx.now v.ky.now v.at.now h.kx h.ky h.at v.n h.count h.last h.i c.requires h.invariant.0).2)
-
 pub overflow_cast-at : goal.overflow_cast-at
 overflow_cast-at c =
     let h = c.loop-i in
     let v = c.args in
     let g : h.i < v.n = c.loop-i-test.true in
     omega (arith, c.requires.in_x, c.requires.in_y, c.requires.in_at, c.requires.few, few v.x.now v.y.now v.kx.now v.ky.now v.at.now h.kx h.ky h.at v.n h.count h.last h.i c.requires h.invariant.0, (lengths v.x.now v.y.now v.kx.now v.ky.now v.at.now h.kx h.ky h.at v.n h.count h.last h.i c.requires h.invariant.0).2, place_few v.x.now v.y.now v.kx.now v.ky.now v.at.now h.kx h.ky h.at v.n h.count h.last h.i c.requires h.invariant.0 g _ c.place_at-last.ensures)
-
-pub offset_bounds-at-i : goal.offset_bounds-at-i
-offset_bounds-at-i c =
-    let h = c.loop-i in
-    let v = c.args in
-    let g : h.i < v.n = c.loop-i-test.true in
-    omega (arith, c.requires.in_x, c.requires.in_y, c.requires.in_at, c.requires.few, few v.x.now v.y.now v.kx.now v.ky.now v.at.now h.kx h.ky h.at v.n h.count h.last h.i c.requires h.invariant.0, (lengths v.x.now v.y.now v.kx.now v.ky.now v.at.now h.kx h.ky h.at v.n h.count h.last h.i c.requires h.invariant.0).2)
-
-pub bounds-at-i : goal.bounds-at-i
-bounds-at-i c =
-    let h = c.loop-i in
-    let v = c.args in
-    let g : h.i < v.n = c.loop-i-test.true in
-    omega (arith, c.requires.in_x, c.requires.in_y, c.requires.in_at, c.requires.few, few v.x.now v.y.now v.kx.now v.ky.now v.at.now h.kx h.ky h.at v.n h.count h.last h.i c.requires h.invariant.0, (lengths v.x.now v.y.now v.kx.now v.ky.now v.at.now h.kx h.ky h.at v.n h.count h.last h.i c.requires h.invariant.0).2)
-
-pub overflow_add-i : goal.overflow_add-i
-overflow_add-i c =
-    let h = c.loop-i in
-    let v = c.args in
-    let g : h.i < v.n = c.loop-i-test.true in
-    omega (arith, c.requires.in_x, c.requires.in_y, c.requires.in_at, c.requires.few, few v.x.now v.y.now v.kx.now v.ky.now v.at.now h.kx h.ky h.at v.n h.count h.last h.i c.requires h.invariant.0, (lengths v.x.now v.y.now v.kx.now v.ky.now v.at.now h.kx h.ky h.at v.n h.count h.last h.i c.requires h.invariant.0).2)
-
-pub loop-i-smaller : goal.loop-i-smaller
-loop-i-smaller c =
-    let h = c.loop-i in
-    let v = c.args in
-    let g : h.i < v.n = c.loop-i-test.true in
-    omega (arith, c.requires.in_x, c.requires.in_y, c.requires.in_at, c.requires.few, few v.x.now v.y.now v.kx.now v.ky.now v.at.now h.kx h.ky h.at v.n h.count h.last h.i c.requires h.invariant.0, (lengths v.x.now v.y.now v.kx.now v.ky.now v.at.now h.kx h.ky h.at v.n h.count h.last h.i c.requires h.invariant.0).2)
 
 pub loop-i-preserved : goal.loop-i-preserved
 loop-i-preserved c =
@@ -109,7 +39,7 @@ loop-i-preserved c =
     let q = c.keep-count in
     let t = turn v.x.now v.y.now v.kx.now v.ky.now v.at.now h.kx h.ky h.at v.n h.count h.last h.i c.requires h.invariant.0 g c.place_at-last.result c.place_at-last.ensures in
     let b = bound_turn h.kx h.count h.most (get_or v.x.now h.i 0) h.invariant.1 (room_left v.x.now v.y.now v.kx.now v.ky.now v.at.now h.kx h.ky h.at v.n h.count h.last h.i c.requires h.invariant.0 g).0 c.place_at-last.result in
-    (rw (q.ensures.value, q.ensures.kx_after, q.ensures.ky_after) t, rw (q.ensures.value, q.ensures.kx_after, c.larger_word-most.ensures) b)
+    (rw (q.ensures.value, q.ensures.kx_after, q.ensures.ky_after) t, rw (q.ensures.value, q.ensures.kx_after, c.max-most.ensures) b)
 
 pub shape_of-kx : goal.shape_of-kx
 shape_of-kx c =

@@ -13,33 +13,33 @@ use Rattle.rules.specs.Merge.{add_bitwise_mux_of}
 use Rattle.rules.specs.Refusals.{bitwise_number, result_refusal, log_refusal, add_bitwise_mux_refusal}
 use Rattle.rules.proofs.Chain.{chains_bitwise_mux}
 use Rattle.merge_mux.proofs.Numbers.{bitwise_all}
+use Rattle.std.proofs.lemmas.Result.{err_from_is_err_and}
 use Rattle.merge_mux.proofs.add_bitwise_mux.Goals as goal
 
-pub returns-then-n-ne0 : goal.returns-then-n-ne0
+pub returns-in_err-bitwise_input_refusal : goal.returns-in_err-bitwise_input_refusal
 unfolding add_bitwise_mux_call add_bitwise_mux_refusal
-returns-then-n-ne0 c =
+returns-in_err-bitwise_input_refusal c =
     let v = c.args in
     let s = state_of v.st in
     let t = add_bitwise_mux_of v.s.now v.a.now v.b.now in
     let number = bitwise_number v.st.next v.s.now v.a.now v.b.now in
     let result = result_refusal (length v.out.now) v.a.now in
-    let i = c.bitwise_input_refusal-n in
-    input_refused (t v.st.next).value v.log.now v.out.now s t number result i.result i.ensures c.if-n-ne0.true
+    let e = err_from_is_err_and c.from_residual.result c.from_residual.ensures.1 in
+    rw (e.1, e.2) (input_refused (t v.st.next).value v.log.now v.out.now s t number result _ c.in_err-bitwise_input_refusal.ensures)
 
-pub returns-then-k-ne0 : goal.returns-then-k-ne0
+pub returns-in_err-bitwise_log_refusal : goal.returns-in_err-bitwise_log_refusal
 unfolding add_bitwise_mux_call add_bitwise_mux_refusal
-returns-then-k-ne0 c =
+returns-in_err-bitwise_log_refusal c =
     let v = c.args in
     let s = state_of v.st in
     let t = add_bitwise_mux_of v.s.now v.a.now v.b.now in
     let number = bitwise_number v.st.next v.s.now v.a.now v.b.now in
     let result = result_refusal (length v.out.now) v.a.now in
-    let i = c.bitwise_input_refusal-n in
-    let z = sym i.ensures ∙ c.if-n-ne0.false in
-    let a = bitwise_all v.st.next (length v.out.now) v.s.now v.a.now v.b.now z in
-    let q = c.bitwise_log_refusal-k in
-    let e = q.ensures ∙ ap (λ (u : Trace Value). log_refusal (length v.log.now) s u) a in
-    log_refused (t v.st.next).value v.log.now v.out.now s t number result q.result z e c.if-k-ne0.true
+    let z = c.in_ok-bitwise_input_refusal.ensures in
+    let a = bitwise_all v.st.next (length v.out.now) v.s.now v.a.now v.b.now (sym z) in
+    let e = c.in_err-bitwise_log_refusal.ensures ∙ ap (λ (u : Trace Value). log_refusal (length v.log.now) s u) a in
+    let r = err_from_is_err_and c.from_residual-in_err-bitwise_log_refusal.result c.from_residual-in_err-bitwise_log_refusal.ensures.1 in
+    rw (r.1, r.2) (log_refused (t v.st.next).value v.log.now v.out.now s t number result z _ e)
 
 pub returns : goal.returns
 unfolding add_bitwise_mux_call add_bitwise_mux_refusal
@@ -49,12 +49,10 @@ returns c =
     let t = add_bitwise_mux_of v.s.now v.a.now v.b.now in
     let number = bitwise_number v.st.next v.s.now v.a.now v.b.now in
     let result = result_refusal (length v.out.now) v.a.now in
-    let i = c.bitwise_input_refusal-n in
-    let z = sym i.ensures ∙ c.if-n-ne0.false in
-    let a = bitwise_all v.st.next (length v.out.now) v.s.now v.a.now v.b.now z in
-    let q = c.bitwise_log_refusal-k in
-    let e = q.ensures ∙ ap (λ (u : Trace Value). log_refusal (length v.log.now) s u) a in
-    let p = c.emit_bitwise_mux-after in
-    merge_accepted (t v.st.next).value v.log.now v.out.now s t number result q.result z e p.new.log _ p.result (chains_bitwise_mux v.s.now v.a.now v.b.now) c.if-k-ne0.false refl
+    let z = c.in_ok-bitwise_input_refusal.ensures in
+    let a = bitwise_all v.st.next (length v.out.now) v.s.now v.a.now v.b.now (sym z) in
+    let e = c.in_ok-bitwise_log_refusal.ensures ∙ ap (λ (u : Trace Value). log_refusal (length v.log.now) s u) a in
+    let p = c.emit_bitwise_mux in
+    merge_accepted (t v.st.next).value v.log.now v.out.now s t number result z p.new.log _ p.result (chains_bitwise_mux v.s.now v.a.now v.b.now) e refl
     (p.ensures.log_after ∙ ap (λ (u : Trace Value). run u (lent v.st v.log.now)) a)
     (λ o. p.ensures.out_after ∙ results_are _ v.out.now 0 _ o ∙ ap (λ (u : Trace Value). sets v.out.now 0 (u v.st.next).value) a)

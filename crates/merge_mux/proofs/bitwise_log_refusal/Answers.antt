@@ -12,4 +12,4 @@ returns c =
     let p = c.emit_bitwise_mux-dry in
     let q = c.dry_refusal in
     dry_called t v.room (state_of v.st) _ (chains_bitwise v.s.now v.a.now v.b.now) (bitwise_below v.s.now v.a.now v.b.now (state_of v.st))
-    p.new.log _ (state_of p.result) q.result c.dry_start-start.ensures p.ensures.log_after q.ensures
+    p.new.log _ (state_of p.result) _ c.dry_start.ensures p.ensures.log_after q.ensures

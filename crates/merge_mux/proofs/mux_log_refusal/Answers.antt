@@ -15,4 +15,4 @@ returns c =
     let p = c.emit_dedup_mux-dry in
     let q = c.dry_refusal in
     dry_called t v.room (state_of v.st) _ (chains_dedup_mux (control_of v.select) (limited v.a.now) (limited v.b.now)) (mux_below (control_of v.select) v.a.now v.b.now (state_of v.st))
-    p.new.log _ (state_of p.result) q.result c.dry_start-start.ensures p.ensures.log_after q.ensures
+    p.new.log _ (state_of p.result) _ c.dry_start.ensures p.ensures.log_after q.ensures

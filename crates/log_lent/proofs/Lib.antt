@@ -1,2 +1,0 @@
--- Laws of a request's answer and the state that it leaves.
-pub mod Joined
