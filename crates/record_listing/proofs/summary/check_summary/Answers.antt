@@ -7,7 +7,7 @@ use mathlib.Core.Bool.{true, false}
 use native.Mathlib.Omega.{arith}
 use mathlib.Core.Path.{ap}
 use mathlib.Core.Bool.{not}
-use Rattle.record_listing.proofs.summary.summary_refusal.Goals as goal
+use Rattle.record_listing.proofs.summary.check_summary.Goals as goal
 
 pub returns-then-not-trits_good : goal.returns-then-not-trits_good
 returns-then-not-trits_good c =
@@ -18,19 +18,19 @@ returns-then-memories-index c =
     let z = view_sizes c.args.s in
     summary_15 z _ _ (bad_trits_lem _ false _ _ c.image_of.ensures c.trits_good.ensures (ap not c.if-not-trits_good.false)) (omega (arith, c.memories.ensures))
 
-pub returns-then-bad_sizes : goal.returns-then-bad_sizes
-returns-then-bad_sizes c =
+pub returns-then-is_bad : goal.returns-then-is_bad
+returns-then-is_bad c =
     let z = view_sizes c.args.s in
-    summary_17 z _ _ (bad_trits_lem _ false _ _ c.image_of.ensures c.trits_good.ensures (ap not c.if-not-trits_good.false)) (omega (arith, c.memories.ensures)) (sym c.bad_sizes.ensures ∙ c.if-bad_sizes.true)
+    summary_17 z _ _ (bad_trits_lem _ false _ _ c.image_of.ensures c.trits_good.ensures (ap not c.if-not-trits_good.false)) (omega (arith, c.memories.ensures)) (sym c.is_bad.ensures ∙ c.if-is_bad.true)
 
 pub returns-then-image-trits_within : goal.returns-then-image-trits_within
 returns-then-image-trits_within c =
     let z = view_sizes c.args.s in
-    let s = sym c.bad_sizes.ensures ∙ c.if-bad_sizes.false in
+    let s = sym c.is_bad.ensures ∙ c.if-is_bad.false in
     summary_20 z _ _ (bad_trits_lem _ false _ _ c.image_of.ensures c.trits_good.ensures (ap not c.if-not-trits_good.false)) (omega (arith, c.memories.ensures)) s (omega (arith, all-trits z c.trits_within.result s c.trits_within.ensures))
 
 pub returns : goal.returns
 returns c =
     let z = view_sizes c.args.s in
-    let s = sym c.bad_sizes.ensures ∙ c.if-bad_sizes.false in
+    let s = sym c.is_bad.ensures ∙ c.if-is_bad.false in
     summary_0 z _ _ (bad_trits_lem _ false _ _ c.image_of.ensures c.trits_good.ensures (ap not c.if-not-trits_good.false)) (omega (arith, c.memories.ensures)) s (omega (arith, all-trits z c.trits_within.result s c.trits_within.ensures))
