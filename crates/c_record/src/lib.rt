@@ -3,21 +3,20 @@
 
 ghost use Rattle.std.specs.Prelude.{◌≡◌, length};
 ghost use Rattle.rules.specs.Record.{record_bytes};
+ghost use Rattle.rules.specs.Refusal.{answer_by};
 ghost use Rattle.rules.specs.Refusals.{write_record_refusal};
 ghost use Rattle.rules.specs.Answers.{answer_of, write_record_call, read_record_call, header_call, summary_call, list_record_call};
 ghost use Rattle.rules.specs.Beside.Stored.{list_input_call};
 ghost use Rattle.record_sizes.specs.View.{view_sizes};
-ghost use Rattle.record_codec.specs.View.{view_head, view_written};
+ghost use Rattle.record_codec.specs.View.{view_head};
 ghost use Rattle.record_listing.specs.Summary.{view_summarized};
-ghost use Rattle.record_listing.specs.Text.{view_listed};
 ghost use Rattle.c_net.specs.View.{count_struct};
 ghost use Rattle.c_record.specs.View.{head_struct, summary_struct};
 
 use c_net::Count;
-use record_codec::Written;
-use record_listing::Listed;
-use record_listing::summary::{Summarized, Summary};
+use record_listing::summary::Summary;
 use record_sizes::Sizes;
+use rules::Refusal;
 
 // A refusal's number, or 0 and a record's sizes.
 #[repr(C)]
@@ -35,12 +34,13 @@ pub struct SummaryResult {
     pub summary: Summary,
 }
 
-fn head_result(a: record_codec::Head) -> Head
-    ensures { result ≡ head_struct (view_head a) }
+fn head_result(answer: Result<Sizes, Refusal>) -> Head
+    ensures { result ≡ head_struct (view_head answer) }
 {
-    match a {
-        record_codec::Head::Refused(n) => Head {
-            number: n,
+    match answer {
+        Ok(sizes) => Head { number: 0, sizes },
+        Err(refusal) => Head {
+            number: refusal.number(),
             sizes: Sizes {
                 unit: 0,
                 full: 0,
@@ -49,16 +49,16 @@ fn head_result(a: record_codec::Head) -> Head
                 partial_depth: 0,
             },
         },
-        record_codec::Head::Accepted(sizes) => Head { number: 0, sizes },
     }
 }
 
-fn summary_result(a: Summarized) -> SummaryResult
-    ensures { result ≡ summary_struct (view_summarized a) }
+fn summary_result(answer: Result<Summary, Refusal>) -> SummaryResult
+    ensures { result ≡ summary_struct (view_summarized answer) }
 {
-    match a {
-        Summarized::Refused(n) => SummaryResult {
-            number: n,
+    match answer {
+        Ok(summary) => SummaryResult { number: 0, summary },
+        Err(refusal) => SummaryResult {
+            number: refusal.number(),
             summary: Summary {
                 index: 0,
                 depth: 0,
@@ -66,31 +66,18 @@ fn summary_result(a: Summarized) -> SummaryResult
                 ones: 0,
             },
         },
-        Summarized::Accepted(summary) => SummaryResult { number: 0, summary },
     }
 }
 
-fn written_result(a: Written) -> Count
-    ensures { result ≡ count_struct (view_written a) }
+fn count_result(answer: Result<usize, Refusal>) -> Count
+    ensures { result ≡ count_struct (answer_by (λ n. n) answer) }
 {
-    match a {
-        Written::Refused(n) => Count {
-            number: n,
+    match answer {
+        Ok(count) => Count { number: 0, count },
+        Err(refusal) => Count {
+            number: refusal.number(),
             count: 0,
         },
-        Written::Accepted(count) => Count { number: 0, count },
-    }
-}
-
-fn listed_result(a: Listed) -> Count
-    ensures { result ≡ count_struct (view_listed a) }
-{
-    match a {
-        Listed::Refused(n) => Count {
-            number: n,
-            count: 0,
-        },
-        Listed::Accepted(count) => Count { number: 0, count },
     }
 }
 
@@ -98,7 +85,7 @@ fn listed_result(a: Listed) -> Count
 pub fn tablegoose_write_record(out: &mut [u8], sizes: Sizes, image: &[u8]) -> Count
     ensures { (result ≡ count_struct (answer_of (write_record_refusal (length out.old) (view_sizes sizes) image.now) (record_bytes (view_sizes sizes)))) × (out.new ≡ (write_record_call out.old (view_sizes sizes) image.now).out) }
 {
-    written_result(record_codec::write_record(out, sizes, image))
+    count_result(record_codec::write_record(out, sizes, image))
 }
 
 // Reads a record: its sizes, and its image into lent room.
@@ -126,12 +113,12 @@ pub fn tablegoose_memory_summary(sizes: Sizes, image: &[u8], index: usize) -> Su
 pub fn tablegoose_list_record(out: &mut [u8], bytes: &[u8]) -> Count
     ensures { (result ≡ count_struct (list_record_call out.old bytes.now).answer) × (out.new ≡ (list_record_call out.old bytes.now).out) }
 {
-    listed_result(record_listing::list_record(out, bytes))
+    count_result(record_listing::list_record(out, bytes))
 }
 
 // The same for an input of `total` bytes, of which the first are given.
 pub fn tablegoose_list_input(out: &mut [u8], first: &[u8], total: usize) -> Count
     ensures { (result ≡ count_struct (list_input_call out.old first.now total).answer) × (out.new ≡ (list_input_call out.old first.now total).out) }
 {
-    listed_result(record_listing::list_input(out, first, total))
+    count_result(record_listing::list_input(out, first, total))
 }

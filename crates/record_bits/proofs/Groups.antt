@@ -2,11 +2,14 @@
 use mathlib.Core.Path.{◌≡◌, refl, sym, ap, ◌∙◌}
 use mathlib.Core.Logic.{◌⊎◌, inl, inr}
 use mathlib.Core.Bool.{Bool, true, false, ◌||◌}
-use Prim.Native.Nat.{ℕ, zero, suc, ◌+◌, ◌-◌, ◌/◌, ◌%◌, ◌<◌, ◌≤◌, min}
+use Prim.Native.Nat.{ℕ, zero, suc, ◌+◌, ◌-◌, ◌/◌, ◌%◌, ◌^◌, ◌<◌, ◌≤◌, min}
+use native.Mathlib.Nat.{pow-succ', div-one, div-div-eq-div-mul}
 use native.Mathlib.Omega.{arith}
 use mathlib.Core.List.{List, [], ◌∷◌, ◌++◌}
 use lib.ListN.{take, drop, get_or, set}
 use lib.Seq.{sets, take-nil, drop-nil}
+use Rattle.std.proofs.Math.ListN.{get_or-eq_default}
+use Rattle.rules.proofs.Written.{length_uint}
 use lib.Dec.{eqb, ltb, leb}
 use borrow.Author.Tests.{le-leb, lt-leb}
 use Rattle.lists.specs.Lists.{any, pairs}
@@ -17,19 +20,14 @@ use Rattle.rules.specs.Record.{trit_by}
 use Rattle.record_bits.specs.Groups.{trits_by, bad_by, bad_pair}
 
 -- ---- the bits of a number
-pub bit_turn : (n b i k : ℕ) → k < i → i < n → get_or (from_uint (n - (k + 1)) (b / 2)) (i - (k + 1)) 0 ≡ get_or (from_uint (n - k) b) (i - k) 0
+pub bit_of : (n b i : ℕ) → i < n → b / 2 ^ i % 2 ≡ get_or (from_uint n b) i 0
 unfolding from_uint
-bit_turn n b i k h g =
-    let x : n - k ≡ suc (n - (k + 1)) = omega arith in
-    let y : i - k ≡ suc (i - (k + 1)) = omega arith in
-    rw (x, y)
+bit_of zero b i h = absurd (omega arith)
+bit_of (suc n) b zero h = rw (div-one b)
+bit_of (suc n) b (suc i) h = rw (pow-succ' 2 i, ← div-div-eq-div-mul b 2 (2 ^ i)) (bit_of n (b / 2) i (omega arith))
 
-pub bit_end : (n b i k : ℕ) → i ≤ k → k < n → get_or (from_uint (n - k) b) (i - k) 0 ≡ b % 2
-unfolding from_uint
-bit_end n b i k h g =
-    let x : n - k ≡ suc (n - (k + 1)) = omega arith in
-    let y : i - k ≡ 0 = omega arith in
-    rw (x, y)
+pub bit_past : (n b i : ℕ) → n ≤ i → get_or (from_uint n b) i 0 ≡ 0
+bit_past n b i h = get_or-eq_default (from_uint n b) 0 (omega (arith, length_uint n b))
 
 uint_step : (n x i : ℕ) → i < n → from_uint (n - i) x ≡ x % 2 ∷ from_uint (n - (i + 1)) (x / 2)
 unfolding from_uint

@@ -6,7 +6,7 @@ use native.Mathlib.Omega.{arith}
 use native.Mathlib.Numerals.{add-one}
 use native.Mathlib.Nat.{pow-succ'}
 use mathlib.Core.List.{List, [], ◌∷◌, ◌++◌, map}
-use lib.ListN.{length, take, drop, get_or, set, length-take}
+use lib.ListN.{length, take, drop, get_or, set}
 use lib.Seq.{sets, drop-cons, drop-drop}
 use lib.Pow.{pow_mono}
 use lib.Dec.{eqb}
@@ -18,14 +18,13 @@ use Rattle.rules.specs.Record.{byte_of, pack_bits, known_bit, value_bit}
 use Rattle.rules.proofs.Bits.{length_pack}
 
 -- ---- bits of trits, one trit before
-pub byte_turn : (f : ℕ → ℕ) (ts : List ℕ) (at n i k b : ℕ) → 0 < i → i ≤ n → at + n ≤ length ts
-    → k ≡ byte_of (map f (take (n - i) (drop (at + i) ts))) → b ≡ f (get_or ts (at + (i - 1)) 0)
-    → b + 2 * k ≡ byte_of (map f (take (n - (i - 1)) (drop (at + (i - 1)) ts)))
+pub byte_turn : (f : ℕ → ℕ) (l : List ℕ) (i k b : ℕ) → 0 < i → i ≤ length l → k ≡ byte_of (map f (drop i l)) → b ≡ f (get_or l (i - 1) 0)
+    → b + 2 * k ≡ byte_of (map f (drop (i - 1) l))
 unfolding byte_of
-byte_turn f ts at n i k b p h l e q =
-    let x : n - (i - 1) ≡ suc (n - i) = omega arith in
-    let y : suc (at + (i - 1)) ≡ at + i = omega arith in
-    rw (x, drop-cons ts (at + (i - 1)) 0 (omega arith), y, e, q)
+byte_turn f l i k b p h e q =
+    let y : suc (i - 1) ≡ i = omega arith in
+    let d : drop (i - 1) l ≡ get_or l (i - 1) 0 ∷ drop i l = drop-cons l (i - 1) 0 (omega arith) ∙ ap (λ (n : ℕ). get_or l (i - 1) 0 ∷ drop n l) y in
+    rw (d, e, q)
 
 -- the byte of at most n bits is below 2 ^ n
 byte_lt : (f : ℕ → ℕ) → ((t : ℕ) → f t < 2) → (l : List ℕ) → byte_of (map f l) < 2 ^ length l
@@ -33,9 +32,8 @@ unfolding byte_of
 byte_lt f z [] = omega arith
 byte_lt f z (t ∷ l) = rw (pow-succ' 2 (length l)) (omega (arith, z t, byte_lt f z l))
 
-pub byte_small : (f : ℕ → ℕ) → ((t : ℕ) → f t < 2) → (m j : ℕ) (l : List ℕ) → m ≤ j → byte_of (map f (take m l)) < 2 ^ j
-byte_small f z m j l h =
-    omega (arith, byte_lt f z (take m l), pow_mono {i = length (take m l)} {j = j} (simp length-take (omega arith)))
+pub byte_small : (f : ℕ → ℕ) → ((t : ℕ) → f t < 2) → (j : ℕ) (l : List ℕ) → length l ≤ j → byte_of (map f l) < 2 ^ j
+byte_small f z j l h = omega (arith, byte_lt f z l, pow_mono {i = length l} {j = j} h)
 
 bit : (t : Bool) → (when t then 1 else 0) < 2
 bit true = omega arith

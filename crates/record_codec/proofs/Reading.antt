@@ -1,13 +1,12 @@
 -- Reading: the numbers in their order, and what they leave known.
 use mathlib.Core.Path.{◌≡◌, refl, sym, ◌∙◌}
-use mathlib.Core.Logic.{◌≢◌}
 use mathlib.Core.Bool.{true, false}
 use Prim.Native.Nat.{ℕ, ◌<◌, ◌≤◌}
 use mathlib.Core.List.{List}
 use lib.Dec.{ltb}
 use lib.ListN.{length}
 use borrow.Author.Tests.{lt-ltb, le-ltb, ltb-false}
-use Rattle.lists.proofs.Choice.{or_false, if_zero, else_first, else_rest, else_zero, hit, miss}
+use Rattle.lists.proofs.Choice.{or_false, if_zero, else_rest, else_zero, hit, miss}
 use Rattle.rules.specs.Record.{size_trits, head_sizes}
 use Rattle.rules.specs.Conditions.{bad_head, bad_sizes, bad_bits, no_room_of}
 use Rattle.rules.specs.Refusals.{record_number, read_record_refusal, header_refusal}
@@ -38,10 +37,6 @@ module _ (bytes : List ℕ) where
       (h.0, h.1, (if_zero (bad_bits bytes) 17 0 z.1).0)
 
   -- ---- 16, 17, 18
-  pub by_head : (n : ℕ) → n ≡ header_refusal bytes (length bytes) → n ≢ 0 → n ≡ record_number bytes
-  unfolding record_number
-  by_head n e h = e ∙ sym (else_first (header_refusal bytes (length bytes)) _ (λ z. h (e ∙ z)))
-
   module _ (e : header_refusal bytes (length bytes) ≡ 0) where
     pub record_18 : bad_bits bytes ≡ true → 18 ≡ record_number bytes
     unfolding record_number
@@ -53,10 +48,6 @@ module _ (bytes : List ℕ) where
 
   -- ---- and 20
   module _ (room : ℕ) where
-    pub by_record : (n : ℕ) → n ≡ record_number bytes → n ≢ 0 → n ≡ read_record_refusal room bytes
-    unfolding read_record_refusal
-    by_record n e h = e ∙ sym (else_first (record_number bytes) _ (λ z. h (e ∙ z)))
-
     module _ (e : record_number bytes ≡ 0) where
       pub read_20 : room < size_trits (head_sizes bytes) → 20 ≡ read_record_refusal room bytes
       unfolding read_record_refusal no_room_of

@@ -20,7 +20,9 @@ use Rattle.record_reader.specs.Reading.{place_after_head, trits_there}
 use Rattle.record_reader.proofs.Arrays.{all-trits, none_there}
 use Rattle.record_reader.proofs.Runs.{six_on}
 use Rattle.record_codec.specs.View.{view_head, to_take}
-use Rattle.record_codec.specs.declared.Head.{Head}
+use Rattle.std.specs.Prelude.{Result}
+use Rattle.rules.specs.declared.numbers.Refusal.{Refusal}
+use Rattle.record_sizes.specs.declared.Sizes.{Sizes}
 use Rattle.record_codec.proofs.Arrays.{whole}
 use Rattle.record_codec.proofs.Reading.{head_there, record_good, read_good}
 
@@ -31,7 +33,7 @@ module _ (image bytes : List ℕ) where
   abbrev n : ℕ
   n = read_record_refusal (length image) bytes
 
-  module _ (h : Head) (c : ℕ) (zs : List ℕ) (eh : view_head h ≡ answer_of n (head_sizes bytes)) (ec : c ≡ to_take (view_head h)) (ez : zs ≡ sets image 0 (trits_there c bytes behind)) where
+  module _ (h : Result Sizes Refusal) (c : ℕ) (zs : List ℕ) (eh : view_head h ≡ answer_of n (head_sizes bytes)) (ec : c ≡ to_take (view_head h)) (ez : zs ≡ sets image 0 (trits_there c bytes behind)) where
     refused : n ≢ 0 → zs ≡ (read_record_call image bytes).image
     unfolding read_record_call
     refused f =

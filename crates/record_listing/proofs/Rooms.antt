@@ -15,7 +15,8 @@ use Rattle.rules.specs.Beside.Stored.{lister_stored, list_input_call}
 use Rattle.rules.proofs.Answers.{answer_refused, answer_accepted}
 use Rattle.record_listing.specs.Put.{Put}
 use Rattle.record_listing.specs.Text.{listed_as}
-use Rattle.record_listing.specs.declared.Listed.TheVariants.{Refused as NotListed, Accepted as IsListed}
+use Rattle.std.specs.Prelude.{Ok, Err}
+use Rattle.rules.specs.declared.numbers.Refusal.TheVariants.{NoRoom}
 use Rattle.record_listing.proofs.Puts.{stored_whole}
 
 module _ (l text : List ℕ) where
@@ -27,7 +28,7 @@ module _ (l text : List ℕ) where
   unfolding no_room_of
   enough h = rw (le-ltb (length l) (length text) h)
 
-  refused : length l < length text → listed_as (NotListed 20) l ≡ listed_in (lent_refusal (length l) (length text)) l text
+  refused : length l < length text → listed_as (Err NoRoom) l ≡ listed_in (lent_refusal (length l) (length text)) l text
   refused h =
       let e = short h in
       let f : lent_refusal (length l) (length text) ≢ 0 = λ z. absurd (omega (arith, e, z)) in
@@ -35,7 +36,7 @@ module _ (l text : List ℕ) where
       let b = sym (leaves_refused (lent_refusal (length l) (length text)) l (sets l 0 text) f) in
       λ i. record { answer = a i; out = b i }
 
-  accepted : (after : List ℕ) (n : ℕ) → Put l 0 text after n → length text ≤ length l → listed_as (IsListed n) after ≡ listed_in (lent_refusal (length l) (length text)) l text
+  accepted : (after : List ℕ) (n : ℕ) → Put l 0 text after n → length text ≤ length l → listed_as (Ok n) after ≡ listed_in (lent_refusal (length l) (length text)) l text
   accepted after n p h =
       let e = enough h in
       let z : n ≡ length text = p.place ∙ omega arith in
@@ -44,11 +45,11 @@ module _ (l text : List ℕ) where
       λ i. record { answer = a i; out = b i }
 
 module _ (l first : List ℕ) (total : ℕ) where
-  pub input_refused : length l < length (lister_stored first total) → listed_as (NotListed 20) l ≡ list_input_call l first total
+  pub input_refused : length l < length (lister_stored first total) → listed_as (Err NoRoom) l ≡ list_input_call l first total
   unfolding list_input_call
   input_refused h = refused l (lister_stored first total) h
 
-  pub input_accepted : (after : List ℕ) (n : ℕ) → Put l 0 (lister_stored first total) after n → length (lister_stored first total) ≤ length l → listed_as (IsListed n) after ≡ list_input_call l first total
+  pub input_accepted : (after : List ℕ) (n : ℕ) → Put l 0 (lister_stored first total) after n → length (lister_stored first total) ≤ length l → listed_as (Ok n) after ≡ list_input_call l first total
   unfolding list_input_call
   input_accepted after n p h = accepted l (lister_stored first total) after n p h
 

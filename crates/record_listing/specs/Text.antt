@@ -1,13 +1,12 @@
 -- The answer of a listing with the room after it, in terms of the rules.
-use Rattle.std.specs.Prelude.{ℕ, List}
+use Rattle.std.specs.Prelude.{ℕ, List, Result}
+use Rattle.rules.specs.declared.numbers.Refusal.{Refusal}
+use Rattle.rules.specs.Refusal.{answer_by}
 use Rattle.rules.specs.Answers as rules
-use Rattle.record_listing.specs.declared.Listed.{Listed}
-use Rattle.record_listing.specs.declared.Listed.TheVariants.{Refused as NotListed, Accepted as IsListed}
 
 -- document 01's number, or the bytes of the text
-abbrev pub view_listed : Listed → rules.Answer ℕ
-view_listed (NotListed n) = rules.Refused n
-view_listed (IsListed n) = rules.Accepted n
+abbrev pub view_listed : Result ℕ Refusal → rules.Answer ℕ
+view_listed r = answer_by (λ n. n) r
 
-abbrev pub listed_as : Listed → List ℕ → rules.Listed
+abbrev pub listed_as : Result ℕ Refusal → List ℕ → rules.Listed
 listed_as r out = record { answer = view_listed r; out = out }

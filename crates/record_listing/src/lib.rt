@@ -6,6 +6,7 @@ ghost use Rattle.lists.specs.Lists.{sum_by, part, concat_map};
 ghost use Rattle.lists.specs.Choice.{when◌then◌else◌, ◌or_else◌};
 ghost use Rattle.rules.specs.Limits.{max_image};
 ghost use Rattle.rules.specs.Record.{size_mems, size_trits, bits_of, head_sizes, decode_image};
+ghost use Rattle.rules.specs.Refusal.{number};
 ghost use Rattle.rules.specs.Refusals.{record_number, header_refusal};
 ghost use Rattle.rules.specs.Lister.{decimal, space, blank_text, load_text, head_line, memory_line, refused_line, summary_of, summaries, listed, lister};
 ghost use Rattle.rules.specs.Answers.{list_record_call};
@@ -17,49 +18,17 @@ ghost use Rattle.record_listing.specs.Put.{max_text, max_place, Put};
 ghost use Rattle.record_listing.specs.Starts.{Accepted, Starts};
 
 use record_sizes::Sizes;
+use rules::Refusal;
 use summary::Summary;
+use text::{put_number, put_text};
 
 pub mod summary;
+pub mod text;
 
 // The bytes of the longest text: no line is longer than 50 bytes.
 pub const MAX_TEXT: usize = 1638437;
 
-// ---- text
-
-fn put_text(out: &mut [u8], at: usize, text: &[u8]) -> usize
-    requires { at + length text.now ≤ max_place }
-    ensures { Put out.old at text.now out.new result }
-{
-    lists::copy(out, at, text);
-    at + text.len()
-}
-
-// The decimal digits of a number, at the end of an array; where they start.
-fn digits_of(digits: &mut [u8], n: usize) -> usize
-    requires { length digits.old ≡ 10 }
-    ensures { (drop result digits.new ≡ decimal n) × (result ≤ 10) }
-{
-    let mut left = n;
-    let mut i: usize = 10;
-    while 0 < i {
-        i -= 1;
-        digits[i] = 48 + (left % 10) as u8;
-        if left < 10 {
-            return i;
-        }
-        left = left / 10;
-    }
-    i
-}
-
-fn put_number(out: &mut [u8], at: usize, n: usize) -> usize
-    requires { at + 10 ≤ max_place }
-    ensures { Put out.old at (decimal n) out.new result × (result ≤ at + 10) }
-{
-    let mut digits = [0u8; 10];
-    let from = digits_of(&mut digits, n);
-    put_text(out, at, &digits[from..10])
-}
+// ---- parts of a line
 
 // A space and a number.
 fn put_field(out: &mut [u8], at: usize, n: usize) -> usize
@@ -76,9 +45,10 @@ fn put_kind(out: &mut [u8], at: usize, blank: bool) -> usize
     ensures { Put out.old at (space ∷ (when blank then blank_text else load_text)) out.new result × (result ≤ at + 6) }
 {
     if blank {
-        return put_text(out, at, b" blank");
+        put_text(out, at, b" blank")
+    } else {
+        put_text(out, at, b" load")
     }
-    put_text(out, at, b" load")
 }
 
 // ---- lines
@@ -102,15 +72,15 @@ fn put_memory(out: &mut [u8], at: usize, y: Summary) -> usize
     let b = put_field(out, a, y.depth);
     let c = put_field(out, b, y.known);
     let d = put_field(out, c, y.ones);
-    let e = put_kind(out, d, summary::is_blank(y.known, y.ones));
+    let e = put_kind(out, d, y.is_blank());
     put_text(out, e, b"\n")
 }
 
-fn put_refused(out: &mut [u8], n: u32) -> usize
-    ensures { Put out.old 0 (refused_line n) out.new result × (result ≤ 19) }
+fn put_refused(out: &mut [u8], refusal: Refusal) -> usize
+    ensures { Put out.old 0 (refused_line (number refusal)) out.new result × (result ≤ 19) }
 {
     let a = put_text(out, 0, b"refused ");
-    let b = put_number(out, a, n as usize);
+    let b = put_number(out, a, refusal.number() as usize);
     put_text(out, b, b"\n")
 }
 
@@ -122,11 +92,9 @@ fn ones_in(array: &[u8], from: usize, count: usize) -> usize
     ensures { result ≡ sum_by (λ b. b) (part from count (bits_of array.now)) }
 {
     let mut sum: usize = 0;
-    let mut i: usize = 0;
-    while i < count {
+    for i in 0..count {
         let j = from + i;
         sum += record_bits::bit_at(array[j / 8], j % 8) as usize;
-        i += 1;
     }
     sum
 }
@@ -153,12 +121,10 @@ fn put_memories(out: &mut [u8], at: usize, bytes: &[u8], s: Sizes, count: usize)
 {
     let mut next = at;
     let mut from: usize = 0;
-    let mut i: usize = 0;
-    while i < count {
+    for i in 0..count {
         let y = summary_in(bytes, s, i, from);
         next = put_memory(out, next, y);
         from += y.depth * (s.unit as usize);
-        i += 1;
     }
     next
 }
@@ -171,7 +137,7 @@ fn put_listed(out: &mut [u8], bytes: &[u8]) -> usize
     ensures { Put out.old 0 (listed bytes.now) out.new result × (result ≤ max_text) }
 {
     let s = record_reader::head_sizes(bytes);
-    let count = record_sizes::memories(s) as usize;
+    let count = s.memories() as usize;
     let at = put_head(out, s, count, record_reader::head_trits(bytes) as usize);
     put_memories(out, at, bytes, s, count)
 }
@@ -180,22 +146,20 @@ fn put_listed(out: &mut [u8], bytes: &[u8]) -> usize
 fn put_record(out: &mut [u8], bytes: &[u8]) -> usize
     ensures { Put out.old 0 (lister bytes.now) out.new result × (result ≤ max_text) }
 {
-    let n = record_codec::record_number(bytes);
-    if n != 0 {
-        return put_refused(out, n);
+    match record_codec::record_number(bytes) {
+        Ok(()) => put_listed(out, bytes),
+        Err(refusal) => put_refused(out, refusal),
     }
-    put_listed(out, bytes)
 }
 
-// The number that refuses an input of which not all is stored.
-fn stored_refusal(first: &[u8], total: usize) -> u32
-    ensures { result ≡ (header_refusal first.now total or_else 16) }
+// What refuses an input of which not all is stored.
+fn stored_refusal(first: &[u8], total: usize) -> Refusal
+    ensures { number result ≡ (header_refusal first.now total or_else 16) }
 {
-    let n = record_codec::header_refusal(first, total);
-    if n != 0 {
-        return n;
+    match record_codec::header_refusal(first, total) {
+        Ok(()) => Refusal::BadHead,
+        Err(refusal) => refusal,
     }
-    16
 }
 
 // The same for an input of `total` bytes, of which the first are stored.
@@ -205,18 +169,10 @@ fn put_input(out: &mut [u8], first: &[u8], total: usize) -> usize
     if first.len() == total {
         return put_record(out, first);
     }
-    let n = stored_refusal(first, total);
-    put_refused(out, n)
+    put_refused(out, stored_refusal(first, total))
 }
 
 // ---- in lent room
-
-// The bytes of the text, or the number that refuses the call.
-#[derive(Clone, Copy)]
-pub enum Listed {
-    Refused(u32),
-    Accepted(usize),
-}
 
 // The length of that output, by a run that keeps one byte of it.
 fn input_size(first: &[u8], total: usize) -> usize
@@ -227,21 +183,21 @@ fn input_size(first: &[u8], total: usize) -> usize
 }
 
 // Stores the lister's output for an input of `total` bytes, of which the first are given. 20 where the room is short: it is as it was then. The longest
-// text needs no run for its length.
-pub fn list_input(out: &mut [u8], first: &[u8], total: usize) -> Listed
+// text needs no run for its length. The bytes of the text.
+pub fn list_input(out: &mut [u8], first: &[u8], total: usize) -> Result<usize, Refusal>
     ensures { listed_as result out.new ≡ list_input_call out.old first.now total }
 {
     if MAX_TEXT <= out.len() {
-        return Listed::Accepted(put_input(out, first, total));
+        return Ok(put_input(out, first, total));
     }
     if out.len() < input_size(first, total) {
-        return Listed::Refused(20);
+        return Err(Refusal::NoRoom);
     }
-    Listed::Accepted(put_input(out, first, total))
+    Ok(put_input(out, first, total))
 }
 
 // The same for a record that is given whole.
-pub fn list_record(out: &mut [u8], bytes: &[u8]) -> Listed
+pub fn list_record(out: &mut [u8], bytes: &[u8]) -> Result<usize, Refusal>
     ensures { listed_as result out.new ≡ list_record_call out.old bytes.now }
 {
     list_input(out, bytes, bytes.len())

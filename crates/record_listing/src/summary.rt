@@ -3,6 +3,7 @@ ghost use Rattle.std.specs.Prelude.{◌≡◌, false, ◌<◌};
 ghost use Rattle.lists.specs.Lists.{sum_by};
 ghost use Rattle.rules.specs.Record.{size_mems, known_bit, value_bit};
 ghost use Rattle.rules.specs.Conditions.{bad_sizes};
+ghost use Rattle.rules.specs.Refusal.{number_of};
 ghost use Rattle.rules.specs.Refusals.{summary_refusal};
 ghost use Rattle.rules.specs.Answers.{summary_call};
 ghost use Rattle.rules.specs.Lister.{size_depth, size_start, summary_of, is_blank};
@@ -10,10 +11,11 @@ ghost use Rattle.record_sizes.specs.View.{view_sizes};
 ghost use Rattle.record_listing.specs.Summary.{view_summary, view_summarized};
 
 use record_sizes::Sizes;
+use rules::Refusal;
 
 // Of memory `index`: its depth, its known trits and its ones.
 #[repr(C)]
-#[derive(Clone, Copy)]
+#[derive(Clone, Copy, Debug, PartialEq, Eq)]
 pub struct Summary {
     pub index: usize,
     pub depth: usize,
@@ -21,46 +23,45 @@ pub struct Summary {
     pub ones: usize,
 }
 
-#[derive(Clone, Copy)]
-pub enum Summarized {
-    Refused(u32),
-    Accepted(Summary),
-}
-
-// A memory is blank, else to be loaded.
-pub fn is_blank(known: usize, ones: usize) -> bool
-    ensures { result ≡ is_blank known ones }
-{
-    ones == 0
+impl Summary {
+    // The memory is blank, else to be loaded.
+    #[tactic(auto, unfolding(rules::specs::Lister::is_blank))]
+    pub fn is_blank(self) -> bool
+        ensures { result ≡ is_blank self.known self.ones }
+    {
+        self.ones == 0
+    }
 }
 
 // The depth of memory `index`.
+#[tactic(auto, unfolding(rules::specs::Lister::size_depth, rules::specs::Image::depth_at))]
 pub fn depth_of(s: Sizes, index: usize) -> usize
     ensures { result ≡ size_depth (view_sizes s) index }
 {
-    if (index as u64) < (s.full as u64) {
-        return s.full_depth as usize;
+    if index < s.full as usize {
+        s.full_depth as usize
+    } else {
+        s.partial_depth as usize
     }
-    s.partial_depth as usize
 }
 
 // 4, 15, 17, 20.
-fn summary_refusal(s: Sizes, image: &[u8], index: usize) -> u32
-    ensures { result ≡ summary_refusal (view_sizes s) image.now index }
+fn check_summary(s: Sizes, image: &[u8], index: usize) -> Result<(), Refusal>
+    ensures { number_of result ≡ summary_refusal (view_sizes s) image.now index }
 {
-    if !net_logic::trits_good(record_sizes::image_of(s, image)) {
-        return 4;
+    if !net_logic::trits_good(s.image_of(image)) {
+        return Err(Refusal::BadValue);
     }
-    if record_sizes::memories(s) <= index as u64 {
-        return 15;
+    if s.memories() <= index as u64 {
+        return Err(Refusal::OutOfRange);
     }
-    if record_sizes::bad_sizes(s) {
-        return 17;
+    if s.is_bad() {
+        return Err(Refusal::BadSizes);
     }
-    if (image.len() as u64) < record_sizes::trits_within(s, rules::MAX_IMAGE) {
-        return 20;
+    if (image.len() as u64) < s.trits_within(rules::MAX_IMAGE) {
+        return Err(Refusal::NoRoom);
     }
-    0
+    Ok(())
 }
 
 // The trits of the memories before `index`.
@@ -78,7 +79,7 @@ fn start_of(s: Sizes, index: usize) -> usize
 }
 
 // How many of the trits are known, and how many are ones.
-#[derive(Clone, Copy)]
+#[derive(Clone, Copy, Debug, PartialEq, Eq)]
 pub struct Counts {
     pub known: usize,
     pub ones: usize,
@@ -89,11 +90,9 @@ pub fn counts_of(ts: &[u8]) -> Counts
 {
     let mut known: usize = 0;
     let mut ones: usize = 0;
-    let mut i = 0;
-    while i < ts.len() {
-        known += record_bits::known_bit(ts[i]) as usize;
-        ones += record_bits::value_bit(ts[i]) as usize;
-        i += 1;
+    for t in ts {
+        known += record_bits::known_bit(*t) as usize;
+        ones += record_bits::value_bit(*t) as usize;
     }
     Counts { known, ones }
 }
@@ -116,12 +115,9 @@ fn summary_at(s: Sizes, image: &[u8], index: usize) -> Summary
 }
 
 // What stands in memory `index` of an image.
-pub fn memory_summary(s: Sizes, image: &[u8], index: usize) -> Summarized
+pub fn memory_summary(s: Sizes, image: &[u8], index: usize) -> Result<Summary, Refusal>
     ensures { view_summarized result ≡ summary_call (view_sizes s) image.now index }
 {
-    let n = summary_refusal(s, image, index);
-    if n != 0 {
-        return Summarized::Refused(n);
-    }
-    Summarized::Accepted(summary_at(s, image, index))
+    check_summary(s, image, index)?;
+    Ok(summary_at(s, image, index))
 }

@@ -1,4 +1,5 @@
 -- Behind the head a reader stands at a record's first trit, and after that trit at the second; where there is none, there is none at either place.
+use Rattle.std.specs.Prelude.{Option, None}
 use mathlib.Core.Path.{◌≡◌, refl, sym, ap, ◌∙◌}
 use mathlib.Core.Bool.{Bool, true, false, ◌&&◌}
 use Prim.Native.Nat.{ℕ, ◌+◌, ◌-◌, ◌/◌, ◌<◌}
@@ -10,8 +11,6 @@ use borrow.Author.Tests.{lt-ltb, le-ltb, ltb-true, ltb-false}
 use Rattle.lists.specs.Choice.{when◌then◌else◌}
 use Rattle.rules.specs.Record.{size_trits, head_sizes, array_bytes, after_trit}
 use Rattle.record_reader.specs.Reading.{place_after_head, has_trit, has_trit_at, trit_there, place_after_trit, first_trits}
-use Rattle.record_reader.specs.declared.TritFound.{TritFound}
-use Rattle.record_reader.specs.declared.TritFound.TheVariants.{End as NoTrit}
 use Rattle.record_reader.specs.declared.FirstTrits.{FirstTrits}
 use Rattle.record_reader.proofs.Runs.{six_on}
 
@@ -34,7 +33,7 @@ fewer : (n : ℕ) (b : Bool) → (ltb 0 n && b) ≡ false → (ltb 1 n && b) ≡
 fewer n b h = fewer_by n b (ltb 1 n) refl h
 
 module _ (bytes : List ℕ) where
-  no_trit : (p : ℕ) → has_trit_at bytes p ≡ false → trit_there bytes p ≡ NoTrit
+  no_trit : (p : ℕ) → has_trit_at bytes p ≡ false → trit_there bytes p ≡ None
   unfolding trit_there
   no_trit p e = rw e
 
@@ -54,7 +53,7 @@ module _ (bytes : List ℕ) where
   value p = 12 + array_bytes count + (p - 12) / 8
 
   -- bytes that end within the head have no trit at any place
-  short : (p : ℕ) → length bytes < 12 → trit_there bytes p ≡ NoTrit
+  short : (p : ℕ) → length bytes < 12 → trit_there bytes p ≡ None
   short p h =
       let none : ltb (value p) (length bytes) ≡ false = le-ltb (value p) (length bytes) (omega arith) in
       no_trit p (if_no (ltb p 12) (has_trit bytes (p - 12)) (and_no (ltb (p - 12) count) (ltb (value p) (length bytes)) none))
@@ -79,7 +78,7 @@ module _ (bytes : List ℕ) where
       let l : length bytes < 12 = ltb-true (length bytes) 12 e in short (place_after_trit bytes start) l ∙ sym (short 13 l)
   then_by false e = ap (λ (p : ℕ). trit_there bytes (place_after_trit bytes p)) (six_on bytes (ltb-false (length bytes) 12 e)) ∙ second_by (has_trit_at bytes 12) refl
 
-  pub from_head : (t u : TritFound) → t ≡ trit_there bytes start → u ≡ trit_there bytes (place_after_trit bytes start) → ◌≡◌ {A = FirstTrits} (record { first = t; second = u }) (first_trits bytes)
+  pub from_head : (t u : Option ℕ) → t ≡ trit_there bytes start → u ≡ trit_there bytes (place_after_trit bytes start) → ◌≡◌ {A = FirstTrits} (record { first = t; second = u }) (first_trits bytes)
   unfolding first_trits
   from_head t u e f =
       let a = e ∙ first_by (ltb (length bytes) 12) refl in

@@ -1,4 +1,5 @@
 -- The trit of a number: the two bits that the code takes, and the trit of the image that the record is read to.
+use Rattle.std.specs.Prelude.{Some, None}
 use mathlib.Core.Path.{◌≡◌, refl, sym, ap, ◌∙◌}
 use mathlib.Core.Bool.{Bool, true, false, not}
 use Prim.Native.Nat.{ℕ, suc, ◌+◌, ◌-◌, ◌*◌, ◌/◌, ◌%◌, ◌<◌, ◌≤◌}
@@ -20,8 +21,6 @@ use Rattle.rules.specs.Conditions.{bad_head}
 use Rattle.rules.proofs.Written.{length_bits}
 use Rattle.record_bits.proofs.Arrays.{bits_at}
 use Rattle.record_reader.specs.Reading.{has_word, word_there, has_trit_at, trit_numbered, trit_there, place_after_trit}
-use Rattle.record_reader.specs.declared.Word.TheVariants.{Found, End}
-use Rattle.record_reader.specs.declared.TritFound.TheVariants.{Code, End as NoTrit}
 
 module _ (bytes : List ℕ) where
   abbrev T : ℕ
@@ -59,25 +58,25 @@ module _ (bytes : List ℕ) (i count : ℕ) (e : count ≡ size_trits (head_size
   unfolding array_bytes ceil_div
   place = ap (λ (x : ℕ). 12 + (x + 7) / 8 + i / 8) e
 
-  pub past_trits : count ≤ i → NoTrit ≡ trit_numbered bytes i
+  pub past_trits : count ≤ i → None ≡ trit_numbered bytes i
   unfolding trit_numbered
   past_trits h = rw (le-ltb i (size_trits (head_sizes bytes)) (omega arith))
 
-  pub past_bytes : length bytes ≤ 12 + (count + 7) / 8 + i / 8 → i < count → NoTrit ≡ trit_numbered bytes i
+  pub past_bytes : length bytes ≤ 12 + (count + 7) / 8 + i / 8 → i < count → None ≡ trit_numbered bytes i
   unfolding trit_numbered
   past_bytes h g =
       rw (lt-ltb i (size_trits (head_sizes bytes)) (omega arith), le-ltb (12 + array_bytes (size_trits (head_sizes bytes)) + i / 8) (length bytes) (omega (arith, place)))
 
   module _ (g : i < count) (h : 12 + (count + 7) / 8 + i / 8 < length bytes) where
-    pub there : trit_numbered bytes i ≡ Code (trit_at_of bytes i)
+    pub there : trit_numbered bytes i ≡ Some (trit_at_of bytes i)
     unfolding trit_numbered
     there = rw (lt-ltb i (size_trits (head_sizes bytes)) (omega arith), lt-ltb (12 + array_bytes (size_trits (head_sizes bytes)) + i / 8) (length bytes) (omega (arith, place)))
 
     pub taken : (k v t : ℕ) → k ≡ get_or (from_uint 8 (get_or bytes (12 + i / 8) 0)) (i % 8) 0 → v ≡ get_or (from_uint 8 (get_or bytes (12 + (count + 7) / 8 + i / 8) 0)) (i % 8) 0
-        → t ≡ trit_by k v → Code t ≡ trit_numbered bytes i
+        → t ≡ trit_by k v → Some t ≡ trit_numbered bytes i
     taken k v t p q r =
         let u : v ≡ get_or (from_uint 8 (get_or bytes (12 + array_bytes (size_trits (head_sizes bytes)) + i / 8) 0)) (i % 8) 0 = q ∙ ap (λ (x : ℕ). get_or (from_uint 8 (get_or bytes x 0)) (i % 8) 0) place in
-        sym (there ∙ ap Code (trit_at_lem bytes i (omega arith) (omega (arith, place)) ∙ sym (r ∙ ap (λ (x : ℕ). trit_by x v) p ∙ ap (trit_by (get_or (from_uint 8 (get_or bytes (12 + i / 8) 0)) (i % 8) 0)) u)))
+        sym (there ∙ ap Some (trit_at_lem bytes i (omega arith) (omega (arith, place)) ∙ sym (r ∙ ap (λ (x : ℕ). trit_by x v) p ∙ ap (trit_by (get_or (from_uint 8 (get_or bytes (12 + i / 8) 0)) (i % 8) 0)) u)))
 
 -- ---- the trits of an accepted head's record, taken one by one, are its image
 module _ (bytes : List ℕ) (e : bad_head bytes (length bytes) ≡ false) where
@@ -105,28 +104,28 @@ module _ (bytes : List ℕ) (e : bad_head bytes (length bytes) ≡ false) where
   unfolding array_bytes ceil_div
   near i h = omega (arith, whole)
 
-  pub read_at : (i : ℕ) → i < size_trits (head_sizes bytes) → trit_numbered bytes i ≡ Code (get_or (decode_image bytes) i trit_x)
-  read_at i h = there bytes i (size_trits (head_sizes bytes)) refl h (near i h) ∙ ap Code (sym (decoded_at i h))
+  pub read_at : (i : ℕ) → i < size_trits (head_sizes bytes) → trit_numbered bytes i ≡ Some (get_or (decode_image bytes) i trit_x)
+  read_at i h = there bytes i (size_trits (head_sizes bytes)) refl h (near i h) ∙ ap Some (sym (decoded_at i h))
 
 -- ---- the place after a trit, by what was found
-code_not_end : (t : ℕ) → Code t ≡ NoTrit → ⊥
+code_not_end : (t : ℕ) → Some t ≡ None → ⊥
 code_not_end t e = let z : ◌≡◌ {A = ℕ} 0 1 = cc in omega arith
 
 if_false : (b x : Bool) → (when b then false else x) ≡ true → x ≡ true
 if_false true x e = let z : ◌≡◌ {A = ℕ} 0 1 = cc in absurd (omega arith)
 if_false false x e = e
 
-has_code : (b : Bool) (t u : ℕ) → (when b then Code t else NoTrit) ≡ Code u → b ≡ true
+has_code : (b : Bool) (t u : ℕ) → (when b then Some t else None) ≡ Some u → b ≡ true
 has_code true t u e = refl
 has_code false t u e = absurd (code_not_end u (sym e))
 
-has_none : (b : Bool) (t : ℕ) → (when b then Code t else NoTrit) ≡ NoTrit → b ≡ false
+has_none : (b : Bool) (t : ℕ) → (when b then Some t else None) ≡ None → b ≡ false
 has_none true t e = absurd (code_not_end t e)
 has_none false t e = refl
 
 -- ---- by the reader's place
 module _ (bytes : List ℕ) (at : ℕ) where
-  pub before-trits : at < 12 → NoTrit ≡ trit_there bytes at
+  pub before-trits : at < 12 → None ≡ trit_there bytes at
   unfolding trit_there
   before-trits h = rw (lt-ltb at 12 h)
 
@@ -134,40 +133,40 @@ module _ (bytes : List ℕ) (at : ℕ) where
   unfolding trit_there trit_numbered next_trit
   behind_head h = rw (le-ltb at 12 h)
 
-  has : (t : ℕ) → trit_there bytes at ≡ Code t → has_trit_at bytes at ≡ true
+  has : (t : ℕ) → trit_there bytes at ≡ Some t → has_trit_at bytes at ≡ true
   unfolding trit_there
   has t e = has_code (has_trit_at bytes at) _ t e
 
-  pub found_below : (t : ℕ) → trit_there bytes at ≡ Code t → at - 12 < size_trits (head_sizes bytes)
+  pub found_below : (t : ℕ) → trit_there bytes at ≡ Some t → at - 12 < size_trits (head_sizes bytes)
   found_below t e = ltb-true (at - 12) (size_trits (head_sizes bytes)) (and_true (ltb (at - 12) (size_trits (head_sizes bytes))) _ (if_false (ltb at 12) _ (has t e))).0
 
-  pub after_found : (t : ℕ) → trit_there bytes at ≡ Code t → at + 1 ≡ place_after_trit bytes at
+  pub after_found : (t : ℕ) → trit_there bytes at ≡ Some t → at + 1 ≡ place_after_trit bytes at
   unfolding place_after_trit after_trit
   after_found t e = rw (has t e)
 
-  pub after_none : trit_there bytes at ≡ NoTrit → at ≡ place_after_trit bytes at
+  pub after_none : trit_there bytes at ≡ None → at ≡ place_after_trit bytes at
   unfolding place_after_trit trit_there
   after_none e = rw (has_none (has_trit_at bytes at) _ e)
 
 -- ---- the word at a place, by what was found
-found_not_end : (t : ℕ) → Found t ≡ End → ⊥
+found_not_end : (t : ℕ) → Some t ≡ None → ⊥
 found_not_end t e = let z : ◌≡◌ {A = ℕ} 0 1 = cc in omega arith
 
-is_found : (b : Bool) (w u : ℕ) → (when b then Found w else End) ≡ Found u → u ≡ w
+is_found : (b : Bool) (w u : ℕ) → (when b then Some w else None) ≡ Some u → u ≡ w
 is_found true w u e = cc
 is_found false w u e = absurd (found_not_end u (sym e))
 
-is_none : (b : Bool) (w : ℕ) → (when b then Found w else End) ≡ End → b ≡ false
+is_none : (b : Bool) (w : ℕ) → (when b then Some w else None) ≡ None → b ≡ false
 is_none true w e = absurd (found_not_end w e)
 is_none false w e = refl
 
 module _ (bytes : List ℕ) (i : ℕ) where
-  pub word_found : (w : ℕ) → word_there bytes i ≡ Found w → w ≡ word_at bytes i
+  pub word_found : (w : ℕ) → word_there bytes i ≡ Some w → w ≡ word_at bytes i
   unfolding word_there next_word
   word_found w e = is_found (has_word bytes i) (word_at bytes i) w e
 
   -- the second byte is not there
-  pub word_none : (b : ℕ) → word_there bytes i ≡ End → b ≡ get_or bytes i 0 → b ≡ word_at bytes i
+  pub word_none : (b : ℕ) → word_there bytes i ≡ None → b ≡ get_or bytes i 0 → b ≡ word_at bytes i
   unfolding word_there word_at
   word_none b e q =
       let n : length bytes ≤ suc i = omega (arith, ltb-false (i + 1) (length bytes) (is_none (has_word bytes i) _ e)) in

@@ -1,4 +1,5 @@
 -- Words that are taken one after another stand at the bytes 0, 2, 4 and so on.
+use Rattle.std.specs.Prelude.{None}
 use mathlib.Core.Path.{◌≡◌, refl, sym, ap, ◌∙◌}
 use mathlib.Core.Logic.{◌⊎◌, inl, inr, ⊎_elim}
 use mathlib.Core.Bool.{Bool, true, false}
@@ -10,7 +11,6 @@ use borrow.Author.Tests.{lt-ltb, le-ltb, ltb-true, ltb-false}
 use Rattle.rules.specs.Record.{word_at, head_sizes, next_word, after_word}
 use Rattle.record_reader.specs.Reading.{has_word, word_there, place_after_word, words_from, place_after_head, word_of, head_words, sizes_by}
 use Rattle.record_reader.specs.declared.HeadWords.{HeadWords}
-use Rattle.record_reader.specs.declared.Word.TheVariants.{End}
 
 module _ (bytes : List ℕ) where
   -- the reader stands at n, or nothing is left where it stands
@@ -25,7 +25,7 @@ module _ (bytes : List ℕ) where
   unfolding place_after_word
   stays p e = rw e
 
-  none : (p : ℕ) → length bytes ≤ p + 1 → word_there bytes p ≡ End
+  none : (p : ℕ) → length bytes ≤ p + 1 → word_there bytes p ≡ None
   unfolding word_there
   none p h = rw (le-ltb (p + 1) (length bytes) h)
 

@@ -1,5 +1,5 @@
 -- What a reader takes at its place, or that there is none, and its place after that.
-use Rattle.std.specs.Prelude.{ℕ, ◌+◌, ◌-◌, ◌*◌, ◌/◌, ◌%◌, ◌<◌, Bool, false, ◌&&◌, List, [], length, drop, eqb, ltb, leb}
+use Rattle.std.specs.Prelude.{ℕ, ◌+◌, ◌-◌, ◌*◌, ◌/◌, ◌%◌, ◌<◌, Bool, false, ◌&&◌, List, [], length, drop, eqb, ltb, leb, Option, Some, None}
 use Rattle.lists.specs.Choice.{when◌then◌else◌}
 use Rattle.lists.specs.Lists.{part}
 use Rattle.rules.specs.Logic.{Const}
@@ -7,12 +7,8 @@ use Rattle.rules.specs.Limits.{head_bytes}
 use Rattle.rules.specs.Record as rules
 use Rattle.record_sizes.specs.declared.Sizes.{Sizes}
 use Rattle.record_bits.specs.Groups.{trits_by}
-use Rattle.record_reader.specs.declared.Word.{Word}
-use Rattle.record_reader.specs.declared.Word.TheVariants.{Found, End}
 use Rattle.record_reader.specs.declared.HeadWords.{HeadWords}
-use Rattle.record_reader.specs.declared.TritFound.{TritFound}
 use Rattle.record_reader.specs.declared.FirstTrits.{FirstTrits}
-use Rattle.record_reader.specs.declared.TritFound.TheVariants.{Code, End as NoTrit}
 
 abbrev pub reader_at : List ℕ → ℕ → rules.Reader
 reader_at bytes at = record { bytes = bytes; at = at }
@@ -22,8 +18,8 @@ reader_at bytes at = record { bytes = bytes; at = at }
 abbrev pub has_word : List ℕ → ℕ → Bool
 has_word bytes at = ltb (at + 1) (length bytes)
 
-unfoldable pub word_there : List ℕ → ℕ → Word
-word_there bytes at = when has_word bytes at then Found (rules.next_word (reader_at bytes at)) else End
+unfoldable pub word_there : List ℕ → ℕ → Option ℕ
+word_there bytes at = when has_word bytes at then Some (rules.next_word (reader_at bytes at)) else None
 
 unfoldable pub place_after_word : List ℕ → ℕ → ℕ
 place_after_word bytes at = when has_word bytes at then (rules.after_word (reader_at bytes at)).at else at
@@ -58,9 +54,9 @@ head_words bytes = record {
 }
 
 -- a word that was found, else 0; and the sizes of a head's words
-abbrev pub word_of : Word → ℕ
-word_of (Found w) = w
-word_of End = 0
+abbrev pub word_of : Option ℕ → ℕ
+word_of (Some w) = w
+word_of None = 0
 
 unfoldable pub sizes_by : HeadWords → rules.Sizes
 sizes_by w = record {
@@ -78,15 +74,15 @@ has_trit bytes at =
     ltb at (rules.size_trits (rules.head_sizes bytes))
     && ltb (head_bytes + rules.array_bytes (rules.size_trits (rules.head_sizes bytes)) + at / 8) (length bytes)
 
-unfoldable pub trit_numbered : List ℕ → ℕ → TritFound
-trit_numbered bytes i = when has_trit bytes i then Code (rules.trit_at_of bytes i) else NoTrit
+unfoldable pub trit_numbered : List ℕ → ℕ → Option ℕ
+trit_numbered bytes i = when has_trit bytes i then Some (rules.trit_at_of bytes i) else None
 
 -- by the reader's place, which counts the head's bytes, and behind the head trits: trit i stands at headBytes + i. Before the head is read there is none
 abbrev pub has_trit_at : List ℕ → ℕ → Bool
 has_trit_at bytes at = when ltb at head_bytes then false else has_trit bytes (at - head_bytes)
 
-unfoldable pub trit_there : List ℕ → ℕ → TritFound
-trit_there bytes at = when has_trit_at bytes at then Code (rules.next_trit (reader_at bytes at)) else NoTrit
+unfoldable pub trit_there : List ℕ → ℕ → Option ℕ
+trit_there bytes at = when has_trit_at bytes at then Some (rules.next_trit (reader_at bytes at)) else None
 
 unfoldable pub place_after_trit : List ℕ → ℕ → ℕ
 place_after_trit bytes at = when has_trit_at bytes at then (rules.after_trit (reader_at bytes at)).at else at

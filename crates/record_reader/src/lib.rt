@@ -1,271 +1,196 @@
-// A reader holds a record's bytes and a place in them, which counts bytes in the head and trits behind it: after six words it stands at trit 0. Few
-// functions are over it; each takes it apart.
+// A reader holds a record's bytes and a place in them, which counts bytes in the head and trits behind it: after six words it stands at trit 0.
 #![tactic(auto)]
 
-ghost use Rattle.std.specs.Prelude.{◌≡◌, ◌-◌, ◌≤◌, length, get_or};
+ghost use Rattle.std.specs.Prelude.{◌≡◌, ◌≤◌, length, get_or};
 ghost use Rattle.std.proofs.lemmas.List.Edits.{sets};
 ghost use Rattle.rules.specs.Record.{size_trits, word_at, array_bytes, bits_of, head_sizes};
 ghost use Rattle.record_sizes.specs.View.{view_sizes};
 ghost use Rattle.record_bits.specs.Groups.{trits_by};
-ghost use Rattle.record_reader.specs.Reading.{word_there, place_after_word, words_from, place_after_head, word_of, head_words, sizes_by, trit_numbered, trit_there, place_after_trit, first_trits, has_trits, trits_there, place_after_trits, many_trits, many_bytes, Words};
+ghost use Rattle.record_reader.specs.Reading.{has_word, word_there, place_after_word, words_from, place_after_head, word_of, head_words, sizes_by, trit_numbered, trit_there, place_after_trit, first_trits, has_trits, trits_there, place_after_trits, many_trits, many_bytes, Words};
 
+use record_bits::Group;
 use record_sizes::Sizes;
 
-#[derive(Clone, Copy)]
-pub struct Reader<'a> {
-    pub bytes: &'a [u8],
-    pub at: usize,
-}
-
-#[derive(Clone, Copy)]
-pub enum Word {
-    Found(u16),
-    End,
-}
-
-#[derive(Clone, Copy)]
-pub enum TritFound {
-    Code(u8),
-    End,
-}
+// Above the trits of any five 16-bit sizes.
+const MANY: u64 = 1125899906842624;
 
 // ---- words
-
-// The word whose first byte stands at a place.
-pub fn word_there(bytes: &[u8], at: usize) -> Word
-    ensures { result ≡ word_there bytes.now at }
-{
-    if bytes.len() <= at {
-        return Word::End;
-    }
-    if bytes.len() - at < 2 {
-        return Word::End;
-    }
-    Word::Found((bytes[at] as u16) + 256 * (bytes[at + 1] as u16))
-}
-
-// The place after that word, or the same place where there is none.
-pub fn place_after_word(bytes: &[u8], at: usize) -> usize
-    ensures { result ≡ place_after_word bytes.now at }
-{
-    if bytes.len() <= at {
-        return at;
-    }
-    if bytes.len() - at < 2 {
-        return at;
-    }
-    at + 2
-}
-
-// A reader at the record's start.
-pub fn new<'a>(bytes: &'a [u8]) -> Reader<'a>
-    ensures { (result.bytes ≡ bytes.entry) × (result.at ≡ 0) }
-{
-    Reader { bytes, at: 0 }
-}
-
-// Takes the next word: the reader goes on behind it.
-pub fn next_word<'s, 'a>(r: &'s mut Reader<'a>) -> Word
-    ensures { (result ≡ word_there r.old.bytes.now r.old.at) × (r.new.bytes ≡ r.old.bytes) × (r.new.at ≡ place_after_word r.old.bytes.now r.old.at) }
-{
-    let bytes = r.bytes;
-    let at = r.at;
-    r.at = place_after_word(bytes, at);
-    word_there(bytes, at)
-}
-
-// The six words of a head, or that there are fewer.
-#[derive(Clone, Copy)]
-pub struct HeadWords {
-    pub mark: Word,
-    pub unit: Word,
-    pub full: Word,
-    pub full_depth: Word,
-    pub partial: Word,
-    pub partial_depth: Word,
-}
-
-// Takes the next six words: the reader goes on behind them.
-pub fn next_head<'s, 'a>(r: &'s mut Reader<'a>) -> HeadWords
-    ensures { (result ≡ words_from r.old.bytes.now r.old.at) × (r.new.bytes ≡ r.old.bytes) × (r.new.at ≡ place_after_head r.old.bytes.now r.old.at) }
-{
-    let mark = next_word(r);
-    let unit = next_word(r);
-    let full = next_word(r);
-    let full_depth = next_word(r);
-    let partial = next_word(r);
-    let partial_depth = next_word(r);
-    HeadWords {
-        mark,
-        unit,
-        full,
-        full_depth,
-        partial,
-        partial_depth,
-    }
-}
-
-// Reads the six words of a head, by one reader.
-pub fn head_words(bytes: &[u8]) -> HeadWords
-    ensures { result ≡ head_words bytes.now }
-{
-    let mut r = new(bytes);
-    next_head(&mut r)
-}
-
-// A word as a number; a byte that is not there counts 0.
-fn word_or(bytes: &[u8], at: usize, w: Word) -> u16
-    requires { w ≡ word_there bytes.now at }
-    ensures { result ≡ word_at bytes.now at }
-{
-    match w {
-        Word::Found(x) => x,
-        Word::End => byte_at(bytes, at),
-    }
-}
 
 // The byte at a place, 0 where there is none.
 fn byte_at(bytes: &[u8], at: usize) -> u16
     ensures { result ≡ get_or bytes.now at 0 }
 {
-    if bytes.len() <= at {
-        return 0;
+    if at < bytes.len() {
+        u16::from(bytes[at])
+    } else {
+        0
     }
-    bytes[at] as u16
 }
 
-// ---- a record's head
+// Both bytes of the word at a place are there.
+fn has_word(bytes: &[u8], at: usize) -> bool
+    ensures { result ≡ has_word bytes.now at }
+{
+    at < bytes.len() && 2 <= bytes.len() - at
+}
+
+// The word whose first byte stands at a place.
+#[tactic(auto, unfolding(crate::specs::Reading::word_there, rules::specs::Record::next_word, rules::specs::Record::word_at))]
+fn word_there(bytes: &[u8], at: usize) -> Option<u16>
+    ensures { result ≡ word_there bytes.now at }
+{
+    if has_word(bytes, at) {
+        Some(u16::from(bytes[at]) + 256 * u16::from(bytes[at + 1]))
+    } else {
+        None
+    }
+}
+
+// The place after that word, or the same place where there is none.
+#[tactic(auto, unfolding(crate::specs::Reading::place_after_word, rules::specs::Record::after_word))]
+fn place_after_word(bytes: &[u8], at: usize) -> usize
+    ensures { result ≡ place_after_word bytes.now at }
+{
+    if has_word(bytes, at) { at + 2 } else { at }
+}
+
+// The word at a place as a number; a byte that is not there counts 0.
+fn word_at(bytes: &[u8], at: usize) -> u16
+    ensures { result ≡ word_at bytes.now at }
+{
+    match word_there(bytes, at) {
+        Some(word) => word,
+        None => byte_at(bytes, at),
+    }
+}
 
 // A word that was found, else 0.
-pub fn word_of(w: Word) -> u16
-    ensures { result ≡ word_of w }
+pub fn word_of(word: Option<u16>) -> u16
+    ensures { result ≡ word_of word }
 {
-    match w {
-        Word::Found(x) => x,
-        Word::End => 0,
-    }
+    word.unwrap_or(0)
 }
 
-// The sizes that the words after the first give.
-pub fn sizes_of(words: HeadWords) -> Sizes
-    ensures { (view_sizes result ≡ sizes_by words) × Words result }
-{
-    let unit = words.unit;
-    let full = words.full;
-    let full_depth = words.full_depth;
-    let partial = words.partial;
-    let partial_depth = words.partial_depth;
-    Sizes {
-        unit: lists::u32_of_u16(word_of(unit)),
-        full: lists::u32_of_u16(word_of(full)),
-        full_depth: lists::u32_of_u16(word_of(full_depth)),
-        partial: lists::u32_of_u16(word_of(partial)),
-        partial_depth: lists::u32_of_u16(word_of(partial_depth)),
-    }
+// The six words of a head, as far as they are there.
+#[derive(Clone, Copy, Debug, PartialEq, Eq)]
+pub struct HeadWords {
+    pub mark: Option<u16>,
+    pub unit: Option<u16>,
+    pub full: Option<u16>,
+    pub full_depth: Option<u16>,
+    pub partial: Option<u16>,
+    pub partial_depth: Option<u16>,
 }
 
-// The trits that those sizes give.
-pub fn trits_of(words: HeadWords) -> u64
-    ensures { (result ≡ size_trits (sizes_by words)) × (result ≤ many_trits) }
-{
-    record_sizes::trits_within(sizes_of(words), MANY)
+impl HeadWords {
+    // Reads the six words of a head, by one reader.
+    pub fn of(bytes: &[u8]) -> HeadWords
+        ensures { result ≡ head_words bytes.now }
+    {
+        Reader::new(bytes).next_head()
+    }
+
+    // The sizes that the words after the first give.
+    #[tactic(auto, unfolding(crate::specs::Reading::sizes_by))]
+    pub fn sizes(self) -> Sizes
+        ensures { (view_sizes result ≡ sizes_by self) × Words result }
+    {
+        Sizes {
+            unit: u32::from(word_of(self.unit)),
+            full: u32::from(word_of(self.full)),
+            full_depth: u32::from(word_of(self.full_depth)),
+            partial: u32::from(word_of(self.partial)),
+            partial_depth: u32::from(word_of(self.partial_depth)),
+        }
+    }
+
+    // The trits that those sizes give.
+    pub fn trits(self) -> u64
+        ensures { (result ≡ size_trits (sizes_by self)) × (result ≤ many_trits) }
+    {
+        self.sizes().trits_within(MANY)
+    }
 }
 
 // The sizes that a record's bytes give; a byte that is not there counts 0.
+#[tactic(auto, unfolding(rules::specs::Record::head_sizes))]
 pub fn head_sizes(bytes: &[u8]) -> Sizes
     ensures { (view_sizes result ≡ head_sizes bytes.now) × Words result }
 {
-    let words = head_words(bytes);
-    let unit = words.unit;
-    let full = words.full;
-    let full_depth = words.full_depth;
-    let partial = words.partial;
-    let partial_depth = words.partial_depth;
     Sizes {
-        unit: lists::u32_of_u16(word_or(bytes, 2, unit)),
-        full: lists::u32_of_u16(word_or(bytes, 4, full)),
-        full_depth: lists::u32_of_u16(word_or(bytes, 6, full_depth)),
-        partial: lists::u32_of_u16(word_or(bytes, 8, partial)),
-        partial_depth: lists::u32_of_u16(word_or(bytes, 10, partial_depth)),
+        unit: u32::from(word_at(bytes, 2)),
+        full: u32::from(word_at(bytes, 4)),
+        full_depth: u32::from(word_at(bytes, 6)),
+        partial: u32::from(word_at(bytes, 8)),
+        partial_depth: u32::from(word_at(bytes, 10)),
     }
 }
-
-// Above the trits of any five 16-bit sizes.
-const MANY: u64 = 1125899906842624;
 
 // The trits that those sizes give.
 pub fn head_trits(bytes: &[u8]) -> u64
     ensures { (result ≡ size_trits (head_sizes bytes.now)) × (result ≤ many_trits) }
 {
-    record_sizes::trits_within(head_sizes(bytes), MANY)
+    head_sizes(bytes).trits_within(MANY)
 }
 
 // ---- trits
 
 // The trit of that number.
-pub fn trit_numbered(bytes: &[u8], at: usize) -> TritFound
+pub fn trit_numbered(bytes: &[u8], at: usize) -> Option<u8>
     ensures { result ≡ trit_numbered bytes.now at }
 {
     let count = head_trits(bytes) as usize;
     if count <= at {
-        return TritFound::End;
+        return None;
     }
     let known = rules::HEAD_BYTES + at / 8;
     let value = rules::HEAD_BYTES + (count + 7) / 8 + at / 8;
     if bytes.len() <= value {
-        return TritFound::End;
+        return None;
     }
     let k = record_bits::bit_at(bytes[known], at % 8);
     let v = record_bits::bit_at(bytes[value], at % 8);
-    TritFound::Code(record_bits::trit_by(k, v))
+    Some(record_bits::trit_by(k, v))
 }
 
 // The trit at a reader's place: behind the head the place counts trits.
-pub fn trit_there(bytes: &[u8], at: usize) -> TritFound
+fn trit_there(bytes: &[u8], at: usize) -> Option<u8>
     ensures { result ≡ trit_there bytes.now at }
 {
     if at < rules::HEAD_BYTES {
-        return TritFound::End;
+        return None;
     }
     trit_numbered(bytes, at - rules::HEAD_BYTES)
 }
 
 // The place after that trit, or the same where there is none.
-pub fn place_after_trit(bytes: &[u8], at: usize) -> usize
+fn place_after_trit(bytes: &[u8], at: usize) -> usize
     ensures { result ≡ place_after_trit bytes.now at }
 {
     match trit_there(bytes, at) {
-        TritFound::Code(_) => at + 1,
-        TritFound::End => at,
+        Some(_) => at + 1,
+        None => at,
     }
 }
 
-// Takes the next trit: the reader goes on behind it.
-pub fn next_trit<'s, 'a>(r: &'s mut Reader<'a>) -> TritFound
-    ensures { (result ≡ trit_there r.old.bytes.now r.old.at) × (r.new.bytes ≡ r.old.bytes) × (r.new.at ≡ place_after_trit r.old.bytes.now r.old.at) }
-{
-    let bytes = r.bytes;
-    let at = r.at;
-    r.at = place_after_trit(bytes, at);
-    trit_there(bytes, at)
-}
-
-// The first two trits of a record, or that there are fewer.
-#[derive(Clone, Copy)]
+// The first two trits of a record, as far as they are there.
+#[derive(Clone, Copy, Debug, PartialEq, Eq)]
 pub struct FirstTrits {
-    pub first: TritFound,
-    pub second: TritFound,
+    pub first: Option<u8>,
+    pub second: Option<u8>,
 }
 
-// Reads a record's first two trits, by one reader: it goes over the head, and then takes one trit and the next.
-pub fn first_trits(bytes: &[u8]) -> FirstTrits
-    ensures { result ≡ first_trits bytes.now }
-{
-    let mut r = new(bytes);
-    next_head(&mut r);
-    let first = next_trit(&mut r);
-    let second = next_trit(&mut r);
-    FirstTrits { first, second }
+impl FirstTrits {
+    // Reads a record's first two trits, by one reader: it goes over the head, and then takes one trit and the next.
+    pub fn of(bytes: &[u8]) -> FirstTrits
+        ensures { result ≡ first_trits bytes.now }
+    {
+        let mut reader = Reader::new(bytes);
+        reader.next_head();
+        let first = reader.next_trit();
+        let second = reader.next_trit();
+        FirstTrits { first, second }
+    }
 }
 
 // ---- all the trits that are left
@@ -281,26 +206,10 @@ fn array_bytes(count: usize) -> usize
 fn has_trits(bytes: &[u8], at: usize, count: usize) -> bool
     ensures { result ≡ has_trits count bytes.now at }
 {
-    if at < rules::HEAD_BYTES {
-        return false;
-    }
-    if (at - rules::HEAD_BYTES) % 8 != 0 {
-        return false;
-    }
-    if MANY < count as u64 {
-        return false;
-    }
-    bytes.len() == rules::HEAD_BYTES + 2 * array_bytes(count)
-}
-
-// Eight less, or 0.
-pub fn less_eight(left: usize) -> usize
-    ensures { result ≡ left - 8 }
-{
-    if left < 8 {
-        return 0;
-    }
-    left - 8
+    rules::HEAD_BYTES <= at
+        && (at - rules::HEAD_BYTES) % 8 == 0
+        && count as u64 <= MANY
+        && bytes.len() == rules::HEAD_BYTES + 2 * array_bytes(count)
 }
 
 // Stores the trits of two arrays, a byte of each at a time.
@@ -308,12 +217,12 @@ fn put_groups(image: &mut [u8], count: usize, ks: &[u8], vs: &[u8])
     requires { (length ks.now ≡ length vs.now) × (length ks.now ≤ many_bytes) }
     ensures { image.new ≡ sets image.old 0 (trits_by count (bits_of ks.now) (bits_of vs.now)) }
 {
-    let mut left = count;
-    let mut j = 0;
-    while j < ks.len() {
-        record_bits::spread(image, 8 * j, left, ks[j], vs[j]);
-        left = less_eight(left);
-        j += 1;
+    for j in 0..ks.len() {
+        let group = Group {
+            known: ks[j],
+            value: vs[j],
+        };
+        group.spread(image, 8 * j, count.saturating_sub(8 * j));
     }
 }
 
@@ -335,11 +244,62 @@ fn put_rest(image: &mut [u8], bytes: &[u8], at: usize, count: usize) -> usize
     rules::HEAD_BYTES + count
 }
 
-// Takes all the trits that are left of a record of `count` trits into the image: the reader goes on behind them.
-pub fn next_trits<'i, 's, 'a>(image: &'i mut [u8], r: &'s mut Reader<'a>, count: usize)
-    ensures { (image.new ≡ sets image.old 0 (trits_there count r.old.bytes.now r.old.at)) × (r.new.bytes ≡ r.old.bytes) × (r.new.at ≡ place_after_trits count r.old.bytes.now r.old.at) }
-{
-    let bytes = r.bytes;
-    let at = r.at;
-    r.at = put_rest(image, bytes, at, count);
+// ---- the reader
+
+#[derive(Clone, Copy)]
+pub struct Reader<'a> {
+    pub bytes: &'a [u8],
+    pub at: usize,
+}
+
+impl<'a> Reader<'a> {
+    // A reader at the record's start.
+    pub fn new(bytes: &'a [u8]) -> Reader<'a>
+        ensures { (result.bytes ≡ bytes.entry) × (result.at ≡ 0) }
+    {
+        Reader { bytes, at: 0 }
+    }
+
+    // Takes the next word: the reader goes on behind it.
+    pub fn next_word(&mut self) -> Option<u16>
+        ensures { (result ≡ word_there self.old.bytes.now self.old.at) × (self.new.bytes ≡ self.old.bytes) × (self.new.at ≡ place_after_word self.old.bytes.now self.old.at) }
+    {
+        let bytes = self.bytes;
+        let at = self.at;
+        self.at = place_after_word(bytes, at);
+        word_there(bytes, at)
+    }
+
+    // Takes the next six words: the reader goes on behind them.
+    pub fn next_head(&mut self) -> HeadWords
+        ensures { (result ≡ words_from self.old.bytes.now self.old.at) × (self.new.bytes ≡ self.old.bytes) × (self.new.at ≡ place_after_head self.old.bytes.now self.old.at) }
+    {
+        HeadWords {
+            mark: self.next_word(),
+            unit: self.next_word(),
+            full: self.next_word(),
+            full_depth: self.next_word(),
+            partial: self.next_word(),
+            partial_depth: self.next_word(),
+        }
+    }
+
+    // Takes the next trit: the reader goes on behind it.
+    pub fn next_trit(&mut self) -> Option<u8>
+        ensures { (result ≡ trit_there self.old.bytes.now self.old.at) × (self.new.bytes ≡ self.old.bytes) × (self.new.at ≡ place_after_trit self.old.bytes.now self.old.at) }
+    {
+        let bytes = self.bytes;
+        let at = self.at;
+        self.at = place_after_trit(bytes, at);
+        trit_there(bytes, at)
+    }
+
+    // Takes all the trits that are left of a record of `count` trits into the image: the reader goes on behind them.
+    pub fn next_trits(&mut self, image: &mut [u8], count: usize)
+        ensures { (image.new ≡ sets image.old 0 (trits_there count self.old.bytes.now self.old.at)) × (self.new.bytes ≡ self.old.bytes) × (self.new.at ≡ place_after_trits count self.old.bytes.now self.old.at) }
+    {
+        let bytes = self.bytes;
+        let at = self.at;
+        self.at = put_rest(image, bytes, at, count);
+    }
 }

@@ -1,8 +1,8 @@
 -- Products and sums up to a limit.
 use mathlib.Core.Path.{◌≡◌, sym, ap, ◌∙◌}
-use Prim.Native.Nat.{ℕ, zero, suc, ◌+◌, ◌*◌, ◌/◌, ◌<◌, ◌≤◌, min}
+use Prim.Native.Nat.{ℕ, zero, suc, ◌+◌, ◌*◌, ◌<◌, ◌≤◌, min}
 use native.Mathlib.Omega.{arith}
-use native.Mathlib.Nat.{mul_comm, mul-le-mul, one-mul, zero-mul, div-lt_iff_lt-mul, le-div_iff_mul-le}
+use native.Mathlib.Nat.{mul-le-mul, one-mul, zero-mul}
 use lib.Dec.{eqb, ltb}
 use borrow.Author.Tests.{lt-ltb, le-ltb, ltb-false}
 use mathlib.Core.Bool.{false}
@@ -13,31 +13,22 @@ use Rattle.record_sizes.specs.View.{view_sizes}
 use Rattle.record_sizes.specs.declared.Sizes.{Sizes}
 use Rattle.lists.proofs.Choice.{cases_le, or_false}
 
--- a product past the limit, and one within it
-pub product_past : (a b most : ℕ) → 0 < a → most / a < b → most ≡ min (a * b) most
-product_past a b most pos h = let q : most < b * a = (div-lt_iff_lt-mul pos).0 h in omega (arith, mul_comm a b)
-
-pub product_fits : (a b most : ℕ) → 0 < a → b ≤ most / a → a * b ≤ most
-product_fits a b most pos h = let q : b * a ≤ most = (le-div_iff_mul-le pos).0 h in omega (arith, mul_comm a b)
-
 past : (u x y : ℕ) → 0 < u → y < x → y ≤ u * x
 past u x y pos h = omega (arith, mul-le-mul {n₁ = 1} {m₁ = x} {n₂ = u} {m₂ = x} (omega arith) (omega arith), one-mul x)
 
--- limits on the way change nothing
-pub within : (u x y most : ℕ) → min (u * min (min x most + min y most) most) most ≡ min (u * (x + y)) most
-within u x y most =
+-- limits on the way change nothing, also a last one of the sum that is not below the limit
+pub within : (u x y most cap : ℕ) → most ≤ cap → min (u * min (min x most + min y most) cap) most ≡ min (u * (x + y)) most
+within u x y most cap c =
     cases_le (x + y) most
     (λ h.
-    let e : min (min x most + min y most) most ≡ x + y = omega arith in
+    let e : min (min x most + min y most) cap ≡ x + y = omega arith in
     ap (λ (n : ℕ). min (u * n) most) e)
-    (λ h.
-    let e : min (min x most + min y most) most ≡ most = omega arith in
-    ap (λ (n : ℕ). min (u * n) most) e ∙ over u h)
+    (λ h. over u (min (min x most + min y most) cap) (omega arith) h)
   where
-    over : (u : ℕ) → most < x + y → min (u * most) most ≡ min (u * (x + y)) most
-    over zero h = rw (zero-mul most, zero-mul (x + y))
-    over (suc u) h =
-        let a : most ≤ suc u * most = omega (arith, mul-le-mul {n₁ = 1} {m₁ = most} {n₂ = suc u} {m₂ = most} (omega arith) (omega arith), one-mul most) in
+    over : (u k : ℕ) → most ≤ k → most < x + y → min (u * k) most ≡ min (u * (x + y)) most
+    over zero k g h = rw (zero-mul k, zero-mul (x + y))
+    over (suc u) k g h =
+        let a : most ≤ suc u * k = omega (arith, mul-le-mul {n₁ = 1} {m₁ = k} {n₂ = suc u} {m₂ = k} (omega arith) (omega arith), one-mul k) in
         let b : most ≤ suc u * (x + y) = past (suc u) (x + y) most (omega arith) h in
         omega arith
 

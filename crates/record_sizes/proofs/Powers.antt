@@ -1,10 +1,9 @@
 -- A turn of the loop that looks for a power of two.
 use mathlib.Core.Path.{◌≡◌, refl, sym, ap, ◌∙◌}
 use mathlib.Core.Bool.{Bool, true, false, ◌||◌}
-use Prim.Native.Nat.{ℕ, ◌+◌, ◌-◌, ◌*◌, ◌^◌, ◌<◌, ◌≤◌}
-use native.Mathlib.Numerals.{add-one}
+use Prim.Native.Nat.{ℕ, ◌+◌, ◌-◌, ◌*◌, ◌%◌, ◌^◌, ◌<◌, ◌≤◌}
 use native.Mathlib.Omega.{arith}
-use native.Mathlib.Nat.{pow-suc, pow-le-pow_right}
+use native.Mathlib.Nat.{pow-le-pow_right}
 use lib.Dec.{eqb}
 use borrow.Author.Tests.{eq-eqb, ne_eqb}
 use Rattle.lists.specs.Lists.{any, up_from}
@@ -22,18 +21,16 @@ power_all n = refl
 power_step : (n e : ℕ) → e < 16 → power_from n e ≡ (eqb n (2 ^ e) || power_from n (e + 1))
 power_step n e h = ap (any (λ k. eqb n (2 ^ k))) (count_step e 16 h)
 
-module _ (n e p : ℕ) (h : e < 16) (q : p ≡ 2 ^ e) where
-  pub power_found : n ≡ p → power_from n e ≡ true
-  power_found f = power_step n e h ∙ ap (λ (b : Bool). b || power_from n (e + 1)) (eq-eqb n (2 ^ e) (f ∙ q))
+-- the code's 1 << e
+pub shifted : (e : ℕ) → e < 16 → 1 * 2 ^ e % 4294967296 ≡ 2 ^ e
+shifted e h = let z : 2 ^ e ≤ 2 ^ 15 = pow-le-pow_right {n = 2} (omega arith) {i = e} {j = 15} (omega arith) in omega arith
 
-  pub power_turn : (n ≡ p → ⊥) → power_from n (e + 1) ≡ power_from n e
-  power_turn f = sym (power_step n e h ∙ ap (λ (b : Bool). b || power_from n (e + 1)) (ne_eqb n (2 ^ e) (λ z. f (z ∙ sym q))))
+module _ (n e : ℕ) (h : e < 16) where
+  pub power_found : n ≡ 1 * 2 ^ e % 4294967296 → power_from n e ≡ true
+  power_found f = power_step n e h ∙ ap (λ (b : Bool). b || power_from n (e + 1)) (eq-eqb n (2 ^ e) (f ∙ shifted e h))
 
-  pub power_double : p * 2 ≡ 2 ^ (e + 1)
-  power_double = ap (λ (x : ℕ). x * 2) q ∙ sym (pow-suc 2 e) ∙ ap (λ (x : ℕ). 2 ^ x) (sym (add-one e))
-
-  pub power_max : p ≤ 32768
-  power_max = let z : 2 ^ e ≤ 2 ^ 15 = pow-le-pow_right {n = 2} (omega arith) {i = e} {j = 15} (omega arith) in omega arith
+  pub power_turn : (n ≡ 1 * 2 ^ e % 4294967296 → ⊥) → power_from n (e + 1) ≡ power_from n e
+  power_turn f = sym (power_step n e h ∙ ap (λ (b : Bool). b || power_from n (e + 1)) (ne_eqb n (2 ^ e) (λ z. f (z ∙ sym (shifted e h)))))
 
 pub power_none : (n e : ℕ) → 16 ≤ e → power_from n e ≡ false
 power_none n e h = ap (any (λ k. eqb n (2 ^ k))) (count_end e 16 h)

@@ -9,7 +9,7 @@ ghost use Rattle.record_sizes.specs.View.{view_sizes};
 
 // `full` memories of depth `full_depth`, then `partial` ones of depth `partial_depth`, each `unit` bits wide.
 #[repr(C)]
-#[derive(Clone, Copy)]
+#[derive(Clone, Copy, Debug, PartialEq, Eq)]
 pub struct Sizes {
     pub unit: u32,
     pub full: u32,
@@ -24,157 +24,108 @@ pub struct Sizes {
 fn is_power(n: u32) -> bool
     ensures { result ≡ is_power n }
 {
-    let mut p: u32 = 1;
-    let mut e: u32 = 0;
-    while e <= rules::MAX_HARD {
-        if n == p {
+    for e in 0..rules::MAX_HARD + 1 {
+        if n == 1 << e {
             return true;
         }
-        p = p * 2;
-        e += 1;
     }
     false
 }
 
-fn bad_unit(s: Sizes) -> bool
-    ensures { result ≡ bad_unit (view_sizes s) }
-{
-    if s.unit == 0 {
-        return true;
-    }
-    rules::MAX_UNIT < s.unit
-}
-
 // A depth is 0 exactly when its count is.
+#[tactic(auto, unfolding(rules::specs::Conditions::unlike))]
 fn is_unlike(count: u32, depth: u32) -> bool
     ensures { result ≡ unlike count depth }
 {
-    if count == 0 {
-        return depth != 0;
-    }
-    depth == 0
+    (count == 0) != (depth == 0)
 }
 
-// The depth of memories that are there is no power of two.
-fn no_power(count: u32, depth: u32) -> bool
-    ensures { result ≡ (not (eqb count 0) && not (is_power depth)) }
-{
-    if count == 0 {
-        return false;
+impl Sizes {
+    #[tactic(auto, unfolding(rules::specs::Conditions::bad_unit))]
+    fn has_bad_unit(self) -> bool
+        ensures { result ≡ bad_unit (view_sizes self) }
+    {
+        self.unit == 0 || rules::MAX_UNIT < self.unit
     }
-    !is_power(depth)
-}
 
-// With both counts present, the partial depth is not less.
-fn not_less(s: Sizes) -> bool
-    ensures { result ≡ (not (eqb s.full 0) && (not (eqb s.partial 0) && leb s.full_depth s.partial_depth)) }
-{
-    if s.full == 0 {
-        return false;
+    // There are memories of both depths, and the partial depth is not less.
+    fn is_not_less(self) -> bool
+        ensures { result ≡ (not (eqb self.full 0) && (not (eqb self.partial 0) && leb self.full_depth self.partial_depth)) }
+    {
+        self.full != 0 && self.partial != 0 && self.full_depth <= self.partial_depth
     }
-    if s.partial == 0 {
-        return false;
-    }
-    s.full_depth <= s.partial_depth
-}
 
-fn bad_depths(s: Sizes) -> bool
-    ensures { result ≡ bad_depths (view_sizes s) }
-{
-    if is_unlike(s.full, s.full_depth) {
-        return true;
+    #[tactic(auto, unfolding(rules::specs::Conditions::bad_depths))]
+    fn has_bad_depths(self) -> bool
+        ensures { result ≡ bad_depths (view_sizes self) }
+    {
+        is_unlike(self.full, self.full_depth)
+            || is_unlike(self.partial, self.partial_depth)
+            || self.full != 0 && !is_power(self.full_depth)
+            || rules::MAX_DEPTH < self.full_depth
+            || rules::MAX_PARTIAL < self.partial_depth
+            || self.is_not_less()
     }
-    if is_unlike(s.partial, s.partial_depth) {
-        return true;
-    }
-    if no_power(s.full, s.full_depth) {
-        return true;
-    }
-    if rules::MAX_DEPTH < s.full_depth {
-        return true;
-    }
-    if rules::MAX_PARTIAL < s.partial_depth {
-        return true;
-    }
-    not_less(s)
-}
 
-// The rules on the sizes of a record are broken.
-pub fn bad_sizes(s: Sizes) -> bool
-    ensures { result ≡ bad_sizes (view_sizes s) }
-{
-    if bad_unit(s) {
-        return true;
+    // The columns pass their limit.
+    #[tactic(auto, using(crate::proofs::Counts::columns_fit))]
+    fn has_too_many_columns(self) -> bool
+        requires { bad_unit (view_sizes self) ≡ false }
+        ensures { result ≡ ltb max_columns (size_mems (view_sizes self) * self.unit) }
+    {
+        rules::MAX_COLUMNS < self.memories() * u64::from(self.unit)
     }
-    if bad_depths(s) {
-        return true;
+
+    // The trits pass their limit.
+    #[tactic(auto, using(crate::proofs::Counts::past_limit))]
+    fn has_too_many_trits(self) -> bool
+        ensures { result ≡ ltb max_image (size_trits (view_sizes self)) }
+    {
+        rules::MAX_IMAGE < self.trits_within(rules::MAX_IMAGE + 1)
     }
-    if too_many_columns(s) {
-        return true;
+
+    // The rules on the sizes of a record are broken.
+    #[tactic(auto, unfolding(rules::specs::Conditions::bad_sizes))]
+    pub fn is_bad(self) -> bool
+        ensures { result ≡ bad_sizes (view_sizes self) }
+    {
+        self.has_bad_unit()
+            || self.has_bad_depths()
+            || self.has_too_many_columns()
+            || self.has_too_many_trits()
     }
-    too_many_trits(s)
-}
 
-// The columns pass their limit.
-fn too_many_columns(s: Sizes) -> bool
-    requires { bad_unit (view_sizes s) ≡ false }
-    ensures { result ≡ ltb max_columns (size_mems (view_sizes s) * s.unit) }
-{
-    rules::MAX_COLUMNS < memories(s) * (s.unit as u64)
-}
+    // ---- counts
 
-// The trits pass their limit.
-fn too_many_trits(s: Sizes) -> bool
-    ensures { result ≡ ltb max_image (size_trits (view_sizes s)) }
-{
-    rules::MAX_IMAGE < trits_within(s, rules::MAX_IMAGE + 1)
-}
+    #[tactic(auto, unfolding(rules::specs::Record::size_mems))]
+    pub fn memories(self) -> u64
+        ensures { result ≡ size_mems (view_sizes self) }
+    {
+        u64::from(self.full) + u64::from(self.partial)
+    }
 
-// ---- counts
+    // The trits of the image, or a limit where they are more.
+    #[tactic(auto, unfolding(rules::specs::Record::size_trits), using(crate::proofs::Counts::within))]
+    pub fn trits_within(self, most: u64) -> u64
+        ensures { result ≡ min (size_trits (view_sizes self)) most }
+    {
+        let full = product_within(u64::from(self.full), u64::from(self.full_depth), most);
+        let partial = product_within(u64::from(self.partial), u64::from(self.partial_depth), most);
+        product_within(u64::from(self.unit), full.saturating_add(partial), most)
+    }
 
-pub fn memories(s: Sizes) -> u64
-    ensures { result ≡ size_mems (view_sizes s) }
-{
-    (s.full as u64) + (s.partial as u64)
+    // The image in a lent array: its first trits, as many as the sizes say.
+    pub fn image_of(self, image: &[u8]) -> &[u8]
+        ensures { result.now ≡ record_image (view_sizes self) image.now }
+    {
+        let count = self.trits_within(image.len() as u64) as usize;
+        &image[..count]
+    }
 }
 
 // A product, or a limit where it is past that.
 fn product_within(a: u64, b: u64, most: u64) -> u64
     ensures { result ≡ min (a * b) most }
 {
-    if a == 0 {
-        return 0;
-    }
-    if most / a < b {
-        return most;
-    }
-    a * b
-}
-
-// A sum of numbers up to a limit, or the limit where it is past that.
-fn sum_within(a: u64, b: u64, most: u64) -> u64
-    requires { a ≤ most }
-    ensures { result ≡ min (a + b) most }
-{
-    if most - a < b {
-        return most;
-    }
-    a + b
-}
-
-// The trits of the image, or a limit where they are more.
-pub fn trits_within(s: Sizes, most: u64) -> u64
-    ensures { result ≡ min (size_trits (view_sizes s)) most }
-{
-    let full = product_within(s.full as u64, s.full_depth as u64, most);
-    let partial = product_within(s.partial as u64, s.partial_depth as u64, most);
-    product_within(s.unit as u64, sum_within(full, partial, most), most)
-}
-
-// The image in a lent array: its first trits, as many as the sizes say.
-pub fn image_of(s: Sizes, image: &[u8]) -> &[u8]
-    ensures { result.now ≡ record_image (view_sizes s) image.now }
-{
-    let count = trits_within(s, image.len() as u64) as usize;
-    &image[..count]
+    a.saturating_mul(b).min(most)
 }

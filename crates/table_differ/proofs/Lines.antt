@@ -7,9 +7,10 @@ use Prim.Native.Nat.{ℕ, zero, suc, ◌+◌, ◌-◌, ◌*◌, ◌≤◌, ◌<�
 use native.Mathlib.Nat.{suc-mul, zero-mul, mul-le-mul}
 use native.Mathlib.Numerals.{add-one}
 use native.Mathlib.Omega.{arith}
-use lib.ListN.{length, take, drop, get_or, replicate, length-append, length-replicate, drop_of_length-le}
-use lib.Seq.{sets, drop-cons, take_at, take-take}
+use lib.ListN.{length, take, replicate, length-append, length-replicate}
+use lib.Seq.{sets, take_at, take-take}
 use lib.Dec.{eqb}
+use lib.Pointwise.{pointwise}
 use borrow.Author.Tests.{eq-eqb, ne_eqb, lt-ltb, le-ltb}
 use Rattle.lists.specs.Lists.{part, sum_by, concat_map, same_list}
 use Rattle.lists.proofs.Store.{sets_at, part_sets}
@@ -46,32 +47,12 @@ row_text width w row line h e f =
     ∙ ap (take width) s
     ∙ take_at b (10 ∷ []) width k
 
--- ---- two rows
-unlike : (a b : List ℕ) → length a ≢ length b → same_list a b ≡ false
-unlike [] [] h = absurd (h refl)
-unlike [] (y ∷ b) h = refl
-unlike (x ∷ a) [] h = refl
-unlike (x ∷ a) (y ∷ b) h = and_no (eqb x y) (unlike a b (λ e. h (ap suc e)))
-  where
-    and_no : (t : Bool) {u : Bool} → u ≡ false → (t && u) ≡ false
-    and_no true e = e
-    and_no false e = refl
-
-pub same_short : (a b : List ℕ) → (length a ≡ length b → ⊥) → false ≡ same_list a b
-same_short a b h = sym (unlike a b h)
-
-module _ (a b : List ℕ) (long : length a ≡ length b) (i : ℕ) where
-  same_step : i < length a → same_list (drop i a) (drop i b) ≡ (eqb (get_or a i 0) (get_or b i 0) && same_list (drop (i + 1) a) (drop (i + 1) b))
-  same_step h = rw (drop-cons a i 0 h, drop-cons b i 0 (omega arith), add-one)
-
-  pub same_fail : i < length a → (get_or a i 0 ≡ get_or b i 0 → ⊥) → false ≡ same_list (drop i a) (drop i b)
-  same_fail h n = sym (same_step h ∙ ap (λ (t : Bool). t && same_list (drop (i + 1) a) (drop (i + 1) b)) (ne_eqb (get_or a i 0) (get_or b i 0) n))
-
-  pub same_pass : i < length a → get_or a i 0 ≡ get_or b i 0 → same_list (drop (i + 1) a) (drop (i + 1) b) ≡ same_list (drop i a) (drop i b)
-  same_pass h n = sym (same_step h ∙ ap (λ (t : Bool). t && same_list (drop (i + 1) a) (drop (i + 1) b)) (eq-eqb (get_or a i 0) (get_or b i 0) n))
-
-  pub same_end : length a ≤ i → true ≡ same_list (drop i a) (drop i b)
-  same_end h = rw (drop_of_length-le a {i = i} h, drop_of_length-le b {i = i} (omega arith))
+-- ---- two rows: the code's test
+pub pointwise_same : (a b : List ℕ) → pointwise eqb a b ≡ same_list a b
+pointwise_same [] [] = refl
+pointwise_same [] (y ∷ b) = refl
+pointwise_same (x ∷ a) [] = refl
+pointwise_same (x ∷ a) (y ∷ b) = ap (λ (t : Bool). eqb x y && t) (pointwise_same a b)
 
 -- ---- one row's line, or nothing
 module _ (width r : ℕ) (x y : List ℕ) where

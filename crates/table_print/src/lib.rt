@@ -6,13 +6,16 @@ ghost use Rattle.std.proofs.lemmas.List.Edits.{sets};
 ghost use Rattle.rules.specs.Limits.{trit_x, max_depth, max_width};
 ghost use Rattle.table_print.specs.Rows.{char_of, bits_text, rows_from, rows_shown};
 
-use table_text::bytes::pick;
-
 // The character of a trit.
-pub fn char_of(t: u8) -> u32
+#[tactic(auto, unfolding(crate::specs::Rows::char_of))]
+pub fn char_of(t: u8) -> u8
     ensures { result ≡ char_of t }
 {
-    pick(t == 0, 48, pick(t == 1, 49, 120))
+    match t {
+        0 => b'0',
+        1 => b'1',
+        _ => b'x',
+    }
 }
 
 // The trit at a place, and X past the end.
@@ -20,15 +23,10 @@ fn trit_at(rows: &[u8], at: usize) -> u8
     ensures { result ≡ get_or rows.now at trit_x }
 {
     if at < rows.len() {
-        return rows[at];
+        rows[at]
+    } else {
+        rules::TRIT_X
     }
-    rules::TRIT_X
-}
-
-fn char_byte(t: u8) -> u8
-    ensures { result ≡ char_of t }
-{
-    char_of(t) as u8
 }
 
 // Stores the trits from `from` on, the last of `width` first; the place after them.
@@ -37,14 +35,8 @@ fn put_bits(out: &mut [u8], at: usize, rows: &[u8], from: usize, width: u32) -> 
     ensures { (out.new ≡ sets out.old at (bits_text rows.now from width [])) × (result ≡ at + width) }
 {
     let mut next = at;
-    let mut left = width;
-    while 0 < left {
-        left -= 1;
-        lists::put(
-            out,
-            next,
-            char_byte(trit_at(rows, from + lists::usize_of_u32(left))),
-        );
+    for left in (0..width).rev() {
+        lists::put(out, next, char_of(trit_at(rows, from + left as usize)));
         next += 1;
     }
     next
@@ -67,11 +59,9 @@ fn put_all(out: &mut [u8], depth: u32, width: u32, rows: &[u8]) -> usize
 {
     let mut next: usize = 0;
     let mut from: usize = 0;
-    let mut row: u32 = 0;
-    while row < depth {
+    for row in 0..depth {
         next = put_row(out, next, rows, from, width);
-        from += lists::usize_of_u32(width);
-        row += 1;
+        from += width as usize;
     }
     next
 }

@@ -1,10 +1,10 @@
 -- The steps from a text to its table: the header's words, the layout's test and the rows.
 use mathlib.Core.Path.{◌≡◌, refl, sym, ap, ◌∙◌}
 use mathlib.Core.Logic.{◌≢◌}
-use mathlib.Core.Bool.{Bool, true, false, ◌||◌}
-use mathlib.Core.Option.{Option, none, some}
+use mathlib.Core.Bool.{Bool, true, false}
+use mathlib.Core.Option.{none, some}
 use mathlib.Core.List.{List, [], ◌∷◌, ◌++◌}
-use Prim.Native.Nat.{ℕ, zero, suc, ◌+◌, ◌-◌, ◌*◌, ◌≤◌, ◌<◌}
+use Prim.Native.Nat.{ℕ, ◌-◌, ◌*◌, ◌≤◌, ◌<◌}
 use native.Mathlib.Omega.{arith}
 use lib.ListN.{length, take, drop, get_or}
 use lib.Seq.{sets}
@@ -16,23 +16,18 @@ use Rattle.lists.proofs.Choice.{or_left, or_later}
 use Rattle.lists.proofs.Store.{part_sets}
 use Rattle.lists.proofs.Parts.{length_part}
 use Rattle.lists.proofs.UpFrom.{length_up}
-use Rattle.rules.specs.Limits.{max_depth, max_width, max_bits}
-use Rattle.rules.specs.Geometry.{Layout, row_len_of}
+use Rattle.rules.specs.Limits.{max_depth, max_width}
+use Rattle.rules.specs.Geometry.{Layout}
 use Rattle.rules.specs.Conditions.{bad_layout_sizes, bad_layout}
 use Rattle.rules.specs.Beside.Shape.{Shape, shape_of, laid_shape}
 use Rattle.image_geometry.specs.declared.Params.{Params}
 use Rattle.image_geometry.specs.View.{layout_by}
 use Rattle.table_text.specs.Bytes.{max_text}
 use Rattle.table_text.specs.Head.{head_start, HeadEnd, head_run, head_read}
-use Rattle.table_text.specs.Scan.{scan_start, scan_run, rows_read}
-use Rattle.table_read.specs.Table.{Parsed, NoTable, entries_read, layout_read, head_number, layout_table, head_table, parse_table, max_words}
+use Rattle.table_text.specs.Scan.{ScanEnd, scan_start, scan_run, rows_read}
+use Rattle.table_text.specs.declared.scan.Scan.{Scan}
+use Rattle.table_read.specs.Table.{NoTable, IsTable, table_of, entries_read, layout_read, head_number, layout_table, head_table}
 use Rattle.table_read.specs.View.{params_read}
-
--- nothing stands past the end
-pub get_d_out : (l : List ℕ) (i : ℕ) → length l ≤ i → 0 ≡ get_or l i 0
-get_d_out [] i h = refl
-get_d_out (x ∷ l) zero h = absurd (omega arith)
-get_d_out (x ∷ l) (suc i) h = get_d_out l i (omega arith)
 
 -- ---- entries
 taken_sets : (room ws : List ℕ) (n : ℕ) → n ≡ length ws → length ws ≤ length room → take n (sets room 0 ws) ≡ ws
@@ -84,6 +79,16 @@ pub rows_short : (d w : ℕ) (rows text : List ℕ) (at : ℕ) → w ≤ max_wid
     → rows_read d w rows text at ≡ scan_run d w scan_start rows (drop at (text ++ (10 ∷ [])))
 unfolding rows_read
 rows_short d w rows text at g h = rw (le-ltb max_width w g, le-ltb max_text (length text) h)
+
+-- ---- the rows
+module _ (q : Layout) (e : ScanEnd) (s : Scan) (rows : List ℕ) (h : e ≡ record { state = s; rows = rows }) where
+  pub table_refused : s.kind ≢ 0 → NoTable s.line s.kind ≡ table_of q e
+  unfolding table_of
+  table_refused n = rw (h, ne_eqb s.kind 0 n)
+
+  pub table_given : s.kind ≡ 0 → IsTable (record { layout = q; rows = take (q.depth * q.width) rows }) ≡ table_of q e
+  unfolding table_of
+  table_given z = rw (h, eq-eqb s.kind 0 z)
 
 -- ---- choices
 pub layout_refused : (q : Layout) (text : List ℕ) → bad_layout q ≡ true → layout_table q text ≡ NoTable 1 10

@@ -1,11 +1,10 @@
--- The crate's struct as a table or a refusal.
-use Rattle.std.specs.Prelude.{ℕ, ◌-◌, ◌*◌, List, take, get_or, eqb}
-use Rattle.lists.specs.Choice.{when◌then◌else◌}
+-- The crate's answer as a table or a refusal.
+use Rattle.std.specs.Prelude.{ℕ, ◌-◌, ◌*◌, List, take, get_or, Result, Ok, Err}
 use Rattle.rules.specs.Geometry.{Layout}
 use Rattle.image_geometry.specs.declared.Params.{Params}
 use Rattle.image_geometry.specs.View.{layout_by}
 use Rattle.table_read.specs.declared.Table.{Table}
-use Rattle.table_read.specs.Table as texts
+use Rattle.table_read.specs.declared.Fault.{Fault}
 use Rattle.table_read.specs.Table.{Parsed, NoTable, IsTable}
 
 -- a layout's numbers among the words of a header
@@ -19,9 +18,8 @@ params_read ws count = record {
 }
 
 abbrev pub layout_in : Table → Layout
-layout_in t = layout_by t.params (take t.len t.entries)
+layout_in t = layout_by t.params (take t.entries.len t.entries.list)
 
-unfoldable pub parsed_of : Table → Parsed
-parsed_of t =
-    when eqb t.reason 0 then IsTable (record { layout = layout_in t; rows = take (t.params.depth * t.params.width) t.rows })
-    else NoTable t.line t.reason
+unfoldable pub parsed_of : Result Table Fault → Parsed
+parsed_of (Ok t) = IsTable (record { layout = layout_in t; rows = take (t.params.depth * t.params.width) t.rows })
+parsed_of (Err f) = NoTable f.line f.reason

@@ -3,21 +3,19 @@ use mathlib.Core.Path.{◌≡◌, refl, sym, ap, ◌∙◌}
 use mathlib.Core.Logic.{◌≢◌}
 use mathlib.Core.Bool.{Bool, true, false, ◌&&◌}
 use mathlib.Core.List.{List, [], ◌∷◌, ◌++◌}
-use Prim.Native.Nat.{ℕ, zero, suc, ◌+◌, ◌-◌, ◌*◌, ◌≤◌, ◌<◌}
-use native.Mathlib.Nat.{mul-le-mul}
+use Prim.Native.Nat.{ℕ, zero, suc, ◌+◌, ◌≤◌, ◌<◌}
 use native.Mathlib.Numerals.{add-one}
 use native.Mathlib.Omega.{arith}
-use lib.ListN.{length, drop, get_or, set, length-append, length-set, drop_of_length-le, get_or-append}
+use lib.ListN.{length, drop, get_or, set, length-append, length-set, drop_of_length-le}
 use lib.Seq.{drop-cons}
 use lib.Dec.{eqb}
 use borrow.Author.Tests.{eq-eqb, ne_eqb}
 use Rattle.lists.specs.Choice.{when◌then◌else◌}
-use Rattle.lists.proofs.Choice.{if_true, if_false}
 use Rattle.table_text.specs.Bytes.{low_word, trit_of}
 use Rattle.table_text.specs.declared.head.Head.{Head}
 use Rattle.table_text.specs.declared.scan.Scan.{Scan}
-use Rattle.table_text.specs.Head.{head_step_of, is_stop, head_stored, head_run, HeadEnd}
-use Rattle.table_text.specs.Scan.{scan_step_of, is_stored, place_of, scan_stored, scan_run, ScanEnd}
+use Rattle.table_text.specs.Head.{head_step_of, is_stop, head_stored, head_run}
+use Rattle.table_text.specs.Scan.{scan_step_of, is_stored, place_of, scan_stored, scan_run}
 
 -- ---- the byte at a place, and a line break past the end
 pub byte_in : (text : List ℕ) (i : ℕ) → i < length text → get_or text i 0 ≡ get_or text i 10
@@ -110,10 +108,6 @@ pub scan_end : (d w : ℕ) (s : Scan) (rows text : List ℕ) (i : ℕ) → lengt
     → scan_run d w s rows (drop i (text ++ (10 ∷ []))) ≡ record { state = s; rows = rows }
 unfolding scan_run
 scan_end d w s rows text i l = rw (no_byte text i l)
-
--- ---- a place fits
-pub product : (a b r w : ℕ) → a ≡ r → b ≡ w → a < 4294967296 → w ≤ 128 → a * b ≤ 4294967296 * 128
-product a b r w e f h k = mul-le-mul {n₂ = 4294967296} {m₂ = 128} (omega arith) (omega arith)
 
 -- ---- a trit fits a byte
 at_most : (p q r s : Bool) → (when p then 0 else when q then 1 else when r then 2 else when s then 2 else 3) ≤ 3

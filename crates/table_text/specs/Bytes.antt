@@ -1,5 +1,5 @@
 -- Bytes of a table's text: digits, what separates words, and numbers that grow digit by digit.
-use Rattle.std.specs.Prelude.{ℕ, ◌+◌, ◌-◌, ◌*◌, Bool, true, false, ◌&&◌, eqb, ltb, leb}
+use Rattle.std.specs.Prelude.{ℕ, ◌+◌, ◌-◌, ◌*◌, Bool, true, ◌&&◌, eqb, ltb, leb}
 use Rattle.lists.specs.Choice.{when◌then◌else◌}
 
 -- the longest text that is read

@@ -1,6 +1,6 @@
 -- The header line: depth, width, entries, soft mask, hard bits and unit, separated by blanks. Entries are separated by commas, `-` names no bit, and
 -- `plain` stands for none given. The numbers are stored in order, as words.
-use Rattle.std.specs.Prelude.{ℕ, ◌+◌, ◌-◌, Bool, ◌&&◌, List, [], ◌∷◌, ◌++◌, length, set, eqb, ltb, leb}
+use Rattle.std.specs.Prelude.{ℕ, ◌-◌, Bool, ◌&&◌, List, [], ◌∷◌, ◌++◌, length, set, eqb, ltb, leb}
 use Rattle.lists.specs.Choice.{when◌then◌else◌}
 use Rattle.rules.specs.Limits.{None}
 use Rattle.table_text.specs.declared.head.Head.{Head}

@@ -3,7 +3,7 @@ use Rattle.std.specs.Prelude.{ℕ, ◌+◌, ◌-◌, ◌*◌, Bool, ◌&&◌, Li
 use Rattle.lists.specs.Choice.{when◌then◌else◌}
 use Rattle.rules.specs.Limits.{max_width}
 use Rattle.table_text.specs.declared.scan.Scan.{Scan}
-use Rattle.table_text.specs.Bytes.{max_text, bump, more, low_word, is_blank, is_end, trit_of, hex_of}
+use Rattle.table_text.specs.Bytes.{max_text, bump, more, low_word, is_end, trit_of, hex_of}
 
 -- kinds: 0 between words, 1 in a word, 2 in a row number, 3 after one slash, 4 in a comment, 5 after `@`, and from 9 on refused.
 -- `left` are the bits of the word that are still to come, and `value` is the row number

@@ -1,13 +1,12 @@
 // The header line of a table's text.
-ghost use Rattle.std.specs.Prelude.{◌≡◌, ◌&&◌, ◌∷◌, [], ◌++◌, ◌+◌, ◌-◌, ◌<◌, ◌≤◌, drop, length};
-ghost use Rattle.lists.specs.Choice.{when◌then◌else◌};
+ghost use Rattle.std.specs.Prelude.{◌≡◌, ◌&&◌, ◌∷◌, [], ◌++◌, ◌≤◌, drop, length};
 ghost use Rattle.table_text.specs.Bytes.{max_text};
 ghost use Rattle.table_text.specs.Head.{head_as, head_start, head_bad, number_end, head_blank, head_comma, head_break, head_digit, head_entry, head_letter, head_word, head_step_of, is_stop, head_stored, head_run, head_read};
 
-use crate::bytes::{both, bumped, either};
+use crate::bytes;
 
 // The machine that reads the line: a kind, the field in hand, the words stored, and the number in hand.
-#[derive(Clone, Copy)]
+#[derive(Clone, Copy, Debug, PartialEq, Eq)]
 pub struct Head {
     pub kind: u32,
     pub field: u32,
@@ -15,153 +14,159 @@ pub struct Head {
     pub value: u64,
 }
 
-fn pick_head(t: bool, a: Head, b: Head) -> Head
-    ensures { result ≡ (when t then a else b) }
-{
-    if t {
-        return a;
-    }
-    b
-}
-
-fn made(kind: u32, field: u32, count: u32, value: u64) -> Head
-    ensures { result ≡ head_as kind field count value }
-{
-    Head {
-        kind,
-        field,
-        count,
-        value,
-    }
-}
-
-fn bad(h: Head) -> Head
-    ensures { result ≡ head_bad h }
-{
-    made(9, h.field, h.count, h.value)
-}
-
-fn number_end(h: Head, field: u32) -> Head
-    ensures { result ≡ number_end h field }
-{
-    pick_head(
-        h.value < 4294967296,
-        made(0, field, bumped(h.count), 0),
-        bad(h),
-    )
-}
-
-fn blank(h: Head) -> Head
-    ensures { result ≡ head_blank h }
-{
-    let after = pick_head(h.kind == 2, made(0, bumped(h.field), h.count, 0), bad(h));
-    pick_head(
-        h.kind == 0,
-        h,
-        pick_head(h.kind == 1, number_end(h, bumped(h.field)), after),
-    )
-}
-
-fn comma(h: Head) -> Head
-    ensures { result ≡ head_comma h }
-{
-    pick_head(both(h.kind == 1, h.field == 2), number_end(h, 2), bad(h))
-}
-
-fn line_break(h: Head) -> Head
-    ensures { result ≡ head_break h }
-{
-    let e = blank(h);
-    pick_head(
-        both(e.kind == 0, e.field == 6),
-        made(3, 6, e.count, 0),
-        bad(h),
-    )
-}
-
-fn digit(h: Head, b: u32) -> Head
-    ensures { result ≡ head_digit h b }
-{
-    let value = crate::bytes::more_ten(h.value, b.saturating_sub(48));
-    pick_head(h.kind <= 1, made(1, h.field, h.count, value), bad(h))
-}
-
-fn entry(h: Head, kind: u32, value: u64) -> Head
-    ensures { result ≡ head_entry h kind value }
-{
-    pick_head(
-        both(h.kind == 0, h.field == 2),
-        made(kind, 2, h.count, value),
-        bad(h),
-    )
-}
-
-fn letter(h: Head, b: u32) -> Head
-    ensures { result ≡ head_letter h b }
-{
-    let next = pick_head(
-        h.value == 4,
-        made(2, 2, h.count, 0),
-        made(4, 2, h.count, crate::bytes::next_letter(h.value)),
-    );
-    pick_head(
-        both(h.kind == 4, b == crate::bytes::letter_of(h.value)),
-        next,
-        bad(h),
-    )
-}
-
-fn word(h: Head, b: u32) -> Head
-    ensures { result ≡ head_word h b }
-{
-    pick_head(
-        b == 45,
-        entry(h, 1, 4294967295),
-        pick_head(b == 112, entry(h, 4, 1), letter(h, b)),
-    )
-}
-
-// One byte.
-fn step(h: Head, b: u32) -> Head
-    ensures { result ≡ head_step_of h b }
-{
-    let other = pick_head(
-        b == 44,
-        comma(h),
-        pick_head(b == 10, line_break(h), word(h, b)),
-    );
-    pick_head(
-        crate::bytes::is_digit(b),
-        digit(h, b),
-        pick_head(crate::bytes::is_blank(b), blank(h), other),
-    )
-}
-
-fn is_stop(b: u32) -> bool
+#[tactic(auto, unfolding(crate::specs::Head::is_stop))]
+fn is_stop(b: u8) -> bool
     ensures { result ≡ is_stop b }
 {
-    either(
-        crate::bytes::is_blank(b),
-        true,
-        either(b == 44, true, b == 10),
-    )
+    bytes::is_blank(b) || b == b',' || b == b'\n'
 }
 
-// Stores a number that ends.
-fn store(words: &mut [u32], h: Head, b: u32)
-    ensures { words.new ≡ head_stored h b words.old }
-{
-    if both(h.kind == 1, is_stop(b)) {
-        lists::put(
-            words,
-            lists::usize_of_u32(h.count),
-            crate::bytes::low_word(h.value),
-        );
+impl Head {
+    fn new(kind: u32, field: u32, count: u32, value: u64) -> Head
+        ensures { result ≡ head_as kind field count value }
+    {
+        Head {
+            kind,
+            field,
+            count,
+            value,
+        }
+    }
+
+    fn bad(self) -> Head
+        ensures { result ≡ head_bad self }
+    {
+        Head::new(9, self.field, self.count, self.value)
+    }
+
+    // A number is at its end, and the next word is of that field.
+    #[tactic(auto, unfolding(crate::specs::Head::number_end))]
+    fn number_end(self, field: u32) -> Head
+        ensures { result ≡ number_end self field }
+    {
+        if self.value < 4294967296 {
+            Head::new(0, field, bytes::bumped(self.count), 0)
+        } else {
+            self.bad()
+        }
+    }
+
+    #[tactic(auto, unfolding(crate::specs::Head::head_blank))]
+    fn blank(self) -> Head
+        ensures { result ≡ head_blank self }
+    {
+        match self.kind {
+            0 => self,
+            1 => self.number_end(bytes::bumped(self.field)),
+            2 => Head::new(0, bytes::bumped(self.field), self.count, 0),
+            _ => self.bad(),
+        }
+    }
+
+    #[tactic(auto, unfolding(crate::specs::Head::head_comma))]
+    fn comma(self) -> Head
+        ensures { result ≡ head_comma self }
+    {
+        if self.kind == 1 && self.field == 2 {
+            self.number_end(2)
+        } else {
+            self.bad()
+        }
+    }
+
+    #[tactic(auto, unfolding(crate::specs::Head::head_break))]
+    fn line_break(self) -> Head
+        ensures { result ≡ head_break self }
+    {
+        let end = self.blank();
+        if end.kind == 0 && end.field == 6 {
+            Head::new(3, 6, end.count, 0)
+        } else {
+            self.bad()
+        }
+    }
+
+    #[tactic(auto, unfolding(crate::specs::Head::head_digit))]
+    fn digit(self, b: u8) -> Head
+        ensures { result ≡ head_digit self b }
+    {
+        if self.kind <= 1 {
+            let value = bytes::more(10, self.value, b.saturating_sub(b'0'));
+            Head::new(1, self.field, self.count, value)
+        } else {
+            self.bad()
+        }
+    }
+
+    // The first byte of an entry that names no bit, or of `plain`.
+    #[tactic(auto, unfolding(crate::specs::Head::head_entry))]
+    fn entry(self, kind: u32, value: u64) -> Head
+        ensures { result ≡ head_entry self kind value }
+    {
+        if self.kind == 0 && self.field == 2 {
+            Head::new(kind, 2, self.count, value)
+        } else {
+            self.bad()
+        }
+    }
+
+    // A further letter of `plain`.
+    #[tactic(auto, unfolding(crate::specs::Head::head_letter))]
+    fn letter(self, b: u8) -> Head
+        ensures { result ≡ head_letter self b }
+    {
+        if self.kind != 4 || b != bytes::letter_of(self.value) {
+            return self.bad();
+        }
+        if self.value == 4 {
+            Head::new(2, 2, self.count, 0)
+        } else {
+            Head::new(4, 2, self.count, bytes::next_letter(self.value))
+        }
+    }
+
+    #[tactic(auto, unfolding(crate::specs::Head::head_word))]
+    fn word(self, b: u8) -> Head
+        ensures { result ≡ head_word self b }
+    {
+        match b {
+            b'-' => self.entry(1, 4294967295),
+            b'p' => self.entry(4, 1),
+            _ => self.letter(b),
+        }
+    }
+
+    // One byte.
+    #[tactic(auto, unfolding(crate::specs::Head::head_step_of))]
+    fn step(self, b: u8) -> Head
+        ensures { result ≡ head_step_of self b }
+    {
+        if bytes::is_digit(b) {
+            self.digit(b)
+        } else if bytes::is_blank(b) {
+            self.blank()
+        } else if b == b',' {
+            self.comma()
+        } else if b == b'\n' {
+            self.line_break()
+        } else {
+            self.word(b)
+        }
+    }
+
+    // Stores a number that ends.
+    #[tactic(auto, unfolding(crate::specs::Head::head_stored))]
+    fn store(self, words: &mut [u32], b: u8)
+        ensures { words.new ≡ head_stored self b words.old }
+    {
+        if self.kind == 1 && is_stop(b) {
+            lists::put(words, self.count as usize, bytes::low_word(self.value));
+        }
     }
 }
 
 // The machine after the line, and the place after it.
-#[derive(Clone, Copy)]
+#[derive(Clone, Copy, Debug, PartialEq, Eq)]
 pub struct Ended {
     pub head: Head,
     pub at: usize,
@@ -172,27 +177,29 @@ fn read_line(words: &mut [u32], text: &[u8]) -> Ended
     requires { length text.now ≤ max_text }
     ensures { head_run head_start words.old (text.now ++ (10 ∷ [])) ≡ record { state = result.head; words = words.new; rest = drop result.at (text.now ++ (10 ∷ [])) } }
 {
-    let mut h = made(0, 0, 0, 0);
-    let mut i: usize = 0;
-    while i <= text.len() {
-        if h.kind == 3 {
-            return Ended { head: h, at: i };
+    let mut head = Head::new(0, 0, 0, 0);
+    for at in 0..text.len() + 1 {
+        if head.kind == 3 {
+            return Ended { head, at };
         }
-        let b = crate::bytes::byte_at(text, i);
-        store(words, h, b);
-        h = step(h, b);
-        i += 1;
+        let b = bytes::byte_at(text, at);
+        head.store(words, b);
+        head = head.step(b);
     }
-    Ended { head: h, at: i }
+    Ended {
+        head,
+        at: text.len() + 1,
+    }
 }
 
 // Reads the line; the end of the text is a line break.
+#[tactic(auto, unfolding(crate::specs::Head::head_read))]
 pub fn read_head(words: &mut [u32], text: &[u8]) -> Ended
     ensures { head_read words.old text.now ≡ record { state = result.head; words = words.new; rest = drop result.at (text.now ++ (10 ∷ [])) } }
 {
-    if crate::bytes::MAX_TEXT < text.len() {
+    if bytes::MAX_TEXT < text.len() {
         return Ended {
-            head: made(8, 0, 0, 0),
+            head: Head::new(8, 0, 0, 0),
             at: 0,
         };
     }

@@ -7,4 +7,4 @@ use Rattle.c_record.proofs.tablegoose_list_input.Goals as goal
 pub returns : goal.returns
 returns c =
     let e = c.list_input.ensures in
-    (c.listed_result.ensures ∙ ap count_struct (ap (λ (l : Listed). l.answer) e), ap (λ (l : Listed). l.out) e)
+    (c.count_result.ensures ∙ ap count_struct (ap (λ (l : Listed). l.answer) e), ap (λ (l : Listed). l.out) e)

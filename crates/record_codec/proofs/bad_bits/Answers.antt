@@ -1,6 +1,9 @@
 -- `record_codec::bad_bits` meets its contract.
 use Rattle.record_bits.specs.Groups.{bad_by}
 use Rattle.record_codec.proofs.Arrays.{bad_arrays, arrays_alike, arrays_cong, cut_known, cut_value, cut_in}
+use Prim.Native.Nat.{◌+◌, ◌-◌, ◌/◌}
+use native.Mathlib.Omega.{arith}
+use lib.ListN.{drop, length-take}
 use mathlib.Core.Path.{sym, ◌∙◌}
 use Rattle.record_codec.proofs.bad_bits.Goals as goal
 
@@ -15,8 +18,10 @@ slice_bounds-bad_arrays-start-2 c = cut_in c.args.bytes.now c.requires.0 c.args.
 
 pub bad_arrays-requires : goal.bad_arrays-requires
 bad_arrays-requires c =
-    let b = c.args.bytes.now in
-    arrays_alike b c.requires.0 _ _ (cut_known b c.requires.0 c.args.count c.requires.1) (cut_value b c.requires.0 c.args.count c.requires.1)
+    let b = c.args.bytes.now in (
+      arrays_alike b c.requires.0 _ _ (cut_known b c.requires.0 c.args.count c.requires.1) (cut_value b c.requires.0 c.args.count c.requires.1),
+      omega (arith, length-take (12 + (c.args.count + 7) / 8 - 12) (drop 12 b)),
+    )
 
 pub returns : goal.returns
 returns c =

@@ -14,18 +14,18 @@ use Rattle.record_codec.proofs.put_record.Goals as goal
 pub put_head-requires : goal.put_head-requires
 put_head-requires c =
     let f = fits _ _ _ c.requires in
-    (words c.args.s f.sizes, head_room (view_sizes c.args.s) _ f.room_fits)
+    (words c.args.sizes f.sizes, head_room (view_sizes c.args.sizes) _ f.room_fits)
 
 pub bytes_for-requires : goal.bytes_for-requires
 bytes_for-requires c =
     let f = fits _ _ _ c.requires in
-    let z = view_sizes c.args.s in
+    let z = view_sizes c.args.sizes in
     omega (arith, ap length c.image_of-ts.ensures ∙ image_length z c.args.image.now f.whole, (kept z f.sizes).trits_max)
 
 pub returns : goal.returns
 returns c =
     let f = fits _ _ _ c.requires in
-    let z = view_sizes c.args.s in
+    let z = view_sizes c.args.sizes in
     let e = c.image_of-ts.ensures in (
       bytes_are z _ c.bytes_for.result (ap length e ∙ image_length z c.args.image.now f.whole) c.bytes_for.ensures,
       stored z c.args.out.now c.put_head.new.out c.put_arrays.new.out _ c.put_head.ensures c.put_arrays.ensures

@@ -1,18 +1,20 @@
 -- `record_codec::write_record` meets its contract.
 use Rattle.rules.specs.Answers.{write_record_call, filled}
-use Rattle.rules.proofs.Answers.{refused, accepted}
+use Rattle.std.proofs.lemmas.Result.{err_from_is_err_and}
+use Rattle.rules.proofs.Answers.{answer_err, answer_ok, refused_by}
 use Rattle.lists.proofs.Choice.{leaves_refused, leaves_accepted}
 use mathlib.Core.Path.{sym, ◌∙◌}
 use Rattle.record_codec.proofs.write_record.Goals as goal
 
-pub returns-then-n-ne0 : goal.returns-then-n-ne0
+pub returns-in_err-check_write : goal.returns-in_err-check_write
 unfolding write_record_call filled
-returns-then-n-ne0 c =
-    let e = c.write_refusal-n.ensures in
-    (refused _ _ _ e c.if-n-ne0.true, sym (leaves_refused _ _ _ (λ z. c.if-n-ne0.true (e ∙ z))))
+returns-in_err-check_write c =
+    let e = c.in_err-check_write.ensures in
+    let p = err_from_is_err_and c.from_residual.result c.from_residual.ensures.1 in
+    (rw (p.1, p.2) (answer_err _ _ _ e), sym (leaves_refused _ _ _ (refused_by _ _ e)))
 
 pub returns : goal.returns
 unfolding write_record_call filled
 returns c =
-    let e = sym c.write_refusal-n.ensures ∙ c.if-n-ne0.false in
-    (accepted _ _ _ e c.put_record.ensures.0, c.put_record.ensures.1 ∙ sym (leaves_accepted _ _ _ e))
+    let e = c.in_ok-check_write.ensures in
+    (answer_ok _ _ _ e c.put_record.ensures.0, c.put_record.ensures.1 ∙ sym (leaves_accepted _ _ _ (sym e)))

@@ -13,7 +13,7 @@ loop-i-init c =
     let a = c.args in
     let x : a.from + 0 ≡ a.from = omega arith in
     let y : a.count - 0 ≡ a.count = omega arith in
-    (omega arith, omega arith, rw (x, y, zero-add (sum_by (λ (b : ℕ). b) (part a.from a.count (bits_of a.array.now)))))
+    (omega arith, rw (x, y, zero-add (sum_by (λ (b : ℕ). b) (part a.from a.count (bits_of a.array.now)))))
 
 pub overflow_add-sum : goal.overflow_add-sum
 overflow_add-sum c = omega (arith, c.bit_at.type_inv)
@@ -23,7 +23,7 @@ loop-i-preserved c =
     let l = c.loop-i in
     let a = c.args in
     let t = ones_turn a.array.now a.from a.count l.i (omega arith) c.requires.0 c.bit_at.result c.bit_at.ensures in
-    (omega arith, omega (arith, c.bit_at.type_inv), omega (arith, t))
+    (omega (arith, c.bit_at.type_inv), omega (arith, t))
 
 pub returns : goal.returns
 returns c =

@@ -6,7 +6,4 @@ use Prim.Native.Nat.{◌+◌, ◌-◌, ◌*◌, ◌≤◌}
 use Rattle.record_listing.proofs.ones_in.Given as goal
 
 abbrev pub invariant-loop-i : goal.invariant-loop-i
-invariant-loop-i l = (l.i ≤ l.count) × (l.sum ≤ 255 * l.i) × (l.sum + sum_by (λ b. b) (part (l.from + l.i) (l.count - l.i) (bits_of l.array)) ≡ sum_by (λ b. b) (part l.from l.count (bits_of l.array)))
-
-abbrev pub decreases-loop-i : goal.decreases-loop-i
-decreases-loop-i l = l.count - l.i
+invariant-loop-i l = (l.sum ≤ 255 * l.i) × (l.sum + sum_by (λ b. b) (part (l.from + l.i) (l.count - l.i) (bits_of l.array)) ≡ sum_by (λ b. b) (part l.from l.count (bits_of l.array)))

@@ -5,4 +5,6 @@ use Rattle.record_listing.proofs.put_field.Goals as goal
 
 pub returns : goal.returns
 returns c =
-    (put_then c.put_text-a.ensures c.put_number.ensures.0, omega (arith, c.put_number.ensures.1, c.put_text-a.ensures.place))
+    let a = c.put_text-a.ensures (omega arith) in
+    let b = c.put_number.ensures (omega (arith, a.place)) in
+    (put_then a b.0, omega (arith, b.1, a.place))

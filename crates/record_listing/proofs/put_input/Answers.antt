@@ -9,4 +9,4 @@ returns-then-first-total c =
 
 pub returns : goal.returns
 returns c =
-    (put_as _ (stored_part _ _ _ c.if-first-total.false c.stored_refusal-n.ensures) c.put_refused.ensures.0, omega (arith, c.put_refused.ensures.1))
+    (put_as _ (stored_part _ _ _ c.if-first-total.false c.stored_refusal.ensures) c.put_refused.ensures.0, omega (arith, c.put_refused.ensures.1))

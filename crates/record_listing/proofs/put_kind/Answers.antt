@@ -7,9 +7,11 @@ use Rattle.record_listing.proofs.put_kind.Goals as goal
 pub returns-then-blank : goal.returns-then-blank
 unfolding blank_text
 returns-then-blank c =
-    (put_as _ (rw c.if-blank.true) c.put_text.ensures, omega (arith, c.put_text.ensures.place))
+    let p = c.put_text.ensures (omega arith) in
+    (put_as _ (rw c.if-blank.true) p, omega (arith, p.place))
 
-pub returns : goal.returns
+pub returns-else-blank : goal.returns-else-blank
 unfolding load_text
-returns c =
-    (put_as _ (rw c.if-blank.false) c.put_text-2.ensures, omega (arith, c.put_text-2.ensures.place))
+returns-else-blank c =
+    let p = c.put_text-else-blank.ensures (omega arith) in
+    (put_as _ (rw c.if-blank.false) p, omega (arith, p.place))

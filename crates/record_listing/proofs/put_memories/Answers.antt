@@ -12,12 +12,12 @@ use Rattle.record_listing.proofs.put_memories.Goals as goal
 
 pub loop-i-init : goal.loop-i-init
 loop-i-init c =
-    (omega arith, refl, omega arith, at_first c.args.bytes.now c.args.s c.requires.0, refl, refl)
+    (refl, omega arith, at_first c.args.bytes.now c.args.s c.requires.0, refl, refl)
 
 pub summary_in-y-requires : goal.summary_in-y-requires
 summary_in-y-requires c =
     let l = c.loop-i in
-    starts c.args.bytes.now c.args.s c.requires.0 l.i l.from (omega (arith, c.requires.1)) l.invariant.3
+    starts c.args.bytes.now c.args.s c.requires.0 l.i l.from (omega (arith, c.requires.1)) l.invariant.2
 
 pub put_memory-next-requires : goal.put_memory-next-requires
 put_memory-next-requires c =
@@ -26,12 +26,12 @@ put_memory-next-requires c =
 pub overflow_mul-from : goal.overflow_mul-from
 overflow_mul-from c =
     let l = c.loop-i in
-    omega (arith, next_max c.args.bytes.now c.args.s c.requires.0 l.i l.from (omega (arith, c.requires.1)) l.invariant.3 (view_summary c.summary_in-y.result) c.summary_in-y.ensures)
+    omega (arith, next_max c.args.bytes.now c.args.s c.requires.0 l.i l.from (omega (arith, c.requires.1)) l.invariant.2 (view_summary c.summary_in-y.result) c.summary_in-y.ensures)
 
 pub overflow_add-from : goal.overflow_add-from
 overflow_add-from c =
     let l = c.loop-i in
-    omega (arith, next_max c.args.bytes.now c.args.s c.requires.0 l.i l.from (omega (arith, c.requires.1)) l.invariant.3 (view_summary c.summary_in-y.result) c.summary_in-y.ensures)
+    omega (arith, next_max c.args.bytes.now c.args.s c.requires.0 l.i l.from (omega (arith, c.requires.1)) l.invariant.2 (view_summary c.summary_in-y.result) c.summary_in-y.ensures)
 
 pub loop-i-preserved : goal.loop-i-preserved
 loop-i-preserved c =
@@ -41,16 +41,15 @@ loop-i-preserved c =
     let e = c.summary_in-y.ensures in
     let w = c.put_memory-next.ensures.0 in
     let h : l.i < c.args.count = omega arith in (
-      omega arith,
-      c.put_memory-next.auto.out ∙ l.invariant.1,
+      c.put_memory-next.auto.out ∙ l.invariant.0,
       omega (arith, c.put_memory-next.ensures.1),
-      next_start bs c.args.s c.requires.0 l.i l.from (omega (arith, c.requires.1)) l.invariant.3 v e,
-      line_stored bs c.args.count l.out c.put_memory-next.new.out l.next c.put_memory-next.result l.i v h e w ∙ l.invariant.4,
-      line_place bs c.args.count l.out c.put_memory-next.new.out l.next c.put_memory-next.result l.i v h e w ∙ l.invariant.5,
+      next_start bs c.args.s c.requires.0 l.i l.from (omega (arith, c.requires.1)) l.invariant.2 v e,
+      line_stored bs c.args.count l.out c.put_memory-next.new.out l.next c.put_memory-next.result l.i v h e w ∙ l.invariant.3,
+      line_place bs c.args.count l.out c.put_memory-next.new.out l.next c.put_memory-next.result l.i v h e w ∙ l.invariant.4,
     )
 
 pub shape_of-out : goal.shape_of-out
-shape_of-out c = c.loop-i.invariant.1
+shape_of-out c = c.loop-i.invariant.0
 
 pub returns : goal.returns
 returns c =
@@ -59,4 +58,4 @@ returns c =
     let n = c.args.count in
     let z = rest_end bs n l.i (omega arith) in
     let a = rest_all bs n (c.requires.1 ∙ ap size_mems c.requires.0.sizes) in
-    (put_as _ a (record { stored = sym (ap (sets l.out l.next) z) ∙ l.invariant.4; place = omega (arith, l.invariant.5, ap length z) }), omega arith)
+    (put_as _ a (record { stored = sym (ap (sets l.out l.next) z) ∙ l.invariant.3; place = omega (arith, l.invariant.4, ap length z) }), omega arith)

@@ -1,12 +1,11 @@
 -- `record_listing::stored_refusal` meets its contract.
-use Rattle.lists.proofs.Choice.{else_first, else_rest}
-use mathlib.Core.Path.{sym, ◌∙◌}
+use Rattle.lists.proofs.Choice.{else_rest}
+use Rattle.rules.proofs.Answers.{else_err}
+use mathlib.Core.Path.{sym}
 use Rattle.record_listing.proofs.stored_refusal.Goals as goal
 
-pub returns-then-n-ne0 : goal.returns-then-n-ne0
-returns-then-n-ne0 c =
-    let e = c.header_refusal-n.ensures in
-    e ∙ sym (else_first _ 16 (λ z. c.if-n-ne0.true (e ∙ z)))
+pub returns-in-Ok : goal.returns-in-Ok
+returns-in-Ok c = sym (else_rest _ 16 (sym c.in-Ok.ensures))
 
-pub returns : goal.returns
-returns c = sym (else_rest _ 16 (sym c.header_refusal-n.ensures ∙ c.if-n-ne0.false))
+pub returns-in-Err : goal.returns-in-Err
+returns-in-Err c = else_err _ _ _ c.in-Err.ensures

@@ -1,25 +1,16 @@
 -- `record_sizes::is_power` meets its contract.
-use Rattle.record_sizes.proofs.Powers.{power_all, power_found, power_turn, power_double, power_max, power_none}
-use Prim.Native.Nat.{◌-◌}
-use mathlib.Core.Path.{refl, sym, ◌∙◌}
-use native.Mathlib.Omega.{arith}
+use Rattle.record_sizes.proofs.Powers.{power_all, power_found, power_turn, power_none}
+use Rattle.std.proofs.Common.{arith, sym, ◌∙◌}
 use Rattle.record_sizes.proofs.is_power.Goals as goal
 
 pub loop-e-init : goal.loop-e-init
-loop-e-init c = (omega arith, refl, power_all _)
+loop-e-init c = power_all _
 
-pub returns-then-n-p : goal.returns-then-n-p
-returns-then-n-p c =
-    let l = c.loop-e in
-    sym (power_found _ _ _ (omega arith) l.invariant.1 c.if-n-p.true) ∙ l.invariant.2
-
-pub overflow_mul-p : goal.overflow_mul-p
-overflow_mul-p c = omega (arith, power_max 0 _ _ (omega arith) c.loop-e.invariant.1)
+pub returns-then-n-e : goal.returns-then-n-e
+returns-then-n-e c = sym (power_found _ _ (omega arith) c.if-n-e.true) ∙ c.loop-e.invariant
 
 pub loop-e-preserved : goal.loop-e-preserved
-loop-e-preserved c =
-    let l = c.loop-e in
-    (omega arith, power_double 0 _ _ (omega arith) l.invariant.1, power_turn _ _ _ (omega arith) l.invariant.1 c.if-n-p.false ∙ l.invariant.2)
+loop-e-preserved c = power_turn _ _ (omega arith) c.if-n-e.false ∙ c.loop-e.invariant
 
 pub returns : goal.returns
-returns c = sym (power_none c.args.n c.loop-e.e (omega arith)) ∙ c.loop-e.invariant.2
+returns c = sym (power_none c.args.n c.loop-e.e (omega arith)) ∙ c.loop-e.invariant

@@ -21,11 +21,11 @@ returns-then-width-gt-MAX_WIDTH c =
     (ap (sets a.out.now 0) e, ap length e)
 
 pub put_last-requires : goal.put_last-requires
-put_last-requires c = omega (arith, c.put_all-s.ensures.2, c.if-depth-gt-MAX_DEPTH.false)
+put_last-requires c = omega (arith, c.put_all.ensures.2, c.if-depth-gt-MAX_DEPTH.false)
 
 pub returns : goal.returns
 returns c =
     let a = c.args in
-    let e = c.put_all-s.ensures in
+    let e = c.put_all.ensures in
     let w = put_as (diff_text a.depth a.width a.a.now a.b.now) (diff_all a.depth a.width a.a.now a.b.now _ c.if-depth-gt-MAX_DEPTH.false c.if-width-gt-MAX_WIDTH.false e.1) (put_then e.0 c.put_last.ensures) in
     (w.stored, omega (arith, w.place))

@@ -1,18 +1,32 @@
 -- `table_differ::put_line` meets its contract.
 use Rattle.table_differ.specs.Differ.{row_word_of, colon, diff_line}
-use Rattle.record_listing.proofs.Puts.{put_then, put_as}
-use Rattle.rules.specs.Lister.{decimal}
-use mathlib.Core.Path.{ap}
+use Rattle.record_listing.proofs.Puts.{put_then}
 use native.Mathlib.Omega.{arith}
 use Rattle.table_differ.proofs.put_line.Goals as goal
 
-pub put_text-requires : goal.put_text-requires
-put_text-requires c =
-    omega (arith, c.requires.0, c.put_text-a.ensures.place, c.put_number-b.ensures.1, c.put_text-c.ensures.place, c.put_trits-d.ensures.1, c.put_text-e.ensures.place, c.put_trits-f.ensures.1)
+pub put_trits-d-requires : goal.put_trits-d-requires
+put_trits-d-requires c =
+    let a = c.put_text-a.ensures (omega arith) in
+    let b = c.put_number-b.ensures (omega (arith, a.place)) in
+    let t = c.put_text-c.ensures (omega (arith, a.place, b.1)) in
+    (omega (arith, a.place, b.1, t.place), c.requires.1)
+
+pub put_trits-f-requires : goal.put_trits-f-requires
+put_trits-f-requires c =
+    let a = c.put_text-a.ensures (omega arith) in
+    let b = c.put_number-b.ensures (omega (arith, a.place)) in
+    let t = c.put_text-c.ensures (omega (arith, a.place, b.1)) in
+    let e = c.put_text-e.ensures (omega (arith, a.place, b.1, t.place, c.put_trits-d.ensures.1)) in
+    (omega (arith, a.place, b.1, t.place, c.put_trits-d.ensures.1, e.place), c.requires.1)
 
 pub returns : goal.returns
 unfolding diff_line row_word_of colon
 returns c =
-    let n = put_as (decimal c.args.row) (ap decimal c.usize_of_u32.ensures.0) c.put_number-b.ensures.0 in
-    let p = put_then (put_then (put_then (put_then (put_then (put_then c.put_text-a.ensures n) c.put_text-c.ensures) c.put_trits-d.ensures.0) c.put_text-e.ensures) c.put_trits-f.ensures.0) c.put_text.ensures in
-    (p, omega (arith, c.put_text.ensures.place, c.put_text-a.ensures.place, c.put_number-b.ensures.1, c.put_text-c.ensures.place, c.put_trits-d.ensures.1, c.put_text-e.ensures.place, c.put_trits-f.ensures.1))
+    let a = c.put_text-a.ensures (omega arith) in
+    let b = c.put_number-b.ensures (omega (arith, a.place)) in
+    let t = c.put_text-c.ensures (omega (arith, a.place, b.1)) in
+    let d = c.put_trits-d.ensures in
+    let e = c.put_text-e.ensures (omega (arith, a.place, b.1, t.place, d.1)) in
+    let f = c.put_trits-f.ensures in
+    let z = c.put_text.ensures (omega (arith, a.place, b.1, t.place, d.1, e.place, f.1)) in
+    (put_then (put_then (put_then (put_then (put_then (put_then a b.0) t) d.0) e) f.0) z, omega (arith, a.place, b.1, t.place, d.1, e.place, f.1, z.place))

@@ -3,17 +3,14 @@ use Rattle.table_differ.proofs.Lines.{row_text}
 use Rattle.table_print.proofs.Putting.{length_bits}
 use Rattle.table_print.specs.Rows.{bits_text}
 use Rattle.record_listing.proofs.Puts.{put_as}
-use mathlib.Core.Path.{◌∙◌}
+use mathlib.Core.Path.{refl, ◌∙◌}
 use native.Mathlib.Omega.{arith}
 use mathlib.Core.List.{[]}
 use Rattle.table_differ.proofs.put_trits.Goals as goal
-
-pub put_text-requires : goal.put_text-requires
-put_text-requires c = omega (arith, c.part.ensures.most, c.usize_of_u32.ensures.0, c.requires.0, c.requires.1)
 
 pub returns : goal.returns
 returns c =
     let a = c.args in
     let t = bits_text a.row.now 0 a.width [] in
-    let w = put_as t (c.part.ensures.part ∙ row_text a.width _ a.row.now _ c.requires.1 c.usize_of_u32.ensures.0 c.put_rows.ensures.0) c.put_text.ensures in
+    let w = put_as t (c.part.ensures.part ∙ row_text a.width _ a.row.now _ c.requires.1 refl c.put_rows.ensures.0) (c.put_text.ensures (omega (arith, c.part.ensures.most, c.requires.0, c.requires.1))) in
     (w, omega (arith, w.place, length_bits a.row.now 0 a.width, c.requires.1))

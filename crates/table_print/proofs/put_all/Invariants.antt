@@ -3,12 +3,9 @@ use Rattle.table_print.specs.Rows.{rows_from}
 use mathlib.Core.List.{[]}
 use lib.Seq.{sets}
 use lib.ListN.{length}
-use Prim.Native.Nat.{◌+◌, ◌-◌, ◌*◌, ◌≤◌}
+use Prim.Native.Nat.{◌+◌, ◌-◌, ◌*◌}
 use mathlib.Core.Path.{◌≡◌}
 use Rattle.table_print.proofs.put_all.Given as goal
 
 abbrev pub invariant-loop-row : goal.invariant-loop-row
-invariant-loop-row l = (l.row ≤ l.depth) × (length l.out ≡ length l.initial.out) × (l.next ≡ l.row * (l.width + 1)) × (l.from ≡ l.row * l.width) × (sets l.out l.next (rows_from l.width l.rows l.row (l.depth - l.row) []) ≡ sets l.initial.out 0 (rows_from l.width l.rows 0 l.depth []))
-
-abbrev pub decreases-loop-row : goal.decreases-loop-row
-decreases-loop-row l = l.depth - l.row
+invariant-loop-row l = (length l.out ≡ length l.initial.out) × (l.next ≡ l.row * (l.width + 1)) × (l.from ≡ l.row * l.width) × (sets l.out l.next (rows_from l.width l.rows l.row (l.depth - l.row) []) ≡ sets l.initial.out 0 (rows_from l.width l.rows 0 l.depth []))

@@ -2,13 +2,10 @@
 use Rattle.table_print.specs.Rows.{bits_text}
 use lib.Seq.{sets}
 use lib.ListN.{length}
-use Prim.Native.Nat.{◌+◌, ◌≤◌}
+use Prim.Native.Nat.{◌+◌}
 use mathlib.Core.List.{[]}
 use mathlib.Core.Path.{◌≡◌}
 use Rattle.table_print.proofs.put_bits.Given as goal
 
 abbrev pub invariant-loop-left : goal.invariant-loop-left
-invariant-loop-left l = (l.left ≤ l.width) × (length l.out ≡ length l.initial.out) × (l.next + l.left ≡ l.at + l.width) × (sets l.out l.next (bits_text l.rows l.from l.left []) ≡ sets l.initial.out l.at (bits_text l.rows l.from l.width []))
-
-abbrev pub decreases-loop-left : goal.decreases-loop-left
-decreases-loop-left l = l.left
+invariant-loop-left l = (length l.out ≡ length l.initial.out) × (l.next + l.left ≡ l.at + l.width) × (sets l.out l.next (bits_text l.rows l.from l.left []) ≡ sets l.initial.out l.at (bits_text l.rows l.from l.width []))

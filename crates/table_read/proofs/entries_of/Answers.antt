@@ -11,4 +11,4 @@ returns-then-count-eq5 c =
 
 pub returns : goal.returns
 returns c =
-    let a = c.args in (given_entries (replicate 256 0) a.words.now _ a.count refl _ _ c.if-count-eq5.false c.requires.0 c.requires.1 c.saturating_sub-n.ensures c.usize_of_u32.ensures.0 (cc), omega (arith, c.requires, c.saturating_sub-n.ensures))
+    let a = c.args in (given_entries (replicate 256 0) a.words.now _ a.count refl _ _ c.if-count-eq5.false c.requires.0 c.requires.1 c.saturating_sub-len.ensures refl (cc), omega (arith, c.requires, c.saturating_sub-len.ensures))

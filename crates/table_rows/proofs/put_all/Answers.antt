@@ -5,7 +5,6 @@ use Rattle.rules.specs.Beside.Layouts.{read_row}
 use Rattle.rules.proofs.GoodLayouts.{good_small}
 use Rattle.image_geometry.specs.View.{layout_by}
 use mathlib.Core.Path.{refl, sym, ap, ◌∙◌}
-use Prim.Native.Nat.{ℕ, ◌+◌, ◌-◌}
 use native.Mathlib.Omega.{arith}
 use lib.ListN.{length}
 use Rattle.table_rows.proofs.put_all.Goals as goal
@@ -13,7 +12,7 @@ use Rattle.table_rows.proofs.put_all.Goals as goal
 pub loop-row-init : goal.loop-row-init
 loop-row-init c =
     let a = c.args in
-    (omega arith, refl, no_times a.p.width, on_start (layout_by a.p a.entries.now) a.image.now a.room.now)
+    (refl, no_times a.p.width, on_start (layout_by a.p a.entries.now) a.image.now a.room.now)
 
 pub put_row-requires : goal.put_row-requires
 put_row-requires c = (c.requires.0, c.requires.1, c.loop-row-test.true)
@@ -23,31 +22,23 @@ overflow_add-at c =
     let a = c.args in
     let l = c.loop-row in
     let s = good_small (layout_by a.p a.entries.now) c.requires.0 in
-    omega (arith, l.invariant.2, times_max l.row a.p.width a.p.depth l.invariant.0 s.depth_max s.width_max, c.usize_of_u32-width.ensures.0, s.width_max)
-
-pub overflow_add-row : goal.overflow_add-row
-overflow_add-row c = omega (arith, c.loop-row-test.true)
-
-pub loop-row-smaller : goal.loop-row-smaller
-loop-row-smaller c = omega (arith, c.loop-row-test.true)
+    omega (arith, l.invariant.1, times_max l.row a.p.width a.p.depth (omega arith) s.depth_max s.width_max, s.width_max)
 
 pub loop-row-preserved : goal.loop-row-preserved
 loop-row-preserved c =
     let a = c.args in
     let l = c.loop-row in
-    let q = layout_by a.p a.entries.now in
-    let w = c.usize_of_u32-width.ensures.0 in (
-      omega (arith, c.loop-row-test.true),
-      ap length c.put_row.ensures ∙ length-sets l.room l.at (read_row q a.image.now l.row) ∙ l.invariant.1,
-      omega (arith, l.invariant.2, one_more l.row a.p.width, w),
-      on_turn q a.image.now l.room _ l.at _ l.row c.loop-row-test.true c.put_row.ensures (ap (λ (n : ℕ). l.at + n) w) ∙ l.invariant.3,
+    let q = layout_by a.p a.entries.now in (
+      ap length c.put_row.ensures ∙ length-sets l.room l.at (read_row q a.image.now l.row) ∙ l.invariant.0,
+      omega (arith, l.invariant.1, one_more l.row a.p.width),
+      on_turn q a.image.now l.room _ l.at _ l.row c.loop-row-test.true c.put_row.ensures refl ∙ l.invariant.2,
     )
 
 pub shape_of-room : goal.shape_of-room
-shape_of-room c = c.loop-row.invariant.1
+shape_of-room c = c.loop-row.invariant.0
 
 pub returns : goal.returns
 returns c =
     let a = c.args in
     let l = c.loop-row in
-    sym (on_last (layout_by a.p a.entries.now) a.image.now l.room l.at l.row (omega (arith, c.loop-row-test.false))) ∙ l.invariant.3
+    sym (on_last (layout_by a.p a.entries.now) a.image.now l.room l.at l.row (omega (arith, c.loop-row-test.false))) ∙ l.invariant.2

@@ -3,13 +3,10 @@ use Rattle.table_rows.specs.Rows.{rows_on, image_rows}
 use lib.Seq.{sets}
 use Rattle.image_geometry.specs.View.{layout_by}
 use mathlib.Core.Path.{◌≡◌}
-use Prim.Native.Nat.{◌-◌, ◌*◌, ◌≤◌}
+use Prim.Native.Nat.{◌-◌, ◌*◌}
 use lib.ListN.{length}
 use Rattle.table_rows.proofs.put_all.Given as goal
 
 abbrev pub invariant-loop-row : goal.invariant-loop-row
-invariant-loop-row l = (l.row ≤ l.p.depth) × (length l.room ≡ length l.initial.room) × (l.at ≡ l.row * l.p.width)
+invariant-loop-row l = (length l.room ≡ length l.initial.room) × (l.at ≡ l.row * l.p.width)
     × (sets l.room l.at (rows_on (layout_by l.p l.entries) l.image l.row (l.p.depth - l.row)) ≡ sets l.initial.room 0 (image_rows (layout_by l.p l.entries) l.image))
-
-abbrev pub decreases-loop-row : goal.decreases-loop-row
-decreases-loop-row l = l.p.depth - l.row

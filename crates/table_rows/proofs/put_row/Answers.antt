@@ -2,7 +2,7 @@
 use lib.Seq.{sets}
 use Rattle.image_geometry.specs.View.{layout_by}
 use Rattle.table_rows.proofs.Reading.{row_is}
-use mathlib.Core.Path.{ap, ◌∙◌}
+use mathlib.Core.Path.{refl, ap, ◌∙◌}
 use Rattle.table_rows.proofs.put_row.Goals as goal
 
 pub returns : goal.returns
@@ -11,4 +11,4 @@ returns c =
     let q = layout_by a.p a.entries.now in
     let pre = c.requires in
     c.copy.ensures
-    ∙ ap (sets a.room.now a.at) (c.part.ensures.part ∙ row_is q pre.0 a.image.now pre.1 a.row pre.2 _ _ _ c.read_row.ensures c.usize_of_u32.ensures.0)
+    ∙ ap (sets a.room.now a.at) (c.part.ensures.part ∙ row_is q pre.0 a.image.now pre.1 a.row pre.2 _ _ _ c.read_row.ensures refl)

@@ -4,35 +4,39 @@ use Rattle.table_text.specs.Head.{head_step_of, head_run}
 use Rattle.table_text.specs.declared.head.Head.{Head}
 use lib.ListN.{length, drop}
 use native.Mathlib.Omega.{arith}
-use Prim.Native.Nat.{ℕ, ◌+◌, ◌-◌}
+use Prim.Native.Nat.{ℕ, ◌+◌}
 use mathlib.Core.List.{List, [], ◌∷◌, ◌++◌}
-use mathlib.Core.Path.{refl, sym, ap, ◌∙◌}
+use mathlib.Core.Path.{◌≡◌, refl, sym, ap, ◌∙◌}
 use Rattle.table_text.proofs.head.read_line.Goals as goal
 
-pub loop-i-init : goal.loop-i-init
-loop-i-init c =
-    let a = c.args in (omega arith, refl, ap (λ (h : Head). head_run h a.words.now (a.text.now ++ (10 ∷ []))) c.made-h.ensures)
+pub loop-at-init : goal.loop-at-init
+loop-at-init c =
+    let a = c.args in (refl, ap (λ (h : Head). head_run h a.words.now (a.text.now ++ (10 ∷ []))) c.new-head.ensures)
 
-pub shape_of-words-then-h-eq3 : goal.shape_of-words-then-h-eq3
-shape_of-words-then-h-eq3 c = c.loop-i.invariant.1
+pub shape_of-words-then-head-eq3 : goal.shape_of-words-then-head-eq3
+shape_of-words-then-head-eq3 c = c.loop-at.invariant.0
 
-pub returns-then-h-eq3 : goal.returns-then-h-eq3
-returns-then-h-eq3 c = let l = c.loop-i in sym l.invariant.2 ∙ head_stop l.h l.words _ c.if-h-eq3.true
+pub returns-then-head-eq3 : goal.returns-then-head-eq3
+returns-then-head-eq3 c = let l = c.loop-at in sym l.invariant.1 ∙ head_stop l.head l.words _ c.if-head-eq3.true
 
-pub loop-i-preserved : goal.loop-i-preserved
-loop-i-preserved c =
-    let l = c.loop-i in
+pub loop-at-preserved : goal.loop-at-preserved
+loop-at-preserved c =
+    let l = c.loop-at in
     let t = c.args.text.now in
     let b = c.byte_at-b.result in (
-      omega arith,
-      ap length c.store.ensures ∙ length_head_stored l.h b l.words ∙ l.invariant.1,
-      ap (λ (h : Head). head_run h c.store.new.words (drop (l.i + 1) (t ++ (10 ∷ [])))) c.step-h.ensures
-          ∙ ap (λ (ws : List ℕ). head_run (head_step_of l.h b) ws (drop (l.i + 1) (t ++ (10 ∷ [])))) c.store.ensures
-          ∙ head_turn l.h l.words t l.i b (omega arith) c.byte_at-b.ensures c.if-h-eq3.false ∙ l.invariant.2,
+      ap length c.store.ensures ∙ length_head_stored l.head b l.words ∙ l.invariant.0,
+      ap (λ (h : Head). head_run h c.store.new.words (drop (l.at + 1) (t ++ (10 ∷ [])))) c.step-head.ensures
+          ∙ ap (λ (ws : List ℕ). head_run (head_step_of l.head b) ws (drop (l.at + 1) (t ++ (10 ∷ [])))) c.store.ensures
+          ∙ head_turn l.head l.words t l.at b (omega arith) c.byte_at-b.ensures c.if-head-eq3.false ∙ l.invariant.1,
     )
 
 pub shape_of-words : goal.shape_of-words
-shape_of-words c = c.loop-i.invariant.1
+shape_of-words c = c.loop-at.invariant.0
 
 pub returns : goal.returns
-returns c = let l = c.loop-i in sym l.invariant.2 ∙ head_end_lem l.h l.words c.args.text.now l.i c.loop-i-test.false
+returns c =
+    let l = c.loop-at in
+    let t = c.args.text.now in
+    let z : l.at ≡ length t + 1 = omega arith in
+    sym l.invariant.1 ∙ head_end_lem l.head l.words t l.at (omega arith)
+    ∙ ap (λ (n : ℕ). record { state = l.head; words = l.words; rest = drop n (t ++ (10 ∷ [])) }) z

@@ -1,13 +1,9 @@
 -- The invariants of `table_text::scan::read_from`.
 use Rattle.table_text.specs.Scan.{scan_start, scan_run}
 use lib.ListN.{length, drop}
-use Prim.Native.Nat.{suc, ◌+◌, ◌-◌}
 use mathlib.Core.List.{[], ◌∷◌, ◌++◌}
 use mathlib.Core.Path.{◌≡◌}
 use Rattle.table_text.proofs.scan.read_from.Given as goal
 
 abbrev pub invariant-loop-i : goal.invariant-loop-i
-invariant-loop-i l = (length l.rows ≡ length l.initial.rows) × (scan_run l.depth l.width l.s l.rows (drop l.i (l.text ++ (10 ∷ []))) ≡ scan_run l.depth l.width scan_start l.initial.rows (drop l.from (l.text ++ (10 ∷ []))))
-
-abbrev pub decreases-loop-i : goal.decreases-loop-i
-decreases-loop-i l = suc (length l.text) - l.i
+invariant-loop-i l = (length l.rows ≡ length l.initial.rows) × (scan_run l.depth l.width l.scan l.rows (drop l.i (l.text ++ (10 ∷ []))) ≡ scan_run l.depth l.width scan_start l.initial.rows (drop l.from (l.text ++ (10 ∷ []))))
