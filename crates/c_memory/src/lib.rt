@@ -4,7 +4,6 @@
 ghost use Rattle.std.specs.Prelude.{◌≡◌};
 ghost use Rattle.rules.specs.Refusals.{mem_refusal};
 ghost use Rattle.rules.specs.Answers.{wide_log2_call, output_len_call, output_slice_call, can_lower_fallback_call, extract_read_ports_call};
-ghost use Rattle.net_memory.specs.Wide.{wide_of};
 ghost use Rattle.net_memory.specs.Given.{given_of};
 ghost use Rattle.port_outputs.specs.Calls.{len_of, slice_of, can_of};
 ghost use Rattle.port_extract.specs.Extract.{extracted_of};
@@ -13,7 +12,6 @@ ghost use Rattle.c_memory.specs.View.{given_memory, memory_struct, zero_memory};
 ghost use Rattle.c_memory.specs.Calls.{slice_result, extracted_struct, given_extracted, NewMemory};
 
 use c_net::{Control, Count};
-use net_memory::wide::WideLog2;
 use port_outputs::{CanLower, OutputLen, OutputSlice};
 
 pub mod ports;
@@ -133,21 +131,6 @@ fn zero_memory() -> Memory
     }
 }
 
-fn wide_result(a: WideLog2) -> c_net::Result
-    ensures { result ≡ value_result (wide_of a) }
-{
-    match a {
-        WideLog2::Refused(n) => c_net::Result {
-            number: n,
-            value: 0,
-        },
-        WideLog2::Accepted(k) => c_net::Result {
-            number: 0,
-            value: k,
-        },
-    }
-}
-
 fn len_result(a: OutputLen) -> Count
     ensures { result ≡ count_struct (len_of a) }
 {
@@ -215,7 +198,7 @@ fn extracted_struct(e: port_extract::Extracted) -> Extracted
 pub fn tablegoose_wide_log2(width: u32, size: usize) -> c_net::Result
     ensures { result ≡ value_result (wide_log2_call width size) }
 {
-    wide_result(net_memory::wide::wide_log2(width, size))
+    c_net::number_result(net_memory::wide::wide_log2(width, size))
 }
 
 pub fn tablegoose_memory_refusal(m: Memory, nets: &[u32], trits: &[u8]) -> u32

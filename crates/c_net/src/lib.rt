@@ -101,7 +101,7 @@ pub fn control_struct(c: ControlNet) -> Control
 }
 
 // A refusal's number, or 0 and a value.
-fn number_result(a: result::Result<u32, Refusal>) -> Result
+pub fn number_result(a: result::Result<u32, Refusal>) -> Result
     ensures { result ≡ value_result (answer_by (λ n. n) a) }
 {
     let (number, value) = match a {
