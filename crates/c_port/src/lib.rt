@@ -9,12 +9,13 @@ ghost use Rattle.net_memory.specs.Given.{given_of};
 ghost use Rattle.port_mux.specs.Call.{overlay_of};
 ghost use Rattle.port_unmap.specs.Call.{unclocking, rooms_of, driven_of};
 ghost use Rattle.c_memory.specs.View.{given_memory};
-ghost use Rattle.c_port.specs.Overlays.{lent_overlay, overlay_left_by};
+ghost use Rattle.c_port.specs.Overlays.{lent_overlay, overlay_left_by, mux_struct};
 ghost use Rattle.c_port.specs.View.{driven_struct, given_driven, NewMemory, NewTrits, NewNets};
 
 use c_log::Logged;
 use c_memory::Memory;
 use log_entries::LogState;
+use port_mux::Answer;
 
 // A refusal's number, or 0; the memory and the log's state after the call.
 #[repr(C)]
@@ -111,6 +112,19 @@ pub fn tablegoose_emulate_read_before_write(
     )
 }
 
+// The answer of transparency_mux on the state st.
+fn mux_struct(r: Answer, st: LogState) -> Logged
+    ensures { result ≡ mux_struct st r }
+{
+    match r {
+        Answer::Refused(n) => Logged {
+            number: n,
+            state: st,
+        },
+        Answer::Accepted(state) => Logged { number: 0, state },
+    }
+}
+
 // Bits and mask after it go to the rooms; without a mask, `mask` and its room play no part.
 pub fn tablegoose_transparency_mux(
     log: &mut [u32],
@@ -132,5 +146,5 @@ pub fn tablegoose_transparency_mux(
     let r = port_mux::transparency_mux(
         log, st, bits_to, mask_to, given, nets, trits, read, write, bits, mask, masked,
     );
-    c_log::answer_struct(r, st)
+    mux_struct(r, st)
 }

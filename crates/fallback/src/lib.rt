@@ -147,7 +147,7 @@ fn dry_unmapped(
     ensures { DryRun (memory_of m nets.now trits.now) output.now (state_of st) (state_of result) }
 {
     let mut no_log = [0u32; 0];
-    let start = log_entries::dry_start(st);
+    let start = st.dry_start();
     port_unmap_all::emit_unmap_all(
         &mut no_log,
         start,
@@ -262,16 +262,16 @@ fn log_number(
     requires { Asked m nets.now trits.now output.now st tables × DryRun (memory_of m nets.now trits.now) output.now (state_of st) (state_of dry) }
     ensures { result ≡ log_refusal room (state_of st) (lower_fallback (memory_of m nets.now trits.now) output.now) }
 {
-    if log_entries::is_over(dry) {
+    if dry.is_over() {
         return 20;
     }
-    let start = log_entries::dry_start(st);
+    let start = st.dry_start();
     let unmapped = lists::usize_of_u32(dry.next.saturating_sub(start.next));
     let rows = fallback_masks::rows_size(m, nets);
     let words = dry.used + rows.words;
     let made = unmapped + rows.nets;
     if m.width == 0 {
-        return log_entries::room_refusal(room, st, words, made);
+        return rules::number_of(st.room_refusal(room, words, made));
     }
     split_number(room, st, words, made, tables, m, nets, trits, output)
 }

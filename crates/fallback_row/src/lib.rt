@@ -17,7 +17,7 @@ ghost use Rattle.port_transparency.specs.Gave.{Gave};
 ghost use Rattle.fallback_row.specs.Row.{start_if, over, over_if, held_back, held_if, driven_by};
 
 use log_entries::LogState;
-use net_flip_flop::Controls;
+use net_flip_flop::{Controls, FlipFlop};
 use net_value::{ControlNet, Net};
 
 // The void nets of a row of w bits.
@@ -131,7 +131,17 @@ fn held_row(
     ensures { lent result log.new ≡ run (held_back (control_of clock) init.now (take w row.now) (take w q.now)) (lent st log.old) }
 {
     let c = plain_controls(clock);
-    let after = log_entries::emit_dff(log, st, c, &row[..w], init, init, init);
+    let after = log_entries::emit_dff(
+        log,
+        st,
+        FlipFlop {
+            controls: c,
+            bits: &row[..w],
+            clear: init,
+            reset: init,
+            init: init,
+        },
+    );
     lists::store_run(spare, 0, st.next, after.next);
     log_entries::emit_replace(log, after, &q[..w], &spare[..w])
 }

@@ -153,7 +153,7 @@ fn flip_flop_shape_bad(writes: usize, p: MemoryReadPort, trits: &[u8]) -> bool
 fn flip_flop_nets_bad(next: u32, f: Controls, p: MemoryReadPort, trits: &[u8]) -> bool
     ensures { result ≡ bad_flip_flop_nets next (clocked_by f p trits.now) }
 {
-    if net_flip_flop::controls_bad(next, f) {
+    if f.is_bad(next) {
         return true;
     }
     if !net_logic::trits_good(net_memory::clear_of(p, trits)) {

@@ -15,7 +15,7 @@ ghost use Rattle.port_transparency.specs.Gave.{Gave};
 ghost use Rattle.port_delay.specs.Delay.{start_trit, mask_delay, port_of, cut, delayable, delayed_if, Delayable};
 
 use log_entries::LogState;
-use net_flip_flop::Controls;
+use net_flip_flop::{Controls, FlipFlop};
 use net_memory::MemoryWritePort;
 use net_value::{ControlNet, Net};
 
@@ -55,7 +55,17 @@ fn emit_plain(
     lists::fill(trits, 0, n, rules::TRIT_X);
     let c = plain_controls(clock);
     let xs = lists::part(trits, 0, n);
-    let after = log_entries::emit_dff(log, st, c, bits, xs, xs, xs);
+    let after = log_entries::emit_dff(
+        log,
+        st,
+        FlipFlop {
+            controls: c,
+            bits: bits,
+            clear: xs,
+            reset: xs,
+            init: xs,
+        },
+    );
     lists::store_run(out, 0, st.next, after.next);
     after
 }
@@ -85,7 +95,23 @@ fn emit_mask(
     let c = plain_controls(clock);
     let own = lists::part(trits, 0, n);
     merge_dff::emit_dedup_dff_with(
-        log, st, out, column, kx, ky, at, clears, resets, inits, c, mask, own, own, own,
+        log,
+        st,
+        out,
+        column,
+        kx,
+        ky,
+        at,
+        clears,
+        resets,
+        inits,
+        FlipFlop {
+            controls: c,
+            bits: mask,
+            clear: own,
+            reset: own,
+            init: own,
+        },
     )
 }
 

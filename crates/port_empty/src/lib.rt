@@ -91,7 +91,7 @@ pub fn empty_refusal(
     ensures { result ≡ log_refusal room (state_of st) (emptied_if (memory_of m nets.now trits.now) output.now) }
 {
     let mut no_log = [0u32; 0];
-    let start = log_entries::dry_start(st);
+    let start = st.dry_start();
     let dry = emit_empty(&mut no_log, start, m, nets, trits, output);
-    log_entries::dry_refusal(room, st, dry)
+    rules::number_of(st.dry_refusal(room, dry))
 }

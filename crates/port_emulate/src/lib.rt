@@ -212,7 +212,7 @@ fn log_number(
     ensures { (trits : List ℕ) → input_number st.next m nets.now trits ≡ 0 → all_x ≡ is_undef (memory_of m nets.now trits).init → result ≡ log_refusal room (state_of st) (emulate_read_before_write (memory_of m nets.now trits)) }
 {
     let mut no_log = [0u32; 0];
-    let start = log_entries::dry_start(st);
+    let start = st.dry_start();
     let dry = emit_ports(
         &mut no_log,
         start,
@@ -231,7 +231,7 @@ fn log_number(
         m,
         nets,
     );
-    log_entries::dry_refusal(room, st, dry)
+    rules::number_of(st.dry_refusal(room, dry))
 }
 
 // A memory without a number of its own: 20 and 21 by a dry run, then the same for good. The arrays are scratch of both.

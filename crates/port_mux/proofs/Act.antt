@@ -21,15 +21,29 @@ use Rattle.log_entries.specs.Emission.{Lent, is_over}
 use Rattle.log_entries.specs.View.{state_of, lent}
 use Rattle.log_entries.specs.declared.LogState as machine
 use Rattle.log_entries.proofs.Emission.{accepted_run, accepted_held}
-use Rattle.log_requests.specs.declared.Answer.TheVariants.{Refused, Accepted}
-use Rattle.log_requests.proofs.Answers.{refused, accepted}
+use Rattle.port_mux.specs.declared.Answer.TheVariants.{Refused, Accepted}
+use Rattle.rules.specs.Log.{state_after, log_after}
+use borrow.Author.Tests.{ne_eqb}
+use Rattle.lists.specs.Choice.{leaves}
 use Rattle.net_memory.specs.declared.Memory.{Memory}
 use Rattle.net_memory.specs.View.{memory_of}
 use Rattle.net_memory.specs.Given.{given_of}
 use Rattle.port_transparency.specs.Gave.{Gave}
-use Rattle.port_mux.specs.Call.{overlay_of, wanted_of, overlaid_of, overlaid}
+use Rattle.port_mux.specs.Call.{overlay_of, wanted_of, logged_of, overlaid_of, overlaid}
 
 -- ---- the two ways an answer is made
+module _ {A : Type 0} (v : A) (N : ℕ) (log : List ℕ) (s : LogState) (t : Trace A) where
+  -- a refused call
+  pub refused : (n : ℕ) → n ≡ N → n ≢ 0 → logged_of v (Refused n) log ≡ rules.logged N log s t
+  unfolding rules.logged rules.answer_of leaves
+  refused n e h = rw (← e, ne_eqb n 0 h)
+
+  -- an accepted one
+  pub accepted : (after : List ℕ) (r : machine.LogState) → N ≡ 0 → v ≡ (t s.next).value → state_of r ≡ state_after s (t s.next) → after ≡ log_after log s (t s.next)
+      → logged_of v (Accepted r) after ≡ rules.logged N log s t
+  unfolding rules.logged rules.answer_of rules.after leaves
+  accepted after r z e f g = rw z (λ i. record { answer = rules.Accepted (record { value = e i; state = f i }); log = g i })
+
 pub overlaid_refused : (masked : Bool) (k N n : ℕ) (bits mask log : List ℕ) (s : LogState) (t : Trace Overlay) → n ≡ N → n ≢ 0
     → overlaid_of masked k (Refused n) log bits mask ≡ overlaid N bits mask log s t
 unfolding overlaid

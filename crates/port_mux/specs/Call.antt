@@ -11,8 +11,10 @@ use Rattle.rules.specs.Log.{Trace, LogState}
 use Rattle.rules.specs.Conditions.{bad_write_shape, bad_read_shape, short_pair}
 use Rattle.rules.specs.Ports.{Overlay}
 use Rattle.rules.specs.Answers.{Overlaid, logged}
-use Rattle.log_requests.specs.Answers.{logged_of}
-use Rattle.log_requests.specs.declared.Answer.{Answer}
+use Rattle.rules.specs.Answers as rules
+use Rattle.log_entries.specs.View.{state_of}
+use Rattle.port_mux.specs.declared.Answer.{Answer}
+use Rattle.port_mux.specs.declared.Answer.TheVariants.{Refused, Accepted}
 use Rattle.net_memory.specs.declared.Memory.{Memory}
 use Rattle.net_memory.specs.View.{memory_of, read_port}
 
@@ -23,6 +25,15 @@ overlay_of masked bits mask = record { bits = bits; mask = when masked then some
 -- a value where it is wanted
 abbrev pub wanted_of : Bool → Value → Value
 wanted_of wanted v = when wanted then v else []
+
+module _ {A : Type 0} where
+  -- v is the value of an accepted call
+  abbrev pub request_of : A → Answer → rules.Answer (rules.After A)
+  request_of v (Refused n) = rules.Refused n
+  request_of v (Accepted s) = rules.Accepted (record { value = v; state = state_of s })
+
+  abbrev pub logged_of : A → Answer → List ℕ → rules.Logged A
+  logged_of v r log = record { answer = request_of v r; log = log }
 
 -- the machine's answer: the first n nets of the rooms are the overlay after
 abbrev pub overlaid_of : Bool → ℕ → Answer → List ℕ → List ℕ → List ℕ → Overlaid

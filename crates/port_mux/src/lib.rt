@@ -18,8 +18,14 @@ ghost use Rattle.port_transparency.specs.Gave.{Gave};
 ghost use Rattle.port_mux.specs.Call.{overlay_of, wanted_of, overlaid_of, overlaid, Paired};
 
 use log_entries::LogState;
-use log_requests::Answer;
 use net_memory::{Memory, MemoryReadPort};
+
+// The number of the refusal, or the state after the request.
+#[derive(Clone, Copy)]
+pub enum Answer {
+    Refused(u32),
+    Accepted(LogState),
+}
 
 // A value has more nets than a merge takes.
 fn overlay_long(bits: &[u32], mask: &[u32], masked: bool) -> bool
@@ -191,7 +197,7 @@ fn dry_number(
     ensures { result ≡ log_refusal room (state_of st) (transparency_mux (memory_of m nets.now trits.now) i j (overlay_of masked bits.now mask.now)) }
 {
     let mut no_log = [0u32; 0];
-    let start = log_entries::dry_start(st);
+    let start = st.dry_start();
     let dry = emit_mux(
         &mut no_log,
         start,
@@ -214,7 +220,7 @@ fn dry_number(
         mask,
         masked,
     );
-    log_entries::dry_refusal(room, st, dry)
+    rules::number_of(st.dry_refusal(room, dry))
 }
 
 // The first n nets of `from`, where they are wanted, into lent room.

@@ -15,7 +15,7 @@ ghost use Rattle.port_transparency.specs.Pairs.{reading, plain};
 ghost use Rattle.port_overlay.specs.Laid.{laid_by, laid_as, laid_from, behind, unmapped, unmapped_if};
 
 use log_entries::LogState;
-use net_flip_flop::Controls;
+use net_flip_flop::{Controls, FlipFlop};
 use net_memory::Memory;
 
 // The state after an unmapping, and the net after its void nets.
@@ -166,7 +166,17 @@ fn emit_behind(
     requires { (n ≤ length under.now) × (n ≤ length q.old) }
     ensures { lent result log.new ≡ run (behind (flip_flop (controls_of c) (take n under.now) clear.now reset.now init.now) from.now) (lent st log.old) }
 {
-    let after = log_entries::emit_dff(log, st, c, &under[..n], clear, reset, init);
+    let after = log_entries::emit_dff(
+        log,
+        st,
+        FlipFlop {
+            controls: c,
+            bits: &under[..n],
+            clear: clear,
+            reset: reset,
+            init: init,
+        },
+    );
     lists::store_run(q, 0, st.next, after.next);
     log_entries::emit_replace(log, after, from, &q[..n])
 }

@@ -158,7 +158,7 @@ fn dry_number(
     ensures { result ≡ log_refusal room (state_of st) (unmap_reset (memory_of m nets.now trits.now) i incl output.now (own_flip_flop m trits.now i c)) }
 {
     let mut no_log = [0u32; 0];
-    let start = log_entries::dry_start(st);
+    let start = st.dry_start();
     let dry = emit_port(
         &mut no_log,
         start,
@@ -186,7 +186,7 @@ fn dry_number(
         output,
     );
     let after = dry.state;
-    log_entries::dry_refusal(room, st, after)
+    rules::number_of(st.dry_refusal(room, after))
 }
 
 // 20 and 21 by a dry run, then the same for good; the void nets become the port's outputs.
@@ -346,7 +346,7 @@ fn unmap_some(
     ensures reset_struct { ResetStruct m st i incl result trits.old trits.new }
 {
     if port_unreset::port_plain(m, trits, i, p, c, incl) {
-        let n = log_entries::room_refusal(log.len(), st, 0, 0);
+        let n = rules::number_of(st.room_refusal(log.len(), 0, 0));
         return Driven {
             refusal: n,
             memory: m,

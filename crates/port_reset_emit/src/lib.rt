@@ -17,7 +17,7 @@ ghost use Rattle.port_transparency.specs.Pairs.{reading};
 ghost use Rattle.port_reset_emit.specs.Behind.{start_trit, mask_behind, choice, reset_behind, reset_laid, reset_if};
 
 use log_entries::LogState;
-use net_flip_flop::Controls;
+use net_flip_flop::{Controls, FlipFlop};
 use net_memory::Memory;
 
 // The state after an unmapping, and its void nets: from `first` on, `last` is the net after them.
@@ -50,7 +50,17 @@ fn emit_data(
     requires { (n ≤ length under.now) × (n ≤ length out.old) }
     ensures { Gave (add_dff_of (flip_flop (controls_of c) (take n under.now) clear.now reset.now init.now)) (lent st log.old) (lent result log.new) (take n out.new) }
 {
-    let after = log_entries::emit_dff(log, st, c, &under[..n], clear, reset, init);
+    let after = log_entries::emit_dff(
+        log,
+        st,
+        FlipFlop {
+            controls: c,
+            bits: &under[..n],
+            clear: clear,
+            reset: reset,
+            init: init,
+        },
+    );
     lists::store_run(out, 0, st.next, after.next);
     after
 }
@@ -91,11 +101,13 @@ fn emit_mask(
         clears,
         resets,
         inits,
-        c,
-        &over[..n],
-        own,
-        own,
-        &starts[..n],
+        FlipFlop {
+            controls: c,
+            bits: &over[..n],
+            clear: own,
+            reset: own,
+            init: &starts[..n],
+        },
     )
 }
 

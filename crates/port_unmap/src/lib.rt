@@ -105,7 +105,7 @@ fn dry_number(
     ensures { result ≡ log_refusal room (state_of st) (unmap_dff (memory_of m nets.now trits.now) i output.now (own_flip_flop m trits.now i c)) }
 {
     let mut no_log = [0u32; 0];
-    let start = log_entries::dry_start(st);
+    let start = st.dry_start();
     let dry = emit_port(
         &mut no_log,
         start,
@@ -126,7 +126,7 @@ fn dry_number(
         output,
     );
     let after = dry.state;
-    log_entries::dry_refusal(room, st, after)
+    rules::number_of(st.dry_refusal(room, after))
 }
 
 // The pair of a read port of this k and address and write port j has too few address bits.
@@ -314,7 +314,7 @@ fn unmap_port(
     ensures new_struct { NewStruct m st i result }
 {
     let f = p.flip_flop;
-    let n = log_entries::room_refusal(log.len(), st, 0, 0);
+    let n = rules::number_of(st.room_refusal(log.len(), 0, 0));
     match f {
         None => Driven {
             refusal: n,

@@ -30,7 +30,7 @@ fn needs_refusal(r: SwizzleRooms, room: usize, st: LogState, n: Needs, image: us
     if r.scratch < n.scratch {
         return 20;
     }
-    log_entries::room_refusal(room, st, n.words, n.nets)
+    rules::number_of(st.room_refusal(room, n.words, n.nets))
 }
 
 // The same from a plan that passes.
@@ -83,7 +83,7 @@ pub fn rows_refusal(
         return n;
     }
     if m.width == 0 {
-        return log_entries::room_refusal(room, st, 0, 0);
+        return rules::number_of(st.room_refusal(room, 0, 0));
     }
     if m.depth == 0 {
         return 0;

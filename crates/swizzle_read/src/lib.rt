@@ -14,7 +14,7 @@ ghost use Rattle.swizzle_read.specs.Port.{mux_room, addr_by, Addressed, read_tra
 ghost use Rattle.swizzle_pieces.specs.Steps.{load_of};
 
 use log_entries::LogState;
-use net_flip_flop::Controls;
+use net_flip_flop::{Controls, FlipFlop};
 use net_value::{ControlNet, Net};
 use swizzle_pieces::Pieces;
 
@@ -59,7 +59,17 @@ fn addr_dff(
     requires { xs.now ≡ undef (length mux.now) }
     ensures { lent result log.new ≡ run (add_dff_of (with_enable (new_flip_flop mux.now (control_of clock)) (control_of enable))) (lent st log.old) }
 {
-    log_entries::emit_dff(log, st, addr_controls(clock, enable), mux, xs, xs, xs)
+    log_entries::emit_dff(
+        log,
+        st,
+        FlipFlop {
+            controls: addr_controls(clock, enable),
+            bits: mux,
+            clear: xs,
+            reset: xs,
+            init: xs,
+        },
+    )
 }
 
 // The mux address, whose nets go to the front of `room`; it passes a flip-flop where the port is clocked, even when it is empty.
@@ -82,7 +92,7 @@ fn mux_addr(
     let xs = [rules::TRIT_X; MUX_ROOM];
     let m = mux.len();
     let after = addr_dff(log, st, clock, enable, mux, &xs[..m]);
-    if log_entries::is_over(after) {
+    if after.is_over() {
         return after;
     }
     lists::store_run(room, 0, st.next, after.next);

@@ -53,7 +53,7 @@ fn pair_at(
     ensures pieces_after { pieces.new ≡ results (is_over (state_of result)) pieces.old to (up_from st.next width) }
 {
     let after = emit_pair(log, st, bit, pieces, from, width);
-    if log_entries::is_over(after) {
+    if after.is_over() {
         return after;
     }
     lists::store_run(pieces, to, st.next, after.next);

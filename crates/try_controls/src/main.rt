@@ -3,10 +3,10 @@
 #![tactic(auto)]
 
 use log_entries::LogState;
-use log_requests::{ControlsAnswer, NetAnswer};
+use log_requests::{PosNet, Remapped};
 use net_flip_flop::Controls;
 use net_value::{ControlNet, Net};
-use rules::{FIRST_CELL, MAX_NETS, NET_X};
+use rules::{FIRST_CELL, MAX_NETS, NET_X, Refusal};
 use std::io;
 use try_kit::borders::{next_at, room_at, state_number};
 use try_kit::numbered;
@@ -45,18 +45,8 @@ fn control(w: Wire) -> ControlNet {
 
 fn is_wire(c: ControlNet, w: Wire) -> bool {
     match c {
-        ControlNet::Pos(n) => {
-            if w.neg {
-                return false;
-            }
-            n.0 == w.net
-        }
-        ControlNet::Neg(n) => {
-            if w.neg {
-                return n.0 == w.net;
-            }
-            false
-        }
+        ControlNet::Pos(n) => !w.neg && n.0 == w.net,
+        ControlNet::Neg(n) => w.neg && n.0 == w.net,
     }
 }
 
@@ -106,28 +96,14 @@ fn put_not(want: &mut [u32], at: usize, w: Wire, next: u32) {
 }
 
 fn state_is(s: LogState, used: usize, next: u32, z: Size) -> bool {
-    if s.used != plus(used, z.words) {
-        return false;
-    }
-    s.next == net_above(next, z.nets)
+    s.used == plus(used, z.words) && s.next == net_above(next, z.nets)
 }
 
-fn net_answered(n: u32, w: Wire, next: u32, r: NetAnswer) -> bool {
+fn net_answered(n: u32, w: Wire, next: u32, r: Result<PosNet, Refusal>) -> bool {
     match r {
-        NetAnswer::Refused(k) => {
-            if n == 0 {
-                return false;
-            }
-            k == n
-        }
-        NetAnswer::Accepted(net, s) => {
-            if n != 0 {
-                return false;
-            }
-            if net.0 != pos_net(w, next) {
-                return false;
-            }
-            state_is(s, 3, next, not_size(w))
+        Err(e) => e.number() == n,
+        Ok(made) => {
+            n == 0 && made.net.0 == pos_net(w, next) && state_is(made.state, 3, next, not_size(w))
         }
     }
 }
@@ -140,9 +116,10 @@ fn pos_number(w: Wire, room: usize, next: u32) -> u32 {
     state_number(room, plus(3, z.words), next, net_above(next, z.nets))
 }
 
-fn call_pos(log: &mut [u32], room: usize, next: u32, w: Wire) -> NetAnswer {
+fn call_pos(log: &mut [u32], room: usize, next: u32, w: Wire) -> Result<PosNet, Refusal> {
     if log.len() < room {
-        return NetAnswer::Refused(99);
+        // no case expects this one
+        return Err(Refusal::OutOfRange);
     }
     let st = LogState { used: 3, next };
     log_requests::into_pos(&mut log[..room], st, control(w))
@@ -176,10 +153,8 @@ fn pos_case(t: Tally, log: &mut [u32], want: &mut [u32], k: u32) -> Tally {
 
 fn pos_cases(log: &mut [u32], want: &mut [u32]) -> Tally {
     let mut t = numbered::start();
-    let mut k: u32 = 0;
-    while k < 144 {
+    for k in 0..144 {
         t = pos_case(t, log, want, k);
-        k += 1;
     }
     t
 }
@@ -197,18 +172,7 @@ struct Remap {
 
 // Whether the reset becomes its and with the enable.
 fn gated(reset: Wire, enable: Wire, over: bool) -> bool {
-    if over {
-        return false;
-    }
-    if reset.net == 0 {
-        if !reset.neg {
-            return false;
-        }
-    }
-    if enable.net == 1 {
-        return false;
-    }
-    true
+    !over && (reset.net != 0 || reset.neg) && enable.net != 1
 }
 
 fn remap_size(reset: Wire, enable: Wire, over: bool) -> Size {
@@ -296,57 +260,30 @@ fn controls_of(reset: Wire, enable: Wire, over: bool) -> Controls {
 
 // The clock Neg 7 and the clear Pos 9 as they were, the enable too, the reset expected, and over the enable.
 fn controls_are(c: Remap, r: Controls) -> bool {
-    let clock = r.clock;
-    let clear = r.clear;
-    let reset = r.reset;
-    let enable = r.enable;
-    let wanted = new_reset(c);
-    let same_enable = c.enable;
-    if !is_wire(clock, Wire { neg: true, net: 7 }) {
-        return false;
-    }
-    if !is_wire(clear, Wire { neg: false, net: 9 }) {
-        return false;
-    }
-    if !is_wire(reset, wanted) {
-        return false;
-    }
-    if !is_wire(enable, same_enable) {
-        return false;
-    }
-    r.reset_over_enable
+    is_wire(r.clock, Wire { neg: true, net: 7 })
+        && is_wire(r.clear, Wire { neg: false, net: 9 })
+        && is_wire(r.reset, new_reset(c))
+        && is_wire(r.enable, c.enable)
+        && r.reset_over_enable
 }
 
-fn remap_done(c: Remap, r: Controls, s: LogState) -> bool {
-    if !controls_are(c, r) {
-        return false;
-    }
-    let reset = c.reset;
-    let enable = c.enable;
-    state_is(s, 3, c.next, remap_size(reset, enable, c.over))
+fn remap_done(c: Remap, made: Remapped) -> bool {
+    let size = remap_size(c.reset, c.enable, c.over);
+    controls_are(c, made.controls) && state_is(made.state, 3, c.next, size)
 }
 
-fn remap_answered(n: u32, c: Remap, r: ControlsAnswer) -> bool {
+fn remap_answered(n: u32, c: Remap, r: Result<Remapped, Refusal>) -> bool {
     match r {
-        ControlsAnswer::Refused(k) => {
-            if n == 0 {
-                return false;
-            }
-            k == n
-        }
-        ControlsAnswer::Accepted(d, s) => {
-            if n != 0 {
-                return false;
-            }
-            remap_done(c, d, s)
-        }
+        Err(e) => e.number() == n,
+        Ok(made) => n == 0 && remap_done(c, made),
     }
 }
 
-fn call_remap(log: &mut [u32], c: Remap) -> ControlsAnswer {
+fn call_remap(log: &mut [u32], c: Remap) -> Result<Remapped, Refusal> {
     let room = c.room;
     if log.len() < room {
-        return ControlsAnswer::Refused(99);
+        // no case expects this one
+        return Err(Refusal::OutOfRange);
     }
     let reset = c.reset;
     let enable = c.enable;
@@ -385,10 +322,8 @@ fn try_remap(t: Tally, log: &mut [u32], want: &mut [u32], c: Remap) -> Tally {
 
 fn remap_cases(log: &mut [u32], want: &mut [u32]) -> Tally {
     let mut t = numbered::start();
-    let mut k: u32 = 0;
-    while k < 1728 {
+    for k in 0..1728 {
         t = try_remap(t, log, want, remap_at(k));
-        k += 1;
     }
     t
 }

@@ -3,9 +3,7 @@
 use crate::got::Got;
 use crate::{got, lent};
 use log_entries::LogState;
-use log_lent::NewControls;
-use log_requests::{ControlsAnswer, NetAnswer};
-use net_flip_flop::Controls;
+use net_flip_flop::{Controls, FlipFlop};
 use try_kit::spoilt::{CONTROL, controls_in, select_in};
 use try_kit::words::{plus, word};
 
@@ -35,18 +33,21 @@ fn bad_control(c: Case) -> u32 {
     4
 }
 
+// The flip-flop of a case.
+fn flip_flop<'a>(c: Case, a: &'a [u32], trits: &'a [u8]) -> FlipFlop<'a> {
+    FlipFlop {
+        controls: controls_in(c.neg, bad_control(c)),
+        bits: a,
+        clear: net_logic::const_slice(trits, 0, c.n),
+        reset: net_logic::const_slice(trits, 1, plus(c.n, 1)),
+        init: net_logic::const_slice(trits, 2, plus(c.m, 2)),
+    }
+}
+
 // ---- on a lent state
 
 fn lent_dff(log: &mut [u32], st: LogState, c: Case, a: &[u32], trits: &[u8]) -> Got {
-    got::lent_nets(lent::add_dff(
-        log,
-        st,
-        controls_in(c.neg, bad_control(c)),
-        a,
-        net_logic::const_slice(trits, 0, c.n),
-        net_logic::const_slice(trits, 1, plus(c.n, 1)),
-        net_logic::const_slice(trits, 2, plus(c.m, 2)),
-    ))
+    got::lent_nets(lent::add_dff(log, st, flip_flop(c, a, trits)))
 }
 
 fn lent_pos(log: &mut [u32], st: LogState, c: Case) -> Got {
@@ -55,10 +56,9 @@ fn lent_pos(log: &mut [u32], st: LogState, c: Case) -> Got {
 
 fn lent_remap(log: &mut [u32], st: LogState, c: Case) -> Got {
     let t = lent::remap_reset_over_enable(log, st, controls_in(c.neg, bad_control(c)));
-    let answer = t.answer;
-    match answer {
-        NewControls::Refused(n) => got::refused(n, t.state),
-        NewControls::Accepted(k) => with_controls(t.state, k),
+    match t.answer {
+        Err(e) => got::refused(e.number(), t.state),
+        Ok(k) => with_controls(t.state, k),
     }
 }
 
@@ -116,16 +116,7 @@ fn lent_merge_dff(
     a: &[u32],
     trits: &[u8],
 ) -> Got {
-    got::lent_none(lent::add_dedup_dff(
-        log,
-        st,
-        out,
-        controls_in(c.neg, bad_control(c)),
-        a,
-        net_logic::const_slice(trits, 0, c.n),
-        net_logic::const_slice(trits, 1, plus(c.n, 1)),
-        net_logic::const_slice(trits, 2, plus(c.m, 2)),
-    ))
+    got::lent_none(lent::add_dedup_dff(log, st, out, flip_flop(c, a, trits)))
 }
 
 fn lent_merge(
@@ -152,31 +143,23 @@ fn lent_merge(
 // ---- by value
 
 fn plain_dff(log: &mut [u32], st: LogState, c: Case, a: &[u32], trits: &[u8]) -> Got {
-    let r = log_requests::add_dff(
-        log,
-        st,
-        controls_in(c.neg, bad_control(c)),
-        a,
-        net_logic::const_slice(trits, 0, c.n),
-        net_logic::const_slice(trits, 1, plus(c.n, 1)),
-        net_logic::const_slice(trits, 2, plus(c.m, 2)),
-    );
+    let r = log_requests::add_dff(log, st, flip_flop(c, a, trits));
     got::plain(r, st, st.next, c.n)
 }
 
 fn plain_pos(log: &mut [u32], st: LogState, c: Case) -> Got {
     let r = log_requests::into_pos(log, st, select_in(c.neg, c.bad == CONTROL));
     match r {
-        NetAnswer::Refused(n) => got::refused(n, st),
-        NetAnswer::Accepted(net, s) => got::nets(0, s, net.0, 1),
+        Err(e) => got::refused(e.number(), st),
+        Ok(made) => got::nets(0, made.state, made.net.0, 1),
     }
 }
 
 fn plain_remap(log: &mut [u32], st: LogState, c: Case) -> Got {
     let r = log_requests::remap_reset_over_enable(log, st, controls_in(c.neg, bad_control(c)));
     match r {
-        ControlsAnswer::Refused(n) => got::refused(n, st),
-        ControlsAnswer::Accepted(k, s) => with_controls(s, k),
+        Err(e) => got::refused(e.number(), st),
+        Ok(made) => with_controls(made.state, made.controls),
     }
 }
 
@@ -233,16 +216,7 @@ fn plain_merge_dff(
     a: &[u32],
     trits: &[u8],
 ) -> Got {
-    let r = merge_dff::add_dedup_dff(
-        log,
-        st,
-        out,
-        controls_in(c.neg, bad_control(c)),
-        a,
-        net_logic::const_slice(trits, 0, c.n),
-        net_logic::const_slice(trits, 1, plus(c.n, 1)),
-        net_logic::const_slice(trits, 2, plus(c.m, 2)),
-    );
+    let r = merge_dff::add_dedup_dff(log, st, out, flip_flop(c, a, trits));
     got::plain(r, st, 0, 0)
 }
 

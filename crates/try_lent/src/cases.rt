@@ -65,7 +65,7 @@ fn case_at(kind: u32, k: u32) -> Case {
 // The place of the trit that is bad: the first of clear, the last of reset, which is one of init too, or the last of init.
 fn bad_trit(c: Case) -> usize {
     let places = [0usize, c.n, plus(c.n, 1)];
-    places[lists::usize_of_u32(c.which) % 3]
+    places[(c.which as usize) % 3]
 }
 
 // Nets for a case.
@@ -211,10 +211,8 @@ fn set_and_try(t: Tally, c: Case) -> Tally {
 // All the cases of one kind.
 pub(crate) fn cases(kind: u32) -> Tally {
     let mut t = numbered::start();
-    let mut k: u32 = 0;
-    while k < CASES {
+    for k in 0..CASES {
         t = set_and_try(t, case_at(kind, k));
-        k += 1;
     }
     t
 }

@@ -1,10 +1,10 @@
 // What a request gave: its number or 0, the state after it, its first net and how many it made, and the words of its controls, 0 where it gives none.
-use crate::lent::{LentNet, LentNets, LentNone};
+use crate::lent::Lent;
 use log_entries::LogState;
-use log_lent::{NewNets, NoValue, OneNet};
-use log_requests::Answer;
+use log_lent::NewNets;
 use net_flip_flop::Controls;
-use net_value::ControlNet;
+use net_value::{ControlNet, Net};
+use rules::Refusal;
 use try_kit::paint;
 use try_kit::words::both;
 
@@ -31,13 +31,6 @@ fn net(c: ControlNet) -> u32 {
     }
 }
 
-fn bit(b: bool) -> u32 {
-    if b {
-        return 1;
-    }
-    0
-}
-
 // The four controls, each as whether it is Neg and its net, and whether the reset is over the enable.
 pub(crate) fn words_of(c: Controls) -> [u32; 9] {
     let clock = c.clock;
@@ -53,7 +46,7 @@ pub(crate) fn words_of(c: Controls) -> [u32; 9] {
         net(reset),
         sign(enable),
         net(enable),
-        bit(c.reset_over_enable),
+        u32::from(c.reset_over_enable),
     ]
 }
 
@@ -72,34 +65,31 @@ pub(crate) fn refused(number: u32, state: LogState) -> Got {
 }
 
 // A request by value that makes so many nets from the state st on.
-pub(crate) fn plain(r: Answer, st: LogState, first: u32, count: usize) -> Got {
+pub(crate) fn plain(r: Result<LogState, Refusal>, st: LogState, first: u32, count: usize) -> Got {
     match r {
-        Answer::Refused(n) => refused(n, st),
-        Answer::Accepted(s) => nets(0, s, first, count),
+        Err(e) => refused(e.number(), st),
+        Ok(s) => nets(0, s, first, count),
     }
 }
 
-pub(crate) fn lent_nets(t: LentNets) -> Got {
-    let answer = t.answer;
-    match answer {
-        NewNets::Refused(n) => refused(n, t.state),
-        NewNets::Accepted(first, count) => nets(0, t.state, first, count),
+pub(crate) fn lent_nets(t: Lent<NewNets>) -> Got {
+    match t.answer {
+        Err(e) => refused(e.number(), t.state),
+        Ok(new) => nets(0, t.state, new.first, new.width),
     }
 }
 
-pub(crate) fn lent_net(t: LentNet) -> Got {
-    let answer = t.answer;
-    match answer {
-        OneNet::Refused(n) => refused(n, t.state),
-        OneNet::Accepted(net) => nets(0, t.state, net.0, 1),
+pub(crate) fn lent_net(t: Lent<Net>) -> Got {
+    match t.answer {
+        Err(e) => refused(e.number(), t.state),
+        Ok(net) => nets(0, t.state, net.0, 1),
     }
 }
 
-pub(crate) fn lent_none(t: LentNone) -> Got {
-    let answer = t.answer;
-    match answer {
-        NoValue::Refused(n) => refused(n, t.state),
-        NoValue::Accepted => nets(0, t.state, 0, 0),
+pub(crate) fn lent_none(t: Lent<()>) -> Got {
+    match t.answer {
+        Err(e) => refused(e.number(), t.state),
+        Ok(()) => nets(0, t.state, 0, 0),
     }
 }
 
@@ -114,16 +104,11 @@ fn same_words(a: [u32; 9], b: [u32; 9]) -> bool {
 }
 
 pub(crate) fn same(a: Got, b: Got) -> bool {
-    if a.number != b.number {
-        return false;
-    }
-    if a.first != b.first {
-        return false;
-    }
-    if a.count != b.count {
-        return false;
-    }
-    let controls = a.controls;
-    let wanted = b.controls;
-    both(same_state(a.state, b.state), same_words(controls, wanted))
+    a.number == b.number
+        && a.first == b.first
+        && a.count == b.count
+        && both(
+            same_state(a.state, b.state),
+            same_words(a.controls, b.controls),
+        )
 }

@@ -78,12 +78,10 @@ fn name_from_13(rt: &impl Print, kind: u32) -> io::Result<()> {
 }
 
 fn main(rt: HostRuntime) -> io::Result<()> {
-    let mut kind: u32 = 1;
-    while kind <= KINDS {
+    for kind in 1..=KINDS {
         let t = cases::cases(kind);
         name_of(&rt, kind)?;
         report(&rt, t)?;
-        kind += 1;
     }
     Ok(())
 }

@@ -2,8 +2,8 @@
 // or in the second value, with a bad select or control, with a bad trit code, and with one value a bit longer than the other.
 use lists::copy_u8_to_u32;
 use log_entries::LogState;
-use log_requests::Answer;
-use rules::{FIRST_CELL, MAX_MERGE};
+use net_flip_flop::FlipFlop;
+use rules::{FIRST_CELL, MAX_MERGE, Refusal};
 use try_kit::borders::{length_at, next_at, room_at, state_number};
 use try_kit::nets::{fill_nets, spoil};
 use try_kit::numbered;
@@ -208,15 +208,8 @@ fn bad_control(c: Case) -> u32 {
 }
 
 fn put_controls(want: &mut [u32], at: usize, over: bool) {
-    let nine = [0u32, 2, 0, 0, 1, 2, 0, 1, flag(over)];
+    let nine = [0u32, 2, 0, 0, 1, 2, 0, 1, u32::from(over)];
     lists::copy(want, at, &nine);
-}
-
-fn flag(test: bool) -> u32 {
-    if test {
-        return 1;
-    }
-    0
 }
 
 fn put_dff(want: &mut [u32], c: Case, a: &[u32], trits: &[u8]) {
@@ -255,19 +248,34 @@ fn put_entry(want: &mut [u32], c: Case, a: &[u32], b: &[u32], trits: &[u8]) {
     }
 }
 
-fn call_dff(log: &mut [u32], st: LogState, c: Case, a: &[u32], trits: &[u8]) -> Answer {
-    log_requests::add_dff(
-        log,
-        st,
-        controls_in(c.neg, bad_control(c)),
-        a,
-        net_logic::const_slice(trits, 0, c.n),
-        net_logic::const_slice(trits, 1, plus(c.n, 1)),
-        net_logic::const_slice(trits, 2, plus(c.m, 2)),
-    )
+// The flip-flop of a case.
+fn flip_flop<'a>(c: Case, a: &'a [u32], trits: &'a [u8]) -> FlipFlop<'a> {
+    FlipFlop {
+        controls: controls_in(c.neg, bad_control(c)),
+        bits: a,
+        clear: net_logic::const_slice(trits, 0, c.n),
+        reset: net_logic::const_slice(trits, 1, plus(c.n, 1)),
+        init: net_logic::const_slice(trits, 2, plus(c.m, 2)),
+    }
 }
 
-fn call_late(log: &mut [u32], st: LogState, c: Case, a: &[u32], b: &[u32]) -> Answer {
+fn call_dff(
+    log: &mut [u32],
+    st: LogState,
+    c: Case,
+    a: &[u32],
+    trits: &[u8],
+) -> Result<LogState, Refusal> {
+    log_requests::add_dff(log, st, flip_flop(c, a, trits))
+}
+
+fn call_late(
+    log: &mut [u32],
+    st: LogState,
+    c: Case,
+    a: &[u32],
+    b: &[u32],
+) -> Result<LogState, Refusal> {
     if c.kind == 6 {
         return log_requests::add_eq(log, st, a, b);
     }
@@ -280,7 +288,7 @@ fn call_late(log: &mut [u32], st: LogState, c: Case, a: &[u32], b: &[u32]) -> An
     log_requests::replace_value(log, st, a, b)
 }
 
-fn call(log: &mut [u32], st: LogState, c: Case, a: &[u32], b: &[u32]) -> Answer {
+fn call(log: &mut [u32], st: LogState, c: Case, a: &[u32], b: &[u32]) -> Result<LogState, Refusal> {
     if c.kind == 1 {
         return log_requests::add_void(log, st, word(c.n));
     }
@@ -300,10 +308,17 @@ fn call(log: &mut [u32], st: LogState, c: Case, a: &[u32], b: &[u32]) -> Answer 
 }
 
 // The call, in the room that the case lends.
-fn call_in(log: &mut [u32], c: Case, a: &[u32], b: &[u32], trits: &[u8]) -> Answer {
+fn call_in(
+    log: &mut [u32],
+    c: Case,
+    a: &[u32],
+    b: &[u32],
+    trits: &[u8],
+) -> Result<LogState, Refusal> {
     let room = c.room;
     if log.len() < room {
-        return Answer::Refused(99);
+        // no case expects this one
+        return Err(Refusal::OutOfRange);
     }
     let st = LogState {
         used: c.used,
@@ -316,22 +331,13 @@ fn call_in(log: &mut [u32], c: Case, a: &[u32], b: &[u32], trits: &[u8]) -> Answ
 }
 
 // Whether an answer is the one expected.
-fn answered(c: Case, n: u32, r: Answer) -> bool {
+fn answered(c: Case, n: u32, r: Result<LogState, Refusal>) -> bool {
     match r {
-        Answer::Refused(k) => {
-            if n == 0 {
-                return false;
-            }
-            k == n
-        }
-        Answer::Accepted(s) => {
-            if n != 0 {
-                return false;
-            }
-            if s.used != plus(c.used, entry_words(c.kind, c.n, c.m)) {
-                return false;
-            }
-            s.next == net_above(c.next, results(c.kind, c.n))
+        Err(e) => e.number() == n,
+        Ok(s) => {
+            n == 0
+                && s.used == plus(c.used, entry_words(c.kind, c.n, c.m))
+                && s.next == net_above(c.next, results(c.kind, c.n))
         }
     }
 }
@@ -347,7 +353,7 @@ fn set_nets(c: Case, a: &mut [u32], b: &mut [u32]) {
 // The place of the trit that is bad: the first of clear, the last of reset, which is one of init too, or the last of init.
 fn bad_trit(c: Case) -> usize {
     let places = [0usize, c.n, plus(c.n, 1)];
-    places[lists::usize_of_u32(c.which) % 3]
+    places[(c.which as usize) % 3]
 }
 
 // The log expected.
@@ -391,10 +397,8 @@ fn set_and_try(t: Tally, c: Case) -> Tally {
 // All the cases of one kind.
 pub(crate) fn cases(kind: u32) -> Tally {
     let mut t = numbered::start();
-    let mut k: u32 = 0;
-    while k < CASES {
+    for k in 0..CASES {
         t = set_and_try(t, case_at(kind, k));
-        k += 1;
     }
     t
 }

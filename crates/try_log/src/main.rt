@@ -40,12 +40,10 @@ fn name_of(rt: &impl Print, kind: u32) -> io::Result<()> {
 
 // The kinds of entries: void, not, and, or, mux, eq, shl, ushr, flip-flop and replace.
 fn main(rt: HostRuntime) -> io::Result<()> {
-    let mut kind: u32 = 1;
-    while kind < 11 {
+    for kind in 1..11 {
         let t = cells::cases(kind);
         name_of(&rt, kind)?;
         report(&rt, t)?;
-        kind += 1;
     }
     Ok(())
 }

@@ -4,8 +4,7 @@
 #![tactic(auto)]
 
 use log_entries::LogState;
-use log_requests::Answer;
-use rules::{FIRST_CELL, MAX_MERGE, MAX_NETS};
+use rules::{FIRST_CELL, MAX_MERGE, MAX_NETS, Refusal};
 use std::io;
 use try_kit::borders::{length_at, room_at, state_number};
 use try_kit::nets::{fill_nets, net_at, spoil};
@@ -31,14 +30,10 @@ fn word_at(s: &[u32], i: usize) -> u32 {
 
 // The place of a pair among the kept ones, or their number.
 fn place_of(kx: &[u32], ky: &[u32], kept: usize, x: u32, y: u32) -> usize {
-    let mut j: usize = 0;
-    while j < kept {
-        if word_at(kx, j) == x {
-            if word_at(ky, j) == y {
-                return j;
-            }
+    for j in 0..kept {
+        if word_at(kx, j) == x && word_at(ky, j) == y {
+            return j;
         }
-        j += 1;
     }
     kept
 }
@@ -56,14 +51,11 @@ fn keep_pair(kx: &mut [u32], ky: &mut [u32], place: usize, kept: usize, x: u32, 
 // The distinct pairs and each bit's place among them; how many there are.
 fn keep(a: &[u32], b: &[u32], kx: &mut [u32], ky: &mut [u32], at: &mut [u32]) -> usize {
     let mut kept: usize = 0;
-    let mut i: usize = 0;
-    while i < a.len() {
-        let x = word_at(a, i);
+    for (i, x) in a.iter().enumerate() {
         let y = word_at(b, i);
-        let place = place_of(kx, ky, kept, x, y);
+        let place = place_of(kx, ky, kept, *x, y);
         lists::put(at, i, word(place));
-        kept = keep_pair(kx, ky, place, kept, x, y);
-        i += 1;
+        kept = keep_pair(kx, ky, place, kept, *x, y);
     }
     kept
 }
@@ -96,10 +88,8 @@ fn put_mux(
 
 // The net of each bit, from a place on.
 fn put_nets(out: &mut [u32], to: usize, next: u32, at: &[u32], n: usize) {
-    let mut i: usize = 0;
-    while i < n {
+    for i in 0..n {
         lists::put(out, plus(to, i), net_above(next, word_at(at, i) as usize));
-        i += 1;
     }
 }
 
@@ -139,12 +129,10 @@ fn starts_run(s: &[u32], i: usize) -> bool {
 
 // The end of the run of equal neighbours that starts at i.
 fn run_end(s: &[u32], i: usize) -> usize {
-    let mut e = plus(i, 1);
-    while e < s.len() {
+    for e in plus(i, 1)..s.len() {
         if word_at(s, e) != word_at(s, i) {
             return e;
         }
-        e += 1;
     }
     s.len()
 }
@@ -176,10 +164,8 @@ fn expect_runs(
     nets: &mut [u32],
 ) -> LogState {
     let mut state = st;
-    let mut i: usize = 0;
-    while i < s.len() {
+    for i in 0..s.len() {
         state = expect_bit(want, state, s, a, b, i, nets);
-        i += 1;
     }
     state
 }
@@ -330,13 +316,14 @@ fn call(
     a: &[u32],
     b: &[u32],
     out: &mut [u32],
-) -> Answer {
+) -> Result<LogState, Refusal> {
     let st = LogState {
         used: 3,
         next: c.next,
     };
     if log.len() < room {
-        return Answer::Refused(99);
+        // no case expects this one
+        return Err(Refusal::OutOfRange);
     }
     if c.bitwise {
         return merge_mux::add_bitwise_mux(&mut log[..room], st, out, s, a, b);
@@ -360,37 +347,25 @@ fn call_in(
     a: &[u32],
     b: &[u32],
     out: &mut [u32],
-) -> Answer {
+) -> Result<LogState, Refusal> {
     let end = out_room(c);
     if out.len() < end {
-        return Answer::Refused(98);
+        // no case expects this one
+        return Err(Refusal::OutOfRange);
     }
     call(c, room, log, s, a, b, &mut out[..end])
 }
 
 // Whether an answer is the one expected.
-fn answered(n: u32, wanted: LogState, r: Answer) -> bool {
+fn answered(n: u32, wanted: LogState, r: Result<LogState, Refusal>) -> bool {
     match r {
-        Answer::Refused(k) => {
-            if n == 0 {
-                return false;
-            }
-            k == n
-        }
-        Answer::Accepted(state) => {
-            if n != 0 {
-                return false;
-            }
-            same_state(state, wanted)
-        }
+        Err(e) => e.number() == n,
+        Ok(state) => n == 0 && same_state(state, wanted),
     }
 }
 
 fn same_state(a: LogState, b: LogState) -> bool {
-    if a.used != b.used {
-        return false;
-    }
-    a.next == b.next
+    a.used == b.used && a.next == b.next
 }
 
 // The call and its comparison: every word of the log and of the result nets.
@@ -439,10 +414,8 @@ fn try_case(t: Tally, c: Case, mode: u32, s: &[u32], a: &[u32], b: &[u32]) -> Ta
 
 // Selects in runs of nine.
 fn fill_selects(s: &mut [u32], next: u32) {
-    let mut i: usize = 0;
-    while i < s.len() {
-        s[i] = net_at(next, i / 9, 1);
-        i += 1;
+    for (i, select) in s.iter_mut().enumerate() {
+        *select = net_at(next, i / 9, 1);
     }
 }
 
@@ -475,10 +448,8 @@ fn set_and_try(t: Tally, bitwise: bool, k: u32) -> Tally {
 // All the cases of one of the two merges.
 fn cases(bitwise: bool) -> Tally {
     let mut t = numbered::start();
-    let mut k: u32 = 0;
-    while k < CASES {
+    for k in 0..CASES {
         t = set_and_try(t, bitwise, k);
-        k += 1;
     }
     t
 }

@@ -19,7 +19,7 @@ returns c =
     overlay_left
     (overlay_of v.masked (take n d.new.bits_to) (take n d.new.mask_to))
     v.st
-    c.answer_struct.result
+    c.mux_struct.result
     d.result
     d.new.log
     d.new.bits_to
@@ -31,5 +31,5 @@ returns c =
     v.read
     v.write
     (overlay_of v.masked v.bits.now v.mask.now)
-    c.answer_struct.ensures
+    c.mux_struct.ensures
     (d.ensures ∙ ap (λ (m : MachineMemory). transparency_mux_call v.bits_to.now v.mask_to.now v.log.now (state_of v.st) (given_of m v.nets.now v.trits.now) v.read v.write (overlay_of v.masked v.bits.now v.mask.now)) g.ensures)

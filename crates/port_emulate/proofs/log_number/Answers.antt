@@ -1,4 +1,5 @@
 -- `port_emulate::log_number` meets its contract.
+use mathlib.Core.Path.{◌∙◌}
 use Rattle.rules.specs.Ports.{emulate_read_before_write}
 use Rattle.log_entries.specs.View.{state_of}
 use Rattle.log_entries.proofs.Emission.{dry_called}
@@ -23,4 +24,4 @@ returns c =
     let q = c.dry_refusal in
     let f = few_writes m x y (writes_length m _ c.well_formed.1.1.1.1.1.1.1.1.1.1.1.1.1.1.0 x) in
     dry_called (emulate_read_before_write M) v.room (state_of v.st) _ (chains_emulate M) (below M (thin_is v.st.next m x y z) (shapes v.st.next m x y z) f (state_of v.st))
-    p.new.log _ (state_of p.result) q.result c.dry_start-start.ensures (dry_run m x y v.all_x _ _ b (p.ensures x y)) q.ensures
+    p.new.log _ (state_of p.result) c.number_of.result c.dry_start-start.ensures (dry_run m x y v.all_x _ _ b (p.ensures x y)) (c.number_of.ensures ∙ q.ensures)

@@ -1,4 +1,5 @@
 -- `port_mux::dry_number` meets its contract.
+use mathlib.Core.Path.{◌∙◌}
 use Rattle.rules.specs.Ports.{transparency_mux}
 use Rattle.log_entries.specs.View.{state_of}
 use Rattle.log_entries.proofs.Emission.{dry_called}
@@ -17,4 +18,4 @@ returns c =
     let w = memory_of v.m v.nets.now v.trits.now in
     let o = overlay_of v.masked v.bits.now v.mask.now in
     dry_called (transparency_mux w v.i v.j o) v.room s _ (chains_mux_at w v.i v.j o) (mux_below v.m v.nets.now v.trits.now v.i v.j v.masked v.bits.now v.mask.now c.requires.0 s)
-    p.new.log _ (state_of p.result) q.result c.dry_start-start.ensures p.ensures.ran q.ensures
+    p.new.log _ (state_of p.result) c.number_of.result c.dry_start-start.ensures p.ensures.ran (c.number_of.ensures ∙ q.ensures)

@@ -17,8 +17,8 @@ returns-then-port_plain c =
     let h = is_there_lem v.st.next v.m v.nets.now v.trits.now v.i v.incl v.output.now c.requires.1 x y in
     let q = sym (c.port_plain.ensures ∙ ap (λ (z : MemoryReadPort). is_plain v.incl (clocked_by v.c z (read_trits v.m v.trits.now v.i))) c.requires.2) ∙ c.if-port_plain.true in
     let e = flip_some v.m v.nets.now v.trits.now v.i h v.c c.requires.0 in
-    let n = c.room_refusal-n in
-    record { log_after = plain_done v.m v.nets.now v.trits.now v.i v.incl v.output.now v.log.now v.st n.result (own_flip_flop v.m v.trits.now v.i v.c) e q n.ensures; reset_struct = struct_plain v.m v.st v.i v.incl v.trits.now v.c c.requires.0 n.result q }
+    let n = c.number_of-n in
+    record { log_after = plain_done v.m v.nets.now v.trits.now v.i v.incl v.output.now v.log.now v.st n.result (own_flip_flop v.m v.trits.now v.i v.c) e q (n.ensures ∙ c.room_refusal.ensures); reset_struct = struct_plain v.m v.st v.i v.incl v.trits.now v.c c.requires.0 n.result q }
 
 pub unmap_clocked-requires : goal.unmap_clocked-requires
 unmap_clocked-requires c =

@@ -1,4 +1,5 @@
 -- `port_unmap::dry_number` meets its contract.
+use mathlib.Core.Path.{◌∙◌}
 use Rattle.log_entries.specs.View.{state_of}
 use Rattle.log_entries.proofs.Emission.{dry_called}
 use Rattle.rules.specs.Ports.{unmap_dff}
@@ -16,4 +17,4 @@ returns c =
     let s = state_of v.st in
     let f = own_flip_flop v.m v.trits.now v.i v.c in
     dry_called (unmap_dff (memory_of v.m v.nets.now v.trits.now) v.i v.output.now f) v.room s _ (chains_unmap (memory_of v.m v.nets.now v.trits.now) v.i v.output.now f) (unmap_below v.m v.nets.now v.trits.now v.i v.c c.requires.0 v.output.now s)
-    p.new.log _ (state_of p.result.state) q.result c.dry_start-start.ensures p.ensures.log_after q.ensures
+    p.new.log _ (state_of p.result.state) c.number_of.result c.dry_start-start.ensures p.ensures.log_after (c.number_of.ensures ∙ q.ensures)

@@ -26,7 +26,7 @@ returns-in-None c =
     let y = writes_length v.m _ c.well_formed.1.1.1.0 v.nets.now in
     let e = ap (λ (q : MemoryReadPort). q.flip_flop) (sym c.requires.1) ∙ c.in-None.is in
     let h = is_there_lem v.st.next v.m v.nets.now v.trits.now v.i v.output.now c.requires.0 x y in
-    record { log_after = none_done v.m v.nets.now v.trits.now v.i v.output.now v.log.now v.st c.room_refusal-n.result (flip_none v.m v.nets.now v.trits.now v.i h e) c.room_refusal-n.ensures; new_struct = struct_none v.m v.st v.i c.room_refusal-n.result e }
+    record { log_after = none_done v.m v.nets.now v.trits.now v.i v.output.now v.log.now v.st c.number_of-n.result (flip_none v.m v.nets.now v.trits.now v.i h e) (c.number_of-n.ensures ∙ c.room_refusal.ensures); new_struct = struct_none v.m v.st v.i c.number_of-n.result e }
 
 pub returns-in-Some : goal.returns-in-Some
 returns-in-Some c =

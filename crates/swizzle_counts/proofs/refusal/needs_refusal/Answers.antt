@@ -1,4 +1,5 @@
 -- `swizzle_counts::refusal::needs_refusal` meets its contract.
+use mathlib.Core.Path.{◌∙◌}
 use Rattle.log_entries.specs.View.{state_of}
 use Rattle.swizzle_counts.specs.Refusal.{rooms_of}
 use Rattle.swizzle_counts.proofs.Refusing.{need_image, need_nets, need_trits, need_scratch, need_log}
@@ -27,4 +28,4 @@ returns-then-r-n-3 c =
 pub returns : goal.returns
 returns c =
     let v = c.args in
-    need_log (rooms_of v.r) v.room (state_of v.st) v.n v.image c.if-r-image.false c.if-r-n.false c.if-r-n-2.false c.if-r-n-3.false _ c.room_refusal.ensures
+    need_log (rooms_of v.r) v.room (state_of v.st) v.n v.image c.if-r-image.false c.if-r-n.false c.if-r-n-2.false c.if-r-n-3.false _ (c.number_of.ensures ∙ c.room_refusal.ensures)

@@ -17,7 +17,7 @@ returns-then-n-ne0 c =
 pub returns-then-m-eq0 : goal.returns-then-m-eq0
 returns-then-m-eq0 c =
     let v = c.args in
-    by_flat (rooms_of v.r) v.room (state_of v.st) (given_of v.m v.nets.now v.trits.now) v.output.now (plan_of v.s v.entries.now v.writes.now v.reads.now) (sym c.plan_number-n.ensures ∙ c.if-n-ne0.false) (mem_width v.m v.nets.now v.trits.now ∙ c.if-m-eq0.true) _ c.room_refusal.ensures
+    by_flat (rooms_of v.r) v.room (state_of v.st) (given_of v.m v.nets.now v.trits.now) v.output.now (plan_of v.s v.entries.now v.writes.now v.reads.now) (sym c.plan_number-n.ensures ∙ c.if-n-ne0.false) (mem_width v.m v.nets.now v.trits.now ∙ c.if-m-eq0.true) _ (c.number_of.ensures ∙ c.room_refusal.ensures)
 
 pub returns-then-m-eq0-2 : goal.returns-then-m-eq0-2
 returns-then-m-eq0-2 c =

@@ -1,9 +1,0 @@
--- The invariants of `try_merges::cases`.
-use Prim.Native.Nat.{◌-◌}
-use Rattle.try_merges.proofs.cases.Given as goal
-
-abbrev pub invariant-loop-k : goal.invariant-loop-k
-invariant-loop-k l = Unit {0}
-
-abbrev pub decreases-loop-k : goal.decreases-loop-k
-decreases-loop-k l = 450 - l.k
