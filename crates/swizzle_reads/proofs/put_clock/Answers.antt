@@ -10,4 +10,4 @@ returns-in-None c =
 pub returns : goal.returns
 returns c =
     let v = c.args in
-    trits_some v.f v.p v.z v.s v.r v.trits.now v.entries.now v.at v.to.now _ c.in_default.is c.two_to.result c.two_to-2.result c.size_of.result _ _ _ _ c.two_to.ensures.value c.two_to-2.ensures.value c.size_of.ensures.0 c.clear_of.ensures c.reset_of.ensures c.init_of.ensures c.three_trits.ensures
+    trits_some v.f v.p v.z v.s v.r v.trits.now v.entries.now v.at v.to.now _ c.in_default.is c.two_to.result c.two_to-2.result c.size_of.result _ _ _ _ c.two_to.ensures.0 c.two_to-2.ensures.0 c.size_of.ensures.0 c.clear_of.ensures c.reset_of.ensures c.init_of.ensures c.three_trits.ensures
