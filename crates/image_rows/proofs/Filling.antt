@@ -1,20 +1,21 @@
 -- Rows written at the front of a longer list, one after the other; and the whole answer of a layout.
+use native.Mathlib.Omega.{arith}
 use Prim.Native.Nat.{ℕ, zero, suc, ◌+◌, ◌-◌, ◌*◌, ◌≤◌, ◌<◌}
 use mathlib.Core.Path.{◌≡◌, refl, sym, ap, ◌∙◌, subst}
 use mathlib.Core.Logic.{◌≢◌}
-use mathlib.Core.Bool.{not}
+use mathlib.Core.Bool.{not, true}
 use mathlib.Core.Option.{none, some}
 use mathlib.Core.List.{List, ◌++◌}
 use native.Mathlib.Numerals.{add-one}
-use native.Mathlib.Nat.{le_of_lt, le_refl, le_of_eq, add-sub_cancel_left, zero-add}
+use native.Mathlib.Nat.{le_of_lt, le_refl, le_of_eq, add-sub_cancel_left, zero-add, mul-le-mul}
 use lib.Dec.{eqb, ltb}
 use lib.ListN.{length, take, drop, replicate, length-replicate, take-append-drop}
 use lib.Seq.{sets, sets-eq, take_at, drop_at}
-use borrow.Author.Tests.{eqb-true, ltb-false, not-false}
+use borrow.Author.Tests.{eqb-true, ltb-false, not-false, eq-eqb, le-ltb}
 use Rattle.lists.specs.Choice.{leaves}
 use Rattle.lists.proofs.Choice.{if_zero, leaves_refused, leaves_accepted}
 use Rattle.rules.specs.Limits.{trit_x}
-use Rattle.rules.specs.Logic.{undef}
+use Rattle.rules.specs.Logic.{undef, are_trits}
 use Rattle.rules.specs.Geometry.{Layout}
 use Rattle.rules.specs.Image.{image_size, write_row, row_of, write_rows, layout, Laid}
 use Rattle.rules.specs.Conditions.{bad_trits, no_room_of}
@@ -72,6 +73,14 @@ unfolding row_of
 row_lent r w from width rows e f = ap (λ (n : ℕ). take n (drop from rows)) (add-sub_cancel_left from width) ∙ (λ k. take (f k) (drop (e k) rows))
 
 -- ---- numbers
+pub words_product : (a b d w : ℕ) → a ≡ d → b ≡ w → d < 4294967296 → w < 4294967296 → a * b ≤ 18446744065119617025
+words_product a b d w e f h k = mul-le-mul {n₂ = 4294967295} {m₂ = 4294967295} (omega arith) (omega arith)
+
+module _ (depth width size room : ℕ) (rows : List ℕ) where
+  pub fill_0 : length rows ≡ depth * width → are_trits rows ≡ true → size ≤ room → fill_refusal_by depth width size room rows ≡ 0
+  unfolding fill_refusal_by bad_trits no_room_of
+  fill_0 e t l = rw (eq-eqb (length rows) (depth * width) e, t, le-ltb room size l)
+
 pub fill_refusal_is : (q : Layout) (size room : ℕ) (rows : List ℕ) → size ≡ image_size q → fill_refusal_by q.depth q.width size room rows ≡ fill_refusal_of q room rows
 unfolding fill_refusal_of
 fill_refusal_is q size room rows e = ap (λ (n : ℕ). fill_refusal_by q.depth q.width n room rows) e

@@ -8,7 +8,7 @@ use mathlib.Core.List.{List}
 use lib.Dec.{ltb, leb}
 use lib.ListN.{length}
 use lib.Seq.{sets}
-use borrow.Author.Tests.{leb-false, ltb-false}
+use borrow.Author.Tests.{leb-false, ltb-false, lt-leb, le-ltb}
 use Rattle.lists.specs.Choice.{leaves}
 use Rattle.lists.proofs.Choice.{if_zero, or_false}
 use Rattle.rules.specs.Geometry.{Layout}
@@ -17,6 +17,11 @@ use Rattle.rules.specs.Conditions.{not_below, no_room_of}
 use Rattle.rules.specs.Beside.Layouts.{read_row, read_row_refusal_of, read_row_refusal, row_read, read_row_call, read_row_refusal_by}
 use Rattle.rules.specs.Answers.{Filled, filled}
 use Rattle.rules.proofs.Answers.{filled-kept, filled-done}
+
+module _ (depth width size room len row : ℕ) where
+  pub read_0 : row < depth → size ≤ len → width ≤ room → read_row_refusal_by depth width size room len row ≡ 0
+  unfolding read_row_refusal_by not_below no_room_of
+  read_0 a b c = rw (lt-leb depth row a, le-ltb len size b, le-ltb room width c)
 
 pub read_refusal_is : (q : Layout) (size room len row : ℕ) → size ≡ image_size q → read_row_refusal_by q.depth q.width size room len row ≡ read_row_refusal_of q room len row
 unfolding read_row_refusal_of
