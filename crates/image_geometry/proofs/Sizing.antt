@@ -5,7 +5,7 @@ use mathlib.Core.Bool.{Bool}
 use mathlib.Core.Logic.{◌⊎◌, ⊎_elim}
 use mathlib.Core.List.{List}
 use native.Mathlib.Omega.{arith}
-use native.Mathlib.Nat.{div-lt_iff_lt-mul, le-div_iff_mul-le, add-mul, one-mul, mul-one, le_of_lt, mul-le-mul, mul-le-mul_left, div-le_self, le_trans, lt_of_le_of_lt, le-add_right}
+use native.Mathlib.Nat.{div-lt_iff_lt-mul, le_of_lt, mul-le-mul, mul-le-mul_left, div-le_self, le_trans, lt_of_le_of_lt, le-add_right}
 use lib.ListN.{length, replicate, length-replicate}
 use lib.Pow.{pow_pos, pow_mono}
 use borrow.Author.Tests.{eq-eqb, ne_eqb}
@@ -34,9 +34,6 @@ pub record Held (p : Params) (bits parts deep depth unit : ℕ) : Type 0 where
   pub deep_is : deep ≡ 2 ^ p.hard
   pub depth_is : depth ≡ p.depth
   pub unit_is : unit ≡ p.unit
-
-pub power_pos : (n k : ℕ) → n ≡ 2 ^ k → 0 < n
-power_pos n k e = subst (λ (m : ℕ). 0 < m) (sym e) (pow_pos k)
 
 module _ (p : Params) (len : ℕ) (n : Narrow p len) (bits parts deep depth unit : ℕ) (h : Held p bits parts deep depth unit) where
   parts_max : parts ≤ 4294967296
@@ -111,23 +108,6 @@ ceil_one d m pos h = below ((div-lt_iff_lt-mul pos).1 (sums d m pos h))
 
     sums : (d m : ℕ) → 0 < m → d ≤ m → d + (m - 1) < 2 * m
     sums d m l k = omega arith
-
-pub ceil_self : (d m : ℕ) → 0 < m → ceil_div d m ≤ d
-unfolding ceil_div
-ceil_self d m pos = below ((div-lt_iff_lt-mul pos).1 (sums (mul-le-mul_left d pos)))
-  where
-    below : {x : ℕ} → x < d + 1 → x ≤ d
-    below l = omega arith
-
-    sums : d * 1 ≤ d * m → d + (m - 1) < (d + 1) * m
-    sums l = omega (arith, add-mul d 1 m, one-mul m, mul-one d)
-
-pub ceil_pos : (d m : ℕ) → 0 < m → 0 < d → 0 < ceil_div d m
-unfolding ceil_div
-ceil_pos d m pos l = (le-div_iff_mul-le pos).1 (sums d m pos l)
-  where
-    sums : (d m : ℕ) → 0 < m → 0 < d → 1 * m ≤ d + (m - 1)
-    sums d m k h = omega arith
 
 -- one chunk, or none
 pub no_bits : (d k : ℕ) → d ≤ 2 ^ k → top_bits addr_bits (ceil_div d (2 ^ k) - 1) ≡ 0

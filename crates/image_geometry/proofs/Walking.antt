@@ -142,14 +142,6 @@ module _ (mask hard row : ℕ) (w : Walk) (soft rest : ℕ) (h : Walking mask ha
       let l = walk_le h.left soft w.hard rest in
       sym (h.whole ∙ λ i. record { chunk = nothing w.chunk w.cb s.chunk l.0 e i; row = nothing w.row w.rb s.row l.1 e i })
 
--- a bit times its weight
-pub bit_times : (b k : ℕ) → b ≤ 1 → k ≤ 4294967296 → b * k ≤ 4294967296
-bit_times b k h l = omega (arith, mul-le-mul_right k h, one-mul k)
-
--- no hard bits are left
-pub hard_none : (b : ℕ) (w : Walk) → w.hard ≡ 0 → ◌≡◌ {A = Walk} (record { chunk = w.chunk + b * w.cb; cb = 2 * w.cb; row = w.row; rb = w.rb; hard = 0 }) (stepped true b w)
-hard_none b w e = λ i. record { chunk = w.chunk + b * w.cb; cb = 2 * w.cb; row = w.row; rb = w.rb; hard = sym e i }
-
 -- where the code goes on with the chunk
 pub goes_up : (mask hard : ℕ) → (mask % 2 ≡ 1) ⊎ ((mask % 2 ≡ 1 → ⊥) × (hard ≡ 0)) → to_chunk mask hard ≡ true
 goes_up mask hard h = ⊎_elim (λ e. soft_chunk mask hard e) (λ e. full_chunk mask hard (even mask e.0) e.1) h

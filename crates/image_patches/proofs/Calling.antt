@@ -6,30 +6,15 @@ use mathlib.Core.Option.{none, some}
 use mathlib.Core.List.{List, [], ◌∷◌, ◌++◌, append-nil}
 use native.Mathlib.Omega.{arith}
 use native.Mathlib.Numerals.{add-one}
-use native.Mathlib.Nat.{min-eq_left, min-eq_right, add-sub_cancel_left, le_of_lt}
-use lib.ListN.{length, take, drop, set, length-drop, drop_of_length-le, take-append-drop}
-use lib.Seq.{sets, take_all, take-nil, drop-length, length-take-le}
-use borrow.Author.Tests.{lt-ltb, le-ltb}
+use native.Mathlib.Nat.{min-eq_left, min-eq_right, le_of_lt}
+use lib.ListN.{length, take, drop, set, drop_of_length-le, take-append-drop}
+use lib.Seq.{sets, take_all, length-take-le}
 use Rattle.lists.proofs.Choice.{leaves_refused, leaves_accepted}
 use Rattle.rules.specs.Image.{Patch, Laid}
-use Rattle.rules.specs.Conditions.{no_room_of}
 use Rattle.rules.specs.Refusals.{patch_refusal, lent_refusal}
 use Rattle.rules.specs.Patch.{patched_by, patched_one, lent_to, called, called_all, patched}
 use Rattle.rules.specs.Answers.{Filled, patch_call, call_on, patch_numbers, patched_with, patches_call}
 use Rattle.image_patches.specs.Calls.{call_at, calls_from_of, calls_of, patched_to}
-
--- ---- a part of the trits
-module _ (s : List ℕ) (start count : ℕ) where
-  pub part_none : length s ≤ start → take (length s - length s) (drop (length s) s) ≡ take count (drop start s)
-  part_none l =
-      ap (take (length s - length s)) (drop-length s) ∙ take-nil (length s - length s) ∙ sym (ap (take count) (drop_of_length-le s l) ∙ take-nil count)
-
-  pub part_rest : length s - start ≤ count → take (length s - start) (drop start s) ≡ take count (drop start s)
-  part_rest l =
-      take_all (length s - start) (drop start s) (omega (arith, length-drop start s)) ∙ sym (take_all count (drop start s) (omega (arith, length-drop start s)))
-
-  pub part_some : take (start + count - start) (drop start s) ≡ take count (drop start s)
-  part_some = ap (λ (n : ℕ). take n (drop start s)) (add-sub_cancel_left start count)
 
 -- ---- a call that is lent the whole buffer, and one that is lent a part
 abbrev with_room : Patch → ℕ → Patch
@@ -174,15 +159,6 @@ module _ (numbers : List ℕ) (q : Laid) (cs : List Patch) (buffer begun : List 
     numbers = (f ∙ sym (leaves_accepted m numbers (sets numbers 0 (patch_numbers q (length buffer) cs)) e)) i;
     image = (g ∙ sym (leaves_accepted m buffer (patched q cs begun) e)) i;
   }
-
--- the room for the numbers
-pub lent_short : (room need : ℕ) → room < need → 20 ≡ lent_refusal room need
-unfolding no_room_of
-lent_short room need l = rw (lt-ltb room need l)
-
-pub lent_long : (room need : ℕ) → need ≤ room → 0 ≡ lent_refusal room need
-unfolding no_room_of
-lent_long room need l = rw (le-ltb room need l)
 
 pub lent_is : (room : ℕ) (calls trits : List ℕ) (n : ℕ) → n ≡ lent_refusal room (length calls / 4) → n ≡ lent_refusal room (length (calls_of calls trits))
 lent_is room calls trits n e = e ∙ ap (lent_refusal room) (sym (length_calls calls trits))

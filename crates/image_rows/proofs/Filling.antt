@@ -1,17 +1,17 @@
 -- Rows written at the front of a longer list, one after the other; and the whole answer of a layout.
+use native.Mathlib.Omega.{arith}
 use Prim.Native.Nat.{ℕ, zero, suc, ◌+◌, ◌-◌, ◌*◌, ◌≤◌, ◌<◌}
 use mathlib.Core.Path.{◌≡◌, refl, sym, ap, ◌∙◌, subst}
 use mathlib.Core.Logic.{◌≢◌}
-use mathlib.Core.Bool.{true, false, not}
+use mathlib.Core.Bool.{not, true}
 use mathlib.Core.Option.{none, some}
 use mathlib.Core.List.{List, ◌++◌}
-use native.Mathlib.Omega.{arith}
 use native.Mathlib.Numerals.{add-one}
-use native.Mathlib.Nat.{le_of_lt, le_refl, le_of_eq, add-sub_cancel_left, mul-le-mul, mul-le-mul_right, suc-mul, zero-add, add-mul, one-mul}
+use native.Mathlib.Nat.{le_of_lt, le_refl, le_of_eq, add-sub_cancel_left, zero-add, mul-le-mul}
 use lib.Dec.{eqb, ltb}
 use lib.ListN.{length, take, drop, replicate, length-replicate, take-append-drop}
 use lib.Seq.{sets, sets-eq, take_at, drop_at}
-use borrow.Author.Tests.{eq-eqb, ne_eqb, lt-ltb, le-ltb, eqb-true, ltb-false, not-false}
+use borrow.Author.Tests.{eqb-true, ltb-false, not-false, eq-eqb, le-ltb}
 use Rattle.lists.specs.Choice.{leaves}
 use Rattle.lists.proofs.Choice.{if_zero, leaves_refused, leaves_accepted}
 use Rattle.rules.specs.Limits.{trit_x}
@@ -67,35 +67,16 @@ pub rows_none : (q : Layout) (rows b : List ℕ) → b ≡ write_rows q rows 0 b
 unfolding write_rows
 rows_none q rows b = refl
 
--- row r of n rows of width w lies within them
-pub row_within : (r n w m from width : ℕ) → r < n → m ≡ n * w → from ≡ r * w → width ≡ w → from + width ≤ m
-row_within r n w m from width l e f g = omega (arith, mul-le-mul_right w l, suc-mul r w)
-
 -- the part of the rows that the code lends is row r
 pub row_lent : (r w from width : ℕ) (rows : List ℕ) → from ≡ r * w → width ≡ w → take (from + width - from) (drop from rows) ≡ row_of w rows r
 unfolding row_of
 row_lent r w from width rows e f = ap (λ (n : ℕ). take n (drop from rows)) (add-sub_cancel_left from width) ∙ (λ k. take (f k) (drop (e k) rows))
-
-pub next_from : (r w from width : ℕ) → from ≡ r * w → width ≡ w → from + width ≡ (r + 1) * w
-next_from r w from width e f = omega (arith, add-mul r 1 w, one-mul w)
 
 -- ---- numbers
 pub words_product : (a b d w : ℕ) → a ≡ d → b ≡ w → d < 4294967296 → w < 4294967296 → a * b ≤ 18446744065119617025
 words_product a b d w e f h k = mul-le-mul {n₂ = 4294967295} {m₂ = 4294967295} (omega arith) (omega arith)
 
 module _ (depth width size room : ℕ) (rows : List ℕ) where
-  pub fill_2 : length rows ≢ depth * width → fill_refusal_by depth width size room rows ≡ 2
-  unfolding fill_refusal_by
-  fill_2 n = rw (ne_eqb (length rows) (depth * width) n)
-
-  pub fill_4 : length rows ≡ depth * width → are_trits rows ≡ false → fill_refusal_by depth width size room rows ≡ 4
-  unfolding fill_refusal_by bad_trits
-  fill_4 e t = rw (eq-eqb (length rows) (depth * width) e, t)
-
-  pub fill_20 : length rows ≡ depth * width → are_trits rows ≡ true → room < size → fill_refusal_by depth width size room rows ≡ 20
-  unfolding fill_refusal_by bad_trits no_room_of
-  fill_20 e t l = rw (eq-eqb (length rows) (depth * width) e, t, lt-ltb room size l)
-
   pub fill_0 : length rows ≡ depth * width → are_trits rows ≡ true → size ≤ room → fill_refusal_by depth width size room rows ≡ 0
   unfolding fill_refusal_by bad_trits no_room_of
   fill_0 e t l = rw (eq-eqb (length rows) (depth * width) e, t, le-ltb room size l)

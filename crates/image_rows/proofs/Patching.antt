@@ -1,41 +1,17 @@
 -- A patch: its numbers after 23, and what it leaves, by the state.
-use Prim.Native.Nat.{ℕ, ◌≤◌, ◌<◌}
+use Prim.Native.Nat.{ℕ}
 use mathlib.Core.Path.{◌≡◌, sym, ap, ◌∙◌}
 use mathlib.Core.Logic.{◌≢◌}
-use mathlib.Core.Bool.{Bool, true, false}
+use mathlib.Core.Bool.{Bool}
 use mathlib.Core.Option.{none, some}
 use mathlib.Core.List.{List}
-use lib.ListN.{length}
-use borrow.Author.Tests.{eq-eqb, ne_eqb, lt-ltb, le-ltb, le-leb, lt-leb}
+use borrow.Author.Tests.{eq-eqb, ne_eqb}
 use Rattle.lists.specs.Choice.{when◌then◌else◌}
-use Rattle.rules.specs.Logic.{are_trits}
 use Rattle.rules.specs.Geometry.{Layout}
 use Rattle.rules.specs.Image.{image_size, write_row, Patch, Laid}
-use Rattle.rules.specs.Conditions.{bad_trits, not_below, no_room_of}
 use Rattle.rules.specs.Refusals.{patch_refusal_of, patch_refusal, patch_refusal_by}
 use Rattle.rules.specs.Patch.{patched_by, patched_one}
 use Rattle.rules.specs.Answers.{Filled, patch_call}
-
-module _ (width depth size row : ℕ) (trits : List ℕ) (room : ℕ) where
-  pub by_4_width : length trits ≢ width → patch_refusal_by width depth size row trits room ≡ 4
-  unfolding patch_refusal_by
-  by_4_width b = rw (ne_eqb (length trits) width b)
-
-  pub by_4_trit : length trits ≡ width → are_trits trits ≡ false → patch_refusal_by width depth size row trits room ≡ 4
-  unfolding patch_refusal_by bad_trits
-  by_4_trit b c = rw (eq-eqb (length trits) width b, c)
-
-  pub by_15 : length trits ≡ width → are_trits trits ≡ true → depth ≤ row → patch_refusal_by width depth size row trits room ≡ 15
-  unfolding patch_refusal_by bad_trits not_below
-  by_15 b c d = rw (eq-eqb (length trits) width b, c, le-leb depth row d)
-
-  pub by_20 : length trits ≡ width → are_trits trits ≡ true → row < depth → room < size → patch_refusal_by width depth size row trits room ≡ 20
-  unfolding patch_refusal_by bad_trits not_below no_room_of
-  by_20 b c d e = rw (eq-eqb (length trits) width b, c, lt-leb depth row d, lt-ltb room size e)
-
-  pub by_0 : length trits ≡ width → are_trits trits ≡ true → row < depth → size ≤ room → patch_refusal_by width depth size row trits room ≡ 0
-  unfolding patch_refusal_by bad_trits not_below no_room_of
-  by_0 b c d e = rw (eq-eqb (length trits) width b, c, lt-leb depth row d, le-ltb room size e)
 
 -- the rules' own number
 pub number_is : (q : Layout) (size row : ℕ) (trits : List ℕ) (room : ℕ) → size ≡ image_size q

@@ -8,7 +8,7 @@ use mathlib.Core.List.{List}
 use lib.Dec.{ltb, leb}
 use lib.ListN.{length}
 use lib.Seq.{sets}
-use borrow.Author.Tests.{lt-ltb, le-ltb, le-leb, lt-leb, leb-false, ltb-false}
+use borrow.Author.Tests.{leb-false, ltb-false, lt-leb, le-ltb}
 use Rattle.lists.specs.Choice.{leaves}
 use Rattle.lists.proofs.Choice.{if_zero, or_false}
 use Rattle.rules.specs.Geometry.{Layout}
@@ -19,18 +19,6 @@ use Rattle.rules.specs.Answers.{Filled, filled}
 use Rattle.rules.proofs.Answers.{filled-kept, filled-done}
 
 module _ (depth width size room len row : ℕ) where
-  pub read_15 : depth ≤ row → read_row_refusal_by depth width size room len row ≡ 15
-  unfolding read_row_refusal_by not_below
-  read_15 a = rw (le-leb depth row a)
-
-  pub read_20_image : row < depth → len < size → read_row_refusal_by depth width size room len row ≡ 20
-  unfolding read_row_refusal_by not_below no_room_of
-  read_20_image a b = rw (lt-leb depth row a, lt-ltb len size b)
-
-  pub read_20_room : row < depth → size ≤ len → room < width → read_row_refusal_by depth width size room len row ≡ 20
-  unfolding read_row_refusal_by not_below no_room_of
-  read_20_room a b c = rw (lt-leb depth row a, le-ltb len size b, lt-ltb room width c)
-
   pub read_0 : row < depth → size ≤ len → width ≤ room → read_row_refusal_by depth width size room len row ≡ 0
   unfolding read_row_refusal_by not_below no_room_of
   read_0 a b c = rw (lt-leb depth row a, le-ltb len size b, le-ltb room width c)

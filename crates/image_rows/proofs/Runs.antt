@@ -15,7 +15,7 @@ use Rattle.rules.specs.Image.{put, put_row}
 use Rattle.rules.proofs.Writes.{row_again}
 use Rattle.image_rows.specs.declared.Steps.{Steps}
 use Rattle.image_rows.specs.declared.Cursor.{Cursor}
-use Rattle.image_rows.specs.Steps.{next_of, last_of, Low, after, index_from, Plain, Follows, PutRun}
+use Rattle.image_rows.specs.Steps.{next_of, last_of, after, index_from, Plain, Follows, PutRun}
 use Rattle.image_rows.proofs.Cursors.{after_suc}
 
 -- ---- the cursor
@@ -53,16 +53,6 @@ module _ (g : Steps) (c₀ c : Cursor) (i n : ℕ) (e : c ≡ after g c₀ i) (h
   run_next l =
       let k : i + (n - 1) + 1 ≡ i + n = omega arith in
       ap (next_of g) (sym (at_run (n - 1) (omega arith))) ∙ after_suc g c₀ (i + (n - 1)) ∙ ap (after g c₀) k
-
-pub last_low : (g : Steps) (c : Cursor) (n : ℕ) → Low c g → 0 < n → c.bit + n ≤ g.unit → Low (last_of c n) g
-last_low g c n h l k = record {
-  memory_max = h.memory_max;
-  bit_under = omega arith;
-  unit_max = h.unit_max;
-  start_max = h.start_max;
-  full_max = h.full_max;
-  part_max = h.part_max;
-}
 
 -- ---- the entries one by one
 pub each_turn : (f : ℕ → ℕ) (ts es : List ℕ) (at from to i place : ℕ) (l l' g : List ℕ) → Follows f from at (to - from) → from ≤ i → i < to → to ≤ length es → place ≡ at + (i - from)

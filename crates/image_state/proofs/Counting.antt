@@ -22,14 +22,6 @@ use Rattle.image_geometry.specs.View.{shape_by}
 use Rattle.image_state.specs.Counts.{Counted}
 
 -- ---- a depth
-pub depth_none : (count depth : ℕ) → count ≡ 0 → 0 ≡ depth_if count depth
-unfolding depth_if
-depth_none count depth e = rw (eq-eqb count 0 e)
-
-pub depth_some : (count depth : ℕ) → count ≢ 0 → depth ≡ depth_if count depth
-unfolding depth_if
-depth_some count depth h = rw (ne_eqb count 0 h)
-
 -- ---- the counts of a layout
 module _ (q : Layout) (s : Shape) (h : shape_by s ≡ shape_of q) where
   full_is : s.full_mems ≡ full_mems q

@@ -1,35 +1,23 @@
 -- The loops that load pieces, in tail form: what is left gives the whole.
 use mathlib.Core.Path.{◌≡◌, refl, sym, ap, ◌∙◌}
-use Prim.Native.Nat.{ℕ, zero, suc, ◌+◌, ◌-◌, ◌*◌, ◌<◌, ◌≤◌, min}
-use native.Mathlib.Nat.{zero-add, add-zero, mul-suc, suc-mul, mul-zero, mul-le-mul_right, mul-le-mul_left, mul-le-mul, add_assoc}
+use Prim.Native.Nat.{ℕ, suc, ◌+◌, ◌-◌, ◌*◌, ◌<◌, ◌≤◌, min}
+use native.Mathlib.Nat.{mul-suc, suc-mul, mul-le-mul_right, mul-le-mul_left, mul-le-mul}
 use native.Mathlib.Numerals.{add-one}
 use native.Mathlib.Omega.{arith}
 use mathlib.Core.List.{List, [], ◌∷◌}
-use lib.ListN.{length, take, drop, get_or, set, replicate, drop_of_length-le}
-use lib.Seq.{sets, set_out, drop-cons}
-use lib.Dec.{eqb, leb}
-use borrow.Author.Tests.{eq-eqb, ne_eqb, lt-leb, le-leb, leb-true}
-use mathlib.Core.Bool.{Bool, true, false, ◌&&◌}
+use lib.ListN.{length, drop, get_or, replicate, drop_of_length-le}
+use lib.Seq.{sets, drop-cons}
+use lib.Dec.{leb}
+use borrow.Author.Tests.{lt-leb, le-leb, leb-true}
+use mathlib.Core.Bool.{true, false}
 use Rattle.lists.proofs.Choice.{cases_le, and_true}
-use Rattle.lists.specs.Choice.{when◌then◌else◌}
 use Rattle.lists.specs.Lists.{up_from}
 use Rattle.lists.proofs.UpFrom.{count_step, count_end}
-use Rattle.rules.specs.Limits.{None, X, addr_bits}
-use Rattle.rules.specs.Geometry.{Spot, walk}
+use Rattle.rules.specs.Limits.{X}
 use Rattle.swizzle_laws.specs.Loads.{placed, restore_from}
 use Rattle.swizzle_laws.proofs.Loading.{from_cons, from_nil}
 use Rattle.swizzle_pieces.specs.declared.Pieces.{Pieces}
 use Rattle.swizzle_pieces.specs.Steps.{start_of, size_of, guarded, guard_rows, load_one, load_each, held, load_of, RowsFit, PiecesFit}
-
-module _ (at e v : ℕ) (acc : List ℕ) where
-  pub placed_none : e ≡ None → acc ≡ placed at e v acc
-  placed_none q = rw (eq-eqb e None q)
-
-  pub placed_set : (e ≡ None → ⊥) → set acc (at + e) v ≡ placed at e v acc
-  placed_set q = rw (ne_eqb e None q)
-
-  pub placed_out : (e ≡ None → ⊥) → length acc ≤ at + e → acc ≡ placed at e v acc
-  placed_out q h = sym (set_out acc (at + e) v h) ∙ placed_set q
 
 -- ---- a row
 module _ (at net i : ℕ) (es acc whole : List ℕ) (e : restore_from at (drop i es) net acc ≡ whole) where
@@ -71,9 +59,6 @@ module _ (start : ℕ → ℕ) (at width first rows j to : ℕ) (es acc whole : 
 
   pub rows_end : rows ≤ j → acc ≡ whole
   rows_end h = sym (rows_nil start at width first es acc) ∙ ap (λ (l : List ℕ). guard_rows start at width es first l acc) (sym (count_end j rows h)) ∙ e
-
-pub place_start : (at width : ℕ) → at ≡ at + 0 * width
-place_start at width = omega arith
 
 -- row j lies before the end of the piece
 pub place_room : (at width rows j to : ℕ) → to ≡ at + j * width → j < rows → at + rows * width ≤ 4294967296 → to + width ≤ 4294967296
@@ -125,16 +110,6 @@ pub product_fits : (a b : ℕ) → a ≤ 4294967295 → b ≤ 4294967295 → a *
 product_fits a b h g = omega (arith, mul-le-mul {n₁ = a} {m₁ = b} {n₂ = 4294967295} {m₂ = 4294967295} h g)
 
 -- ---- the first net of a row, from what the walk gives
-module _ (n : Pieces) (len x j : ℕ) (s : Spot) (e : s ≡ walk addr_bits n.mask addr_bits (j + n.rows * x)) where
-  pub row_part : (a b : ℕ) → a ≡ s.row → b ≡ n.columns → a * b ≡ (walk addr_bits n.mask addr_bits (j + n.rows * x)).row * n.columns
-  row_part a b f g = (λ i. (f ∙ ap (λ (p : Spot). p.row) e) i * g i)
-
-  pub chunk_part : (a : ℕ) → a ≡ s.chunk → a * len ≡ (walk addr_bits n.mask addr_bits (j + n.rows * x)).chunk * len
-  chunk_part a f = (λ i. (f ∙ ap (λ (p : Spot). p.chunk) e) i * len)
-
-pub size_start_lem : (size : ℕ) → 0 ≡ 0 * size
-size_start_lem size = omega arith
-
 -- ---- whether the scratch holds the pieces
 module _ (n : Pieces) (len room : ℕ) where
   pub held_long : X < len → false ≡ held n len room
@@ -152,9 +127,6 @@ module _ (n : Pieces) (len room : ℕ) where
   pub held_by : (need : ℕ) → need ≡ n.count * size_of n → len ≤ X → n.rows * n.count ≤ 4294967296 → size_of n ≤ X → leb need (min room 4294967296) ≡ held n len room
   unfolding held
   held_by need e h g k = rw (e, le-leb len X h, le-leb (n.rows * n.count) 4294967296 g, le-leb (size_of n) X k)
-
-  pub held_full : (need : ℕ) → need ≡ n.count * size_of n → len ≤ X → n.rows * n.count ≤ 4294967296 → size_of n ≤ X → 4294967296 < need → false ≡ held n len room
-  held_full need e h g k l = sym (lt-leb need (min room 4294967296) (omega arith)) ∙ held_by need e h g k
 
   pub held-room : (need : ℕ) → need ≡ n.count * size_of n → len ≤ X → n.rows * n.count ≤ 4294967296 → size_of n ≤ X → need ≤ 4294967296 → leb need room ≡ held n len room
   held-room need e h g k l =

@@ -1,13 +1,11 @@
 -- The pieces in the scratch are the pieces of the rules.
 use mathlib.Core.Path.{◌≡◌, refl, sym, ap, ◌∙◌}
-use Prim.Native.Nat.{ℕ, zero, suc, ◌+◌, ◌-◌, ◌*◌, ◌^◌, ◌<◌, ◌≤◌, min}
-use native.Mathlib.Nat.{suc-mul}
+use Prim.Native.Nat.{ℕ, zero, suc, ◌+◌, ◌*◌, ◌^◌, ◌<◌, ◌≤◌, min}
 use native.Mathlib.Omega.{arith}
-use mathlib.Core.Bool.{Bool, true, false}
-use mathlib.Core.List.{List, [], ◌∷◌, ◌++◌, map}
+use mathlib.Core.Bool.{true}
+use mathlib.Core.List.{List, [], ◌∷◌, map}
 use lib.ListN.{length, replicate}
 use lib.Seq.{sets}
-use lib.Dec.{leb}
 use borrow.Author.Tests.{le-leb}
 use Rattle.lists.specs.Lists.{up_from}
 use Rattle.lists.proofs.Store.{sets_append}
@@ -22,7 +20,6 @@ use Rattle.swizzle_laws.proofs.Loading.{Names, rows_cons, rows_nil, piece_loaded
 use Rattle.swizzle_laws.proofs.ReadCounts.{pieces_of, length_piece}
 use Rattle.swizzle_pieces.specs.declared.Pieces.{Pieces}
 use Rattle.swizzle_pieces.specs.Steps.{start_of, size_of, guarded, guard_rows, load_one, load_each, held, load_of}
-use Rattle.swizzle_pieces.proofs.Loaded.{held_by, held-room}
 
 -- these numbers are those of a port: `total` columns have nets from the first on
 pub record Means (q : Layout) (s : Split) (total : ℕ) (n : Pieces) : Type 0 where

@@ -19,29 +19,13 @@ pub struct Pieces {
     pub count: u32,
 }
 
-fn wide(x: u32) -> usize
-    ensures { result ≡ x }
-{
-    x as usize
-}
-
-fn wide_low(x: u32) -> usize
-    ensures { (result ≡ x) × (result ≤ 4294967295) }
-{
-    x as usize
-}
-
 // Stores one net at the place that its entry names. An entry of None stores nothing.
 fn place_net(scratch: &mut [u32], at: usize, entry: u32, net: u32)
     requires { at ≤ 4294967296 }
     ensures { scratch.new ≡ placed at entry net scratch.old }
 {
-    if entry == rules::NO_BIT {
-        return;
-    }
-    let to = at + wide(entry);
-    if to < scratch.len() {
-        scratch[to] = net;
+    if entry != rules::NO_BIT {
+        lists::put(scratch, at + entry as usize, net);
     }
 }
 
@@ -50,118 +34,92 @@ fn load_row(scratch: &mut [u32], at: usize, entries: &[u32], first: u32)
     requires { at ≤ 4294967296 }
     ensures { scratch.new ≡ guarded at entries.now first scratch.old }
 {
-    let left = wide(rules::NET_X - first);
-    if left < entries.len() {
+    if ((rules::NET_X - first) as usize) < entries.len() {
         return;
     }
-    let mut net = first;
-    let mut i = 0;
-    while i < entries.len() {
-        place_net(scratch, at, entries[i], net);
-        net += 1;
-        i += 1;
+    for (i, entry) in entries.iter().enumerate() {
+        place_net(scratch, at, *entry, first + i as u32);
     }
 }
 
-// The first net of a row, or X where it would pass X.
-fn row_first(n: Pieces, len: usize, x: u32, j: u32) -> u32
-    requires { (n.rows * x + n.rows ≤ 4294967296) × (j < n.rows) × (len ≤ X) }
-    ensures { result ≡ min X (n.first + start_of n len x j) }
-{
-    let spot = image_geometry::walk_row(n.mask, rules::ADDR_BITS, j + n.rows * x);
-    let above = wide_low(spot.row) * wide_low(n.columns);
-    let before = wide_low(spot.chunk) * len;
-    let most = wide(rules::NET_X);
-    if most <= above {
-        return rules::NET_X;
+impl Pieces {
+    // The first net of a row, or X where it would pass X.
+    fn row_first(self, len: usize, x: u32, j: u32) -> u32
+        requires { (self.rows * x + self.rows ≤ 4294967296) × (j < self.rows) × (len ≤ X) }
+        ensures { result ≡ min X (self.first + start_of self len x j) }
+    {
+        let spot = image_geometry::walk_row(self.mask, rules::ADDR_BITS, j + self.rows * x);
+        let most = rules::NET_X as usize;
+        let above = spot.row as usize * self.columns as usize;
+        let before = spot.chunk as usize * len;
+        if most <= above || most <= before {
+            return rules::NET_X;
+        }
+        (self.first as usize + (above + before)).min(most) as u32
     }
-    if most <= before {
-        return rules::NET_X;
-    }
-    let net = wide_low(n.first) + (above + before);
-    if most <= net {
-        return rules::NET_X;
-    }
-    net as u32
-}
 
-// The rows of piece x, from `at` on.
-fn load_rows(scratch: &mut [u32], at: usize, entries: &[u32], n: Pieces, x: u32)
-    requires { RowsFit n (length entries.now) x at }
-    ensures { scratch.new ≡ guard_rows (start_of n (length entries.now) x) at n.width entries.now n.first (up_from 0 n.rows) scratch.old }
-{
-    let width = wide(n.width);
-    let rows = n.rows;
-    let mut to = at;
-    let mut j: u32 = 0;
-    while j < rows {
-        load_row(scratch, to, entries, row_first(n, entries.len(), x, j));
-        to += width;
-        j += 1;
+    // The rows of piece x, from `at` on.
+    fn load_rows(self, scratch: &mut [u32], at: usize, entries: &[u32], x: u32)
+        requires { RowsFit self (length entries.now) x at }
+        ensures { scratch.new ≡ guard_rows (start_of self (length entries.now) x) at self.width entries.now self.first (up_from 0 self.rows) scratch.old }
+    {
+        let mut to = at;
+        for j in 0..self.rows {
+            load_row(scratch, to, entries, self.row_first(entries.len(), x, j));
+            to += self.width as usize;
+        }
     }
-}
 
-// The nets of a piece.
-pub fn piece_size(n: Pieces) -> usize
-    ensures { result ≡ size_of n }
-{
-    wide_low(n.rows) * wide_low(n.width)
-}
+    // The nets of a piece.
+    pub fn size(self) -> usize
+        ensures { result ≡ size_of self }
+    {
+        self.rows as usize * self.width as usize
+    }
 
-// Piece x, from `at` on: X where no entry names a bit.
-fn load_piece(scratch: &mut [u32], at: usize, entries: &[u32], n: Pieces, x: u32)
-    requires { RowsFit n (length entries.now) x at }
-    ensures { scratch.new ≡ load_one n entries.now x at scratch.old }
-{
-    let size = piece_size(n);
-    lists::fill(scratch, at, size, rules::NET_X);
-    load_rows(scratch, at, entries, n, x);
-}
+    // Piece x, from `at` on: X where no entry names a bit.
+    fn load_piece(self, scratch: &mut [u32], at: usize, entries: &[u32], x: u32)
+        requires { RowsFit self (length entries.now) x at }
+        ensures { scratch.new ≡ load_one self entries.now x at scratch.old }
+    {
+        lists::fill(scratch, at, self.size(), rules::NET_X);
+        self.load_rows(scratch, at, entries, x);
+    }
 
-// Every piece, one after the other, from the scratch's front on.
-fn load_pieces(scratch: &mut [u32], entries: &[u32], n: Pieces)
-    requires { PiecesFit n (length entries.now) }
-    ensures { scratch.new ≡ load_each n entries.now (up_from 0 n.count) 0 scratch.old }
-{
-    let size = piece_size(n);
-    let count = n.count;
-    let mut at: usize = 0;
-    let mut x: u32 = 0;
-    while x < count {
-        load_piece(scratch, at, entries, n, x);
-        at += size;
-        x += 1;
+    // Every piece, one after the other, from the scratch's front on.
+    fn load_pieces(self, scratch: &mut [u32], entries: &[u32])
+        requires { PiecesFit self (length entries.now) }
+        ensures { scratch.new ≡ load_each self entries.now (up_from 0 self.count) 0 scratch.old }
+    {
+        let size = self.size();
+        let mut at: usize = 0;
+        for x in 0..self.count {
+            self.load_piece(scratch, at, entries, x);
+            at += size;
+        }
     }
-}
 
-// Whether the numbers of the pieces and of their rows are 32-bit numbers, and a scratch of this length holds them.
-fn is_held(n: Pieces, len: usize, room: usize) -> bool
-    ensures { result ≡ held n len room }
-{
-    let most = wide(rules::NET_X);
-    if most < len {
-        return false;
+    // Whether the numbers of the pieces and of their rows are 32-bit numbers, and a scratch of this length holds them.
+    fn is_held(self, len: usize, room: usize) -> bool
+        ensures { result ≡ held self len room }
+    {
+        let most = rules::NET_X as usize;
+        if most < len || most + 1 < self.rows as usize * self.count as usize {
+            return false;
+        }
+        let size = self.size();
+        if most < size {
+            return false;
+        }
+        self.count as usize * size <= room.min(most + 1)
     }
-    if most + 1 < wide_low(n.rows) * wide_low(n.count) {
-        return false;
-    }
-    let size = piece_size(n);
-    if most < size {
-        return false;
-    }
-    let need = wide_low(n.count) * size;
-    if most + 1 < need {
-        return false;
-    }
-    need <= room
-}
 
-// Every piece, from the scratch's front on, where it holds them; else nothing.
-pub fn load(scratch: &mut [u32], entries: &[u32], n: Pieces)
-    ensures { scratch.new ≡ load_of n entries.now scratch.old }
-{
-    if !is_held(n, entries.len(), scratch.len()) {
-        return;
+    // Every piece, from the scratch's front on, where it holds them; else nothing.
+    pub fn load(self, scratch: &mut [u32], entries: &[u32])
+        ensures { scratch.new ≡ load_of self entries.now scratch.old }
+    {
+        if self.is_held(entries.len(), scratch.len()) {
+            self.load_pieces(scratch, entries);
+        }
     }
-    load_pieces(scratch, entries, n);
 }

@@ -121,7 +121,7 @@ fn emit_read_in(
     let mut bits = [0u32; MUX_ROOM];
     let voided = emit_voids(log, st, voids, n.columns);
     let addressed = mux_addr(log, voided, clocked, clock, enable, mux, &mut bits);
-    swizzle_pieces::load(scratch, entries, n);
+    n.load(scratch, entries);
     let m = mux.len();
     let muxed = swizzle_tree::emit_tree(log, addressed, scratch, &bits[..m], n.count, width);
     let w = width as usize;

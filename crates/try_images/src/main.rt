@@ -21,16 +21,9 @@ fn line(rt: &impl Print) -> io::Result<()> {
     rt.print("\n")
 }
 
-fn words(rt: &impl Print, s: &[u32]) -> io::Result<()> {
-    for word in s {
-        number(rt, u64::from(*word))?;
-    }
-    line(rt)
-}
-
-fn trits(rt: &impl Print, s: &[u8]) -> io::Result<()> {
-    for trit in s {
-        number(rt, u64::from(*trit))?;
+fn list_of<T: Copy + Into<u64>>(rt: &impl Print, s: &[T]) -> io::Result<()> {
+    for x in s {
+        number(rt, (*x).into())?;
     }
     line(rt)
 }
@@ -87,7 +80,7 @@ fn depths(rt: &impl Print, layout: Layout<'_>) -> io::Result<()> {
     text(rt, "depths")?;
     number(rt, u64::from(number_of(layout.depths(&mut out))))?;
     text(rt, " |")?;
-    words(rt, &out)
+    list_of(rt, &out)
 }
 
 // The place of an entry.
@@ -121,7 +114,7 @@ fn read(rt: &impl Print, laid: &Laid, image: &[u8], row: u32) -> io::Result<()> 
         u64::from(number_of(laid.read_row(&mut room, image, row))),
     )?;
     text(rt, " |")?;
-    trits(rt, &room)
+    list_of(rt, &room)
 }
 
 // The record's sizes.
@@ -205,7 +198,7 @@ fn lay(rt: &impl Print, laid: &Laid, rows: &[u8]) -> io::Result<[u8; 40]> {
     text(rt, "fill")?;
     number(rt, u64::from(number_of(laid.fill(&mut image, rows))))?;
     text(rt, " |")?;
-    trits(rt, &image)?;
+    list_of(rt, &image)?;
     Ok(image)
 }
 
@@ -215,7 +208,7 @@ fn lay_short(rt: &impl Print, laid: &Laid, rows: &[u8]) -> io::Result<()> {
     text(rt, "fill")?;
     number(rt, u64::from(number_of(laid.fill(&mut image, rows))))?;
     text(rt, " |")?;
-    trits(rt, &image)
+    list_of(rt, &image)
 }
 
 // Codes past X in rows of two bits: 4, but 2 where the length is wrong, and 4 where the room is short too.
@@ -267,7 +260,7 @@ fn two_wide(rt: &impl Print) -> io::Result<()> {
     patch(rt, &mut image, &laid, 6, 3, &[1u8, 1])?;
     patch(rt, &mut image, &laid, 6, 0, &[1u8, 3])?;
     patch(rt, &mut image, &laid, 6, 0, &[1u8])?;
-    trits(rt, &image)?;
+    list_of(rt, &image)?;
     read_rows(rt, &laid, &image, 4)?;
     read_short(rt, &laid, 0)
 }
@@ -282,7 +275,7 @@ fn three_wide(rt: &impl Print) -> io::Result<()> {
     let mut image = lay(rt, &laid, &[0u8, 1, 2, 1, 2, 0, 2, 0, 1])?;
     patch(rt, &mut image, &laid, 10, 2, &[1u8, 1, 1])?;
     patch(rt, &mut image, &laid, 10, 2, &[2u8, 0, 2])?;
-    trits(rt, &image)?;
+    list_of(rt, &image)?;
     read_rows(rt, &laid, &image, 3)
 }
 
@@ -311,7 +304,7 @@ fn mixed(rt: &impl Print) -> io::Result<()> {
     )?;
     patch(rt, &mut image, &laid, 27, 5, &[0u8, 0, 0])?;
     patch(rt, &mut image, &laid, 27, 4, &[2u8, 2, 2])?;
-    trits(rt, &image)?;
+    list_of(rt, &image)?;
     read_rows(rt, &laid, &image, 6)
 }
 
@@ -341,8 +334,8 @@ fn list(
     let n = image_patches::fill_then_patch(image, numbers, laid.layout(), rows, list);
     number(rt, u64::from(number_of(n)))?;
     text(rt, " |")?;
-    words(rt, numbers)?;
-    trits(rt, image)
+    list_of(rt, numbers)?;
+    list_of(rt, image)
 }
 
 // The calls alone.
@@ -362,8 +355,8 @@ fn calls(
     let n = image_patches::patch_each(image, numbers, laid.layout(), list);
     number(rt, u64::from(number_of(n)))?;
     text(rt, " |")?;
-    words(rt, numbers)?;
-    trits(rt, image)
+    list_of(rt, numbers)?;
+    list_of(rt, image)
 }
 
 // Lists of calls with room for nine numbers and, refused, for six; and by a state that no swizzle handed on.

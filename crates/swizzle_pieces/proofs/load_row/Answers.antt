@@ -1,34 +1,28 @@
 -- `swizzle_pieces::load_row` meets its contract.
-use Rattle.swizzle_pieces.proofs.Loaded.{row_turn, row_end, guard_not, guard_is}
-use mathlib.Core.Path.{refl, ◌∙◌}
-use Prim.Native.Nat.{◌-◌}
+use mathlib.Core.Path.{◌≡◌, ap, ◌∙◌}
+use Prim.Native.Nat.{ℕ, ◌+◌}
 use native.Mathlib.Omega.{arith}
+use lib.ListN.{drop}
+use Rattle.swizzle_laws.specs.Loads.{restore_from}
+use Rattle.swizzle_pieces.proofs.Loaded.{row_turn, row_end, guard_not, guard_is}
 use Rattle.swizzle_pieces.proofs.load_row.Goals as goal
 
-pub returns-then-left-entries : goal.returns-then-left-entries
-returns-then-left-entries c =
+pub returns-then-first-entries : goal.returns-then-first-entries
+returns-then-first-entries c =
     let v = c.args in
-    guard_not v.at v.first v.entries.now v.scratch.now (omega (arith, c.if-left-entries.true, c.wide-left.ensures))
-
-pub loop-i-init : goal.loop-i-init
-loop-i-init c = (omega arith, refl, omega arith, refl)
-
-pub overflow_add-net : goal.overflow_add-net
-overflow_add-net c = omega (arith, c.wide-left.ensures, c.if-left-entries.false, c.loop-i-test.true)
+    guard_not v.at v.first v.entries.now v.scratch.now (omega (arith, c.if-first-entries.true))
 
 pub loop-i-preserved : goal.loop-i-preserved
 loop-i-preserved c =
-    let h = c in
-    let v = h.args in
-    let r = c.place_net in
-    (omega arith, r.auto.scratch ∙ h.loop-i.invariant.1, omega arith, row_turn v.at h.loop-i.net h.loop-i.i v.entries.now h.loop-i.scratch _ h.loop-i.invariant.3 r.new.scratch c.loop-i-test.true r.ensures)
-
-pub shape_of-scratch : goal.shape_of-scratch
-shape_of-scratch c = c.loop-i.invariant.1
+    let v = c.args in
+    let l = c.loop-i in
+    let e : v.first + (l.i + 1) ≡ v.first + l.i + 1 = omega arith in
+    ap (λ (n : ℕ). restore_from v.at (drop (l.i + 1) v.entries.now) n c.place_net.new.scratch) e
+    ∙ row_turn v.at (v.first + l.i) l.i v.entries.now l.scratch _ l.invariant c.place_net.new.scratch c.loop-i-test.true c.place_net.ensures
 
 pub returns : goal.returns
 returns c =
-    let h = c in
-    let v = h.args in
-    guard_is v.at v.first v.entries.now v.scratch.now _ (omega (arith, c.wide-left.ensures, c.if-left-entries.false))
-    (row_end v.at h.loop-i.net h.loop-i.i v.entries.now h.loop-i.scratch _ h.loop-i.invariant.3 c.loop-i-test.false)
+    let v = c.args in
+    let l = c.loop-i in
+    guard_is v.at v.first v.entries.now v.scratch.now _ (omega (arith, c.if-first-entries.false))
+    (row_end v.at (v.first + l.i) l.i v.entries.now l.scratch _ l.invariant c.loop-i-test.false)
