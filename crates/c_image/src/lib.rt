@@ -15,10 +15,12 @@ ghost use Rattle.c_record.specs.View.{head_struct};
 ghost use Rattle.c_image.specs.View.{measured_struct, placed_struct};
 
 use c_record::Head;
-use image_geometry::{Measured, Params, Shape};
-use image_rows::{Place, Placed};
+use image_geometry::{Layout, Params, Shape};
+use image_patches::Calls;
+use image_rows::Place;
 use image_state::{Laid, Sized};
 use record_sizes::Sizes;
+use rules::{Refusal, number_of};
 
 // A refusal's number, or 0 and the shape of a layout.
 #[repr(C)]
@@ -36,12 +38,12 @@ pub struct PlacedResult {
     pub place: Place,
 }
 
-fn measured_result(a: Measured) -> MeasuredResult
-    ensures { result ≡ measured_struct (measured_of a) }
+fn measured_result(answer: Result<Shape, Refusal>) -> MeasuredResult
+    ensures { result ≡ measured_struct (measured_of answer) }
 {
-    match a {
-        Measured::Refused(n) => MeasuredResult {
-            number: n,
+    match answer {
+        Err(refusal) => MeasuredResult {
+            number: refusal.number(),
             shape: Shape {
                 full_mems: 0,
                 all_mems: 0,
@@ -52,16 +54,16 @@ fn measured_result(a: Measured) -> MeasuredResult
                 image_size: 0,
             },
         },
-        Measured::Accepted(shape) => MeasuredResult { number: 0, shape },
+        Ok(shape) => MeasuredResult { number: 0, shape },
     }
 }
 
-fn placed_result(a: Placed) -> PlacedResult
-    ensures { result ≡ placed_struct (placed_of a) }
+fn placed_result(answer: Result<Place, Refusal>) -> PlacedResult
+    ensures { result ≡ placed_struct (placed_of answer) }
 {
-    match a {
-        Placed::Refused(n) => PlacedResult {
-            number: n,
+    match answer {
+        Err(refusal) => PlacedResult {
+            number: refusal.number(),
             place: Place {
                 memory: 0,
                 row: 0,
@@ -69,7 +71,7 @@ fn placed_result(a: Placed) -> PlacedResult
                 index: 0,
             },
         },
-        Placed::Accepted(place) => PlacedResult { number: 0, place },
+        Ok(place) => PlacedResult { number: 0, place },
     }
 }
 
@@ -97,21 +99,21 @@ pub fn sizes_result(a: Sized) -> Head
 pub fn tablegoose_measure(p: Params, entries: &[u32]) -> MeasuredResult
     ensures { result ≡ measured_struct (shape_call (layout_by p entries.now)) }
 {
-    measured_result(image_geometry::measure(p, entries))
+    measured_result(Layout { params: p, entries }.measure())
 }
 
 // Where an entry of a row goes.
 pub fn tablegoose_place_of(p: Params, entries: &[u32], row: u32, entry: usize) -> PlacedResult
     ensures { result ≡ placed_struct (place_call (layout_by p entries.now) row entry) }
 {
-    placed_result(image_rows::place_of(p, entries, row, entry))
+    placed_result(image_rows::place_of(Layout { params: p, entries }, row, entry))
 }
 
 // Lays rows out in an image.
 pub fn tablegoose_fill_rows(image: &mut [u8], p: Params, entries: &[u32], rows: &[u8]) -> u32
     ensures { filled_with result image.new ≡ fill_call (handed_on (layout_by p entries.now)) rows.now image.old }
 {
-    image_rows::fill_rows(image, p, entries, rows)
+    number_of(image_rows::fill_rows(image, Layout { params: p, entries }, rows))
 }
 
 // Exchanges one row of an image.
@@ -124,7 +126,7 @@ pub fn tablegoose_patch_row(
 ) -> u32
     ensures { filled_with result image.new ≡ patch_call (handed_on (layout_by p entries.now)) (record { row = row; trits = trits.now; room = length image.old }) image.old }
 {
-    image_rows::patch_row(image, p, entries, row, trits)
+    number_of(image_rows::patch_row(image, Layout { params: p, entries }, row, trits))
 }
 
 // Reads one row of an image back.
@@ -137,7 +139,7 @@ pub fn tablegoose_read_row(
 ) -> u32
     ensures { filled_with result room.new ≡ read_row_call (handed_on (layout_by p entries.now)) room.old image.now row }
 {
-    image_rows::read_row(room, p, entries, image, row)
+    number_of(image_rows::read_row(room, Layout { params: p, entries }, image, row))
 }
 
 // The calls of a list, in order, each with its number.
@@ -151,7 +153,11 @@ pub fn tablegoose_patch_each(
 ) -> u32
     ensures { patched_to result numbers.new buffer.new ≡ patches_call numbers.old (handed_on (layout_by p entries.now)) (calls_of calls.now trits.now) buffer.old }
 {
-    image_patches::patch_each(buffer, numbers, p, entries, calls, trits)
+    let list = Calls {
+        words: calls,
+        trits,
+    };
+    number_of(image_patches::patch_each(buffer, numbers, Layout { params: p, entries }, list))
 }
 
 // Lays rows out and makes the calls of a list: demand 3.
@@ -167,7 +173,17 @@ pub fn tablegoose_fill_then_patch(
     ensures buffer_after { patched_to result numbers.new buffer.new ≡ fill_and_patch_call numbers.old (handed_on (layout_by p entries.now)) rows.now (calls_of calls.now trits.now) buffer.old }
     ensures demanded { result ≡ 0 → Demanded (handed_on (layout_by p entries.now)) rows.now buffer.old (calls_of calls.now trits.now) buffer.new }
 {
-    image_patches::fill_then_patch(buffer, numbers, p, entries, rows, calls, trits)
+    let list = Calls {
+        words: calls,
+        trits,
+    };
+    number_of(image_patches::fill_then_patch(
+        buffer,
+        numbers,
+        Layout { params: p, entries },
+        rows,
+        list,
+    ))
 }
 
 // ---- by the state that a swizzle hands on
@@ -176,35 +192,35 @@ pub fn tablegoose_fill_then_patch(
 pub fn tablegoose_unset() -> Laid
     ensures { (result ≡ unset_laid) × (laid_of result ≡ none) }
 {
-    image_state::unset()
+    Laid::unset()
 }
 
 // The state of a layout.
 pub fn tablegoose_laid_out(p: Params, entries: &[u32]) -> Laid
     ensures { (result ≡ laid_by p entries.now) × (laid_of result ≡ handed_on (layout_by p entries.now)) }
 {
-    image_state::laid_out(p, entries)
+    Laid::laid_out(Layout { params: p, entries })
 }
 
 // Lays rows out in the image of a swizzle.
 pub fn tablegoose_fill(image: &mut [u8], laid: Laid, rows: &[u8]) -> u32
     ensures { filled_with result image.new ≡ fill_call (laid_of laid) rows.now image.old }
 {
-    image_state::fill(image, laid, rows)
+    number_of(laid.fill(image, rows))
 }
 
 // Exchanges one row of the last accepted swizzle.
 pub fn tablegoose_patch(image: &mut [u8], laid: Laid, row: u32, trits: &[u8]) -> u32
     ensures { filled_with result image.new ≡ patch_call (laid_of laid) (record { row = row; trits = trits.now; room = length image.old }) image.old }
 {
-    image_state::patch(image, laid, row, trits)
+    number_of(laid.patch(image, row, trits))
 }
 
 // Reads one row of the last accepted swizzle's image back.
 pub fn tablegoose_read_laid_row(room: &mut [u8], laid: Laid, image: &[u8], row: u32) -> u32
     ensures { filled_with result room.new ≡ read_row_call (laid_of laid) room.old image.now row }
 {
-    image_state::read_row(room, laid, image, row)
+    number_of(laid.read_row(room, image, row))
 }
 
 // The calls of a list on the image of the last accepted swizzle, each with its number.
@@ -217,7 +233,11 @@ pub fn tablegoose_patch_all(
 ) -> u32
     ensures { patched_to result numbers.new buffer.new ≡ patches_call numbers.old (laid_of laid) (calls_of calls.now trits.now) buffer.old }
 {
-    image_patches::patch_all(buffer, numbers, laid, calls, trits)
+    let list = Calls {
+        words: calls,
+        trits,
+    };
+    number_of(image_patches::patch_each(buffer, numbers, laid.layout(), list))
 }
 
 // Lays rows out in the image of a swizzle and makes the calls of a list: demand 3.
@@ -232,12 +252,16 @@ pub fn tablegoose_fill_and_patch(
     ensures buffer_after { patched_to result numbers.new buffer.new ≡ fill_and_patch_call numbers.old (laid_of laid) rows.now (calls_of calls.now trits.now) buffer.old }
     ensures demanded { result ≡ 0 → Demanded (laid_of laid) rows.now buffer.old (calls_of calls.now trits.now) buffer.new }
 {
-    image_patches::fill_and_patch(buffer, numbers, laid, rows, calls, trits)
+    let list = Calls {
+        words: calls,
+        trits,
+    };
+    number_of(image_patches::fill_then_patch(buffer, numbers, laid.layout(), rows, list))
 }
 
 // The record's sizes for the images of the last accepted swizzle.
 pub fn tablegoose_sizes_of(laid: Laid) -> Head
     ensures { result ≡ head_struct (sizes_call (laid_of laid)) }
 {
-    sizes_result(image_state::sizes_of(laid))
+    sizes_result(laid.sized())
 }

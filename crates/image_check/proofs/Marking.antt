@@ -145,3 +145,14 @@ module _ (f : ℕ → Bool) (width base : ℕ) (l : base ≤ width) (e : any f (
 
   pub block_pass : (n : ℕ) → n ≤ width - base → any f (up_from base n) ≡ false → any f (up_from (base + n) (width - (base + n))) ≡ any f (up_from 0 width)
   block_pass n h t = sym (block_step n h ∙ or_rest t) ∙ e
+
+  -- the bits after the block, whose end is the width or the next block's start
+  pub block_after : (n : ℕ) → n ≤ width - base → any f (up_from base n) ≡ false → (next : ℕ) → width - next ≡ width - (base + n) → (base + n < width → next ≡ base + n)
+      → any f (up_from next (width - next)) ≡ any f (up_from 0 width)
+  block_after n h t next e w =
+      cases_le width (base + n)
+      (λ l.
+      let a : width - next ≡ 0 = omega arith in
+      let b : width - (base + n) ≡ 0 = omega arith in
+      ap (λ (k : ℕ). any f (up_from next k)) a ∙ sym (ap (λ (k : ℕ). any f (up_from (base + n) k)) b) ∙ block_pass n h t)
+      (λ l. ap (λ (k : ℕ). any f (up_from k (width - k))) (w l) ∙ block_pass n h t)

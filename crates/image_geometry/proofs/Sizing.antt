@@ -2,6 +2,7 @@
 use Prim.Native.Nat.{ℕ, ◌+◌, ◌-◌, ◌*◌, ◌/◌, ◌%◌, ◌^◌, ◌≤◌, ◌<◌}
 use mathlib.Core.Path.{◌≡◌, sym, ap, ◌∙◌, subst}
 use mathlib.Core.Bool.{Bool}
+use mathlib.Core.Logic.{◌⊎◌, ⊎_elim}
 use mathlib.Core.List.{List}
 use native.Mathlib.Omega.{arith}
 use native.Mathlib.Nat.{div-lt_iff_lt-mul, le-div_iff_mul-le, add-mul, one-mul, mul-one, le_of_lt, mul-le-mul, mul-le-mul_left, div-le_self, le_trans, lt_of_le_of_lt, le-add_right}
@@ -141,6 +142,14 @@ pub mux_is : (p : Params) (es : List ℕ) (bits : ℕ) → bits ≡ soft_bits p.
     → top_bits addr_bits (ceil_div p.depth (2 ^ (bits + p.hard)) - 1) ≡ chunk_mux_bits (layout_by p es)
 unfolding chunk_mux_bits bits_for soft
 mux_is p es bits e = ap (λ (k : ℕ). top_bits addr_bits (ceil_div p.depth (2 ^ (k + p.hard)) - 1)) e
+
+-- where the code answers 0
+pub none_mux : (p : Params) (bits : ℕ) → bits ≡ soft_bits p.soft_mask → p.depth < 4294967296 → (p.depth ≡ 0) ⊎ (32 < bits + p.hard)
+    → (es : List ℕ) → 0 ≡ chunk_mux_bits (layout_by p es)
+none_mux p bits e h o es = sym (no_bits p.depth (bits + p.hard) (⊎_elim none_small (wide_power p.depth (bits + p.hard) h) o)) ∙ mux_is p es bits e
+  where
+    none_small : p.depth ≡ 0 → p.depth ≤ 2 ^ (bits + p.hard)
+    none_small z = omega arith
 
 -- ---- the sizes made of the memories, for entries of this length
 module _ (p : Params) (len : ℕ) (n : Narrow p len) (m : Mems) (e : (es : List ℕ) → length es ≡ len → m ≡ mems_of (layout_by p es)) where

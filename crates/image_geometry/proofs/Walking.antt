@@ -2,12 +2,13 @@
 use Prim.Native.Nat.{ℕ, zero, suc, ◌+◌, ◌-◌, ◌*◌, ◌/◌, ◌%◌, ◌^◌, ◌≤◌, ◌<◌}
 use mathlib.Core.Path.{◌≡◌, refl, sym, ap, ◌∙◌, subst}
 use mathlib.Core.Bool.{Bool, true, false}
+use mathlib.Core.Logic.{◌⊎◌, ⊎_elim}
 use native.Mathlib.Omega.{arith}
 use native.Mathlib.Nat.{mul-add, mul_comm, mul_assoc, mul_left_comm, mul-le-mul_right, mul-le-mul_left, one-mul, mul-one, mul-zero, le_trans}
 use lib.Pow.{pow_pos, pow_mono}
 use Rattle.rules.specs.Limits.{addr_bits}
 use Rattle.rules.specs.Geometry.{Spot, to_chunk, hard_left, under, walk}
-use Rattle.rules.proofs.Walks.{walk_pos, walk_le, pow_pos_suc}
+use Rattle.rules.proofs.Walks.{walk_pos, walk_le, pow_pos_suc, soft_chunk, full_chunk}
 use Rattle.image_geometry.specs.declared.Walk.{Walk}
 use Rattle.image_geometry.specs.Steps.{Roomy, stepped}
 
@@ -148,3 +149,15 @@ bit_times b k h l = omega (arith, mul-le-mul_right k h, one-mul k)
 -- no hard bits are left
 pub hard_none : (b : ℕ) (w : Walk) → w.hard ≡ 0 → ◌≡◌ {A = Walk} (record { chunk = w.chunk + b * w.cb; cb = 2 * w.cb; row = w.row; rb = w.rb; hard = 0 }) (stepped true b w)
 hard_none b w e = λ i. record { chunk = w.chunk + b * w.cb; cb = 2 * w.cb; row = w.row; rb = w.rb; hard = sym e i }
+
+-- where the code goes on with the chunk
+pub goes_up : (mask hard : ℕ) → (mask % 2 ≡ 1) ⊎ ((mask % 2 ≡ 1 → ⊥) × (hard ≡ 0)) → to_chunk mask hard ≡ true
+goes_up mask hard h = ⊎_elim (λ e. soft_chunk mask hard e) (λ e. full_chunk mask hard (even mask e.0) e.1) h
+  where
+    even : (m : ℕ) → (m % 2 ≡ 1 → ⊥) → m % 2 ≡ 0
+    even m e = omega arith
+
+-- what the spot of a walk holds, where its numbers are words
+pub spots : (w : Walk) (a b : ℕ) → (w.chunk < 4294967296 → a ≡ w.chunk) → (w.row < 4294967296 → b ≡ w.row) → w.chunk < 4294967296 → w.row < 4294967296
+    → ◌≡◌ {A = Spot} (record { chunk = a; row = b }) (record { chunk = w.chunk; row = w.row })
+spots w a b f g h k = λ i. record { chunk = f h i; row = g k i }

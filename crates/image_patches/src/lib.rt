@@ -5,86 +5,76 @@ ghost use Rattle.std.specs.Prelude.{◌≡◌, ◌+◌, ◌*◌, ◌/◌, ◌<�
 ghost use Rattle.std.proofs.lemmas.List.Edits.{sets};
 ghost use Rattle.rules.specs.Beside.Shape.{handed_on};
 ghost use Rattle.rules.specs.Patch.{patched, Demanded};
+ghost use Rattle.rules.specs.Refusal.{number_of};
 ghost use Rattle.rules.specs.Refusals.{lent_refusal};
 ghost use Rattle.rules.specs.Beside.Layouts.{fill_and_patch_call};
 ghost use Rattle.rules.specs.Answers.{filled_with, call_on, patch_numbers, patches_call};
-ghost use Rattle.image_geometry.specs.View.{layout_by};
-ghost use Rattle.image_state.specs.View.{laid_of};
-ghost use Rattle.image_patches.specs.Calls.{call_at, calls_of, patched_to};
+ghost use Rattle.image_geometry.specs.View.{layout_of};
+ghost use Rattle.image_patches.specs.Calls.{call_at, list_of, patched_to};
 
-// A list of calls is four numbers for each: its row, where its trits start, how many they are, and how many trits of the buffer it is lent.
-const CALL: usize = 4;
+use image_geometry::Layout;
+use rules::Refusal;
 
-// One call, which is lent the first `room` trits of the buffer, or all; its number.
+// A list of calls: four numbers for each, its row, where its trits start, how many they are, and how many trits of the buffer it is lent; and the
+// trits of all.
+#[derive(Clone, Copy)]
+pub struct Calls<'a> {
+    pub words: &'a [u32],
+    pub trits: &'a [u8],
+}
+
+// The numbers of a call.
+const WORDS: usize = 4;
+
+// One call, which is lent the first `room` trits of the buffer, or all.
 pub fn call_one(
     buffer: &mut [u8],
-    p: image_geometry::Params,
-    entries: &[u32],
+    layout: Layout<'_>,
     row: u32,
     trits: &[u8],
     room: usize,
-) -> u32
-    ensures { filled_with result buffer.new ≡ call_on (handed_on (layout_by p entries.now)) (record { row = row; trits = trits.now; room = room }) buffer.old }
+) -> Result<(), Refusal>
+    ensures { filled_with (number_of result) buffer.new ≡ call_on (handed_on (layout_of layout.entry)) (record { row = row; trits = trits.now; room = room }) buffer.old }
 {
     if buffer.len() <= room {
-        return image_rows::patch_row(buffer, p, entries, row, trits);
+        return image_rows::patch_row(buffer, layout, row, trits);
     }
-    image_rows::patch_row(&mut buffer[..room], p, entries, row, trits)
+    image_rows::patch_row(&mut buffer[..room], layout, row, trits)
 }
 
-// Call number `i` of a list; its number.
-fn call_at(
-    buffer: &mut [u8],
-    p: image_geometry::Params,
-    entries: &[u32],
-    calls: &[u32],
-    trits: &[u8],
-    i: usize,
-) -> u32
-    requires { 4 * i + 3 < length calls.now }
-    ensures { filled_with result buffer.new ≡ call_on (handed_on (layout_by p entries.now)) (call_at calls.now trits.now i) buffer.old }
+// Call number `i` of a list.
+fn call_at(buffer: &mut [u8], layout: Layout<'_>, calls: Calls<'_>, i: usize) -> Result<(), Refusal>
+    requires { 4 * i + 3 < length calls.words.now }
+    ensures { filled_with (number_of result) buffer.new ≡ call_on (handed_on (layout_of layout.entry)) (call_at calls.entry.words.now calls.entry.trits.now i) buffer.old }
 {
-    let at = CALL * i;
-    let at1 = at + 1;
-    let at2 = at + 2;
-    let at3 = at + 3;
-    let row = calls[at];
-    let start = lists::usize_of_u32(calls[at1]);
-    let count = lists::usize_of_u32(calls[at2]);
-    let room = lists::usize_of_u32(calls[at3]);
-    let part = lists::part(trits, start, count);
-    call_one(buffer, p, entries, row, part, room)
+    let at = WORDS * i;
+    let start = calls.words[at + 1] as usize;
+    let count = calls.words[at + 2] as usize;
+    let room = calls.words[at + 3] as usize;
+    let trits = lists::part(calls.trits, start, count);
+    call_one(buffer, layout, calls.words[at], trits, room)
 }
 
 // The calls of a list, in order, on an image with this layout; the number of each goes into `numbers`.
-fn call_each(
-    buffer: &mut [u8],
-    numbers: &mut [u32],
-    p: image_geometry::Params,
-    entries: &[u32],
-    calls: &[u32],
-    trits: &[u8],
-)
-    ensures numbers_after { numbers.new ≡ sets numbers.old 0 (patch_numbers (handed_on (layout_by p entries.now)) (length buffer.old) (calls_of calls.now trits.now)) }
-    ensures buffer_after { buffer.new ≡ patched (handed_on (layout_by p entries.now)) (calls_of calls.now trits.now) buffer.old }
+fn call_each(buffer: &mut [u8], numbers: &mut [u32], layout: Layout<'_>, calls: Calls<'_>)
+    ensures numbers_after { numbers.new ≡ sets numbers.old 0 (patch_numbers (handed_on (layout_of layout.entry)) (length buffer.old) (list_of calls.entry)) }
+    ensures buffer_after { buffer.new ≡ patched (handed_on (layout_of layout.entry)) (list_of calls.entry) buffer.old }
 {
-    let n = calls.len() / CALL;
-    let mut i: usize = 0;
-    while i < n {
-        let number = call_at(buffer, p, entries, calls, trits, i);
+    for i in 0..calls.words.len() / WORDS {
+        let number = rules::number_of(call_at(buffer, layout, calls, i));
         lists::put(numbers, i, number);
-        i += 1;
     }
 }
 
-// 20 where the room for the numbers of the calls in so many words is short.
-fn numbers_refusal(room: usize, words: usize) -> u32
-    ensures { result ≡ lent_refusal room (words / 4) }
+// Whether the room for the numbers of the calls in so many words is long enough.
+#[tactic(auto, unfolding(rules::specs::Conditions::no_room_of))]
+fn check_numbers(room: usize, words: usize) -> Result<(), Refusal>
+    ensures { number_of result ≡ lent_refusal room (words / 4) }
 {
-    if room < words / CALL {
-        return 20;
+    if room < words / WORDS {
+        return Err(Refusal::NoRoom);
     }
-    0
+    Ok(())
 }
 
 // The calls of a list, in order, on an image with this layout: a number for each into `numbers`, or 20, with no call made, where its room is
@@ -92,41 +82,14 @@ fn numbers_refusal(room: usize, words: usize) -> u32
 pub fn patch_each(
     buffer: &mut [u8],
     numbers: &mut [u32],
-    p: image_geometry::Params,
-    entries: &[u32],
-    calls: &[u32],
-    trits: &[u8],
-) -> u32
-    ensures { patched_to result numbers.new buffer.new ≡ patches_call numbers.old (handed_on (layout_by p entries.now)) (calls_of calls.now trits.now) buffer.old }
+    layout: Layout<'_>,
+    calls: Calls<'_>,
+) -> Result<(), Refusal>
+    ensures { patched_to (number_of result) numbers.new buffer.new ≡ patches_call numbers.old (handed_on (layout_of layout.entry)) (list_of calls.entry) buffer.old }
 {
-    let n = numbers_refusal(numbers.len(), calls.len());
-    if n != 0 {
-        return n;
-    }
-    call_each(buffer, numbers, p, entries, calls, trits);
-    0
-}
-
-// The same on the image of the last accepted swizzle.
-pub fn patch_all(
-    buffer: &mut [u8],
-    numbers: &mut [u32],
-    laid: image_state::Laid,
-    calls: &[u32],
-    trits: &[u8],
-) -> u32
-    ensures { patched_to result numbers.new buffer.new ≡ patches_call numbers.old (laid_of laid) (calls_of calls.now trits.now) buffer.old }
-{
-    let len = image_state::used(laid);
-    let entries = laid.entries;
-    patch_each(
-        buffer,
-        numbers,
-        image_state::params(laid),
-        &entries[..len],
-        calls,
-        trits,
-    )
+    check_numbers(numbers.len(), calls.words.len())?;
+    call_each(buffer, numbers, layout, calls);
+    Ok(())
 }
 
 // Lays the rows out in an image with this layout and makes the calls: demand 3. Nothing is stored where a number refuses the rows or the room
@@ -134,52 +97,18 @@ pub fn patch_all(
 pub fn fill_then_patch(
     buffer: &mut [u8],
     numbers: &mut [u32],
-    p: image_geometry::Params,
-    entries: &[u32],
+    layout: Layout<'_>,
     rows: &[u8],
-    calls: &[u32],
-    trits: &[u8],
-) -> u32
-    ensures buffer_after { patched_to result numbers.new buffer.new ≡ fill_and_patch_call numbers.old (handed_on (layout_by p entries.now)) rows.now (calls_of calls.now trits.now) buffer.old }
-    ensures demanded { result ≡ 0 → Demanded (handed_on (layout_by p entries.now)) rows.now buffer.old (calls_of calls.now trits.now) buffer.new }
+    calls: Calls<'_>,
+) -> Result<(), Refusal>
+    ensures buffer_after { patched_to (number_of result) numbers.new buffer.new ≡ fill_and_patch_call numbers.old (handed_on (layout_of layout.entry)) rows.now (list_of calls.entry) buffer.old }
+    ensures demanded { number_of result ≡ 0 → Demanded (handed_on (layout_of layout.entry)) rows.now buffer.old (list_of calls.entry) buffer.new }
 {
-    let short = numbers_refusal(numbers.len(), calls.len());
-    if short != 0 {
-        let first = image_rows::fill_rows_refusal(buffer.len(), p, entries, rows);
-        if first != 0 {
-            return first;
-        }
-        return short;
+    if let Err(short) = check_numbers(numbers.len(), calls.words.len()) {
+        image_rows::check_rows(buffer.len(), layout, rows)?;
+        return Err(short);
     }
-    let n = image_rows::fill_rows(buffer, p, entries, rows);
-    if n != 0 {
-        return n;
-    }
-    call_each(buffer, numbers, p, entries, calls, trits);
-    0
-}
-
-// The same for the image of a swizzle.
-pub fn fill_and_patch(
-    buffer: &mut [u8],
-    numbers: &mut [u32],
-    laid: image_state::Laid,
-    rows: &[u8],
-    calls: &[u32],
-    trits: &[u8],
-) -> u32
-    ensures buffer_after { patched_to result numbers.new buffer.new ≡ fill_and_patch_call numbers.old (laid_of laid) rows.now (calls_of calls.now trits.now) buffer.old }
-    ensures demanded { result ≡ 0 → Demanded (laid_of laid) rows.now buffer.old (calls_of calls.now trits.now) buffer.new }
-{
-    let len = image_state::used(laid);
-    let entries = laid.entries;
-    fill_then_patch(
-        buffer,
-        numbers,
-        image_state::params(laid),
-        &entries[..len],
-        rows,
-        calls,
-        trits,
-    )
+    image_rows::fill_rows(buffer, layout, rows)?;
+    call_each(buffer, numbers, layout, calls);
+    Ok(())
 }

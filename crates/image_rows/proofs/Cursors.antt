@@ -4,18 +4,18 @@ use mathlib.Core.Path.{◌≡◌, refl, sym, ap, ◌∙◌, subst}
 use mathlib.Core.Bool.{Bool}
 use native.Mathlib.Omega.{arith}
 use native.Mathlib.Numerals.{add-one}
-use native.Mathlib.Nat.{add-mul, mul_assoc, mul-le-mul, mul-le-mul_left, div-le_self, div-add-mod', mod-lt, le_trans, lt_of_le_of_lt, add-zero, one-mul}
+use native.Mathlib.Nat.{add-mul, mul_assoc, mul-le-mul, mul-le-mul_left, div-le_self, div-add-mod', mod-lt, le_trans, lt_of_le_of_lt, add-zero, one-mul, zero-mul}
 use lib.Arith.{digits_div, digits_mod}
 use borrow.Author.Tests.{lt-ltb, le-ltb}
 use Rattle.lists.specs.Choice.{when◌then◌else◌}
 use Rattle.lists.proofs.Choice.{cases_le}
 use Rattle.rules.specs.Limits.{addr_bits, max_depth, max_row, max_unit}
-use Rattle.rules.specs.Geometry.{Layout, row_len_of, full_depth_of, part_depth_of, full_mems}
+use Rattle.rules.specs.Geometry.{Layout, Spot, row_len_of, full_depth_of, part_depth_of, full_mems}
 use Rattle.rules.specs.Image.{spot_of, column, place_of, depth_at, rows_before, flat_at, flat, index_of}
 use Rattle.rules.specs.Beside.Shape.{Small, Located}
 use Rattle.rules.proofs.Walks.{walk_le}
 use Rattle.rules.proofs.Places.{before_suc, before_low, before_high}
-use Rattle.rules.proofs.Extents.{full_max, deep_max, part_max}
+use Rattle.rules.proofs.Extents.{deep_max, part_max}
 use Rattle.image_rows.specs.declared.Steps.{Steps}
 use Rattle.image_rows.specs.declared.Cursor.{Cursor}
 use Rattle.image_rows.specs.Steps.{steps_of, next_of, At, Low, Lows, after, index_from}
@@ -52,6 +52,18 @@ module _ (full H P u r : ℕ) where
   start_high m l =
       sym (ap (λ (n : ℕ). (n + r) * u + 0) (before_high full H P m l)
       ∙ omega (arith, add-mul (full * H + (m - full) * P) r u, add-mul (full * H) ((m - full) * P) u, mul_assoc full H u, mul_assoc (m - full) P u))
+
+  pub start_min : (m : ℕ) → min m full * (H * u) + (m - min m full) * (P * u) + r * u ≡ row_start m
+  start_min m =
+      cases_le full m
+      (λ l.
+      let e : min m full ≡ full = omega arith in
+      ap (λ (n : ℕ). n * (H * u) + (m - n) * (P * u) + r * u) e ∙ start_high m l)
+      (λ l.
+      let e : min m full ≡ m = omega arith in
+      let z : m - m ≡ 0 = omega arith in
+      let n : (m - m) * (P * u) ≡ 0 = ap (λ (n : ℕ). n * (P * u)) z ∙ zero-mul (P * u) in
+      ap (λ (n : ℕ). n * (H * u) + (m - n) * (P * u) + r * u) e ∙ ap (λ (n : ℕ). m * (H * u) + n + r * u) n ∙ ap (λ (n : ℕ). n + r * u) (add-zero (m * (H * u))) ∙ start_low m l)
 
   next_start : (m : ℕ) → row_start (m + 1) ≡ row_start m + depth_at full H P m * u
   next_start m =
@@ -200,15 +212,17 @@ unfolding after
 after_zero g c = refl
 
 -- ---- the cursor as the code makes it
-pub record Held (q : Layout) (g : Steps) (row entry chunk len from to : ℕ) : Type 0 where
+pub record Held (q : Layout) (g : Steps) (row chunk to : ℕ) : Type 0 where
   pub steps : g ≡ steps_of q
-  pub chunk_is_lem : chunk ≡ (spot_of q row).chunk
-  pub len_is : len ≡ row_len_of q
-  pub from_is : from ≡ entry
+  pub chunk_is : chunk ≡ (spot_of q row).chunk
   pub to_is : to ≡ (spot_of q row).row
 
+-- from the row's line, whose numbers the code holds in wider words
+pub held_at : (q : Layout) (g : Steps) (row : ℕ) (s : Spot) (chunk to : ℕ) → g ≡ steps_of q → s ≡ spot_of q row → chunk ≡ s.chunk → to ≡ s.row → Held q g row chunk to
+held_at q g row s chunk to e f a b = record { steps = e; chunk_is = a ∙ ap (λ (x : Spot). x.chunk) f; to_is = b ∙ ap (λ (x : Spot). x.row) f }
+
 module _ (q : Layout) (s : Small q.depth q.width (row_len_of q) q.unit q.hard) (g : Steps) (row entry : ℕ) (l : row < q.depth) (k : entry ≤ row_len_of q)
-    (chunk len from to : ℕ) (h : Held q g row entry chunk len from to) where
+    (chunk to : ℕ) (h : Held q g row chunk to) where
   unit_is : g.unit ≡ q.unit
   unit_is = ap (λ (g : Steps). g.unit) h.steps
 
@@ -221,24 +235,27 @@ module _ (q : Layout) (s : Small q.depth q.width (row_len_of q) q.unit q.hard) (
   part-step_is : g.part_step ≡ part_depth_of q * q.unit
   part-step_is = ap (λ (g : Steps). g.part_step) h.steps
 
-  pub product_fits : chunk * len ≤ max_depth * max_row
-  product_fits = subst (λ (n : ℕ). n ≤ max_depth * max_row) (sym (λ i. h.chunk_is_lem i * h.len_is i)) (first_max q s row l)
+  abbrev code_column : ℕ
+  code_column = chunk * row_len_of q + entry
 
-  column_is : chunk * len + from ≡ column q row entry
+  pub product_fits : chunk * row_len_of q ≤ max_depth * max_row
+  product_fits = subst (λ (n : ℕ). n * row_len_of q ≤ max_depth * max_row) (sym h.chunk_is) (first_max q s row l)
+
+  column_is : code_column ≡ column q row entry
   unfolding column
-  column_is = λ i. h.chunk_is_lem i * h.len_is i + h.from_is i
+  column_is = λ i. h.chunk_is i * row_len_of q + entry
 
-  pub column_fits : chunk * len + from ≤ 1073741824
+  pub column_fits : code_column ≤ 1073741824
   column_fits = subst (λ (n : ℕ). n ≤ 1073741824) (sym column_is) (column_max q s row l entry k)
 
   pub unit_pos : 0 < g.unit
   unit_pos = subst (λ (n : ℕ). 0 < n) (sym unit_is) s.unit_pos
 
-  mem_is : (chunk * len + from) / g.unit ≡ column q row entry / q.unit
+  mem_is : code_column / g.unit ≡ column q row entry / q.unit
   mem_is = λ i. column_is i / unit_is i
 
-  mem_fits : (chunk * len + from) / g.unit ≤ 1073741824
-  mem_fits = le_trans (div-le_self (chunk * len + from) g.unit) column_fits
+  mem_fits : code_column / g.unit ≤ 1073741824
+  mem_fits = le_trans (div-le_self code_column g.unit) column_fits
 
   pub above_fits : to * g.unit ≤ max_depth * max_unit
   above_fits = subst (λ (n : ℕ). n ≤ max_depth * max_unit) (sym (λ i. h.to_is i * unit_is i)) (mul-le-mul {n₂ = max_depth} {m₂ = max_unit} (row_max q s row l) s.unit_max)
@@ -249,40 +266,25 @@ module _ (q : Layout) (s : Small q.depth q.width (row_len_of q) q.unit q.hard) (
   part-step_fits : g.part_step ≤ 1048576 * max_unit
   part-step_fits = subst (λ (n : ℕ). n ≤ 1048576 * max_unit) (sym part-step_is) (step_max q s row l (part_depth_of q) (part_max q s))
 
-  full_fits : g.full ≤ 1073741824
-  full_fits = subst (λ (n : ℕ). n ≤ 1073741824) (sym full_is) (full_max q s)
-
-  pub low_fits : (chunk * len + from) / g.unit * g.full_step ≤ 1073741824 * (1048576 * max_unit)
-  low_fits = mul-le-mul {n₂ = 1073741824} {m₂ = 1048576 * max_unit} mem_fits full_step_fits
-
-  pub high_fits : g.full * g.full_step ≤ 1073741824 * (1048576 * max_unit)
-  high_fits = mul-le-mul {n₂ = 1073741824} {m₂ = 1048576 * max_unit} full_fits full_step_fits
-
-  pub over_fits : ((chunk * len + from) / g.unit - g.full) * g.part_step ≤ 1073741824 * (1048576 * max_unit)
-  over_fits = mul-le-mul {n₂ = 1073741824} {m₂ = 1048576 * max_unit} (omega (arith, mem_fits)) part-step_fits
-
-  bit_is : (chunk * len + from) % g.unit ≡ column q row entry % q.unit
+  bit_is : code_column % g.unit ≡ column q row entry % q.unit
   bit_is = λ i. column_is i % unit_is i
 
-  pub made_low : (chunk * len + from) / g.unit < g.full
-      → At q row entry (record { memory = (chunk * len + from) / g.unit; bit = (chunk * len + from) % g.unit; start = (chunk * len + from) / g.unit * g.full_step + to * g.unit })
-  made_low m =
-      at_made q row entry _ mem_is bit_is
-      ((λ i. mem_is i * full_step_is i + h.to_is i * unit_is i)
-      ∙ start_low (full_mems q) (full_depth_of q) (part_depth_of q) q.unit (spot_of q row).row _ (under m mem_is full_is))
-    where
-      under : {a b c d : ℕ} → a < b → a ≡ c → b ≡ d → c < d
-      under x y z = omega arith
+  -- `full` of the memories before the cursor's are full ones
+  module _ (full : ℕ) (f : full ≡ min (code_column / g.unit) g.full) where
+    pub full_fits : full * g.full_step ≤ 1073741824 * (1048576 * max_unit)
+    full_fits = mul-le-mul {n₂ = 1073741824} {m₂ = 1048576 * max_unit} (omega (arith, mem_fits)) full_step_fits
 
-  pub made_high : g.full ≤ (chunk * len + from) / g.unit
-      → At q row entry (record { memory = (chunk * len + from) / g.unit; bit = (chunk * len + from) % g.unit; start = g.full * g.full_step + ((chunk * len + from) / g.unit - g.full) * g.part_step + to * g.unit })
-  made_high m =
-      at_made q row entry _ mem_is bit_is
-      ((λ i. full_is i * full_step_is i + (mem_is i - full_is i) * part-step_is i + h.to_is i * unit_is i)
-      ∙ start_high (full_mems q) (full_depth_of q) (part_depth_of q) q.unit (spot_of q row).row _ (over m full_is mem_is))
-    where
-      over : {a b c d : ℕ} → a ≤ b → a ≡ c → b ≡ d → c ≤ d
-      over x y z = omega arith
+    pub over_fits : (code_column / g.unit - full) * g.part_step ≤ 1073741824 * (1048576 * max_unit)
+    over_fits = mul-le-mul {n₂ = 1073741824} {m₂ = 1048576 * max_unit} (omega (arith, mem_fits)) part-step_fits
+
+    min_is : full ≡ min (column q row entry / q.unit) (full_mems q)
+    min_is = f ∙ λ i. min (mem_is i) (full_is i)
+
+    pub made : At q row entry (record { memory = code_column / g.unit; bit = code_column % g.unit; start = full * g.full_step + (code_column / g.unit - full) * g.part_step + to * g.unit })
+    made =
+        at_made q row entry _ mem_is bit_is
+        ((λ i. min_is i * full_step_is i + (mem_is i - min_is i) * part-step_is i + h.to_is i * unit_is i)
+        ∙ start_min (full_mems q) (full_depth_of q) (part_depth_of q) q.unit (spot_of q row).row _)
 
 -- ---- a row written and a row taken by the cursors
 module _ (q : Layout) (s : Small q.depth q.width (row_len_of q) q.unit q.hard) (g : Steps) (e : g ≡ steps_of q) (row : ℕ) (c : Cursor) (h : At q row 0 c) where

@@ -11,6 +11,7 @@ use Rattle.image_geometry.specs.View.{layout_by}
 use Rattle.image_rows.specs.declared.Steps.{Steps}
 use Rattle.image_rows.specs.declared.Cursor.{Cursor}
 use Rattle.image_rows.specs.declared.Line.{Line}
+use Rattle.image_rows.specs.declared.Rows.{Rows}
 
 abbrev pub steps_of : Layout → Steps
 steps_of q = record { full = full_mems q; full_step = full_depth_of q * q.unit; part_step = part_depth_of q * q.unit; unit = q.unit }
@@ -23,6 +24,11 @@ steps_by s unit = record { full = s.full_mems; full_step = s.full_depth * unit; 
 pub record Ready (p : Params) (g : Steps) (es : List ℕ) : Type 0 where
   pub sizes : bad_layout_sizes p.depth p.width (row_len_of (layout_by p es)) p.unit p.hard ≡ false
   pub steps : g ≡ steps_of (layout_by p es)
+
+-- the same of the struct that holds all three, and the plain entries that it says
+pub record ReadyRows (r : Rows) : Type 0 where
+  pub ready : Ready r.layout.params r.steps r.layout.entries.now
+  pub plain : (i : ℕ) → i < r.plain → get_or r.layout.entries.now i 0 ≡ i
 
 -- the spot of the row's number
 abbrev pub OnSpot : Params → Line → Type 0

@@ -1,13 +1,13 @@
 -- The place of an entry as the rules' record.
+use Rattle.std.specs.Prelude.{Result}
 use Rattle.rules.specs.Beside.Shape.{Located}
-use Rattle.rules.specs.Answers.{Answer, Refused, Accepted}
+use Rattle.rules.specs.Answers.{Answer}
+use Rattle.rules.specs.Refusal.{answer_by}
+use Rattle.rules.specs.declared.numbers.Refusal.{Refusal}
 use Rattle.image_rows.specs.declared.Place.{Place}
-use Rattle.image_rows.specs.declared.Placed as placed
-use Rattle.image_rows.specs.declared.Placed.{Placed}
 
 abbrev pub located_of : Place → Located
 located_of p = record { place = record { memory = p.memory; row = p.row; bit = p.bit }; index = p.index }
 
-abbrev pub placed_of : Placed → Answer Located
-placed_of (placed.TheVariants.Refused n) = Refused n
-placed_of (placed.TheVariants.Accepted p) = Accepted (located_of p)
+abbrev pub placed_of : Result Place Refusal → Answer Located
+placed_of = answer_by located_of

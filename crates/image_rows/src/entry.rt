@@ -3,25 +3,13 @@ ghost use Rattle.std.specs.Prelude.{◌≡◌, eqb, get_or};
 ghost use Rattle.rules.specs.Limits.{None, trit_x};
 ghost use Rattle.rules.specs.Image.{put};
 
-// Element `i`, or `other` where there is none.
-fn trit_at(from: &[u8], i: usize, other: u8) -> u8
-    ensures { result ≡ get_or from.now i other }
-{
-    if from.len() <= i {
-        return other;
-    }
-    from[i]
-}
-
 // Stores an entry's trit. An entry of None stores nothing.
+#[tactic(auto, unfolding(rules::specs::Image::put))]
 fn store(to: &mut [u8], at: usize, trit: u8, entry: u32)
     ensures { to.new ≡ put (eqb entry None) at trit to.old }
 {
-    if entry == rules::NO_BIT {
-        return;
-    }
-    if at < to.len() {
-        to[at] = trit;
+    if entry != rules::NO_BIT {
+        lists::put(to, at, trit);
     }
 }
 
@@ -29,14 +17,14 @@ fn store(to: &mut [u8], at: usize, trit: u8, entry: u32)
 pub fn put_trit(image: &mut [u8], at: u64, trits: &[u8], entry: u32)
     ensures { image.new ≡ put (eqb entry None) at (get_or trits.now entry 0) image.old }
 {
-    let trit = trit_at(trits, lists::usize_of_u32(entry), 0);
-    store(image, lists::usize_of_u64(at), trit, entry);
+    let trit = trits.get(entry as usize).copied().unwrap_or(0);
+    store(image, at as usize, trit, entry);
 }
 
 // The trit at index `at` of the image goes to the entry's bit.
 pub fn take_trit(room: &mut [u8], entry: u32, image: &[u8], at: u64)
     ensures { room.new ≡ put (eqb entry None) entry (get_or image.now at trit_x) room.old }
 {
-    let trit = trit_at(image, lists::usize_of_u64(at), rules::TRIT_X);
-    store(room, lists::usize_of_u32(entry), trit, entry);
+    let trit = image.get(at as usize).copied().unwrap_or(rules::TRIT_X);
+    store(room, entry as usize, trit, entry);
 }

@@ -7,27 +7,26 @@ ghost use Rattle.rules.specs.Image.{put_row, write_row, write_rows, index_of};
 ghost use Rattle.rules.specs.Beside.Shape.{handed_on, place_call};
 ghost use Rattle.rules.specs.Beside.Layouts.{fill_call, read_row_call, fill_refusal_by, fill_refusal, read_row_refusal_by};
 ghost use Rattle.rules.specs.Answers.{patch_call, filled_with};
+ghost use Rattle.rules.specs.Refusal.{number_of};
 ghost use Rattle.rules.specs.Refusals.{patch_refusal_by};
-ghost use Rattle.image_geometry.specs.View.{layout_by};
+ghost use Rattle.image_geometry.specs.View.{layout_of};
 ghost use Rattle.image_rows.specs.View.{placed_of};
-ghost use Rattle.image_rows.specs.Steps.{steps_by, Ready, OnSpot, Low, Lows, next_of, last_of, At, index_from, Plain, RunOf, PutRun, take_row};
+ghost use Rattle.image_rows.specs.Steps.{steps_by, ReadyRows, OnSpot, Low, Lows, next_of, last_of, At, index_from, Plain, RunOf, PutRun, take_row};
+
+use image_check::check_layout;
+use image_geometry::{Layout, Params, Shape, Spot, next_row, walk_row};
+use rules::Refusal;
 
 pub mod entry;
 
 // The place of an entry: the memory, the row in it, the bit of that row, and the index in the flat image.
 #[repr(C)]
-#[derive(Clone, Copy)]
+#[derive(Clone, Copy, Debug, PartialEq, Eq)]
 pub struct Place {
     pub memory: u64,
     pub row: u64,
     pub bit: u64,
     pub index: u64,
-}
-
-#[derive(Clone, Copy)]
-pub enum Placed {
-    Refused(u32),
-    Accepted(Place),
 }
 
 // The full memories, the trits of a full one and of another, and the trits of a row in each.
@@ -55,137 +54,113 @@ struct Line {
     row: u32,
 }
 
-fn line_at(p: image_geometry::Params, number: u32) -> Line
-    ensures { (result.number ≡ number) × OnSpot p result }
-{
-    let s = image_geometry::walk_row(p.soft_mask, p.hard, number);
-    Line {
-        number,
-        chunk: s.chunk,
-        row: s.row,
-    }
+// A layout whose rows are written and read: with its steps, and so many of the first entries that are their own numbers, of which a run is a copy.
+#[derive(Clone, Copy)]
+struct Rows<'a> {
+    layout: Layout<'a>,
+    steps: Steps,
+    plain: usize,
 }
 
-// The next row, without a walk over all bits of its number.
-fn next_line(p: image_geometry::Params, l: Line) -> Line
-    requires { (l.number < p.depth) × OnSpot p l }
-    ensures { (result.number ≡ l.number + 1) × OnSpot p result }
-{
-    let spot = image_geometry::Spot {
-        chunk: l.chunk,
-        row: l.row,
-    };
-    let s = image_geometry::next_row(p.soft_mask, p.hard, l.number, spot);
-    Line {
-        number: l.number + 1,
-        chunk: s.chunk,
-        row: s.row,
+impl Line {
+    fn at(p: Params, number: u32) -> Line
+        ensures { (result.number ≡ number) × OnSpot p result }
+    {
+        let s = walk_row(p.soft_mask, p.hard, number);
+        Line {
+            number,
+            chunk: s.chunk,
+            row: s.row,
+        }
     }
-}
 
-fn steps_of(s: image_geometry::Shape, unit: u32) -> Steps
-    requires { (s.full_depth ≤ 1048576) × (s.part_depth ≤ 1048576) }
-    ensures { result ≡ steps_by s unit }
-{
-    Steps {
-        full: s.full_mems,
-        full_step: s.full_depth * lists::u64_of_u32(unit),
-        part_step: s.part_depth * lists::u64_of_u32(unit),
-        unit: lists::u64_of_u32(unit),
-    }
-}
-
-// The cursor at entry number `entry` of a row: the one division of a row's places.
-fn cursor_at(
-    p: image_geometry::Params,
-    g: Steps,
-    entries: &[u32],
-    line: Line,
-    entry: usize,
-) -> Cursor
-    requires ready { Ready p g entries.now }
-    requires number_lt_depth { (line.number < p.depth) × (entry ≤ length entries.now) × OnSpot p line }
-    ensures { At (layout_by p entries.now) line.number entry result }
-{
-    let column = lists::u64_of_u32(line.chunk) * lists::u64_of_usize(entries.len())
-        + lists::u64_of_usize(entry);
-    let memory = column / g.unit;
-    let bit = column % g.unit;
-    let above = lists::u64_of_u32(line.row) * g.unit;
-    if memory < g.full {
-        return Cursor {
-            memory,
-            bit,
-            start: memory * g.full_step + above,
+    // The next row, without a walk over all bits of its number.
+    fn next(self, p: Params) -> Line
+        requires { (self.number < p.depth) × OnSpot p self }
+        ensures { (result.number ≡ self.number + 1) × OnSpot p result }
+    {
+        let spot = Spot {
+            chunk: self.chunk,
+            row: self.row,
         };
-    }
-    Cursor {
-        memory,
-        bit,
-        start: g.full * g.full_step + (memory - g.full) * g.part_step + above,
+        let s = next_row(p.soft_mask, p.hard, self.number, spot);
+        Line {
+            number: self.number + 1,
+            chunk: s.chunk,
+            row: s.row,
+        }
     }
 }
 
-// The next bit of the memory, or bit 0 of the next memory.
-fn next_place(c: Cursor, g: Steps) -> Cursor
-    requires { Low c g }
-    ensures { result ≡ next_of g c }
-{
-    let bit = c.bit + 1;
-    if bit < g.unit {
-        return Cursor {
-            memory: c.memory,
-            bit,
-            start: c.start,
-        };
+impl Steps {
+    fn of(s: Shape, unit: u32) -> Steps
+        requires { (s.full_depth ≤ 1048576) × (s.part_depth ≤ 1048576) }
+        ensures { result ≡ steps_by s unit }
+    {
+        Steps {
+            full: s.full_mems,
+            full_step: s.full_depth * u64::from(unit),
+            part_step: s.part_depth * u64::from(unit),
+            unit: u64::from(unit),
+        }
     }
-    if c.memory < g.full {
-        return Cursor {
-            memory: c.memory + 1,
+}
+
+impl Cursor {
+    // The next bit of the memory, or bit 0 of the next memory.
+    fn next(self, g: Steps) -> Cursor
+        requires { Low self g }
+        ensures { result ≡ next_of g self }
+    {
+        if self.bit + 1 < g.unit {
+            return Cursor {
+                bit: self.bit + 1,
+                ..self
+            };
+        }
+        let step = if self.memory < g.full {
+            g.full_step
+        } else {
+            g.part_step
+        };
+        Cursor {
+            memory: self.memory + 1,
             bit: 0,
-            start: c.start + g.full_step,
+            start: self.start + step,
+        }
+    }
+
+    // So many places from the cursor's on follow each other: to the end of the memory's row, or of the entries.
+    fn run_length(self, g: Steps, left: usize) -> usize
+        requires { (self.bit < g.unit) × (0 < left) }
+        ensures { (0 < result) × (result ≤ left) × (self.bit + result ≤ g.unit) }
+    {
+        ((g.unit - self.bit) as usize).min(left)
+    }
+
+    // The cursor after a run of `count` places.
+    fn after_run(self, g: Steps, count: usize) -> Cursor
+        requires { Low self g × (0 < count) × (self.bit + count ≤ g.unit) }
+        ensures { result ≡ next_of g (last_of self count) }
+    {
+        let last = Cursor {
+            bit: self.bit + (count as u64 - 1),
+            ..self
         };
-    }
-    Cursor {
-        memory: c.memory + 1,
-        bit: 0,
-        start: c.start + g.part_step,
+        last.next(g)
     }
 }
 
-// So many places from the cursor's on follow each other: to the end of the memory's row, or of the entries.
-fn run_length(c: Cursor, g: Steps, left: usize) -> usize
-    requires { (c.bit < g.unit) × (0 < left) }
-    ensures { (0 < result) × (result ≤ left) × (c.bit + result ≤ g.unit) }
-{
-    lists::usize_of_u64(g.unit - c.bit).min(left)
-}
-
-// The cursor after a run of `count` places.
-fn after_run(c: Cursor, g: Steps, count: usize) -> Cursor
-    requires { Low c g × (0 < count) × (c.bit + count ≤ g.unit) }
-    ensures { result ≡ next_of g (last_of c count) }
-{
-    let last = Cursor {
-        memory: c.memory,
-        bit: c.bit + (lists::u64_of_usize(count) - 1),
-        start: c.start,
-    };
-    next_place(last, g)
-}
-
-// So many entries from the first on are their own numbers: a run of such entries is a copy.
+// So many entries from the first on are their own numbers.
 fn plain_entries(entries: &[u32]) -> usize
     ensures { Plain entries.now result }
 {
-    let mut i: usize = 0;
-    while i < entries.len() {
-        if lists::usize_of_u32(entries[i]) != i {
+    for (i, entry) in entries.iter().enumerate() {
+        if *entry as usize != i {
             return i;
         }
-        i += 1;
     }
-    i
+    entries.len()
 }
 
 // Writes the trits of the entries from number `from` to below `to` to the places from `at` on, one by one.
@@ -193,59 +168,8 @@ fn put_each(image: &mut [u8], at: u64, entries: &[u32], from: usize, to: usize, 
     requires { RunOf at from to entries.now }
     ensures { PutRun at entries.now from to trits.now image.old image.new }
 {
-    let mut i = from;
-    let mut place = at;
-    while i < to {
-        entry::put_trit(image, place, trits, entries[i]);
-        place += 1;
-        i += 1;
-    }
-}
-
-// The same, where the first `plain` entries are plain.
-fn put_run(
-    image: &mut [u8],
-    at: u64,
-    entries: &[u32],
-    from: usize,
-    to: usize,
-    trits: &[u8],
-    plain: usize,
-)
-    requires run_of { RunOf at from to entries.now }
-    requires plain { Plain entries.now plain }
-    ensures { PutRun at entries.now from to trits.now image.old image.new }
-{
-    if to <= plain {
-        if to <= trits.len() {
-            lists::copy(image, lists::usize_of_u64(at), &trits[from..to]);
-            return;
-        }
-    }
-    put_each(image, at, entries, from, to, trits);
-}
-
-// Writes the trits of a row to its places, from the first entry's on: a run of places that follow each other at a time.
-fn put_entries(
-    image: &mut [u8],
-    first: Cursor,
-    g: Steps,
-    entries: &[u32],
-    trits: &[u8],
-    plain: usize,
-)
-    requires lows { Lows first g (length entries.now) }
-    requires entries_len_bound { (length entries.now ≤ max_row) × Plain entries.now plain }
-    ensures { image.new ≡ put_row (index_from g first) entries.now 0 trits.now image.old }
-{
-    let mut c = first;
-    let mut i: usize = 0;
-    while i < entries.len() {
-        let count = run_length(c, g, entries.len() - i);
-        let to = i + count;
-        put_run(image, c.start + c.bit, entries, i, to, trits, plain);
-        c = after_run(c, g, count);
-        i = to;
+    for i in from..to {
+        entry::put_trit(image, at + (i - from) as u64, trits, entries[i]);
     }
 }
 
@@ -255,218 +179,238 @@ fn take_entries(room: &mut [u8], first: Cursor, g: Steps, entries: &[u32], image
     ensures { room.new ≡ take_row (index_from g first) entries.now 0 image.now room.old }
 {
     let mut c = first;
-    let mut i: usize = 0;
-    while i < entries.len() {
-        entry::take_trit(room, entries[i], image, c.start + c.bit);
-        c = next_place(c, g);
-        i += 1;
+    for entry in entries {
+        entry::take_trit(room, *entry, image, c.start + c.bit);
+        c = c.next(g);
     }
 }
 
-// Writes one row.
-fn write_row(
-    image: &mut [u8],
-    p: image_geometry::Params,
-    g: Steps,
-    entries: &[u32],
-    line: Line,
-    trits: &[u8],
-    plain: usize,
-)
-    requires ready { Ready p g entries.now }
-    requires number_lt_depth { (line.number < p.depth) × OnSpot p line }
-    requires plain { Plain entries.now plain }
-    ensures { image.new ≡ write_row (layout_by p entries.now) line.number trits.now image.old }
-{
-    let first = cursor_at(p, g, entries, line, 0);
-    put_entries(image, first, g, entries, trits, plain);
+impl<'a> Rows<'a> {
+    // The cursor at entry number `entry` of a row: the one division of a row's places.
+    fn cursor_at(self, line: Line, entry: usize) -> Cursor
+        requires ready { ReadyRows self }
+        requires number_lt_depth { (line.number < self.layout.params.depth) × (entry ≤ length self.layout.entries.now) × OnSpot self.layout.params line }
+        ensures { At (layout_of self.entry.layout) line.number entry result }
+    {
+        let g = self.steps;
+        let column = u64::from(line.chunk) * self.layout.entries.len() as u64 + entry as u64;
+        let memory = column / g.unit;
+        let bit = column % g.unit;
+        let above = u64::from(line.row) * g.unit;
+        let full = memory.min(g.full);
+        Cursor {
+            memory,
+            bit,
+            start: full * g.full_step + (memory - full) * g.part_step + above,
+        }
+    }
+
+    // Writes the trits of the entries from number `from` to below `to` to the places from `at` on.
+    fn put_run(self, image: &mut [u8], at: u64, from: usize, to: usize, trits: &[u8])
+        requires run_of { RunOf at from to self.layout.entries.now }
+        requires plain { Plain self.layout.entries.now self.plain }
+        ensures { PutRun at self.entry.layout.entries.now from to trits.now image.old image.new }
+    {
+        if to <= self.plain && to <= trits.len() {
+            lists::copy(image, at as usize, &trits[from..to]);
+        } else {
+            put_each(image, at, self.layout.entries, from, to, trits);
+        }
+    }
+
+    // Writes the trits of a row to its places, from the first entry's on: a run of places that follow each other at a time.
+    fn put_entries(self, image: &mut [u8], first: Cursor, trits: &[u8])
+        requires lows { Lows first self.steps (length self.layout.entries.now) }
+        requires entries_len_bound { (length self.layout.entries.now ≤ max_row) × Plain self.layout.entries.now self.plain }
+        ensures { image.new ≡ put_row (index_from self.entry.steps first) self.entry.layout.entries.now 0 trits.now image.old }
+    {
+        let len = self.layout.entries.len();
+        let mut c = first;
+        let mut i: usize = 0;
+        // no count: each turn is a run, as long as the memory's row goes on
+        while i < len {
+            let count = c.run_length(self.steps, len - i);
+            let to = i + count;
+            self.put_run(image, c.start + c.bit, i, to, trits);
+            c = c.after_run(self.steps, count);
+            i = to;
+        }
+    }
+
+    // Writes one row.
+    fn write_row(self, image: &mut [u8], line: Line, trits: &[u8])
+        requires ready { ReadyRows self }
+        requires number_lt_depth { (line.number < self.layout.params.depth) × OnSpot self.layout.params line }
+        ensures { image.new ≡ write_row (layout_of self.entry.layout) line.number trits.now image.old }
+    {
+        let first = self.cursor_at(line, 0);
+        self.put_entries(image, first, trits);
+    }
+
+    // Writes every row, row 0 first, and goes from row to row.
+    fn write_rows(self, image: &mut [u8], rows: &[u8])
+        requires ready { ReadyRows self }
+        requires rows_len { length rows.now ≡ self.layout.params.depth * self.layout.params.width }
+        ensures { image.new ≡ write_rows (layout_of self.entry.layout) rows.now self.entry.layout.params.depth image.old }
+    {
+        let p = self.layout.params;
+        let width = p.width as usize;
+        let mut line = Line::at(p, 0);
+        for number in 0..p.depth {
+            let from = number as usize * width;
+            self.write_row(image, line, &rows[from..from + width]);
+            line = line.next(p);
+        }
+    }
+
+    // Takes one row.
+    fn take_row(self, room: &mut [u8], row: u32, image: &[u8])
+        requires ready { ReadyRows self }
+        requires row_lt_depth { row < self.layout.params.depth }
+        ensures { room.new ≡ take_row (index_of (layout_of self.entry.layout) row) self.entry.layout.entries.now 0 image.now room.old }
+    {
+        let first = self.cursor_at(Line::at(self.layout.params, row), 0);
+        take_entries(room, first, self.steps, self.layout.entries, image);
+    }
 }
 
 // Numbers 4, 15 and 20 of a patch, where the image has `size` trits.
-fn patch_refusal(room: usize, p: image_geometry::Params, size: u64, row: u32, trits: &[u8]) -> u32
-    ensures { result ≡ patch_refusal_by p.width p.depth size row trits.now room }
+#[tactic(auto, unfolding(rules::specs::Refusals::patch_refusal_by, rules::specs::Conditions::bad_trits, rules::specs::Conditions::not_below, rules::specs::Conditions::no_room_of))]
+fn check_patch(room: usize, p: Params, size: u64, row: u32, trits: &[u8]) -> Result<(), Refusal>
+    ensures { number_of result ≡ patch_refusal_by p.width p.depth size row trits.now room }
 {
-    if trits.len() != lists::usize_of_u32(p.width) {
-        return 4;
-    }
-    if !net_logic::trits_good(trits) {
-        return 4;
+    if trits.len() != p.width as usize || !net_logic::trits_good(trits) {
+        return Err(Refusal::BadValue);
     }
     if p.depth <= row {
-        return 15;
+        return Err(Refusal::OutOfRange);
     }
-    if lists::u64_of_usize(room) < size {
-        return 20;
+    if (room as u64) < size {
+        return Err(Refusal::NoRoom);
     }
-    0
+    Ok(())
 }
 
-// Exchanges one row of an image with this layout, or refuses by a number.
+// Exchanges one row of an image with this layout.
 pub fn patch_row(
     image: &mut [u8],
-    p: image_geometry::Params,
-    entries: &[u32],
+    layout: Layout<'_>,
     row: u32,
     trits: &[u8],
-) -> u32
-    ensures { filled_with result image.new ≡ patch_call (handed_on (layout_by p entries.now)) (record { row = row; trits = trits.now; room = length image.old }) image.old }
+) -> Result<(), Refusal>
+    ensures { filled_with (number_of result) image.new ≡ patch_call (handed_on (layout_of layout.entry)) (record { row = row; trits = trits.now; room = length image.old }) image.old }
 {
-    let image_check::Checked::Good(s) = image_check::check_layout(p, entries) else {
-        return 23;
+    let p = layout.params;
+    let Some(s) = check_layout(layout) else {
+        return Err(Refusal::NotLaidOut);
     };
-    let refused = patch_refusal(image.len(), p, s.image_size, row, trits);
-    if refused != 0 {
-        return refused;
-    }
-    write_row(
-        image,
-        p,
-        steps_of(s, p.unit),
-        entries,
-        line_at(p, row),
-        trits,
-        0,
-    );
-    0
-}
-
-// Writes every row, row 0 first, and goes from row to row.
-fn write_rows(image: &mut [u8], p: image_geometry::Params, g: Steps, entries: &[u32], rows: &[u8])
-    requires ready { Ready p g entries.now }
-    requires rows_len { length rows.now ≡ p.depth * p.width }
-    ensures { image.new ≡ write_rows (layout_by p entries.now) rows.now p.depth image.old }
-{
-    let width = lists::usize_of_u32(p.width);
-    let plain = plain_entries(entries);
-    let mut from: usize = 0;
-    let mut line = line_at(p, 0);
-    while line.number < p.depth {
-        let to = from + width;
-        write_row(image, p, g, entries, line, &rows[from..to], plain);
-        from = to;
-        line = next_line(p, line);
-    }
+    check_patch(image.len(), p, s.image_size, row, trits)?;
+    let rows = Rows {
+        layout,
+        steps: Steps::of(s, p.unit),
+        plain: 0,
+    };
+    rows.write_row(image, Line::at(p, row), trits);
+    Ok(())
 }
 
 // Numbers 2, 4 and 20 of rows to lay out, where the image has `size` trits.
-fn fill_refusal(room: usize, p: image_geometry::Params, size: u64, rows: &[u8]) -> u32
-    ensures { result ≡ fill_refusal_by p.depth p.width size room rows.now }
+#[tactic(auto, unfolding(rules::specs::Beside::Layouts::fill_refusal_by, rules::specs::Conditions::bad_trits, rules::specs::Conditions::no_room_of))]
+fn check_fill(room: usize, p: Params, size: u64, rows: &[u8]) -> Result<(), Refusal>
+    ensures { number_of result ≡ fill_refusal_by p.depth p.width size room rows.now }
 {
-    if lists::u64_of_usize(rows.len()) != lists::u64_of_u32(p.depth) * lists::u64_of_u32(p.width) {
-        return 2;
+    if rows.len() as u64 != u64::from(p.depth) * u64::from(p.width) {
+        return Err(Refusal::BadShape);
     }
     if !net_logic::trits_good(rows) {
-        return 4;
+        return Err(Refusal::BadValue);
     }
-    if lists::u64_of_usize(room) < size {
-        return 20;
+    if (room as u64) < size {
+        return Err(Refusal::NoRoom);
     }
-    0
+    Ok(())
 }
 
-// The number that refuses rows to lay out in so many lent trits, or 0; nothing is stored.
-pub fn fill_rows_refusal(
-    room: usize,
-    p: image_geometry::Params,
-    entries: &[u32],
-    rows: &[u8],
-) -> u32
-    ensures { result ≡ fill_refusal (handed_on (layout_by p entries.now)) room rows.now }
+// Whether rows can be laid out in so many lent trits; nothing is stored.
+pub fn check_rows(room: usize, layout: Layout<'_>, rows: &[u8]) -> Result<(), Refusal>
+    ensures { number_of result ≡ fill_refusal (handed_on (layout_of layout.entry)) room rows.now }
 {
-    let image_check::Checked::Good(s) = image_check::check_layout(p, entries) else {
-        return 23;
+    let Some(s) = check_layout(layout) else {
+        return Err(Refusal::NotLaidOut);
     };
-    fill_refusal(room, p, s.image_size, rows)
+    check_fill(room, layout.params, s.image_size, rows)
 }
 
-// Lays the rows out in an image with this layout, or refuses by a number. Every code is looked at before the first trit is stored.
-pub fn fill_rows(image: &mut [u8], p: image_geometry::Params, entries: &[u32], rows: &[u8]) -> u32
-    ensures { filled_with result image.new ≡ fill_call (handed_on (layout_by p entries.now)) rows.now image.old }
+// Lays the rows out in an image with this layout. Every code is looked at before the first trit is stored.
+pub fn fill_rows(image: &mut [u8], layout: Layout<'_>, rows: &[u8]) -> Result<(), Refusal>
+    ensures { filled_with (number_of result) image.new ≡ fill_call (handed_on (layout_of layout.entry)) rows.now image.old }
 {
-    let image_check::Checked::Good(s) = image_check::check_layout(p, entries) else {
-        return 23;
+    let p = layout.params;
+    let Some(s) = check_layout(layout) else {
+        return Err(Refusal::NotLaidOut);
     };
-    let n = fill_refusal(image.len(), p, s.image_size, rows);
-    if n != 0 {
-        return n;
-    }
-    lists::fill(image, 0, lists::usize_of_u64(s.image_size), rules::TRIT_X);
-    write_rows(image, p, steps_of(s, p.unit), entries, rows);
-    0
-}
-
-// Takes one row.
-fn take_row(
-    room: &mut [u8],
-    p: image_geometry::Params,
-    g: Steps,
-    entries: &[u32],
-    row: u32,
-    image: &[u8],
-)
-    requires ready { Ready p g entries.now }
-    requires row_lt_depth { row < p.depth }
-    ensures { room.new ≡ take_row (index_of (layout_by p entries.now) row) entries.now 0 image.now room.old }
-{
-    let first = cursor_at(p, g, entries, line_at(p, row), 0);
-    take_entries(room, first, g, entries, image);
+    check_fill(image.len(), p, s.image_size, rows)?;
+    lists::fill(image, 0, s.image_size as usize, rules::TRIT_X);
+    let lines = Rows {
+        layout,
+        steps: Steps::of(s, p.unit),
+        plain: plain_entries(layout.entries),
+    };
+    lines.write_rows(image, rows);
+    Ok(())
 }
 
 // Numbers 15 and 20 of a row read back, where the image has `size` trits.
-fn read_refusal(room: usize, p: image_geometry::Params, size: u64, len: usize, row: u32) -> u32
-    ensures { result ≡ read_row_refusal_by p.depth p.width size room len row }
+#[tactic(auto, unfolding(rules::specs::Beside::Layouts::read_row_refusal_by, rules::specs::Conditions::not_below, rules::specs::Conditions::no_room_of))]
+fn check_read(room: usize, p: Params, size: u64, len: usize, row: u32) -> Result<(), Refusal>
+    ensures { number_of result ≡ read_row_refusal_by p.depth p.width size room len row }
 {
     if p.depth <= row {
-        return 15;
+        return Err(Refusal::OutOfRange);
     }
-    if lists::u64_of_usize(len) < size {
-        return 20;
+    if (len as u64) < size || room < p.width as usize {
+        return Err(Refusal::NoRoom);
     }
-    if room < lists::usize_of_u32(p.width) {
-        return 20;
-    }
-    0
+    Ok(())
 }
 
-// The trits at a row's places in an image with this layout, into `room`, or a number.
-pub fn read_row(
-    room: &mut [u8],
-    p: image_geometry::Params,
-    entries: &[u32],
-    image: &[u8],
-    row: u32,
-) -> u32
-    ensures { filled_with result room.new ≡ read_row_call (handed_on (layout_by p entries.now)) room.old image.now row }
+// The trits at a row's places in an image with this layout, into `room`.
+pub fn read_row(room: &mut [u8], layout: Layout<'_>, image: &[u8], row: u32) -> Result<(), Refusal>
+    ensures { filled_with (number_of result) room.new ≡ read_row_call (handed_on (layout_of layout.entry)) room.old image.now row }
 {
-    let image_check::Checked::Good(s) = image_check::check_layout(p, entries) else {
-        return 23;
+    let p = layout.params;
+    let Some(s) = check_layout(layout) else {
+        return Err(Refusal::NotLaidOut);
     };
-    let n = read_refusal(room.len(), p, s.image_size, image.len(), row);
-    if n != 0 {
-        return n;
-    }
-    take_row(room, p, steps_of(s, p.unit), entries, row, image);
-    0
+    check_read(room.len(), p, s.image_size, image.len(), row)?;
+    let rows = Rows {
+        layout,
+        steps: Steps::of(s, p.unit),
+        plain: 0,
+    };
+    rows.take_row(room, row, image);
+    Ok(())
 }
 
-// The place of entry number `entry` of a row, or a number: 1 for sizes past their limits, 15 for no such row or entry.
-pub fn place_of(p: image_geometry::Params, entries: &[u32], row: u32, entry: usize) -> Placed
-    ensures { placed_of result ≡ place_call (layout_by p entries.now) row entry }
+// The place of entry number `entry` of a row. Refused are sizes past their limits (1), and where there is no such row or entry (15).
+pub fn place_of(layout: Layout<'_>, row: u32, entry: usize) -> Result<Place, Refusal>
+    ensures { placed_of result ≡ place_call (layout_of layout.entry) row entry }
 {
-    let image_geometry::Measured::Accepted(s) = image_geometry::measure(p, entries) else {
-        return Placed::Refused(1);
+    let p = layout.params;
+    let s = layout.measure()?;
+    if p.depth <= row || layout.entries.len() <= entry {
+        return Err(Refusal::OutOfRange);
+    }
+    let line = Line::at(p, row);
+    let rows = Rows {
+        layout,
+        steps: Steps::of(s, p.unit),
+        plain: 0,
     };
-    if p.depth <= row {
-        return Placed::Refused(15);
-    }
-    if entries.len() <= entry {
-        return Placed::Refused(15);
-    }
-    let line = line_at(p, row);
-    let c = cursor_at(p, steps_of(s, p.unit), entries, line, entry);
-    Placed::Accepted(Place {
+    let c = rows.cursor_at(line, entry);
+    Ok(Place {
         memory: c.memory,
-        row: lists::u64_of_u32(line.row),
+        row: u64::from(line.row),
         bit: c.bit,
         index: c.start + c.bit,
     })

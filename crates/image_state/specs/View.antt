@@ -1,5 +1,5 @@
 -- The crate's structs as the rules' records, and its answer.
-use Rattle.std.specs.Prelude.{ℕ, List, length, take, replicate, ltb}
+use Rattle.std.specs.Prelude.{ℕ, List, length, take, replicate, ltb, Result}
 use Rattle.std.proofs.Math.Option.{none}
 use Rattle.std.proofs.lemmas.List.Edits.{sets}
 use Rattle.lists.specs.Choice.{when◌then◌else◌}
@@ -9,6 +9,9 @@ use Rattle.rules.specs.Image as rules
 use Rattle.rules.specs.Beside.Shape.{handed_on}
 use Rattle.rules.specs.Record as record-rules
 use Rattle.rules.specs.Answers.{Answer, Refused, Accepted}
+use Rattle.rules.specs.Refusal.{answer_by}
+use Rattle.rules.specs.declared.numbers.Refusal.{Refusal}
+use Rattle.record_sizes.specs.declared.Sizes.{Sizes}
 use Rattle.record_sizes.specs.View.{view_sizes}
 use Rattle.image_geometry.specs.declared.Params.{Params}
 use Rattle.image_geometry.specs.View.{layout_by}
@@ -55,3 +58,6 @@ laid_by p es =
 abbrev pub sized_of : Sized → Answer record-rules.Sizes
 sized_of (sizes.TheVariants.Refused n) = Refused n
 sized_of (sizes.TheVariants.Accepted z) = Accepted (view_sizes z)
+
+abbrev pub sizes_answer : Result Sizes Refusal → Answer record-rules.Sizes
+sizes_answer = answer_by view_sizes

@@ -1,18 +1,22 @@
 // Images: the state that a swizzle hands on, and by it an image laid out from rows, a row patched, a row read back and the record's sizes.
 #![tactic(auto)]
 
-ghost use Rattle.std.specs.Prelude.{◌≡◌, false, List, ℕ, ◌≤◌, min, length};
+ghost use Rattle.std.specs.Prelude.{◌≡◌, false, List, ℕ, ◌≤◌, length};
 ghost use Rattle.std.proofs.Math.Option.{none};
-ghost use Rattle.rules.specs.Limits.{max_row};
 ghost use Rattle.rules.specs.Record.{Sizes, depth_if, sizes_of};
 ghost use Rattle.rules.specs.Conditions.{bad_sizes};
 ghost use Rattle.rules.specs.Beside.Shape.{handed_on, shape_of};
 ghost use Rattle.rules.specs.Beside.Layouts.{fill_call, read_row_call};
 ghost use Rattle.rules.specs.Answers.{Accepted, patch_call, sizes_call, filled_with};
+ghost use Rattle.rules.specs.Refusal.{number_of};
 ghost use Rattle.record_sizes.specs.View.{view_sizes};
-ghost use Rattle.image_geometry.specs.View.{layout_by, shape_by};
-ghost use Rattle.image_state.specs.View.{lent_unit, lent_params, laid_of, unset_laid, laid_by, sized_of};
+ghost use Rattle.image_geometry.specs.View.{layout_by, layout_of, shape_by};
+ghost use Rattle.image_state.specs.View.{laid_of, unset_laid, laid_by, sized_of, sizes_answer};
 ghost use Rattle.image_state.specs.Counts.{Counted};
+
+use image_check::check_layout;
+use image_geometry::{Layout, Params, Shape, row_bad};
+use rules::Refusal;
 
 // What a swizzle hands on for patches: the layout's numbers, and the entries of a row, of which the first `len` are in use. The unit is 0 where
 // no swizzle was accepted yet.
@@ -28,115 +32,118 @@ pub struct Laid {
     pub entries: [u32; rules::MAX_ROW],
 }
 
+// The record's sizes with the number of any call that refuses them: a swizzle's answer holds them so, and its number is a word.
 #[derive(Clone, Copy)]
 pub enum Sized {
     Refused(u32),
     Accepted(record_sizes::Sizes),
 }
 
-// The state before any swizzle is accepted.
-pub fn unset() -> Laid
-    ensures value { result ≡ unset_laid }
-    ensures result_value { laid_of result ≡ none }
-{
-    Laid {
-        depth: 0,
-        width: 0,
-        soft_mask: 0,
-        hard: 0,
-        unit: 0,
-        len: 0,
-        entries: [0u32; rules::MAX_ROW],
+impl Laid {
+    // The state before any swizzle is accepted.
+    pub fn unset() -> Laid
+        ensures value { result ≡ unset_laid }
+        ensures result_value { laid_of result ≡ none }
+    {
+        Laid {
+            depth: 0,
+            width: 0,
+            soft_mask: 0,
+            hard: 0,
+            unit: 0,
+            len: 0,
+            entries: [0u32; rules::MAX_ROW],
+        }
     }
-}
 
-// The state of a layout: its numbers and entries as they are given, or `unset()` where the row is longer than MAX_ROW. The calls by a layout
-// that no accepted swizzle has are refused by 23.
-pub fn laid_out(p: image_geometry::Params, entries: &[u32]) -> Laid
-    ensures value { result ≡ laid_by p entries.now }
-    ensures result_value { laid_of result ≡ handed_on (layout_by p entries.now) }
-{
-    if image_geometry::row_bad(entries.len()) {
-        return unset();
+    // The state of a layout: its numbers and entries as they are given, or `unset()` where the row is longer than MAX_ROW. The calls by a layout
+    // that no accepted swizzle has are refused by 23.
+    pub fn laid_out(layout: Layout<'_>) -> Laid
+        ensures value { result ≡ laid_by layout.entry.params layout.entry.entries.now }
+        ensures result_value { laid_of result ≡ handed_on (layout_of layout.entry) }
+    {
+        if row_bad(layout.entries.len()) {
+            return Laid::unset();
+        }
+        let mut kept = [0u32; rules::MAX_ROW];
+        lists::copy(&mut kept, 0, layout.entries);
+        let p = layout.params;
+        Laid {
+            depth: p.depth,
+            width: p.width,
+            soft_mask: p.soft_mask,
+            hard: p.hard,
+            unit: p.unit,
+            len: layout.entries.len() as u32,
+            entries: kept,
+        }
     }
-    let mut kept = [0u32; rules::MAX_ROW];
-    lists::copy(&mut kept, 0, entries);
-    Laid {
-        depth: p.depth,
-        width: p.width,
-        soft_mask: p.soft_mask,
-        hard: p.hard,
-        unit: p.unit,
-        len: entries.len() as u32,
-        entries: kept,
+
+    // The layout by which the calls go: of the entries in use, as many as there is place for. Where the length passes that place the unit is 0, as
+    // before any swizzle: the calls by such a state are refused by 23.
+    pub fn layout(&self) -> Layout<'_>
+        ensures { handed_on (layout_of result) ≡ laid_of self.now }
+    {
+        let len = self.len as usize;
+        Layout {
+            params: Params {
+                depth: self.depth,
+                width: self.width,
+                soft_mask: self.soft_mask,
+                hard: self.hard,
+                unit: if row_bad(len) { 0 } else { self.unit },
+            },
+            entries: &self.entries[..len.min(rules::MAX_ROW)],
+        }
     }
-}
 
-// How many entries are in use, of those that there is place for.
-pub fn used(laid: Laid) -> usize
-    ensures { (result ≡ min max_row laid.len) × (result ≤ max_row) }
-{
-    rules::MAX_ROW.min(lists::usize_of_u32(laid.len))
-}
-
-// The unit, or 0, as before any swizzle, where the length passes the place for the entries: the calls by such a state are refused by 23.
-fn unit(laid: Laid) -> u32
-    ensures { result ≡ lent_unit laid }
-{
-    if image_geometry::row_bad(lists::usize_of_u32(laid.len)) {
-        return 0;
+    // Exchanges one row of the last accepted swizzle.
+    pub fn patch(&self, image: &mut [u8], row: u32, trits: &[u8]) -> Result<(), Refusal>
+        ensures { filled_with (number_of result) image.new ≡ patch_call (laid_of self.now) (record { row = row; trits = trits.now; room = length image.old }) image.old }
+    {
+        image_rows::patch_row(image, self.layout(), row, trits)
     }
-    laid.unit
-}
 
-// The numbers by which the calls go.
-pub fn params(laid: Laid) -> image_geometry::Params
-    ensures { result ≡ lent_params laid }
-{
-    image_geometry::Params {
-        depth: laid.depth,
-        width: laid.width,
-        soft_mask: laid.soft_mask,
-        hard: laid.hard,
-        unit: unit(laid),
+    // Lays the rows out in the image of a swizzle.
+    pub fn fill(&self, image: &mut [u8], rows: &[u8]) -> Result<(), Refusal>
+        ensures { filled_with (number_of result) image.new ≡ fill_call (laid_of self.now) rows.now image.old }
+    {
+        image_rows::fill_rows(image, self.layout(), rows)
     }
-}
 
-// Exchanges one row of the last accepted swizzle, or refuses by a number.
-pub fn patch(image: &mut [u8], laid: Laid, row: u32, trits: &[u8]) -> u32
-    ensures { filled_with result image.new ≡ patch_call (laid_of laid) (record { row = row; trits = trits.now; room = length image.old }) image.old }
-{
-    let len = used(laid);
-    let entries = laid.entries;
-    image_rows::patch_row(image, params(laid), &entries[..len], row, trits)
-}
+    // The trits that the image of a swizzle holds at a row's places, into `room`.
+    pub fn read_row(&self, room: &mut [u8], image: &[u8], row: u32) -> Result<(), Refusal>
+        ensures { filled_with (number_of result) room.new ≡ read_row_call (laid_of self.now) room.old image.now row }
+    {
+        image_rows::read_row(room, self.layout(), image, row)
+    }
 
-// Lays the rows out in the image of a swizzle, or refuses by a number.
-pub fn fill(image: &mut [u8], laid: Laid, rows: &[u8]) -> u32
-    ensures { filled_with result image.new ≡ fill_call (laid_of laid) rows.now image.old }
-{
-    let len = used(laid);
-    let entries = laid.entries;
-    image_rows::fill_rows(image, params(laid), &entries[..len], rows)
-}
+    // The record's sizes for the images of a swizzle. A record of these sizes is never refused by 17.
+    pub fn sizes(&self) -> Result<record_sizes::Sizes, Refusal>
+        ensures result_value { sizes_answer result ≡ sizes_call (laid_of self.now) }
+        ensures z_value { (z : Sizes) → sizes_answer result ≡ Accepted z → bad_sizes z ≡ false }
+    {
+        sizes_by(self.layout())
+    }
 
-// The trits that the image of a swizzle holds at a row's places, into `room`, or a number.
-pub fn read_row(room: &mut [u8], laid: Laid, image: &[u8], row: u32) -> u32
-    ensures { filled_with result room.new ≡ read_row_call (laid_of laid) room.old image.now row }
-{
-    let len = used(laid);
-    let entries = laid.entries;
-    image_rows::read_row(room, params(laid), &entries[..len], image, row)
+    // The same, or the number.
+    pub fn sized(&self) -> Sized
+        ensures result_value { sized_of result ≡ sizes_call (laid_of self.now) }
+        ensures z_value { (z : Sizes) → sized_of result ≡ Accepted z → bad_sizes z ≡ false }
+    {
+        match self.sizes() {
+            Ok(sizes) => Sized::Accepted(sizes),
+            Err(refusal) => Sized::Refused(refusal.number()),
+        }
+    }
 }
 
 // A depth, or 0 where there is no memory of it.
+#[tactic(auto, unfolding(rules::specs::Record::depth_if))]
 fn depth_if(count: u32, depth: u32) -> u32
     ensures { result ≡ depth_if count depth }
 {
-    if count != 0 {
-        return depth;
-    }
-    0
+    if count == 0 { 0 } else { depth }
 }
 
 // So many full memories and so many partial ones.
@@ -159,7 +166,7 @@ fn sizes_with(
 }
 
 // The record's sizes of a layout. A memory of width 0 gives no memories.
-fn layout_sizes(p: image_geometry::Params, s: image_geometry::Shape) -> record_sizes::Sizes
+fn layout_sizes(p: Params, s: Shape) -> record_sizes::Sizes
     requires { Counted s }
     ensures { (es : List ℕ) → shape_by s ≡ shape_of (layout_by p es) → view_sizes result ≡ sizes_of (layout_by p es) }
 {
@@ -176,21 +183,11 @@ fn layout_sizes(p: image_geometry::Params, s: image_geometry::Shape) -> record_s
 }
 
 // The record's sizes for an image with this layout.
-fn sizes_by(p: image_geometry::Params, entries: &[u32]) -> Sized
-    ensures { sized_of result ≡ sizes_call (handed_on (layout_by p entries.now)) }
+fn sizes_by(layout: Layout<'_>) -> Result<record_sizes::Sizes, Refusal>
+    ensures { sizes_answer result ≡ sizes_call (handed_on (layout_of layout.entry)) }
 {
-    let image_check::Checked::Good(s) = image_check::check_layout(p, entries) else {
-        return Sized::Refused(23);
+    let Some(s) = check_layout(layout) else {
+        return Err(Refusal::NotLaidOut);
     };
-    Sized::Accepted(layout_sizes(p, s))
-}
-
-// The record's sizes for the images of a swizzle, or the number 23. A record of these sizes is never refused by 17.
-pub fn sizes_of(laid: Laid) -> Sized
-    ensures result_value { sized_of result ≡ sizes_call (laid_of laid) }
-    ensures z_value { (z : Sizes) → sized_of result ≡ Accepted z → bad_sizes z ≡ false }
-{
-    let len = used(laid);
-    let entries = laid.entries;
-    sizes_by(params(laid), &entries[..len])
+    Ok(layout_sizes(layout.params, s))
 }

@@ -76,9 +76,9 @@ pub struct Swizzled {
 fn lay(image: &mut [u8], m: Memory, trits: &[u8], p: Params, entries: &[u32]) -> Laid
     ensures { (laid_of result ≡ handed_on (layout_by p entries.now)) × (image.new ≡ (fill_call (handed_on (layout_by p entries.now)) (part 0 m.init_len trits.now) image.old).out) }
 {
-    let laid = image_state::laid_out(p, entries);
+    let laid = Laid::laid_out(image_geometry::Layout { params: p, entries });
     let n = net_memory::init_size(m);
-    let number = image_state::fill(image, laid, lists::part(trits, 0, n));
+    let number = laid.fill(image, lists::part(trits, 0, n));
     laid
 }
 
@@ -124,7 +124,7 @@ pub fn swizzle<'a>(
     );
     if n != 0 {
         let made = swizzle_rows::none_yet(st);
-        let laid = image_state::unset();
+        let laid = Laid::unset();
         let sizes = Sized::Refused(n);
         return Swizzled {
             refusal: n,
@@ -138,7 +138,7 @@ pub fn swizzle<'a>(
     );
     let p = swizzle_plan::params_of(m, s);
     let laid = lay(image, m, trits, p, entries);
-    let sizes = image_state::sizes_of(laid);
+    let sizes = laid.sized();
     Swizzled {
         refusal: 0,
         made,

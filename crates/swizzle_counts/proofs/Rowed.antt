@@ -30,8 +30,9 @@ use Rattle.net_memory.specs.View.{memory_of, writes_of, reads_of}
 use Rattle.net_memory.specs.Given.{given_of}
 use Rattle.image_geometry.specs.declared.Params.{Params}
 use Rattle.image_geometry.specs.declared.Shape.{Shape}
-use Rattle.image_geometry.specs.declared.Measured.{Measured}
-use Rattle.image_geometry.specs.declared.Measured.TheVariants.{Refused, Accepted}
+use Rattle.std.specs.Prelude.{Result, Ok, Err}
+use Rattle.rules.specs.Refusal.{number}
+use Rattle.rules.specs.declared.numbers.Refusal.{Refusal}
 use Rattle.image_geometry.specs.View.{layout_by, shape_by, measured_of}
 use Rattle.swizzle_plan.specs.declared.MemorySwizzle.{MemorySwizzle}
 use Rattle.swizzle_plan.specs.Calls.{plan_of, params_by}
@@ -46,26 +47,26 @@ use Rattle.swizzle_counts.proofs.Sums.{ReadSums, read_sums, WriteSums, write_sum
 use Rattle.swizzle_counts.proofs.Refusing.{rows_number, by_rows}
 
 -- ---- the sizes that were measured
-module _ (p p' : Params) (es : List ℕ) (o : Measured) (e : measured_of o ≡ shape_call (layout_by p es)) (ep : p ≡ p') where
+module _ (p p' : Params) (es : List ℕ) (o : Result Shape Refusal) (e : measured_of o ≡ shape_call (layout_by p es)) (ep : p ≡ p') where
   abbrev q : Layout
   q = layout_by p' es
 
   here : measured_of o ≡ shape_call q
   here = e ∙ ap (λ (x : Params). shape_call (layout_by x es)) ep
 
-  pub measured_not : (k : ℕ) → o ≡ Refused k → layout_too_large q ≡ false → ⊥
+  pub measured_not : (k : Refusal) → o ≡ Err k → layout_too_large q ≡ false → ⊥
   measured_not k f g =
-      let a = (shape_not_told q k (sym (ap measured_of f) ∙ here)).1 in
+      let a = (shape_not_told q (number k) (sym (ap measured_of f) ∙ here)).1 in
       let z : ◌≡◌ {A = ℕ} 0 1 = cc in omega arith
 
-  measured_is : (z : Shape) → o ≡ Accepted z → shape_by z ≡ shape_of q
+  measured_is : (z : Shape) → o ≡ Ok z → shape_by z ≡ shape_of q
   measured_is z f = (shape_told q (shape_by z) (sym (ap measured_of f) ∙ here)).1
 
-  pub measured_columns : (z : Shape) → o ≡ Accepted z → z.columns ≡ columns q
+  pub measured_columns : (z : Shape) → o ≡ Ok z → z.columns ≡ columns q
   unfolding shape_of
   measured_columns z f = ap (λ (x : sizes.Shape). x.columns) (measured_is z f)
 
-  pub measured_image : (z : Shape) → o ≡ Accepted z → z.image_size ≡ image_size q
+  pub measured_image : (z : Shape) → o ≡ Ok z → z.image_size ≡ image_size q
   unfolding shape_of
   measured_image z f = ap (λ (x : sizes.Shape). x.image_size) (measured_is z f)
 

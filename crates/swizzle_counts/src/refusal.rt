@@ -49,7 +49,8 @@ fn rows_by_needs(
     ensures { result ≡ needs_refusal (rooms_of r) room (state_of st) (plus_needs (writes_needs m nets.now (params_by m s) (columns (layout_by (params_by m s) entries.now)) entries.now writes.now) (reads_needs m nets.now (params_by m s) (columns (layout_by (params_by m s) entries.now)) reads.now)) (image_size (layout_by (params_by m s) entries.now)) }
 {
     let p = swizzle_plan::params_of(m, s);
-    let image_geometry::Measured::Accepted(z) = image_geometry::measure(p, entries) else {
+    let layout = image_geometry::Layout { params: p, entries };
+    let Ok(z) = layout.measure() else {
         return 1;
     };
     let columns = lists::usize_of_u64(z.columns);

@@ -54,6 +54,10 @@ pub fn swizzle_and_patch<'a>(
         };
     }
     let laid = swizzled.laid;
-    let patches = image_patches::patch_all(image, numbers, laid, calls, rows);
+    let list = image_patches::Calls {
+        words: calls,
+        trits: rows,
+    };
+    let patches = rules::number_of(image_patches::patch_each(image, numbers, laid.layout(), list));
     SwizzledPatches { swizzled, patches }
 }

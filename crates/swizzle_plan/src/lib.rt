@@ -90,11 +90,11 @@ pub fn planned_number(
     if n != 0 {
         return n;
     }
-    let k = image_check::entries_number(m.width, entries);
+    let k = rules::number_of(image_check::check_entries(m.width, entries));
     if k != 0 {
         return k;
     }
-    image_geometry::soft_mask_number(m.depth, s.soft_addr_bits_mask)
+    rules::number_of(image_geometry::check_soft_mask(m.depth, s.soft_addr_bits_mask))
 }
 
 pub fn either(a: bool, b: bool) -> bool
@@ -118,11 +118,11 @@ fn whole_number(
     requires { bad_layout_sizes m.depth m.width (length entries.now) s.data_width_unit s.hard_addr_bits ≡ false }
     ensures { (trits : List ℕ) → result ≡ whole_plan (memory_of m nets.now trits) (plan_of s entries.now writes.now reads.now) }
 {
-    let k = image_check::entries_number(m.width, entries);
+    let k = rules::number_of(image_check::check_entries(m.width, entries));
     if k != 0 {
         return k;
     }
-    let j = image_geometry::soft_mask_number(m.depth, s.soft_addr_bits_mask);
+    let j = rules::number_of(image_geometry::check_soft_mask(m.depth, s.soft_addr_bits_mask));
     if j != 0 {
         return j;
     }
@@ -132,7 +132,11 @@ fn whole_number(
     if m.width == 0 {
         return 0;
     }
-    image_geometry::result_number(params_of(m, s), entries)
+    let layout = image_geometry::Layout {
+        params: params_of(m, s),
+        entries,
+    };
+    rules::number_of(layout.check_result())
 }
 
 // The number that refuses a plan for a memory and the nets that its outputs drive, or 0: 1 to 4, then 7, 8, 9 and 10.

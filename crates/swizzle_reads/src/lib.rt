@@ -16,7 +16,6 @@ ghost use Rattle.swizzle_reads.specs.Going.{going_of, with_read_port, in_port, p
 ghost use Rattle.swizzle_reads.specs.Able.{Measures};
 ghost use Rattle.swizzle_reads.specs.Raw.{numbers_of, wide_by_of, size_by, piece_by, read_by', trits_by, need_by, port_by, port_raw, raw_fits, Splitting};
 
-use image_check::Checked;
 use image_geometry::Params;
 use log_entries::LogState;
 use net_memory::{Memory, MemoryReadFlipFlop, MemoryReadPort};
@@ -484,7 +483,8 @@ pub fn emit_reads(
     ensures trits_to_after { going_of result log.new nets_to.new trits_to.new ≡ reads_if (layout_by p entries.now) (length scratch.old) (in_ports m nets.now trits.now) wide.now output.now (going_of start log.old nets_to.old trits_to.old) }
     ensures all_kept { AllKept (layout_by p entries.now) (in_ports m nets.now trits.now) wide.now scratch.old scratch.new }
 {
-    let Checked::Good(shape) = image_check::check_layout(p, entries) else {
+    let layout = image_geometry::Layout { params: p, entries };
+    let Some(shape) = image_check::check_layout(layout) else {
         return start;
     };
     if p.width == 0 {

@@ -9,7 +9,6 @@ ghost use Rattle.image_state.specs.Counts.{Counted};
 ghost use Rattle.swizzle_reads.specs.Going.{going_of, in_ports, AllKept};
 ghost use Rattle.swizzle_rows.specs.Rows.{start_memory, none_yet_of, Measured, RowsBy, RowsRan};
 
-use image_check::Checked;
 use image_geometry::{Params, Shape};
 use log_entries::LogState;
 use net_memory::{Memory, MemoryReadFlipFlop};
@@ -136,7 +135,8 @@ pub fn emit_rows<'a>(
     ensures rows_ran { RowsRan (layout_by p entries.now) m nets.now trits.now writes.now reads.now output.now (length scratch.old) st log.old nets_to.old trits_to.old (going_of result log.new nets_to.new trits_to.new) }
     ensures all_kept { AllKept (layout_by p entries.now) (in_ports m nets.now trits.now) reads.now scratch.old scratch.new }
 {
-    let Checked::Good(s) = image_check::check_layout(p, entries) else {
+    let layout = image_geometry::Layout { params: p, entries };
+    let Some(s) = image_check::check_layout(layout) else {
         return none_yet(st);
     };
     if p.width == 0 {

@@ -110,7 +110,7 @@ fn shared_bits(m: Memory, s: MemorySwizzle) -> u32
     ensures by_index { (es : List ℕ) → result ≡ chunk_mux_bits (layout_by (params_by m s) es) + soft_bits s.soft_addr_bits_mask }
     ensures upper_bound { result ≤ 64 }
 {
-    image_geometry::chunk_mux_bits(swizzle_plan::params_of(m, s))
+    swizzle_plan::params_of(m, s).chunk_mux_bits()
         + image_geometry::soft_bits(s.soft_addr_bits_mask)
 }
 
@@ -163,9 +163,10 @@ pub fn swizzle_depths(
         return n;
     }
     let p = swizzle_plan::params_of(m, s);
-    let k = image_geometry::result_number(p, entries);
+    let layout = image_geometry::Layout { params: p, entries };
+    let k = rules::number_of(layout.check_result());
     if k != 0 {
         return k;
     }
-    image_geometry::depths(out, p, entries)
+    rules::number_of(layout.depths(out))
 }

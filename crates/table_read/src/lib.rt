@@ -5,12 +5,12 @@ ghost use Rattle.std.specs.Prelude.{◌≡◌, ◌∷◌, [], ◌++◌, ◌*◌,
 ghost use Rattle.lists.specs.Choice.{when◌then◌else◌};
 ghost use Rattle.rules.specs.Limits.{max_width, max_row};
 ghost use Rattle.rules.specs.Conditions.{bad_layout};
-ghost use Rattle.image_geometry.specs.View.{layout_by};
+ghost use Rattle.image_geometry.specs.View.{layout_by, layout_of};
 ghost use Rattle.table_text.specs.Bytes.{max_text};
 ghost use Rattle.table_read.specs.Table.{max_words, entries_read, layout_read, head_number, rows_table, layout_table, head_table, parse_table};
-ghost use Rattle.table_read.specs.View.{params_read, parsed_of};
+ghost use Rattle.table_read.specs.View.{layout_in, params_read, parsed_of};
 
-use image_geometry::Params;
+use image_geometry::{Layout, Params};
 use table_text::head::{Ended, Head};
 use table_text::scan;
 
@@ -52,6 +52,16 @@ impl Entries {
 }
 
 impl Table {
+    // Its layout.
+    pub fn layout(&self) -> Layout<'_>
+        ensures { layout_of result ≡ layout_in self.now }
+    {
+        Layout {
+            params: self.params,
+            entries: self.entries.used(),
+        }
+    }
+
     // The trits in use.
     pub fn trits(&self) -> &[u8]
         ensures { result.now ≡ take (self.now.params.depth * self.now.params.width) self.now.rows }
@@ -111,10 +121,11 @@ fn is_bad_layout(params: Params, entries: Entries) -> bool
     requires { entries.len ≤ max_row }
     ensures { result ≡ bad_layout (layout_by params (take entries.len entries.list)) }
 {
-    match image_check::check_layout(params, entries.used()) {
-        image_check::Checked::Bad => true,
-        image_check::Checked::Good(_) => false,
-    }
+    let layout = Layout {
+        params,
+        entries: entries.used(),
+    };
+    image_check::check_layout(layout).is_none()
 }
 
 // The rows of a layout, from a place of the text on.

@@ -1,48 +1,49 @@
 -- `image_rows::fill_rows` meets its contract.
-use mathlib.Core.Path.{◌≡◌, sym, ap, ◌∙◌}
-use mathlib.Core.Option.{some}
+use mathlib.Core.Path.{◌≡◌, sym, ◌∙◌}
+use borrow.Author.Rules.{rules}
 use lib.ListN.{length}
-use Rattle.rules.specs.Beside.Shape.{handed_on, laid_shape}
+use Rattle.rules.specs.Beside.Shape.{handed_on}
 use Rattle.rules.specs.Beside.Layouts.{fill_refusal_of}
+use Rattle.rules.specs.Refusal.{number, number_of}
+use Rattle.rules.proofs.Answers.{number_nonzero}
 use Rattle.rules.proofs.GoodLayouts.{good_accepted}
-use Rattle.image_geometry.specs.View.{layout_by, shape_by}
-use Rattle.image_check.specs.View.{checked_of}
+use Rattle.image_geometry.specs.View.{layout_of}
 use Rattle.image_rows.proofs.Sizing.{passed, handed, size_is, shallow, ready, not_passed}
 use Rattle.image_rows.proofs.Filling.{fill_is, fill_refusal_is, fills, fill_unset, fill_refused, fill_done}
 use Rattle.image_rows.proofs.fill_rows.Goals as goal
 
 pub returns-in_default : goal.returns-in_default
-returns-in_default c =
-    let a = c.args in
-    fill_unset (handed_on (layout_by a.p a.entries.now)) _ _ (not_passed a.p a.entries.now (sym (ap checked_of c.in_default.is) ∙ c.check_layout.ensures))
+returns-in_default c = fill_unset (handed_on (layout_of c.args.layout)) _ _ (not_passed _ _ c.in_default.ensures)
 
-pub returns-then-n-ne0 : goal.returns-then-n-ne0
-returns-then-n-ne0 c =
-    let told : some (shape_by c.in-Good.s) ≡ laid_shape (layout_by c.args.p c.args.entries.now) = sym (ap checked_of c.in-Good.is) ∙ c.check_layout.ensures in
-    let number : c.fill_refusal-n.result ≡ fill_refusal_of (layout_by c.args.p c.args.entries.now) (length c.args.image.now) c.args.rows.now = c.fill_refusal-n.ensures ∙ fill_refusal_is (layout_by c.args.p c.args.entries.now) _ _ _ (size_is _ _ _ told) in
-    let a = c.args in
-    fill_refused _ _ _ (layout_by a.p a.entries.now) (handed _ _ _ told) _ number c.if-n-ne0.true
+pub returns-in_err-check_fill : goal.returns-in_err-check_fill
+returns-in_err-check_fill c =
+    let q = layout_of c.args.layout in
+    let p = c.args.layout.params in
+    let es = c.args.layout.entries.now in
+    let e : number_of c.from_residual.result ≡ number c.in_err-check_fill.field-0.0 = search rules in
+    let n = e ∙ c.in_err-check_fill.ensures ∙ fill_refusal_is q _ _ _ (size_is p es c.in-Some.s c.in-Some.ensures) in
+    fill_refused _ _ _ q (handed p es c.in-Some.s c.in-Some.ensures) _ n (λ z. number_nonzero c.in_err-check_fill.field-0.0 (sym e ∙ z))
 
-pub steps_of-requires : goal.steps_of-requires
-steps_of-requires c =
-    let told : some (shape_by c.in-Good.s) ≡ laid_shape (layout_by c.args.p c.args.entries.now) = sym (ap checked_of c.in-Good.is) ∙ c.check_layout.ensures in
-    shallow _ _ _ told
+pub of-requires : goal.of-requires
+of-requires c = shallow c.args.layout.params c.args.layout.entries.now c.in-Some.s c.in-Some.ensures
 
 pub write_rows-requires : goal.write_rows-requires
 write_rows-requires c =
-    let told : some (shape_by c.in-Good.s) ≡ laid_shape (layout_by c.args.p c.args.entries.now) = sym (ap checked_of c.in-Good.is) ∙ c.check_layout.ensures in
-    let number : c.fill_refusal-n.result ≡ fill_refusal_of (layout_by c.args.p c.args.entries.now) (length c.args.image.now) c.args.rows.now = c.fill_refusal-n.ensures ∙ fill_refusal_is (layout_by c.args.p c.args.entries.now) _ _ _ (size_is _ _ _ told) in
-    let accepted : fill_refusal_of (layout_by c.args.p c.args.entries.now) (length c.args.image.now) c.args.rows.now ≡ 0 = sym number ∙ c.if-n-ne0.false in
-    record { ready = ready _ _ _ told _ c.steps_of.ensures; rows_len = (fills _ _ _ accepted).0 }
+    let q = layout_of c.args.layout in
+    let p = c.args.layout.params in
+    let es = c.args.layout.entries.now in
+    let accepted : fill_refusal_of q (length c.args.image.now) c.args.rows.now ≡ 0 = sym (c.in_ok-check_fill.ensures ∙ fill_refusal_is q _ _ _ (size_is p es c.in-Some.s c.in-Some.ensures)) in
+    record {
+      ready = record { ready = ready p es c.in-Some.s c.in-Some.ensures _ c.of.ensures; plain = c.plain_entries.ensures };
+      rows_len = (fills q _ _ accepted).0;
+    }
 
 pub returns : goal.returns
 returns c =
-    let told : some (shape_by c.in-Good.s) ≡ laid_shape (layout_by c.args.p c.args.entries.now) = sym (ap checked_of c.in-Good.is) ∙ c.check_layout.ensures in
-    let number : c.fill_refusal-n.result ≡ fill_refusal_of (layout_by c.args.p c.args.entries.now) (length c.args.image.now) c.args.rows.now = c.fill_refusal-n.ensures ∙ fill_refusal_is (layout_by c.args.p c.args.entries.now) _ _ _ (size_is _ _ _ told) in
-    let accepted : fill_refusal_of (layout_by c.args.p c.args.entries.now) (length c.args.image.now) c.args.rows.now ≡ 0 = sym number ∙ c.if-n-ne0.false in
-    let a = c.args in
-    let q = layout_by a.p a.entries.now in
-    let t = told in
-    fill_done _ _ _ q (handed _ _ _ t) _ accepted
-    (fill_is q (good_accepted q (passed _ _ _ t)) a.rows.now a.image.now _ _ _
-    (c.usize_of_u64.ensures ∙ size_is _ _ _ t) (fills _ _ _ accepted).1 c.fill.ensures c.write_rows.ensures)
+    let q = layout_of c.args.layout in
+    let p = c.args.layout.params in
+    let es = c.args.layout.entries.now in
+    let accepted : fill_refusal_of q (length c.args.image.now) c.args.rows.now ≡ 0 = sym (c.in_ok-check_fill.ensures ∙ fill_refusal_is q _ _ _ (size_is p es c.in-Some.s c.in-Some.ensures)) in
+    fill_done _ _ _ q (handed p es c.in-Some.s c.in-Some.ensures) _ accepted
+    (fill_is q (good_accepted q (passed p es c.in-Some.s c.in-Some.ensures)) c.args.rows.now c.args.image.now _ _ _
+    (size_is p es c.in-Some.s c.in-Some.ensures) (fills q _ _ accepted).1 c.fill.ensures c.write_rows.ensures)

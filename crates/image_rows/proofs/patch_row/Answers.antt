@@ -1,48 +1,50 @@
 -- `image_rows::patch_row` meets its contract.
 use Prim.Native.Nat.{ℕ}
 use mathlib.Core.Path.{◌≡◌, sym, ap, ◌∙◌}
-use mathlib.Core.Option.{some}
 use native.Mathlib.Omega.{arith}
+use borrow.Author.Rules.{rules}
 use lib.ListN.{length}
-use Rattle.rules.specs.Beside.Shape.{handed_on, laid_shape}
+use Rattle.rules.specs.Beside.Shape.{handed_on}
 use Rattle.rules.specs.Image.{write_row}
+use Rattle.rules.specs.Refusal.{number, number_of}
 use Rattle.rules.specs.Refusals.{patch_refusal_of}
+use Rattle.rules.proofs.Answers.{number_nonzero}
 use Rattle.rules.proofs.Demand.{taken}
-use Rattle.image_geometry.specs.View.{layout_by, shape_by}
-use Rattle.image_check.specs.View.{checked_of}
+use Rattle.image_geometry.specs.View.{layout_of}
 use Rattle.image_rows.proofs.Sizing.{handed, size_is, shallow, ready, not_passed}
 use Rattle.image_rows.proofs.Patching.{number_is, patch_unset, patch_refused, patch-done}
 use Rattle.image_rows.proofs.patch_row.Goals as goal
 
 pub returns-in_default : goal.returns-in_default
-returns-in_default c =
-    let a = c.args in
-    patch_unset (handed_on (layout_by a.p a.entries.now)) _ _ (not_passed a.p a.entries.now (sym (ap checked_of c.in_default.is) ∙ c.check_layout.ensures))
+returns-in_default c = patch_unset (handed_on (layout_of c.args.layout)) _ _ (not_passed _ _ c.in_default.ensures)
 
-pub returns-then-refused-ne0 : goal.returns-then-refused-ne0
-returns-then-refused-ne0 c =
-    let told : some (shape_by c.in-Good.s) ≡ laid_shape (layout_by c.args.p c.args.entries.now) = sym (ap checked_of c.in-Good.is) ∙ c.check_layout.ensures in
-    let number : c.patch_refusal-refused.result ≡ patch_refusal_of (layout_by c.args.p c.args.entries.now) (record { row = c.args.row; trits = c.args.trits.now; room = length c.args.image.now }) = c.patch_refusal-refused.ensures ∙ number_is (layout_by c.args.p c.args.entries.now) _ _ _ _ (size_is _ _ _ told) in
-    let a = c.args in
-    patch_refused _ _ _ (layout_by a.p a.entries.now) (handed _ _ _ told) _ number c.if-refused-ne0.true
+pub returns-in_err-check_patch : goal.returns-in_err-check_patch
+returns-in_err-check_patch c =
+    let q = layout_of c.args.layout in
+    let p = c.args.layout.params in
+    let es = c.args.layout.entries.now in
+    let e : number_of c.from_residual.result ≡ number c.in_err-check_patch.field-0.0 = search rules in
+    let n = e ∙ c.in_err-check_patch.ensures ∙ number_is q _ _ _ _ (size_is p es c.in-Some.s c.in-Some.ensures) in
+    patch_refused _ _ _ q (handed p es c.in-Some.s c.in-Some.ensures) _ n (λ z. number_nonzero c.in_err-check_patch.field-0.0 (sym e ∙ z))
 
-pub steps_of-requires : goal.steps_of-requires
-steps_of-requires c =
-    let told : some (shape_by c.in-Good.s) ≡ laid_shape (layout_by c.args.p c.args.entries.now) = sym (ap checked_of c.in-Good.is) ∙ c.check_layout.ensures in
-    shallow _ _ _ told
+pub of-requires : goal.of-requires
+of-requires c = shallow c.args.layout.params c.args.layout.entries.now c.in-Some.s c.in-Some.ensures
 
 pub write_row-requires : goal.write_row-requires
 write_row-requires c =
-    let told : some (shape_by c.in-Good.s) ≡ laid_shape (layout_by c.args.p c.args.entries.now) = sym (ap checked_of c.in-Good.is) ∙ c.check_layout.ensures in
-    let number : c.patch_refusal-refused.result ≡ patch_refusal_of (layout_by c.args.p c.args.entries.now) (record { row = c.args.row; trits = c.args.trits.now; room = length c.args.image.now }) = c.patch_refusal-refused.ensures ∙ number_is (layout_by c.args.p c.args.entries.now) _ _ _ _ (size_is _ _ _ told) in
-    let accepted : patch_refusal_of (layout_by c.args.p c.args.entries.now) (record { row = c.args.row; trits = c.args.trits.now; room = length c.args.image.now }) ≡ 0 = sym number ∙ c.if-refused-ne0.false in
-    record { ready = ready _ _ _ told _ c.steps_of.ensures; number_lt_depth = (omega (arith, c.line_at.ensures.0, (taken _ _ accepted).inside), c.line_at.ensures.1); plain = λ i l. absurd (omega arith) }
+    let q = layout_of c.args.layout in
+    let p = c.args.layout.params in
+    let es = c.args.layout.entries.now in
+    let accepted : patch_refusal_of q (record { row = c.args.row; trits = c.args.trits.now; room = length c.args.image.now }) ≡ 0 = sym (c.in_ok-check_patch.ensures ∙ number_is q _ _ _ _ (size_is p es c.in-Some.s c.in-Some.ensures)) in
+    record {
+      ready = record { ready = ready p es c.in-Some.s c.in-Some.ensures _ c.of.ensures; plain = λ i l. absurd (omega arith) };
+      number_lt_depth = (omega (arith, c.at.ensures.0, (taken _ _ accepted).inside), c.at.ensures.1);
+    }
 
 pub returns : goal.returns
 returns c =
-    let told : some (shape_by c.in-Good.s) ≡ laid_shape (layout_by c.args.p c.args.entries.now) = sym (ap checked_of c.in-Good.is) ∙ c.check_layout.ensures in
-    let number : c.patch_refusal-refused.result ≡ patch_refusal_of (layout_by c.args.p c.args.entries.now) (record { row = c.args.row; trits = c.args.trits.now; room = length c.args.image.now }) = c.patch_refusal-refused.ensures ∙ number_is (layout_by c.args.p c.args.entries.now) _ _ _ _ (size_is _ _ _ told) in
-    let accepted : patch_refusal_of (layout_by c.args.p c.args.entries.now) (record { row = c.args.row; trits = c.args.trits.now; room = length c.args.image.now }) ≡ 0 = sym number ∙ c.if-refused-ne0.false in
-    let a = c.args in
-    let q = layout_by a.p a.entries.now in
-    patch-done _ _ _ q (handed _ _ _ told) _ accepted (c.write_row.ensures ∙ ap (λ (n : ℕ). write_row q n a.trits.now a.image.now) c.line_at.ensures.0)
+    let q = layout_of c.args.layout in
+    let p = c.args.layout.params in
+    let es = c.args.layout.entries.now in
+    let accepted : patch_refusal_of q (record { row = c.args.row; trits = c.args.trits.now; room = length c.args.image.now }) ≡ 0 = sym (c.in_ok-check_patch.ensures ∙ number_is q _ _ _ _ (size_is p es c.in-Some.s c.in-Some.ensures)) in
+    patch-done _ _ _ q (handed p es c.in-Some.s c.in-Some.ensures) _ accepted (c.write_row.ensures ∙ ap (λ (n : ℕ). write_row q n c.args.trits.now c.args.image.now) c.at.ensures.0)

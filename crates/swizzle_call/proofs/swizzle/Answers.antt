@@ -60,7 +60,7 @@ returns c =
         ports_held = a.ensures.holds_ports;
         scratch_kept = a.ensures.scratch_unchanged;
         laid_is = told;
-        sizes_are = c.sizes_of-sizes.ensures.result_value ∙ ap sizes_call told ∙ sizes_told (rooms_of (length v.image.now) v.nets_to.now v.trits_to.now v.scratch.now) (length v.log.now) v.st v.m v.nets.now v.trits.now v.output.now (plan_of v.s v.entries.now v.writes.now v.reads.now) z;
+        sizes_are = c.sized-sizes.ensures.result_value ∙ ap sizes_call told ∙ sizes_told (rooms_of (length v.image.now) v.nets_to.now v.trits_to.now v.scratch.now) (length v.log.now) v.st v.m v.nets.now v.trits.now v.output.now (plan_of v.s v.entries.now v.writes.now v.reads.now) z;
       };
     }) in
     record { scratch_after = whole.0; swizzles = whole.1 }

@@ -1,10 +1,10 @@
 -- `swizzle_sizes::swizzle_depths` meets its contract.
 use Rattle.swizzle_plan.proofs.Planned.{same_layout, depths_first, depths_ten, depths_rest, filled_length}
 use mathlib.Core.Path.{refl, sym, ap, ◌∙◌}
-use Prim.Native.Nat.{◌-◌}
+use Prim.Native.Nat.{ℕ, ◌-◌}
 use lib.ListN.{length}
 use Rattle.swizzle_plan.specs.Calls.{plan_of}
-use Rattle.rules.specs.Answers.{Filled, filled, swizzle_depths_call}
+use Rattle.rules.specs.Answers.{Filled, filled, filled_with, swizzle_depths_call}
 use Rattle.rules.specs.Geometry.{layout_of, swizzle_depths}
 use Rattle.rules.specs.Beside.Shape.{depths_call, result_number}
 use Rattle.image_geometry.specs.View.{layout_by}
@@ -26,7 +26,7 @@ pub returns-then-k-ne0 : goal.returns-then-k-ne0
 unfolding swizzle_depths_call
 returns-then-k-ne0 c =
     let v = c.args in
-    let e = depths_ten v.m v.nets.now v.trits.now v.s v.entries.now v.writes.now v.reads.now (length v.out.now) (sym c.planned_number-n.ensures ∙ c.if-n-ne0.false) _ (c.result_number-k.ensures ∙ ap (λ (x : Params). result_number (layout_by x v.entries.now)) c.params_of-p.ensures) c.if-k-ne0.true in
+    let e = depths_ten v.m v.nets.now v.trits.now v.s v.entries.now v.writes.now v.reads.now (length v.out.now) (sym c.planned_number-n.ensures ∙ c.if-n-ne0.false) _ (c.number_of-k.ensures ∙ c.check_result.ensures ∙ ap (λ (x : Params). result_number (layout_by x v.entries.now)) c.params_of-p.ensures) c.if-k-ne0.true in
     filled_refused (swizzle_depths_refusal (length v.out.now) (given_of v.m v.nets.now v.trits.now) (plan_of v.s v.entries.now v.writes.now v.reads.now)) _ v.out.now v.out.now (swizzle_depths (layout_of (memory_of v.m v.nets.now v.trits.now) (plan_of v.s v.entries.now v.writes.now v.reads.now))) e (λ z. c.if-k-ne0.true (e ∙ z)) refl
 
 pub shape_of-out : goal.shape_of-out
@@ -38,5 +38,5 @@ unfolding swizzle_depths_call depths_call
 returns c =
     let v = c.args in
     let k = c.params_of-p.ensures in
-    let e = depths_rest v.m v.nets.now v.trits.now v.s v.entries.now v.writes.now v.reads.now (length v.out.now) (sym c.planned_number-n.ensures ∙ c.if-n-ne0.false) _ (c.result_number-k.ensures ∙ ap (λ (x : Params). result_number (layout_by x v.entries.now)) c.params_of-p.ensures) c.if-k-ne0.false in
-    c.depths.ensures ∙ ap (λ (x : Params). depths_call v.out.now (layout_by x v.entries.now)) k ∙ (λ i. filled (e i) v.out.now (swizzle_depths (same_layout v.m v.nets.now v.trits.now v.s v.entries.now v.writes.now v.reads.now i)))
+    let e = depths_rest v.m v.nets.now v.trits.now v.s v.entries.now v.writes.now v.reads.now (length v.out.now) (sym c.planned_number-n.ensures ∙ c.if-n-ne0.false) _ (c.number_of-k.ensures ∙ c.check_result.ensures ∙ ap (λ (x : Params). result_number (layout_by x v.entries.now)) c.params_of-p.ensures) c.if-k-ne0.false in
+    ap (λ (n : ℕ). filled_with n c.depths.new.out) c.number_of.ensures ∙ c.depths.ensures ∙ ap (λ (x : Params). depths_call v.out.now (layout_by x v.entries.now)) k ∙ (λ i. filled (e i) v.out.now (swizzle_depths (same_layout v.m v.nets.now v.trits.now v.s v.entries.now v.writes.now v.reads.now i)))

@@ -17,20 +17,20 @@ pub writes_needs-w-requires : goal.writes_needs-w-requires
 writes_needs-w-requires c =
     let k = c in
     let v = k.args in
-    writes_move v.m v.nets.now _ (params_by v.m v.s) _ _ c.params_of-p.ensures (c.usize_of_u64-columns.ensures ∙ measured_columns _ (params_by v.m v.s) v.entries.now _ c.measure.ensures c.params_of-p.ensures _ c.in-Accepted.is) v.entries.now v.writes.now k.requires.writes
+    writes_move v.m v.nets.now _ (params_by v.m v.s) _ _ c.params_of-p.ensures (c.usize_of_u64-columns.ensures ∙ measured_columns _ (params_by v.m v.s) v.entries.now _ c.measure.ensures c.params_of-p.ensures _ c.in-Ok.is) v.entries.now v.writes.now k.requires.writes
 
 pub reads_needs-d-requires : goal.reads_needs-d-requires
 reads_needs-d-requires c =
     let k = c in
     let v = k.args in
-    reads_move v.m v.nets.now _ (params_by v.m v.s) _ _ c.params_of-p.ensures (c.usize_of_u64-columns.ensures ∙ measured_columns _ (params_by v.m v.s) v.entries.now _ c.measure.ensures c.params_of-p.ensures _ c.in-Accepted.is) v.reads.now k.requires.reads
+    reads_move v.m v.nets.now _ (params_by v.m v.s) _ _ c.params_of-p.ensures (c.usize_of_u64-columns.ensures ∙ measured_columns _ (params_by v.m v.s) v.entries.now _ c.measure.ensures c.params_of-p.ensures _ c.in-Ok.is) v.reads.now k.requires.reads
 
 pub returns : goal.returns
 returns c =
     let k = c in
     let v = k.args in
     let ep = c.params_of-p.ensures in
-    let ec = c.usize_of_u64-columns.ensures ∙ measured_columns _ (params_by v.m v.s) v.entries.now _ c.measure.ensures c.params_of-p.ensures _ c.in-Accepted.is in
-    let ei = c.usize_of_u64-image.ensures ∙ measured_image _ (params_by v.m v.s) v.entries.now _ c.measure.ensures c.params_of-p.ensures _ c.in-Accepted.is in
+    let ec = c.usize_of_u64-columns.ensures ∙ measured_columns _ (params_by v.m v.s) v.entries.now _ c.measure.ensures c.params_of-p.ensures _ c.in-Ok.is in
+    let ei = c.usize_of_u64-image.ensures ∙ measured_image _ (params_by v.m v.s) v.entries.now _ c.measure.ensures c.params_of-p.ensures _ c.in-Ok.is in
     let en = c.plus.ensures ∙ (λ i. plus_needs ((c.writes_needs-w.ensures.0 ∙ (λ j. writes_needs v.m v.nets.now (ep j) (ec j) v.entries.now v.writes.now)) i) ((c.reads_needs-d.ensures.0 ∙ (λ j. reads_needs v.m v.nets.now (ep j) (ec j) v.reads.now)) i)) in
     c.needs_refusal.ensures ∙ (λ i. needs_refusal (rooms_of v.r) v.room (state_of v.st) (en i) (ei i))
