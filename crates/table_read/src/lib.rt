@@ -11,6 +11,7 @@ ghost use Rattle.table_read.specs.Table.{max_words, entries_read, layout_read, h
 ghost use Rattle.table_read.specs.View.{layout_in, params_read, parsed_of};
 
 use image_geometry::{Layout, Params};
+use std::fmt;
 use table_text::head::{Ended, Head};
 use table_text::scan;
 
@@ -40,6 +41,21 @@ pub struct Table {
 pub struct Fault {
     pub line: u32,
     pub reason: u32,
+}
+
+impl fmt::Display for Fault {
+    fn fmt<W: fmt::Write>(&self, f: &mut fmt::Formatter<W>) -> fmt::Result {
+        let words = match self.reason {
+            8 => "text too long",
+            9 => "header",
+            10 => "layout",
+            11 => "character",
+            12 => "too few bits",
+            13 => "too many bits",
+            _ => "row past the depth",
+        };
+        write!(f, "line {}: {words}", self.line)
+    }
 }
 
 impl Entries {
