@@ -207,7 +207,7 @@ fn list_deep(rt: &impl Print, out: &mut [u8]) -> io::Result<()> {
     let mut image = image_room();
     let mut bytes = bytes_room();
     try_kit::paint::fill_trits(&mut image);
-    record_codec::write_record(&mut bytes, deep_sizes(), &image);
+    let _ = record_codec::write_record(&mut bytes, deep_sizes(), &image);
     list(
         rt,
         out,
@@ -226,7 +226,7 @@ fn list_most(rt: &impl Print, out: &mut [u8], name: &str) -> io::Result<()> {
     let mut image = image_room();
     let mut bytes = bytes_room();
     try_kit::paint::fill_trits(&mut image);
-    record_codec::write_record(&mut bytes, many_sizes(), &image);
+    let _ = record_codec::write_record(&mut bytes, many_sizes(), &image);
     list_sum(rt, out, name, &bytes, MOST_SUM)
 }
 

@@ -4,4 +4,4 @@ use Rattle.try_kit.proofs.borders.room_at.Goals as goal
 pub returns : goal.returns
 returns c =
     let p = c in
-    rw (c.saturating_sub-2.ensures, p.plus.ensures, p.saturating_sub.ensures, p.plus-all.ensures, c.usize_of_u32.ensures.0)
+    rw (c.minus-2.ensures, p.plus.ensures, p.minus.ensures, p.plus-all.ensures, c.usize_of_u32.ensures.0)
