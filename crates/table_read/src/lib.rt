@@ -5,12 +5,13 @@ ghost use Rattle.std.specs.Prelude.{◌≡◌, ◌∷◌, [], ◌++◌, ◌*◌,
 ghost use Rattle.lists.specs.Choice.{when◌then◌else◌};
 ghost use Rattle.rules.specs.Limits.{max_width, max_row};
 ghost use Rattle.rules.specs.Conditions.{bad_layout};
-ghost use Rattle.image_geometry.specs.View.{layout_by};
+ghost use Rattle.image_geometry.specs.View.{layout_by, layout_of};
 ghost use Rattle.table_text.specs.Bytes.{max_text};
 ghost use Rattle.table_read.specs.Table.{max_words, entries_read, layout_read, head_number, rows_table, layout_table, head_table, parse_table};
-ghost use Rattle.table_read.specs.View.{params_read, parsed_of};
+ghost use Rattle.table_read.specs.View.{layout_in, params_read, parsed_of};
 
-use image_geometry::Params;
+use image_geometry::{Layout, Params};
+use std::fmt;
 use table_text::head::{Ended, Head};
 use table_text::scan;
 
@@ -42,6 +43,21 @@ pub struct Fault {
     pub reason: u32,
 }
 
+impl fmt::Display for Fault {
+    fn fmt<W: fmt::Write>(&self, f: &mut fmt::Formatter<W>) -> fmt::Result {
+        let words = match self.reason {
+            8 => "text too long",
+            9 => "header",
+            10 => "layout",
+            11 => "character",
+            12 => "too few bits",
+            13 => "too many bits",
+            _ => "row past the depth",
+        };
+        write!(f, "line {}: {words}", self.line)
+    }
+}
+
 impl Entries {
     // Those in use.
     pub fn used(&self) -> &[u32]
@@ -52,6 +68,16 @@ impl Entries {
 }
 
 impl Table {
+    // Its layout.
+    pub fn layout(&self) -> Layout<'_>
+        ensures { layout_of result ≡ layout_in self.now }
+    {
+        Layout {
+            params: self.params,
+            entries: self.entries.used(),
+        }
+    }
+
     // The trits in use.
     pub fn trits(&self) -> &[u8]
         ensures { result.now ≡ take (self.now.params.depth * self.now.params.width) self.now.rows }
@@ -111,14 +137,11 @@ fn is_bad_layout(params: Params, entries: Entries) -> bool
     requires { entries.len ≤ max_row }
     ensures { result ≡ bad_layout (layout_by params (take entries.len entries.list)) }
 {
-    let layout = image_geometry::Layout {
+    let layout = Layout {
         params,
         entries: entries.used(),
     };
-    match image_check::check_layout(layout) {
-        None => true,
-        Some(_) => false,
-    }
+    image_check::check_layout(layout).is_none()
 }
 
 // The rows of a layout, from a place of the text on.

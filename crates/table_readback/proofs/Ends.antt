@@ -1,18 +1,18 @@
 -- What each function of the crate gives, by cases.
 use mathlib.Core.Path.{◌≡◌, refl, sym, ap, ◌∙◌}
 use mathlib.Core.Logic.{◌≢◌}
-use mathlib.Core.Bool.{true, false, ◌&&◌}
+use mathlib.Core.Bool.{true, false}
 use mathlib.Core.List.{List, [], ◌∷◌, ◌++◌, append-nil}
 use Prim.Native.Nat.{ℕ, suc, ◌+◌, ◌-◌, ◌*◌, ◌/◌, ◌≤◌, ◌<◌, min}
-use native.Mathlib.Nat.{zero-add, suc-add, mul-le-mul}
+use native.Mathlib.Nat.{zero-add, suc-add}
 use native.Mathlib.Numerals.{add-one}
 use native.Mathlib.Omega.{arith}
 use lib.ListN.{length, take, drop, get_or, set, replicate, length-drop, take-append-drop, drop_of_length-le}
 use lib.Seq.{sets, drop-cons, take_all, length-take-le}
 use lib.Dec.{eqb, ltb}
-use borrow.Author.Tests.{eqb-true, eq-eqb, ne_eqb, lt-ltb, le-ltb, ltb-false}
+use borrow.Author.Tests.{eq-eqb, ne_eqb, lt-ltb, le-ltb, ltb-false}
 use Rattle.lists.specs.Choice.{when◌then◌else◌}
-use Rattle.lists.proofs.Choice.{and_true, or_false, leaves_refused, leaves_accepted}
+use Rattle.lists.proofs.Choice.{or_false, leaves_refused, leaves_accepted}
 use Rattle.rules.specs.Geometry.{Layout}
 use Rattle.rules.specs.Image.{Laid}
 use Rattle.rules.specs.Record.{Sizes, size_trits, size_mems, record_bytes}
@@ -23,14 +23,14 @@ use Rattle.rules.specs.Beside.Shape.{handed_on}
 use Rattle.rules.proofs.Answers.{answer_refused, answer_accepted}
 use Rattle.record_codec.proofs.Heads.{array_bytes_lem}
 use Rattle.record_codec.proofs.Writing.{bytes_are}
-use Rattle.image_geometry.specs.View.{layout_by}
 use Rattle.table_read.specs.declared.Table.{Table}
 use Rattle.table_read.specs.Table.{Parsed, parse_table}
-use Rattle.table_read.specs.View.{parsed_of}
+use Rattle.std.specs.Prelude.{Ok}
+use Rattle.table_read.specs.View.{layout_in, parsed_of}
 use Rattle.table_print.specs.Rows.{rows_shown}
 use Rattle.table_rows.specs.Rows.{read_rows_call}
 use Rattle.table_differ.specs.Differ.{diff_text}
-use Rattle.table_readback.specs.Back.{line_end, same_sizes, sized_rows, record_rows, BadText, BadTable, IsBack, BackEnd, refused_end, text_end, compared_end, behind_end, rows_end_of, record_end, head_end, back_by, back_call}
+use Rattle.table_readback.specs.Back.{line_end, same_sizes, sized_rows, record_rows, IsBack, BackEnd, refused_end, text_end, compared_end, behind_end, rows_end_of, record_end, head_end, back_by, back_call}
 
 -- ---- the record's rows
 module _ (q : Layout) (z : Sizes) (room image : List ℕ) (head : Answer Sizes) where
@@ -107,21 +107,18 @@ put-behind out ws ys at k h e f =
 
 -- ---- against a table
 module _ (out rows : List ℕ) (depth width : ℕ) (t : Table) where
-  pub bad_table : t.reason ≢ 0 → record { answer = BadTable t.line t.reason; out = out } ≡ compared_end out depth width rows (parsed_of t)
+  pub other_depth : t.params.depth ≢ depth → refused_end out 2 ≡ compared_end out depth width rows (parsed_of (Ok t))
   unfolding compared_end parsed_of
-  bad_table e = rw (ne_eqb t.reason 0 e)
+  other_depth e = rw (ne_eqb t.params.depth depth e)
 
-  pub other_table : t.reason ≡ 0 → false ≡ (eqb t.params.depth depth && eqb t.params.width width) → refused_end out 2 ≡ compared_end out depth width rows (parsed_of t)
+  pub other_width : t.params.depth ≡ depth → t.params.width ≢ width → refused_end out 2 ≡ compared_end out depth width rows (parsed_of (Ok t))
   unfolding compared_end parsed_of
-  other_table e f = rw (eq-eqb t.reason 0 e, ← f)
+  other_width d e = rw (eq-eqb t.params.depth depth d, ne_eqb t.params.width width e)
 
-  pub same_table : (r : BackEnd) → t.reason ≡ 0 → true ≡ (eqb t.params.depth depth && eqb t.params.width width)
-      → r ≡ text_end out (diff_text depth width rows (take (depth * width) t.rows)) → r ≡ compared_end out depth width rows (parsed_of t)
+  pub same_table : (r : BackEnd) → t.params.depth ≡ depth → t.params.width ≡ width
+      → r ≡ text_end out (diff_text depth width rows (take (t.params.depth * t.params.width) t.rows)) → r ≡ compared_end out depth width rows (parsed_of (Ok t))
   unfolding compared_end parsed_of
-  same_table r e f h =
-      let s = and_true (eqb t.params.depth depth) (eqb t.params.width width) (sym f) in
-      let n : depth * width ≡ t.params.depth * t.params.width = λ i. sym (eqb-true t.params.depth depth s.0) i * sym (eqb-true t.params.width width s.1) i in
-      rw (eq-eqb t.reason 0 e, ← f) (h ∙ ap (λ (m : ℕ). text_end out (diff_text depth width rows (take m t.rows))) n)
+  same_table r d w h = rw (eq-eqb t.params.depth depth d, eq-eqb t.params.width width w) h
 
 -- ---- what follows the record
 module _ (out line rows : List ℕ) (depth width : ℕ) where
@@ -161,19 +158,12 @@ module _ (out line after : List ℕ) (q : Layout) where
   unfolding record_end
   no_sizes s n e = rw e
 
-pub bad_head_lem : (out line after : List ℕ) (t : Table) → t.reason ≢ 0 → record { answer = BadText t.line t.reason; out = out } ≡ head_end out line after (parsed_of t)
+-- by the header's table, whose layout is `layout_in t`
+pub good_head : (out line after : List ℕ) (t : Table) (r : BackEnd) (q : Layout) (l : Laid) (s : Answer Sizes) → q ≡ layout_in t
+    → l ≡ handed_on q → s ≡ sizes_call l → r ≡ record_end out line q after s → r ≡ head_end out line after (parsed_of (Ok t))
 unfolding head_end parsed_of
-bad_head_lem out line after t e = rw (ne_eqb t.reason 0 e)
-
-pub good_head : (out line after es : List ℕ) (t : Table) (n : ℕ) (r : BackEnd) (l : Laid) (s : Answer Sizes) → t.reason ≡ 0 → es ≡ take n t.entries → n ≡ t.len
-    → l ≡ handed_on (layout_by t.params es) → s ≡ sizes_call l → r ≡ record_end out line (layout_by t.params es) after s → r ≡ head_end out line after (parsed_of t)
-unfolding head_end parsed_of
-good_head out line after es t n r l s e f g h k m =
-    let v : es ≡ take t.len t.entries = f ∙ ap (λ (i : ℕ). take i t.entries) g in
-    rw (eq-eqb t.reason 0 e)
-    (m
-    ∙ ap (λ (x : Answer Sizes). record_end out line (layout_by t.params es) after x) (k ∙ ap sizes_call h)
-    ∙ ap (λ (x : List ℕ). record_end out line (layout_by t.params x) after (sizes_call (handed_on (layout_by t.params x)))) v)
+good_head out line after t r q l s e h k m =
+    m ∙ ap (record_end out line q after) (k ∙ ap sizes_call h) ∙ ap (λ (x : Layout). record_end out line x after (sizes_call (handed_on x))) e
 
 -- ---- the bytes of a record
 trits_fit : (z : Sizes) → bad_sizes z ≡ false → size_trits z ≤ 131072
@@ -187,9 +177,6 @@ pub bytes_of : (z : Sizes) (m n : ℕ) → bad_sizes z ≡ false → m ≡ min (
 bytes_of z m n e f g =
     let k : n ≡ size_trits z = omega (arith, trits_fit z e) in
     bytes_are z n (12 + 2 * ((n + 7) / 8)) k (ap (λ (b : ℕ). 12 + 2 * b) (array_bytes_lem n))
-
-pub product : (a b d w : ℕ) → a ≡ d → b ≡ w → a < 4294967296 → b < 4294967296 → a * b ≤ 4294967295 * 4294967295
-product a b d w e f h k = mul-le-mul {n₂ = 4294967295} {m₂ = 4294967295} (omega arith) (omega arith)
 
 -- ---- the first line
 module _ (text : List ℕ) (i : ℕ) where

@@ -1,9 +1,7 @@
 -- The steps from a table to its record.
 use mathlib.Core.Path.{◌≡◌, ap}
 use mathlib.Core.Logic.{◌≢◌}
-use Prim.Native.Nat.{ℕ, ◌*◌, ◌≤◌, ◌<◌}
-use native.Mathlib.Nat.{mul-le-mul}
-use native.Mathlib.Omega.{arith}
+use Prim.Native.Nat.{ℕ, ◌*◌}
 use mathlib.Core.List.{List}
 use lib.ListN.{length, replicate, take}
 use borrow.Author.Tests.{eq-eqb, ne_eqb}
@@ -15,14 +13,10 @@ use Rattle.rules.specs.Refusals.{write_record_refusal}
 use Rattle.rules.specs.Answers.{Answer, Refused, Accepted, answer_of, sizes_call, write_record_call, Listed}
 use Rattle.rules.specs.Beside.Shape.{handed_on}
 use Rattle.rules.specs.Beside.Layouts.{fill_call}
-use Rattle.image_geometry.specs.View.{layout_by}
 use Rattle.table_read.specs.declared.Table.{Table}
-use Rattle.table_read.specs.View.{parsed_of}
-use Rattle.table_record.specs.Split.{record_call, filled_record, rows_record, IsSplit, BadText, split_by}
-
--- a product of two words
-pub product : (a b d w : ℕ) → a ≡ d → b ≡ w → a < 4294967296 → b < 4294967296 → a * b ≤ 4294967295 * 4294967295
-product a b d w e f h k = mul-le-mul {n₂ = 4294967295} {m₂ = 4294967295} (omega arith) (omega arith)
+use Rattle.std.specs.Prelude.{Ok}
+use Rattle.table_read.specs.View.{layout_in, parsed_of}
+use Rattle.table_record.specs.Split.{record_call, filled_record, rows_record, IsSplit, split_by}
 
 -- ---- the record of an image
 pub not_sized : (out image : List ℕ) (n : ℕ) (s : Answer Sizes) → s ≡ Refused n → record { answer = Refused n; out = out } ≡ record_call out s image
@@ -46,17 +40,7 @@ module _ (out rows : List ℕ) (q : Layout) (laid : Laid) (h : laid ≡ handed_o
   is_filled f e s k = rw (← h, ← f, eq-eqb n 0 e, k)
 
 -- ---- of a text
-pub bad_text : (t : Table) (out : List ℕ) → t.reason ≢ 0 → record { answer = BadText t.line t.reason; out = out } ≡ split_by out (parsed_of t)
+pub of_text : (t : Table) (out after : List ℕ) (q : Layout) (ts : List ℕ) (a : Answer ℕ) → q ≡ layout_in t → ts ≡ take (t.params.depth * t.params.width) t.rows
+    → record { answer = a; out = after } ≡ rows_record out q ts → record { answer = IsSplit a; out = after } ≡ split_by out (parsed_of (Ok t))
 unfolding split_by parsed_of
-bad_text t out e = rw (ne_eqb t.reason 0 e)
-
-pub good_text : (t : Table) (out after : List ℕ) (a : Answer ℕ) → t.reason ≡ 0
-    → record { answer = a; out = after } ≡ rows_record out (layout_by t.params (take t.len t.entries)) (take (t.params.depth * t.params.width) t.rows)
-    → record { answer = IsSplit a; out = after } ≡ split_by out (parsed_of t)
-unfolding split_by parsed_of
-good_text t out after a e f = rw (eq-eqb t.reason 0 e) (ap (λ (l : Listed). record { answer = IsSplit l.answer; out = l.out }) f)
-
--- the part of the arrays that is in use
-pub in_use : (t : Table) (out es ts : List ℕ) (n m : ℕ) → es ≡ take n t.entries → n ≡ t.len → ts ≡ take m t.rows → m ≡ t.params.depth * t.params.width
-    → rows_record out (layout_by t.params es) ts ≡ rows_record out (layout_by t.params (take t.len t.entries)) (take (t.params.depth * t.params.width) t.rows)
-in_use t out es ts n m e f g h = rw (e, f, g, h)
+of_text t out after q ts a e f g = ap (λ (l : Listed). record { answer = IsSplit l.answer; out = l.out }) (rw (e, f) at g)

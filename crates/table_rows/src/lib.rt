@@ -9,32 +9,35 @@ ghost use Rattle.rules.specs.Beside.Shape.{handed_on};
 ghost use Rattle.rules.specs.Beside.Layouts.{read_row};
 ghost use Rattle.rules.specs.Refusal.{number_of};
 ghost use Rattle.rules.specs.Answers.{filled_with};
-ghost use Rattle.image_geometry.specs.View.{layout_by};
+ghost use Rattle.image_geometry.specs.View.{layout_of};
 ghost use Rattle.table_rows.specs.Rows.{image_rows, read_rows_refusal_by, read_rows_call};
 
-use image_geometry::Params;
+use image_geometry::{Layout, Params};
 use rules::Refusal;
 
 // Stores one row at a place.
-fn put_row(room: &mut [u8], at: usize, p: Params, entries: &[u32], image: &[u8], row: u32)
-    requires { (bad_layout (layout_by p entries.now) ≡ false) × (image_size (layout_by p entries.now) ≤ length image.now) × (row < p.depth) }
-    ensures { room.new ≡ sets room.old at (read_row (layout_by p entries.now) image.now row) }
+fn put_row(room: &mut [u8], at: usize, layout: Layout<'_>, image: &[u8], row: u32)
+    requires { (bad_layout (layout_of layout) ≡ false) × (image_size (layout_of layout) ≤ length image.now) × (row < layout.params.depth) }
+    ensures { room.new ≡ sets room.old at (read_row (layout_of layout.entry) image.now row) }
 {
     let mut bits = [0u8; rules::MAX_WIDTH as usize];
-    let layout = image_geometry::Layout { params: p, entries };
     let _ = image_rows::read_row(&mut bits, layout, image, row);
-    lists::copy(room, at, lists::part(&bits, 0, p.width as usize));
+    lists::copy(
+        room,
+        at,
+        lists::part(&bits, 0, layout.params.width as usize),
+    );
 }
 
 // Stores all rows.
-fn put_all(room: &mut [u8], p: Params, entries: &[u32], image: &[u8])
-    requires { (bad_layout (layout_by p entries.now) ≡ false) × (image_size (layout_by p entries.now) ≤ length image.now) }
-    ensures { room.new ≡ sets room.old 0 (image_rows (layout_by p entries.now) image.now) }
+fn put_all(room: &mut [u8], layout: Layout<'_>, image: &[u8])
+    requires { (bad_layout (layout_of layout) ≡ false) × (image_size (layout_of layout) ≤ length image.now) }
+    ensures { room.new ≡ sets room.old 0 (image_rows (layout_of layout.entry) image.now) }
 {
-    let width = p.width as usize;
+    let width = layout.params.width as usize;
     let mut at: usize = 0;
-    for row in 0..p.depth {
-        put_row(room, at, p, entries, image, row);
+    for row in 0..layout.params.depth {
+        put_row(room, at, layout, image, row);
         at += width;
     }
 }
@@ -53,14 +56,13 @@ fn check_room(room: usize, p: Params, size: u64, len: usize) -> Result<(), Refus
 }
 
 // The rows that an image with this layout holds, into `room`.
-pub fn read_rows(room: &mut [u8], p: Params, entries: &[u32], image: &[u8]) -> Result<(), Refusal>
-    ensures { filled_with (number_of result) room.new ≡ read_rows_call (handed_on (layout_by p entries.now)) room.old image.now }
+pub fn read_rows(room: &mut [u8], layout: Layout<'_>, image: &[u8]) -> Result<(), Refusal>
+    ensures { filled_with (number_of result) room.new ≡ read_rows_call (handed_on (layout_of layout.entry)) room.old image.now }
 {
-    let layout = image_geometry::Layout { params: p, entries };
     let Some(s) = image_check::check_layout(layout) else {
         return Err(Refusal::NotLaidOut);
     };
-    check_room(room.len(), p, s.image_size, image.len())?;
-    put_all(room, p, entries, image);
+    check_room(room.len(), layout.params, s.image_size, image.len())?;
+    put_all(room, layout, image);
     Ok(())
 }

@@ -1,8 +1,8 @@
 // Lists records and prints each length, and whether the text is the one that is wanted. The lent array is painted before and compared after, also past the text.
 #![tactic(auto)]
 
-use record_listing::Listed;
 use record_sizes::Sizes;
+use rules::Refusal;
 use std::io;
 
 fn say(rt: &impl Print, text: &str) -> io::Result<()> {
@@ -13,9 +13,9 @@ fn say_if(rt: &impl Print, test: bool, yes: &str, no: &str) -> io::Result<()> {
     if test { say(rt, yes) } else { say(rt, no) }
 }
 
-fn refused(rt: &impl Print, n: u32, kept: bool) -> io::Result<()> {
+fn refused(rt: &impl Print, refusal: Refusal, kept: bool) -> io::Result<()> {
     say(rt, "refused ")?;
-    rt.print(n)?;
+    rt.print(refusal.number())?;
     say_if(rt, kept, " kept\n", " CHANGED\n")
 }
 
@@ -40,8 +40,8 @@ fn list(rt: &impl Print, out: &mut [u8], name: &str, bytes: &[u8], want: &[u8]) 
     try_kit::paint::paint(out);
     say(rt, name)?;
     match record_listing::list_record(out, bytes) {
-        Listed::Refused(n) => refused(rt, n, try_kit::paint::painted(out, 0))?,
-        Listed::Accepted(n) => told(rt, out, n, want)?,
+        Err(refusal) => refused(rt, refusal, try_kit::paint::painted(out, 0))?,
+        Ok(n) => told(rt, out, n, want)?,
     }
     given(rt, before, bytes)
 }
@@ -59,8 +59,8 @@ fn list_long(
     try_kit::paint::paint(out);
     say(rt, name)?;
     match record_listing::list_input(out, first, total) {
-        Listed::Refused(n) => refused(rt, n, try_kit::paint::painted(out, 0))?,
-        Listed::Accepted(n) => told(rt, out, n, want)?,
+        Err(refusal) => refused(rt, refusal, try_kit::paint::painted(out, 0))?,
+        Ok(n) => told(rt, out, n, want)?,
     }
     given(rt, before, first)
 }
@@ -77,8 +77,8 @@ fn list_sum(
     try_kit::paint::paint(out);
     say(rt, name)?;
     match record_listing::list_record(out, bytes) {
-        Listed::Refused(n) => refused(rt, n, try_kit::paint::painted(out, 0))?,
-        Listed::Accepted(n) => told_sum(rt, out, n, want)?,
+        Err(refusal) => refused(rt, refusal, try_kit::paint::painted(out, 0))?,
+        Ok(n) => told_sum(rt, out, n, want)?,
     }
     given(rt, before, bytes)
 }
@@ -207,7 +207,7 @@ fn list_deep(rt: &impl Print, out: &mut [u8]) -> io::Result<()> {
     let mut image = image_room();
     let mut bytes = bytes_room();
     try_kit::paint::fill_trits(&mut image);
-    record_codec::write_record(&mut bytes, deep_sizes(), &image);
+    let _ = record_codec::write_record(&mut bytes, deep_sizes(), &image);
     list(
         rt,
         out,
@@ -226,7 +226,7 @@ fn list_most(rt: &impl Print, out: &mut [u8], name: &str) -> io::Result<()> {
     let mut image = image_room();
     let mut bytes = bytes_room();
     try_kit::paint::fill_trits(&mut image);
-    record_codec::write_record(&mut bytes, many_sizes(), &image);
+    let _ = record_codec::write_record(&mut bytes, many_sizes(), &image);
     list_sum(rt, out, name, &bytes, MOST_SUM)
 }
 

@@ -2,45 +2,30 @@
 #![tactic(auto)]
 
 use std::io;
-use table_readback::Answer;
+use table_read::Fault;
+use table_readback::Refused;
 
-fn write_text(rt: &impl Print, text: &str) -> io::Result<()> {
-    rt.print(text)
+fn write_fault(rt: &impl Print, fault: Fault) -> io::Result<()> {
+    rt.print("line ")?;
+    rt.print(fault.line)?;
+    rt.print(" reason ")?;
+    rt.print(fault.reason)?;
+    rt.print("\n")
 }
 
-fn write_number(rt: &impl Print, n: u64) -> io::Result<()> {
-    rt.print(n)
-}
-
-fn write_fault(rt: &impl Print, line: u32, reason: u32) -> io::Result<()> {
-    write_text(rt, "line ")?;
-    write_number(rt, line as u64)?;
-    write_text(rt, " reason ")?;
-    write_number(rt, reason as u64)?;
-    write_text(rt, "\n")
-}
-
-fn write_table_fault(rt: &impl Print, line: u32, reason: u32) -> io::Result<()> {
-    write_text(rt, "table ")?;
-    write_fault(rt, line, reason)
-}
-
-fn write_refused(rt: &impl Print, n: u32) -> io::Result<()> {
-    write_text(rt, "refused ")?;
-    write_number(rt, n as u64)?;
-    write_text(rt, "\n")
-}
-
-fn write_front(rt: &impl Print, out: &[u8], size: usize) -> io::Result<()> {
-    rt.write_all(lists::part(out, 0, size))
-}
-
-fn write_answer(rt: &impl Print, out: &[u8], answer: Answer) -> io::Result<()> {
+fn write_answer(rt: &impl Print, out: &[u8], answer: Result<usize, Refused>) -> io::Result<()> {
     match answer {
-        Answer::BadText(line, reason) => write_fault(rt, line, reason),
-        Answer::BadTable(line, reason) => write_table_fault(rt, line, reason),
-        Answer::Refused(n) => write_refused(rt, n),
-        Answer::Accepted(size) => write_front(rt, out, size),
+        Ok(size) => rt.write_all(lists::part(out, 0, size)),
+        Err(Refused::Text(fault)) => write_fault(rt, fault),
+        Err(Refused::Table(fault)) => {
+            rt.print("table ")?;
+            write_fault(rt, fault)
+        }
+        Err(Refused::Call(refusal)) => {
+            rt.print("refused ")?;
+            rt.print(refusal.number())?;
+            rt.print("\n")
+        }
     }
 }
 

@@ -2,10 +2,10 @@
 // is what the calls are given to read.
 #![tactic(auto)]
 
-use record_codec::{Head, Written};
-use record_listing::summary::{Summarized, Summary};
-use record_reader::TritFound;
+use record_listing::summary::Summary;
+use record_reader::FirstTrits;
 use record_sizes::Sizes;
+use rules::Refusal;
 use std::io;
 
 // ---- answers
@@ -18,9 +18,9 @@ fn say_if(rt: &impl Print, test: bool, yes: &str, no: &str) -> io::Result<()> {
     if test { say(rt, yes) } else { say(rt, no) }
 }
 
-fn refused(rt: &impl Print, n: u32, kept: bool) -> io::Result<()> {
+fn refused(rt: &impl Print, refusal: Refusal, kept: bool) -> io::Result<()> {
     say(rt, " refused ")?;
-    rt.print(n)?;
+    rt.print(refusal.number())?;
     say_if(rt, kept, " kept\n", " CHANGED\n")
 }
 
@@ -29,22 +29,6 @@ fn done(rt: &impl Print, n: usize, same: bool, kept: bool) -> io::Result<()> {
     rt.print(n)?;
     say_if(rt, same, " same", " DIFFERENT")?;
     say_if(rt, kept, " kept\n", " CHANGED\n")
-}
-
-fn same_sizes(a: Sizes, b: Sizes) -> bool {
-    if a.unit != b.unit {
-        return false;
-    }
-    if a.full != b.full {
-        return false;
-    }
-    if a.full_depth != b.full_depth {
-        return false;
-    }
-    if a.partial != b.partial {
-        return false;
-    }
-    a.partial_depth == b.partial_depth
 }
 
 // ---- the calls
@@ -61,8 +45,8 @@ fn write(
     say(rt, name)?;
     try_kit::paint::paint(out);
     match record_codec::write_record(out, s, image) {
-        Written::Refused(n) => refused(rt, n, try_kit::paint::painted(out, 0))?,
-        Written::Accepted(n) => done(
+        Err(refusal) => refused(rt, refusal, try_kit::paint::painted(out, 0))?,
+        Ok(n) => done(
             rt,
             n,
             try_kit::paint::starts(out, want),
@@ -92,8 +76,8 @@ fn read(
     say(rt, name)?;
     try_kit::paint::paint(image);
     match record_codec::read_record(image, bytes) {
-        Head::Refused(n) => refused(rt, n, try_kit::paint::painted(image, 0))?,
-        Head::Accepted(z) => read_done(rt, same_sizes(z, s), image, want)?,
+        Err(refusal) => refused(rt, refusal, try_kit::paint::painted(image, 0))?,
+        Ok(z) => read_done(rt, z == s, image, want)?,
     }
     given(rt, before, bytes)
 }
@@ -115,8 +99,8 @@ fn head(rt: &impl Print, name: &str, first: &[u8], total: usize, s: Sizes) -> io
     let before = try_kit::sums::sum_of(first);
     say(rt, name)?;
     match record_codec::record_header(first, total) {
-        Head::Refused(n) => refused(rt, n, true)?,
-        Head::Accepted(z) => done(rt, total, same_sizes(z, s), true)?,
+        Err(refusal) => refused(rt, refusal, true)?,
+        Ok(z) => done(rt, total, z == s, true)?,
     }
     given(rt, before, first)
 }
@@ -125,8 +109,8 @@ fn summarize(rt: &impl Print, name: &str, s: Sizes, image: &[u8], index: usize) 
     let before = try_kit::sums::sum_of(image);
     say(rt, name)?;
     match record_listing::summary::memory_summary(s, image, index) {
-        Summarized::Refused(n) => refused(rt, n, true)?,
-        Summarized::Accepted(y) => show(rt, y)?,
+        Err(refusal) => refused(rt, refusal, true)?,
+        Ok(y) => show(rt, y)?,
     }
     given(rt, before, image)
 }
@@ -144,21 +128,19 @@ fn show(rt: &impl Print, y: Summary) -> io::Result<()> {
     say(rt, "\n")
 }
 
-fn show_trit(rt: &impl Print, t: TritFound) -> io::Result<()> {
-    match t {
-        TritFound::Code(c) => show_number(rt, c as usize),
-        TritFound::End => say(rt, " end"),
+fn show_trit(rt: &impl Print, trit: Option<u8>) -> io::Result<()> {
+    match trit {
+        Some(code) => show_number(rt, code as usize),
+        None => say(rt, " end"),
     }
 }
 
 fn take_two(rt: &impl Print, name: &str, bytes: &[u8]) -> io::Result<()> {
     let before = try_kit::sums::sum_of(bytes);
     say(rt, name)?;
-    let taken = record_reader::first_trits(bytes);
-    let first = taken.first;
-    let second = taken.second;
-    show_trit(rt, first)?;
-    show_trit(rt, second)?;
+    let taken = FirstTrits::of(bytes);
+    show_trit(rt, taken.first)?;
+    show_trit(rt, taken.second)?;
     say(rt, "\n")?;
     given(rt, before, bytes)
 }

@@ -2,42 +2,26 @@
 #![tactic(auto)]
 
 use std::io;
-use table_record::Answer;
+use table_record::Refused;
 
-fn write_text(rt: &impl Print, text: &str) -> io::Result<()> {
-    rt.print(text)
-}
-
-fn write_number(rt: &impl Print, n: u64) -> io::Result<()> {
-    rt.print(n)
-}
-
-fn write_fault(rt: &impl Print, line: u32, reason: u32) -> io::Result<()> {
-    write_text(rt, "line ")?;
-    write_number(rt, line as u64)?;
-    write_text(rt, " reason ")?;
-    write_number(rt, reason as u64)?;
-    write_text(rt, "\n")
-}
-
-fn write_refused(rt: &impl Print, n: u32) -> io::Result<()> {
-    write_text(rt, "refused ")?;
-    write_number(rt, n as u64)?;
-    write_text(rt, "\n")
-}
-
-fn write_size(rt: &impl Print, size: usize) -> io::Result<()> {
-    write_text(rt, "bytes ")?;
-    write_number(rt, size as u64)?;
-    write_text(rt, "\n")
-}
-
-fn write_answer(rt: &impl Print, answer: Answer) -> io::Result<()> {
+fn write_answer(rt: &impl Print, answer: Result<usize, Refused>) -> io::Result<()> {
     match answer {
-        Answer::BadText(line, reason) => write_fault(rt, line, reason),
-        Answer::Refused(n) => write_refused(rt, n),
-        Answer::Accepted(size) => write_size(rt, size),
+        Ok(size) => {
+            rt.print("bytes ")?;
+            rt.print(size)?
+        }
+        Err(Refused::Text(fault)) => {
+            rt.print("line ")?;
+            rt.print(fault.line)?;
+            rt.print(" reason ")?;
+            rt.print(fault.reason)?
+        }
+        Err(Refused::Call(refusal)) => {
+            rt.print("refused ")?;
+            rt.print(refusal.number())?
+        }
     }
+    rt.print("\n")
 }
 
 fn tried(rt: &impl Print, text: &[u8]) -> io::Result<()> {

@@ -1,15 +1,18 @@
 -- `table_readback::compared` meets its contract.
-use Rattle.table_readback.proofs.Ends.{bad_table, other_table, same_table}
-use mathlib.Core.Path.{sym, ◌∙◌}
+use Rattle.table_readback.proofs.Ends.{other_depth, other_width, same_table}
+use Rattle.table_readback.specs.Back.{text_end}
+use Rattle.table_differ.specs.Differ.{diff_text}
+use Rattle.std.proofs.Common.{List, ℕ, ap, ◌∙◌}
 use Rattle.table_readback.proofs.compared.Goals as goal
 
-pub returns-then-t-ne0 : goal.returns-then-t-ne0
-returns-then-t-ne0 c = bad_table c.args.out.now c.args.rows.now c.args.depth c.args.width c.args.t c.if-t-ne0.true
+pub returns-then-table-depth : goal.returns-then-table-depth
+returns-then-table-depth c = let a = c.args in other_depth a.out.now a.rows.now a.depth a.width a.table.now c.if-table-depth.true
 
-pub returns-then-both : goal.returns-then-both
-returns-then-both c =
-    same_table c.args.out.now c.args.rows.now c.args.depth c.args.width c.args.t _ c.if-t-ne0.false (sym c.if-both.true ∙ c.both.ensures) c.against.ensures
+pub returns-then-table-width : goal.returns-then-table-width
+returns-then-table-width c = let a = c.args in other_width a.out.now a.rows.now a.depth a.width a.table.now c.if-table-depth.false c.if-table-width.true
 
 pub returns : goal.returns
 returns c =
-    other_table c.args.out.now c.args.rows.now c.args.depth c.args.width c.args.t c.if-t-ne0.false (sym c.if-both.false ∙ c.both.ensures)
+    let a = c.args in
+    same_table a.out.now a.rows.now a.depth a.width a.table.now _ c.if-table-depth.false c.if-table-width.false
+    (c.differences.ensures ∙ ap (λ (l : List ℕ). text_end a.out.now (diff_text a.depth a.width a.rows.now l)) c.trits.ensures)
