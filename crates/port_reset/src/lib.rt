@@ -379,9 +379,7 @@ fn unmap_port(
             memory: m,
             state: st,
         },
-        Some(c) => {
-            unmap_some(log, st, output, trits, m, nets, i, p, c, incl)
-        }
+        Some(c) => { unmap_some(log, st, output, trits, m, nets, i, p, c, incl) }
     }
 }
 

@@ -174,13 +174,7 @@ fn port_short_at(m: Memory, nets: &[u32], i: usize, p: MemoryReadPort) -> bool
     let kr = net_memory::wide::wide_log(m.width, p.data_len as usize);
     match f {
         None => false,
-        Some(_) => pairs_short(
-            m,
-            nets,
-            net_memory::read_nets(m, nets, i),
-            kr,
-            rels,
-        ),
+        Some(_) => pairs_short(m, nets, net_memory::read_nets(m, nets, i), kr, rels),
     }
 }
 
