@@ -192,7 +192,7 @@ pub fn emit_not(log: &mut [u32], st: LogState, a: &[u32]) -> LogState
     emit_parts(log, st, Kind::Not, a.len(), st.next, &[], a, &[])
 }
 
-// Kind 3.
+// Kind 3. (Each emission is one call: one function over the kind would name the kind's trace in its contract, and be no plainer.)
 #[tactic(auto, using(crate::proofs::Runs::run_and))]
 pub fn emit_and(log: &mut [u32], st: LogState, a: &[u32], b: &[u32]) -> LogState
     ensures { lent result log.new ≡ run (add_and_of a.now b.now) (lent st log.old) }

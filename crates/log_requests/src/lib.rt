@@ -96,7 +96,7 @@ pub fn add_not(log: &mut [u32], st: LogState, a: &[u32]) -> Result<LogState, Ref
     Ok(log_entries::emit_not(log, st, a))
 }
 
-// Kind 3: net by net.
+// Kind 3: net by net. (Each request is its test and its emission: one function over the kind would be no plainer.)
 pub fn add_and(log: &mut [u32], st: LogState, a: &[u32], b: &[u32]) -> Result<LogState, Refusal>
     ensures { logged_of (up_from st.next (length a.now)) result log.new ≡ add_pair_call add_and_of log.old (state_of st) a.now b.now }
 {

@@ -1,5 +1,5 @@
 // Equal keys are kept once, in order of first appearance. A key is two words, one of each column; `merge` keeps the keys of two columns and gives
-// each its place among them.
+// each its place among them. The columns stay apart, since the log's entry has the one after the other.
 #![tactic(auto)]
 
 ghost use Rattle.std.specs.Prelude.{◌≡◌, ◌+◌, ◌-◌, ◌<◌, length, take, get_or, set, eqb};
