@@ -14,6 +14,7 @@ pub fn read_full<R: Read>(input: &mut R, room: &mut [u8]) -> io::Result<usize>
     ensures bytes { IfOk result (λ n. IfSome (R.remaining input.old) (λ xs. take n room.new ≡ take (length room.old) xs)) }
 {
     let mut done = 0;
+    // No `for`: a read puts as many bytes as it likes.
     while done < room.len() {
         let n = input.read(&mut room[done..])?;
         if n == 0 {
