@@ -136,7 +136,7 @@ pub fn pair_short(m: Memory, nets: &[u32], raddr: &[u32], kr: u32, j: usize) -> 
     let waddr = port_overlay::write_addr(m, nets, j);
     let wdata = port_overlay::write_data(m, nets, j);
     let kw = net_memory::wide::wide_log(m.width, wdata.len());
-    net_value::narrower_select_refusal(waddr, raddr, kw, kr) != 0
+    rules::number_of(net_value::narrower_select_refusal(waddr, raddr, kw, kr)) != 0
 }
 
 // The same where the relation to it is Transparent.
