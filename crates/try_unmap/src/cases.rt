@@ -64,16 +64,7 @@ pub(crate) fn unclocked(t: Tally) -> Tally {
     let nets = sample::nets();
     let trits = sample::trits();
     let m = sample::memory();
-    let plain = samples::read_by(
-        1,
-        1,
-        1,
-        1,
-        1,
-        1,
-        [2u8, 0, 0, 0, 0, 0, 0, 0],
-        net_memory::None,
-    );
+    let plain = samples::read_by(1, 1, 1, 1, 1, 1, [2u8, 0, 0, 0, 0, 0, 0, 0], None);
     let st = LogState { used: 7, next: 200 };
     let r = port_unmap::unmap_read_dff(
         &mut log,
