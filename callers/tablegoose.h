@@ -711,17 +711,17 @@ tablegoose_count tablegoose_list_input(uint8_t *out, size_t out_len, const uint8
 
 /* ---- stack: what each function takes at most, in bytes, beside the structs that it is given; read from the x86-64 code by scripts/stack.py
  *     384 tablegoose_add_and
- *   69248 tablegoose_add_bitwise_mux
- *   81792 tablegoose_add_dedup_dff
- *   52736 tablegoose_add_dedup_mux
- *     512 tablegoose_add_dff
+ *   69376 tablegoose_add_bitwise_mux
+ *   81920 tablegoose_add_dedup_dff
+ *   52864 tablegoose_add_dedup_mux
+ *     768 tablegoose_add_dff
  *     384 tablegoose_add_eq
  *     384 tablegoose_add_mux
  *     256 tablegoose_add_not
  *     384 tablegoose_add_or
  *     384 tablegoose_add_shl
  *     384 tablegoose_add_ushr
- *     128 tablegoose_add_void
+ *     256 tablegoose_add_void
  *    3072 tablegoose_can_lower_fallback
  *     128 tablegoose_cell_of_net
  *     128 tablegoose_const_and
@@ -732,17 +732,17 @@ tablegoose_count tablegoose_list_input(uint8_t *out, size_t out_len, const uint8
  *     128 tablegoose_control_not
  *  145280 tablegoose_emulate_read_before_write
  *    6656 tablegoose_extract_read_ports
- *     512 tablegoose_fill
- *     896 tablegoose_fill_and_patch
- *     512 tablegoose_fill_rows
- *     768 tablegoose_fill_then_patch
- *     128 tablegoose_into_pos
- *    1280 tablegoose_laid_out
+ *    1792 tablegoose_fill
+ *    2304 tablegoose_fill_and_patch
+ *     640 tablegoose_fill_rows
+ *    1152 tablegoose_fill_then_patch
+ *     384 tablegoose_into_pos
+ *    1152 tablegoose_laid_out
  *     384 tablegoose_list_input
  *     384 tablegoose_list_record
- *  910848 tablegoose_lower_fallback
+ *  911232 tablegoose_lower_fallback
  *    3072 tablegoose_make_data_swizzle
- *     256 tablegoose_measure
+ *     128 tablegoose_measure
  *    2944 tablegoose_memory_refusal
  *     128 tablegoose_memory_summary
  *     128 tablegoose_narrower_select
@@ -750,40 +750,40 @@ tablegoose_count tablegoose_list_input(uint8_t *out, size_t out_len, const uint8
  *     128 tablegoose_net_is_const
  *     128 tablegoose_net_of_cell
  *    3072 tablegoose_output_len
- *     384 tablegoose_patch
- *     512 tablegoose_patch_all
- *     512 tablegoose_patch_each
- *     384 tablegoose_patch_row
- *     256 tablegoose_place_of
- *     384 tablegoose_read_laid_row
+ *    1792 tablegoose_patch
+ *    1920 tablegoose_patch_all
+ *     768 tablegoose_patch_each
+ *     640 tablegoose_patch_row
+ *     128 tablegoose_place_of
+ *    1536 tablegoose_read_laid_row
  *    3840 tablegoose_read_port_output_slice
  *     384 tablegoose_read_record
  *     384 tablegoose_read_row
  *     256 tablegoose_record_header
- *     512 tablegoose_remap_reset_over_enable
+ *     640 tablegoose_remap_reset_over_enable
  *     384 tablegoose_replace_value
  *    1408 tablegoose_sizes_of
  *     128 tablegoose_slice_refusal
- *  462336 tablegoose_swizzle
- *  462464 tablegoose_swizzle_and_patch
- *    3840 tablegoose_swizzle_depths
+ *  462848 tablegoose_swizzle
+ *  463872 tablegoose_swizzle_and_patch
+ *    3712 tablegoose_swizzle_depths
  *    4736 tablegoose_swizzle_mux_bits
- *    3968 tablegoose_swizzled_clear
+ *    3328 tablegoose_swizzled_clear
  *    2688 tablegoose_swizzled_depth
  *    2688 tablegoose_swizzled_image
- *    3968 tablegoose_swizzled_init
+ *    3328 tablegoose_swizzled_init
  *    2688 tablegoose_swizzled_output
- *    3968 tablegoose_swizzled_read_addr
- *    3968 tablegoose_swizzled_reset
+ *    3328 tablegoose_swizzled_read_addr
+ *    3328 tablegoose_swizzled_reset
  *    2688 tablegoose_swizzled_write_addr
- *    3328 tablegoose_swizzled_write_data
- *    3328 tablegoose_swizzled_write_mask
+ *    2688 tablegoose_swizzled_write_data
+ *    2688 tablegoose_swizzled_write_mask
  *  156544 tablegoose_transparency_mux
  *     128 tablegoose_trit_and
  *     128 tablegoose_trit_not
  *     128 tablegoose_trit_or
- *  145280 tablegoose_unmap_read_dff
- *  185856 tablegoose_unmap_read_init_reset_transparency
+ *  145408 tablegoose_unmap_read_dff
+ *  185984 tablegoose_unmap_read_init_reset_transparency
  *     128 tablegoose_unset
  *     128 tablegoose_value_is_undef
  *     128 tablegoose_wide_log2
