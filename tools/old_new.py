@@ -1,6 +1,6 @@
 #!/usr/bin/env python3
-"""Writes the last section of docs/DESIGN-PASS.md from two trees: what is public and changed under its own name, old above new. Its input is what the kit's
-contracts.py prints: `python3 /opt/rattle/port/contracts.py OLDTREE NEWTREE --json | python3 tools/old_new.py NEWTREE`."""
+"""Writes the last section of docs/DESIGN-PASS.md from two trees: what is public and changed under its own name, old above new. Its input is what
+contracts.py, in the kit's folder port/, prints with --json: `python3 contracts.py OLDTREE NEWTREE --json | python3 tools/old_new.py NEWTREE`."""
 import glob
 import json
 import os
