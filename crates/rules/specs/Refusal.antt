@@ -1,5 +1,5 @@
 -- What a machine's refusals and answers are in terms of the rules: each refusal's number, and an answer with a value or without.
-use Rattle.std.specs.Prelude.{ℕ, Result, Ok, Err}
+use Rattle.std.specs.Prelude.{ℕ, Option, Some, None, Result, Ok, Err}
 use Rattle.rules.specs.declared.numbers.Refusal.{Refusal}
 use Rattle.rules.specs.declared.numbers.Refusal.TheVariants.{TooLarge, BadShape, BadDepth, BadValue, BadGranularity, RowTooLong, BadEntries, BadSoftMask, BadWideLogs, ResultTooLarge, WriteClocksDiffer, ReadClocksDiffer, MixedRelations, ShortAddress, OutOfRange, BadHead, BadSizes, BadBits, NoRoom, NetsFull, Unclocked, NotLaidOut}
 use Rattle.rules.specs.Answers.{Answer, Refused, Accepted}
@@ -33,6 +33,11 @@ number NotLaidOut = 23
 abbrev pub number_of : {A : Type 0} → Result A Refusal → ℕ
 number_of (Ok a) = 0
 number_of (Err e) = number e
+
+-- the number of a reason to refuse, 0 where there is none
+abbrev pub number_if : Option Refusal → ℕ
+number_if None = 0
+number_if (Some e) = number e
 
 -- an answer, with its value as the rules have it
 abbrev pub answer_by : {A B : Type 0} → (A → B) → Result A Refusal → Answer B
