@@ -68,7 +68,7 @@ module _ (l : Lent) (f : FlipFlop) (trits : ℕ) (e : trits ≡ min (length f.cl
   dff_counts = rw e (counts-cut l.state size _ size)
 
   pub dff_over : (s : LogState) → counts l.state (4 + (size + (9 + trits))) size ≡ false → s ≡ overflowed l.state
-      → record { log = l.log; state = s } ≡ run (add_dff_of f) l
+      → record { log = l.log; state = s; name = l.name } ≡ run (add_dff_of f) l
   dff_over s c h = run_dff l f (entry-over l 9 size l.state.next (operands f) (dff_operands f) (operands_are f) s (sym dff_counts ∙ c) h)
 
   -- nothing was cut
@@ -76,8 +76,8 @@ module _ (l : Lent) (f : FlipFlop) (trits : ℕ) (e : trits ≡ min (length f.cl
   dff_whole c = e ∙ cut_none l.state size _ size (rw e at c)
 
   pub dff_emitted : (log : List ℕ) → counts l.state (4 + (size + (9 + trits))) size ≡ true → log ≡ sets l.log l.state.used (entry 9 size l.state.next (dff_operands f))
-      → record { log = log; state = advanced l.state (4 + (size + (9 + trits))) size } ≡ run (add_dff_of f) l
+      → record { log = log; state = advanced l.state (4 + (size + (9 + trits))) size; name = l.name } ≡ run (add_dff_of f) l
   dff_emitted log c h =
-      ap (λ (m : ℕ). record { log = log; state = advanced l.state (4 + (size + (9 + m))) size }) (dff_whole c)
+      ap (λ (m : ℕ). record { log = log; state = advanced l.state (4 + (size + (9 + m))) size; name = l.name }) (dff_whole c)
       ∙ run_dff l f (entry_stored l 9 size l.state.next (operands f) (dff_operands f) (operands_are f) log (sym dff_counts ∙ c)
       (h ∙ ap (sets l.log l.state.used) (sym (entry_is l 9 size l.state.next (operands f) (dff_operands f) (operands_are f)))))

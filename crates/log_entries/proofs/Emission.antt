@@ -8,6 +8,7 @@ use mathlib.Core.List.{List, [], ◌∷◌, ◌++◌, append-nil}
 use lib.ListN.{length, length-append}
 use lib.Seq.{sets}
 use lib.Dec.{leb, ltb}
+use Rattle.std.specs.Borrow.{GName}
 use borrow.Author.Tests.{ne_eqb, eqb-true, leb-true, ltb-true, le-leb, lt-leb, lt-ltb, le-ltb}
 use Rattle.lists.specs.Choice.{when◌then◌else◌}
 use Rattle.lists.proofs.Choice.{cases_le, and_true}
@@ -37,16 +38,16 @@ counted s w k e =
 module _ (l : Lent) (ws : List ℕ) (k : ℕ) where
   -- it is counted, or not
   pub emit_counted : l.state.used + length ws ≤ max_words → l.state.next + k < X
-      → emit_words l ws k ≡ record { log = sets l.log l.state.used ws; state = advanced l.state (length ws) k }
+      → emit_words l ws k ≡ record { log = sets l.log l.state.used ws; state = advanced l.state (length ws) k; name = l.name }
   unfolding emit_words counts
   emit_counted h g = rw (le-leb _ _ h, lt-ltb _ _ g)
 
   emit_when : counts l.state (length ws) k ≡ true
-      → emit_words l ws k ≡ record { log = sets l.log l.state.used ws; state = advanced l.state (length ws) k }
+      → emit_words l ws k ≡ record { log = sets l.log l.state.used ws; state = advanced l.state (length ws) k; name = l.name }
   unfolding emit_words
   emit_when e = rw e
 
-  pub emit-over : counts l.state (length ws) k ≡ false → emit_words l ws k ≡ record { log = l.log; state = overflowed l.state }
+  pub emit-over : counts l.state (length ws) k ≡ false → emit_words l ws k ≡ record { log = l.log; state = overflowed l.state; name = l.name }
   unfolding emit_words
   emit-over e = rw e
 
@@ -60,15 +61,15 @@ module _ (l : Lent) (kind width first n : ℕ) (ops : List ℕ) (e : n ≡ lengt
   entry_is = ap (λ (m : ℕ). kind ∷ width ∷ first ∷ m ∷ ops) e
 
   pub entry-over : (s : LogState) → counts l.state (4 + n) width ≡ false → s ≡ overflowed l.state
-      → record { log = l.log; state = s } ≡ emit_words l (entry kind width first ops) width
+      → record { log = l.log; state = s; name = l.name } ≡ emit_words l (entry kind width first ops) width
   entry-over s c h = rw h (sym (emit-over l (entry kind width first ops) width (rw entry-words c)))
 
   pub entry_stored : (log : List ℕ) → counts l.state (4 + n) width ≡ true → log ≡ sets l.log l.state.used (kind ∷ width ∷ first ∷ n ∷ ops)
-      → record { log = log; state = advanced l.state (4 + n) width } ≡ emit_words l (entry kind width first ops) width
+      → record { log = log; state = advanced l.state (4 + n) width; name = l.name } ≡ emit_words l (entry kind width first ops) width
   entry_stored log c h =
       let w : log ≡ sets l.log l.state.used (entry kind width first ops) = h ∙ ap (sets l.log l.state.used) entry_is in
       let m : 4 + n ≡ length (entry kind width first ops) = sym entry-words in
-      (λ i. record { log = w i; state = advanced l.state (m i) width }) ∙ sym (emit_when l (entry kind width first ops) width (rw entry-words c))
+      (λ i. record { log = w i; state = advanced l.state (m i) width; name = l.name }) ∙ sym (emit_when l (entry kind width first ops) width (rw entry-words c))
 
 -- ---- entries
 pub emit_append : (l : Lent) (es fs : List Entry) → emit l (es ++ fs) ≡ emit (emit l es) fs
@@ -90,23 +91,23 @@ unfolding emit
 emit_stays l [] e = refl
 emit_stays l (x ∷ es) e =
     let q : emit_words l (encode x) (result_width x) ≡ l =
-    emit-over l (encode x) (result_width x) (over-all l.state _ _ e) ∙ (λ i. record { log = l.log; state = record { used = l.state.used; next = sym e i } }) in
+    emit-over l (encode x) (result_width x) (over-all l.state _ _ e) ∙ (λ i. record { log = l.log; state = record { used = l.state.used; next = sym e i }; name = l.name }) in
     ap (λ (m : Lent). emit m es) q ∙ emit_stays l es e
 
 -- the entries all stored, and all counted up to m
 abbrev whole : Lent → List Entry → ℕ → Lent
-whole l es m = record { log = sets l.log l.state.used (words es); state = record { used = l.state.used + length (words es); next = m } }
+whole l es m = record { log = sets l.log l.state.used (words es); state = record { used = l.state.used + length (words es); next = m }; name = l.name }
 
 -- one entry more in front
 whole_cons : (l : Lent) (e : Entry) (es : List Entry) (m k : ℕ)
-    → whole (record { log = sets l.log l.state.used (encode e); state = advanced l.state (length (encode e)) k }) es m ≡ whole l (e ∷ es) m
+    → whole (record { log = sets l.log l.state.used (encode e); state = advanced l.state (length (encode e)) k; name = l.name }) es m ≡ whole l (e ∷ es) m
 unfolding words
 whole_cons l e es m k =
     let u = l.state.used in
     let n = length (encode e) in
     let a : sets (sets l.log u (encode e)) (u + n) (words es) ≡ sets l.log u (encode e ++ words es) = sets_append (encode e) (words es) l.log u in
     let b : u + n + length (words es) ≡ u + length (encode e ++ words es) = omega (arith, length-append (encode e) (words es)) in
-    λ i. record { log = a i; state = record { used = b i; next = m } }
+    λ i. record { log = a i; state = record { used = b i; next = m }; name = l.name }
 
 not_both : true ≡ false → ⊥
 not_both e = let z : ◌≡◌ {A = ℕ} 0 1 = cc in omega arith
@@ -118,7 +119,7 @@ over_true s = refl
 over_emitted : (l : Lent) (e : Entry) (es : List Entry) → counts l.state (length (encode e)) (result_width e) ≡ false
     → is_over (emit (emit_words l (encode e) (result_width e)) es).state ≡ true
 over_emitted l e es q =
-    let l' : Lent = record { log = l.log; state = overflowed l.state } in
+    let l' : Lent = record { log = l.log; state = overflowed l.state; name = l.name } in
     ap (λ (x : Lent). is_over (emit x es).state) (emit-over l (encode e) (result_width e) q)
     ∙ ap (λ (x : Lent). is_over x.state) (emit_stays l' es refl)
     ∙ over_true l.state
@@ -142,9 +143,9 @@ first_counted l e es o = on (counts l.state (length (encode e)) (result_width e)
 -- no overflow: all entries are stored and counted
 pub emit_exact : (l : Lent) (es : List Entry) (m : ℕ) → is_over (emit l es).state ≡ false → Chained l.state.next es m → emit l es ≡ whole l es m
 unfolding emit Chained words
-emit_exact l [] m o c = λ i. record { log = l.log; state = record { used = sym (add-zero l.state.used) i; next = c i } }
+emit_exact l [] m o c = λ i. record { log = l.log; state = record { used = sym (add-zero l.state.used) i; next = c i }; name = l.name }
 emit_exact l (e ∷ es) m o c =
-    let l' : Lent = record { log = sets l.log l.state.used (encode e); state = advanced l.state (length (encode e)) (result_width e) } in
+    let l' : Lent = record { log = sets l.log l.state.used (encode e); state = advanced l.state (length (encode e)) (result_width e); name = l.name } in
     let p : emit_words l (encode e) (result_width e) ≡ l' = emit_when l (encode e) (result_width e) (first_counted l e es o) in
     ap (λ (x : Lent). emit x es) p
     ∙ emit_exact l' es m (sym (ap (λ (x : Lent). is_over (emit x es).state) p) ∙ o) c.1
@@ -153,9 +154,9 @@ emit_exact l (e ∷ es) m o c =
 -- as many words and nets as can be counted: no overflow
 pub emit_fits : (l : Lent) (es : List Entry) (m : ℕ) → l.state.used + length (words es) ≤ max_words → m < X → Chained l.state.next es m → emit l es ≡ whole l es m
 unfolding emit Chained words
-emit_fits l [] m h g c = λ i. record { log = l.log; state = record { used = sym (add-zero l.state.used) i; next = c i } }
+emit_fits l [] m h g c = λ i. record { log = l.log; state = record { used = sym (add-zero l.state.used) i; next = c i }; name = l.name }
 emit_fits l (e ∷ es) m h g c =
-    let l' : Lent = record { log = sets l.log l.state.used (encode e); state = advanced l.state (length (encode e)) (result_width e) } in
+    let l' : Lent = record { log = sets l.log l.state.used (encode e); state = advanced l.state (length (encode e)) (result_width e); name = l.name } in
     let n = length-append (encode e) (words es) in
     let k = chained_next (l.state.next + result_width e) m es c.1 in
     ap (λ (x : Lent). emit x es) (emit_counted l (encode e) (result_width e) (omega arith) (omega arith))
@@ -166,7 +167,7 @@ emit_fits l (e ∷ es) m h g c =
 module _ {A : Type 0} where
   -- the log and the state after a trace, as the rules have them
   abbrev pub ran : Trace A → Lent → Lent
-  ran t l = record { log = log_after l.log l.state (t l.state.next); state = state_after l.state (t l.state.next) }
+  ran t l = record { log = log_after l.log l.state (t l.state.next); state = state_after l.state (t l.state.next); name = l.name }
 
   pub run_exact : (t : Trace A) (l : Lent) → Chains t → is_over (run t l).state ≡ false → run t l ≡ ran t l
   unfolding run Chains log_after state_after added
@@ -210,6 +211,36 @@ module _ {A B : Type 0} (l l1 l2 : Lent) (t : Trace A) (f : A → Trace B) (v : 
           let n : l1.state.next ≡ (t l.state.next).next = ap (λ (x : Lent). x.state.next) (e ∙ run_exact t l c (sym (ap (λ (x : Lent). is_over x.state) e) ∙ q)) ∙ next_after l.state (t l.state.next) in
           ap (λ (k : ℕ). emit l1 (f v k).entries) n ∙ ap (λ (x : A). emit l1 (f x (t l.state.next).next).entries) (g q)
 
+-- ---- the name of the lent words: no entry looks at it or changes it
+abbrev pub named : GName → Lent → Lent
+named n l = record { log = l.log; state = l.state; name = n }
+
+words-named : (n : GName) (l : Lent) (ws : List ℕ) (k : ℕ) → emit_words (named n l) ws k ≡ named n (emit_words l ws k)
+words-named n l ws k = on (counts l.state (length ws) k) refl
+  where
+    on : (b : Bool) → counts l.state (length ws) k ≡ b → emit_words (named n l) ws k ≡ named n (emit_words l ws k)
+    on true q = emit_when (named n l) ws k q ∙ ap (named n) (sym (emit_when l ws k q))
+    on false q = emit-over (named n l) ws k q ∙ ap (named n) (sym (emit-over l ws k q))
+
+emit-named : (n : GName) (l : Lent) (es : List Entry) → emit (named n l) es ≡ named n (emit l es)
+unfolding emit
+emit-named n l [] = refl
+emit-named n l (e ∷ es) =
+    ap (λ (x : Lent). emit x es) (words-named n l (encode e) (result_width e)) ∙ emit-named n (emit_words l (encode e) (result_width e)) es
+
+module _ {A : Type 0} (t : Trace A) where
+  pub run_named : (n : GName) (l : Lent) → run t (named n l) ≡ named n (run t l)
+  unfolding run
+  run_named n l = emit-named n l (t l.state.next).entries
+
+  -- what runs on a log, runs on its words and state
+  pub unnamed : (n : GName) (l k : Lent) → k ≡ run t l → named n k ≡ run t (named n l)
+  unnamed n l k e = ap (named n) e ∙ sym (run_named n l)
+
+  -- and the log's words are the same lent ones
+  pub run_name : (l k : Lent) → k ≡ run t l → k.name ≡ l.name
+  run_name l k e = ap (λ (x : Lent). x.name) (e ∙ run_named l.name l)
+
 -- a trace whose value alone is changed
 module _ {A B : Type 0} (t : Trace A) (g : A → B) (l : Lent) where
   pub run_same : run (t >>= λ v. done (g v)) l ≡ run t l
@@ -229,7 +260,7 @@ module _ (room : ℕ) (s dry : LogState) where
 
 module _ {A : Type 0} (t : Trace A) (room : ℕ) (s : LogState) (log : List ℕ) (c : Chains t) (h : (t (start_net s)).next < X) where
   abbrev dry : Lent
-  dry = record { log = log; state = dry_start s }
+  dry = record { log = log; state = dry_start s; name = 0 }
 
   dry_ran : (ran t dry).state ≡ record { used = length (added (t (start_net s))); next = (t (start_net s)).next }
   unfolding state_after dry_start
@@ -259,10 +290,10 @@ module _ {A : Type 0} (t : Trace A) (room : ℕ) (s : LogState) (log : List ℕ)
       on false q = ap (λ (y : LogState). room_refusal room s y.used (y.next - start_net s)) (dry_exact (run_exact t dry c q))
 
   -- the same, as a call of code sees it: what the dry run left, and the number by it
-  pub dry_called : (front : List ℕ) (start after : LogState) (n : ℕ) → start ≡ dry_start s → record { log = front; state = after } ≡ run t (record { log = log; state = start })
+  pub dry_called : (front : List ℕ) (start after : LogState) (n : ℕ) → start ≡ dry_start s → record { log = front; state = after; name = 0 } ≡ run t (record { log = log; state = start; name = 0 })
       → n ≡ dry_refusal room s after → n ≡ log_refusal room s t
   dry_called front start after n e f g =
-      g ∙ ap (λ (x : Lent). dry_refusal room s x.state) (f ∙ ap (λ (x : LogState). run t (record { log = log; state = x })) e) ∙ dry_number
+      g ∙ ap (λ (x : Lent). dry_refusal room s x.state) (f ∙ ap (λ (x : LogState). run t (record { log = log; state = x; name = 0 })) e) ∙ dry_number
 
 -- ---- accepted calls
 module _ {A : Type 0} (t : Trace A) (room : ℕ) (s : LogState) (log : List ℕ) (c : Chains t) where
@@ -285,10 +316,10 @@ module _ {A : Type 0} (t : Trace A) (room : ℕ) (s : LogState) (log : List ℕ)
       last h g = omega arith
 
   -- the run is the trace's, and does not overflow
-  pub accepted_run : log_refusal room s t ≡ 0 → run t (record { log = log; state = s }) ≡ ran t (record { log = log; state = s })
-  accepted_run e = run_fits t (record { log = log; state = s }) c (accepted_fits e).0 (accepted_fits e).1
+  pub accepted_run : log_refusal room s t ≡ 0 → run t (record { log = log; state = s; name = 0 }) ≡ ran t (record { log = log; state = s; name = 0 })
+  accepted_run e = run_fits t (record { log = log; state = s; name = 0 }) c (accepted_fits e).0 (accepted_fits e).1
 
-  pub accepted_held : log_refusal room s t ≡ 0 → is_over (run t (record { log = log; state = s })).state ≡ false
+  pub accepted_held : log_refusal room s t ≡ 0 → is_over (run t (record { log = log; state = s; name = 0 })).state ≡ false
   accepted_held e =
       ap (λ (x : Lent). is_over x.state) (accepted_run e) ∙ held (state_after s (t s.next)) (next_after s (t s.next))
     where

@@ -1,6 +1,7 @@
 -- Emission: entries stored into a lent log, one after the other. What lies past the log's end is not stored. The two numbers of a state count up to the
 -- words that a log can have and the nets below X; an entry that would pass them is not stored, and X as the next free net says so from then on.
 use Rattle.std.specs.Prelude.{ℕ, ◌+◌, ◌-◌, Bool, ◌&&◌, List, [], ◌∷◌, length, eqb, leb, ltb}
+use Rattle.std.specs.Borrow.{GName}
 use Rattle.std.proofs.lemmas.List.Edits.{sets}
 use Rattle.lists.specs.Choice.{when◌then◌else◌}
 use Rattle.rules.specs.Limits.{max_words, X}
@@ -8,10 +9,11 @@ use Rattle.rules.specs.Log.{Entry, encode, Trace, LogState, start_net}
 use Rattle.rules.specs.Beside.Chain.{result_width}
 use Rattle.rules.specs.Refusals.{room_refusal}
 
--- a lent log and the state of it
+-- a lent log and the state of it, with the name by which its lender knows the words again
 pub record Lent : Type 0 where
   pub log : List ℕ
   pub state : LogState
+  pub name : GName
 
 -- so many words and nets can still be counted
 unfoldable pub counts : LogState → ℕ → ℕ → Bool
@@ -32,8 +34,8 @@ is_over s = eqb s.next X
 unfoldable pub emit_words : Lent → List ℕ → ℕ → Lent
 emit_words l ws nets =
     when counts l.state (length ws) nets
-    then record { log = sets l.log l.state.used ws; state = advanced l.state (length ws) nets }
-    else record { log = l.log; state = overflowed l.state }
+    then record { log = sets l.log l.state.used ws; state = advanced l.state (length ws) nets; name = l.name }
+    else record { log = l.log; state = overflowed l.state; name = l.name }
 
 unfoldable pub emit : Lent → List Entry → Lent
 emit l [] = l

@@ -3,15 +3,20 @@ use Rattle.std.specs.Prelude.{ℕ, List}
 use Rattle.rules.specs.Log as rules
 use Rattle.log_entries.specs.Emission.{Lent}
 use Rattle.log_entries.specs.declared.LogState.{LogState}
+use Rattle.log_entries.specs.declared.Log.{Log}
 use Rattle.log_entries.specs.declared.Kind.{Kind}
 use Rattle.log_entries.specs.declared.Kind.TheVariants.{Void, Not, And, Or, Mux, Eq, Shl, Ushr, Dff, Replace}
 
 abbrev pub state_of : LogState → rules.LogState
 state_of s = record { used = s.used; next = s.next }
 
--- the machine's state and a log's words
+-- the machine's state and a log's words, without a name
 abbrev pub lent : LogState → List ℕ → Lent
-lent s l = record { log = l; state = state_of s }
+lent s l = record { log = l; state = state_of s; name = 0 }
+
+-- what a log holds
+abbrev pub lent_of : Log → Lent
+lent_of g = record { log = g.words.now; state = state_of g.state; name = g.words.ghost_name }
 
 -- the kind of an entry, as `encode` has it
 abbrev pub kind_word : Kind → ℕ

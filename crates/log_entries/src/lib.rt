@@ -13,7 +13,7 @@ ghost use Rattle.rules.specs.Refusal.{number_of};
 ghost use Rattle.net_value.specs.View.{control_of};
 ghost use Rattle.net_flip_flop.specs.View.{flip_flop_of};
 ghost use Rattle.log_entries.specs.Emission.{counts, overflowed, is_over, emit_words, run, dry_start, dry_refusal};
-ghost use Rattle.log_entries.specs.View.{state_of, lent, kind_word};
+ghost use Rattle.log_entries.specs.View.{state_of, lent, lent_of, kind_word};
 
 use net_flip_flop::FlipFlop;
 use net_value::ControlNet;
@@ -100,6 +100,13 @@ impl LogState {
     }
 }
 
+// A lent log and its state: what emission writes to.
+#[derive(Drop)]
+pub struct Log<'a> {
+    pub words: &'a mut [u32],
+    pub state: LogState,
+}
+
 // What an entry asks for.
 #[derive(Clone, Copy, Debug, PartialEq, Eq)]
 enum Kind {
@@ -148,135 +155,6 @@ fn store_parts(log: &mut [u32], at: usize, head: [u32; 4], x: &[u32], a: &[u32],
     lists::copy(log, before + a.len(), b);
 }
 
-// An entry of so many results: its head, and its operands in three parts.
-#[tactic(auto, using(crate::proofs::Emission::counted))]
-fn emit_parts(
-    log: &mut [u32],
-    st: LogState,
-    kind: Kind,
-    width: usize,
-    first: u32,
-    x: &[u32],
-    a: &[u32],
-    b: &[u32],
-) -> LogState
-    ensures { lent result log.new ≡ emit_words (lent st log.old) (entry (kind_word kind) width first (x.now ++ (a.now ++ b.now))) width }
-{
-    let used = st.used;
-    let count = x.len() + (a.len() + b.len());
-    if !st.can_count(4 + count, width) {
-        return st.overflow();
-    }
-    let results = width as u32;
-    let head = [kind.word(), results, first, count as u32];
-    store_parts(log, used, head, x, a, b);
-    LogState {
-        used: used + (4 + count),
-        next: st.next + results,
-    }
-}
-
-// Kind 1: so many new nets.
-#[tactic(auto, using(crate::proofs::Runs::run_void))]
-pub fn emit_void(log: &mut [u32], st: LogState, width: u32) -> LogState
-    ensures { lent result log.new ≡ run (add_void_of width) (lent st log.old) }
-{
-    emit_parts(log, st, Kind::Void, width as usize, st.next, &[], &[], &[])
-}
-
-// Kind 2: the inverse of each net.
-#[tactic(auto, using(crate::proofs::Runs::run_not))]
-pub fn emit_not(log: &mut [u32], st: LogState, a: &[u32]) -> LogState
-    ensures { lent result log.new ≡ run (add_not_of a.now) (lent st log.old) }
-{
-    emit_parts(log, st, Kind::Not, a.len(), st.next, &[], a, &[])
-}
-
-// Kind 3. (Each emission is one call: one function over the kind would name the kind's trace in its contract, and be no plainer.)
-#[tactic(auto, using(crate::proofs::Runs::run_and))]
-pub fn emit_and(log: &mut [u32], st: LogState, a: &[u32], b: &[u32]) -> LogState
-    ensures { lent result log.new ≡ run (add_and_of a.now b.now) (lent st log.old) }
-{
-    emit_parts(log, st, Kind::And, a.len(), st.next, &[], a, b)
-}
-
-// Kind 4.
-#[tactic(auto, using(crate::proofs::Runs::run_or))]
-pub fn emit_or(log: &mut [u32], st: LogState, a: &[u32], b: &[u32]) -> LogState
-    ensures { lent result log.new ≡ run (add_or_of a.now b.now) (lent st log.old) }
-{
-    emit_parts(log, st, Kind::Or, a.len(), st.next, &[], a, b)
-}
-
-// Kind 5, by a net.
-#[tactic(auto, using(crate::proofs::Runs::run_mux))]
-fn emit_mux_by(log: &mut [u32], st: LogState, select: u32, a: &[u32], b: &[u32]) -> LogState
-    ensures { lent result log.new ≡ run (mux_by select a.now b.now) (lent st log.old) }
-{
-    emit_parts(log, st, Kind::Mux, a.len(), st.next, &[select], a, b)
-}
-
-// Kind 5: a Neg select is logged as its net with the two values exchanged.
-#[tactic(auto, unfolding(rules::specs::Log::add_mux_of))]
-pub fn emit_mux(log: &mut [u32], st: LogState, select: ControlNet, a: &[u32], b: &[u32]) -> LogState
-    ensures { lent result log.new ≡ run (add_mux_of (control_of select) a.now b.now) (lent st log.old) }
-{
-    match select {
-        ControlNet::Pos(s) => emit_mux_by(log, st, s.0, a, b),
-        ControlNet::Neg(s) => emit_mux_by(log, st, s.0, b, a),
-    }
-}
-
-// Kind 6: whether two values are equal, in one net.
-#[tactic(auto, using(crate::proofs::Runs::run_eq))]
-pub fn emit_eq(log: &mut [u32], st: LogState, a: &[u32], b: &[u32]) -> LogState
-    ensures { lent result log.new ≡ run (add_eq_of a.now b.now) (lent st log.old) }
-{
-    emit_parts(log, st, Kind::Eq, 1, st.next, &[], a, b)
-}
-
-// Kinds 7 and 8: a value moved by select times stride.
-fn emit_shift(
-    log: &mut [u32],
-    st: LogState,
-    kind: Kind,
-    stride: u32,
-    select: &[u32],
-    a: &[u32],
-) -> LogState
-    ensures { lent result log.new ≡ emit_words (lent st log.old) (entry (kind_word kind) (length a.now) st.next (stride ∷ length select.now ∷ select.now ++ a.now)) (length a.now) }
-{
-    if rules::MAX_WORDS < select.len() {
-        return st.overflow();
-    }
-    let x = [stride, select.len() as u32];
-    emit_parts(log, st, kind, a.len(), st.next, &x, select, a)
-}
-
-// Kind 7: up.
-#[tactic(auto, using(crate::proofs::Runs::run_shl))]
-pub fn emit_shl(log: &mut [u32], st: LogState, stride: u32, select: &[u32], a: &[u32]) -> LogState
-    ensures { lent result log.new ≡ run (add_shl_of stride select.now a.now) (lent st log.old) }
-{
-    emit_shift(log, st, Kind::Shl, stride, select, a)
-}
-
-// Kind 8: down.
-#[tactic(auto, using(crate::proofs::Runs::run_ushr))]
-pub fn emit_ushr(log: &mut [u32], st: LogState, stride: u32, select: &[u32], a: &[u32]) -> LogState
-    ensures { lent result log.new ≡ run (add_ushr_of stride select.now a.now) (lent st log.old) }
-{
-    emit_shift(log, st, Kind::Ushr, stride, select, a)
-}
-
-// Kind 10: each net of a value replaced by another.
-#[tactic(auto, using(crate::proofs::Runs::run_replace))]
-pub fn emit_replace(log: &mut [u32], st: LogState, from: &[u32], to: &[u32]) -> LogState
-    ensures { lent result log.new ≡ run (replace_value_of from.now to.now) (lent st log.old) }
-{
-    emit_parts(log, st, Kind::Replace, 0, 0, &[], from, to)
-}
-
 // The words of a flip-flop's trits, or more than a log has.
 fn trit_words(f: FlipFlop) -> usize
     ensures { result ≡ min (length f.entry.clear.now + (length f.entry.reset.now + length f.entry.init.now)) (max_words + 1) }
@@ -312,19 +190,259 @@ fn store_dff(log: &mut [u32], at: usize, first: u32, f: FlipFlop)
     store_trits(log, at + (13 + width), f);
 }
 
-// Kind 9: a flip-flop.
-#[tactic(auto, using(crate::proofs::Emission::counted, crate::proofs::Dff::dff_whole))]
+impl Log<'_> {
+    // An entry of so many results: its head, and its operands in three parts.
+    #[tactic(auto, using(crate::proofs::Emission::counted))]
+    fn emit_parts(&mut self, kind: Kind, width: usize, first: u32, x: &[u32], a: &[u32], b: &[u32])
+        ensures { lent_of self.new ≡ emit_words (lent_of self.old) (entry (kind_word kind) width first (x.now ++ (a.now ++ b.now))) width }
+    {
+        let st = self.state;
+        let used = st.used;
+        let count = x.len() + (a.len() + b.len());
+        if !st.can_count(4 + count, width) {
+            self.state = st.overflow();
+            return;
+        }
+        let results = width as u32;
+        let head = [kind.word(), results, first, count as u32];
+        store_parts(self.words, used, head, x, a, b);
+        self.state = LogState {
+            used: used + (4 + count),
+            next: st.next + results,
+        };
+    }
+
+    // Kind 1: so many new nets.
+    #[tactic(auto, using(crate::proofs::Runs::run_void))]
+    pub fn emit_void(&mut self, width: u32)
+        ensures { lent_of self.new ≡ run (add_void_of width) (lent_of self.old) }
+    {
+        self.emit_parts(Kind::Void, width as usize, self.state.next, &[], &[], &[]);
+    }
+
+    // Kind 2: the inverse of each net.
+    #[tactic(auto, using(crate::proofs::Runs::run_not))]
+    pub fn emit_not(&mut self, a: &[u32])
+        ensures { lent_of self.new ≡ run (add_not_of a.now) (lent_of self.old) }
+    {
+        self.emit_parts(Kind::Not, a.len(), self.state.next, &[], a, &[]);
+    }
+
+    // Kind 3. (Each emission is one call: one function over the kind would name the kind's trace in its contract, and be no plainer.)
+    #[tactic(auto, using(crate::proofs::Runs::run_and))]
+    pub fn emit_and(&mut self, a: &[u32], b: &[u32])
+        ensures { lent_of self.new ≡ run (add_and_of a.now b.now) (lent_of self.old) }
+    {
+        self.emit_parts(Kind::And, a.len(), self.state.next, &[], a, b);
+    }
+
+    // Kind 4.
+    #[tactic(auto, using(crate::proofs::Runs::run_or))]
+    pub fn emit_or(&mut self, a: &[u32], b: &[u32])
+        ensures { lent_of self.new ≡ run (add_or_of a.now b.now) (lent_of self.old) }
+    {
+        self.emit_parts(Kind::Or, a.len(), self.state.next, &[], a, b);
+    }
+
+    // Kind 5, by a net.
+    #[tactic(auto, using(crate::proofs::Runs::run_mux))]
+    fn emit_mux_by(&mut self, select: u32, a: &[u32], b: &[u32])
+        ensures { lent_of self.new ≡ run (mux_by select a.now b.now) (lent_of self.old) }
+    {
+        self.emit_parts(Kind::Mux, a.len(), self.state.next, &[select], a, b);
+    }
+
+    // Kind 5: a Neg select is logged as its net with the two values exchanged.
+    #[tactic(auto, unfolding(rules::specs::Log::add_mux_of))]
+    pub fn emit_mux(&mut self, select: ControlNet, a: &[u32], b: &[u32])
+        ensures { lent_of self.new ≡ run (add_mux_of (control_of select) a.now b.now) (lent_of self.old) }
+    {
+        match select {
+            ControlNet::Pos(s) => self.emit_mux_by(s.0, a, b),
+            ControlNet::Neg(s) => self.emit_mux_by(s.0, b, a),
+        }
+    }
+
+    // Kind 6: whether two values are equal, in one net.
+    #[tactic(auto, using(crate::proofs::Runs::run_eq))]
+    pub fn emit_eq(&mut self, a: &[u32], b: &[u32])
+        ensures { lent_of self.new ≡ run (add_eq_of a.now b.now) (lent_of self.old) }
+    {
+        self.emit_parts(Kind::Eq, 1, self.state.next, &[], a, b);
+    }
+
+    // Kinds 7 and 8: a value moved by select times stride.
+    fn emit_shift(&mut self, kind: Kind, stride: u32, select: &[u32], a: &[u32])
+        ensures { lent_of self.new ≡ emit_words (lent_of self.old) (entry (kind_word kind) (length a.now) self.old.state.next (stride ∷ length select.now ∷ select.now ++ a.now)) (length a.now) }
+    {
+        if rules::MAX_WORDS < select.len() {
+            self.state = self.state.overflow();
+            return;
+        }
+        let x = [stride, select.len() as u32];
+        self.emit_parts(kind, a.len(), self.state.next, &x, select, a);
+    }
+
+    // Kind 7: up.
+    #[tactic(auto, using(crate::proofs::Runs::run_shl))]
+    pub fn emit_shl(&mut self, stride: u32, select: &[u32], a: &[u32])
+        ensures { lent_of self.new ≡ run (add_shl_of stride select.now a.now) (lent_of self.old) }
+    {
+        self.emit_shift(Kind::Shl, stride, select, a);
+    }
+
+    // Kind 8: down.
+    #[tactic(auto, using(crate::proofs::Runs::run_ushr))]
+    pub fn emit_ushr(&mut self, stride: u32, select: &[u32], a: &[u32])
+        ensures { lent_of self.new ≡ run (add_ushr_of stride select.now a.now) (lent_of self.old) }
+    {
+        self.emit_shift(Kind::Ushr, stride, select, a);
+    }
+
+    // Kind 10: each net of a value replaced by another.
+    #[tactic(auto, using(crate::proofs::Runs::run_replace))]
+    pub fn emit_replace(&mut self, from: &[u32], to: &[u32])
+        ensures { lent_of self.new ≡ run (replace_value_of from.now to.now) (lent_of self.old) }
+    {
+        self.emit_parts(Kind::Replace, 0, 0, &[], from, to);
+    }
+
+    // Kind 9: a flip-flop.
+    #[tactic(auto, using(crate::proofs::Emission::counted, crate::proofs::Dff::dff_whole))]
+    pub fn emit_dff(&mut self, f: FlipFlop)
+        ensures { lent_of self.new ≡ run (add_dff_of (flip_flop_of f.entry)) (lent_of self.old) }
+    {
+        let st = self.state;
+        let width = f.bits.len();
+        let words = 4 + (width + (9 + trit_words(f)));
+        if !st.can_count(words, width) {
+            self.state = st.overflow();
+            return;
+        }
+        store_dff(self.words, st.used, st.next, f);
+        self.state = LogState {
+            used: st.used + words,
+            next: st.next + (width as u32),
+        };
+    }
+}
+
+// emit_void of a log and a state apart.
+pub fn emit_void(log: &mut [u32], st: LogState, width: u32) -> LogState
+    ensures { lent result log.new ≡ run (add_void_of width) (lent st log.old) }
+{
+    let mut log = Log {
+        words: log,
+        state: st,
+    };
+    log.emit_void(width);
+    log.state
+}
+
+// emit_not of a log and a state apart.
+pub fn emit_not(log: &mut [u32], st: LogState, a: &[u32]) -> LogState
+    ensures { lent result log.new ≡ run (add_not_of a.now) (lent st log.old) }
+{
+    let mut log = Log {
+        words: log,
+        state: st,
+    };
+    log.emit_not(a);
+    log.state
+}
+
+// emit_and of a log and a state apart.
+pub fn emit_and(log: &mut [u32], st: LogState, a: &[u32], b: &[u32]) -> LogState
+    ensures { lent result log.new ≡ run (add_and_of a.now b.now) (lent st log.old) }
+{
+    let mut log = Log {
+        words: log,
+        state: st,
+    };
+    log.emit_and(a, b);
+    log.state
+}
+
+// emit_or of a log and a state apart.
+pub fn emit_or(log: &mut [u32], st: LogState, a: &[u32], b: &[u32]) -> LogState
+    ensures { lent result log.new ≡ run (add_or_of a.now b.now) (lent st log.old) }
+{
+    let mut log = Log {
+        words: log,
+        state: st,
+    };
+    log.emit_or(a, b);
+    log.state
+}
+
+// emit_mux of a log and a state apart.
+pub fn emit_mux(log: &mut [u32], st: LogState, select: ControlNet, a: &[u32], b: &[u32]) -> LogState
+    ensures { lent result log.new ≡ run (add_mux_of (control_of select) a.now b.now) (lent st log.old) }
+{
+    let mut log = Log {
+        words: log,
+        state: st,
+    };
+    log.emit_mux(select, a, b);
+    log.state
+}
+
+// emit_eq of a log and a state apart.
+pub fn emit_eq(log: &mut [u32], st: LogState, a: &[u32], b: &[u32]) -> LogState
+    ensures { lent result log.new ≡ run (add_eq_of a.now b.now) (lent st log.old) }
+{
+    let mut log = Log {
+        words: log,
+        state: st,
+    };
+    log.emit_eq(a, b);
+    log.state
+}
+
+// emit_shl of a log and a state apart.
+pub fn emit_shl(log: &mut [u32], st: LogState, stride: u32, select: &[u32], a: &[u32]) -> LogState
+    ensures { lent result log.new ≡ run (add_shl_of stride select.now a.now) (lent st log.old) }
+{
+    let mut log = Log {
+        words: log,
+        state: st,
+    };
+    log.emit_shl(stride, select, a);
+    log.state
+}
+
+// emit_ushr of a log and a state apart.
+pub fn emit_ushr(log: &mut [u32], st: LogState, stride: u32, select: &[u32], a: &[u32]) -> LogState
+    ensures { lent result log.new ≡ run (add_ushr_of stride select.now a.now) (lent st log.old) }
+{
+    let mut log = Log {
+        words: log,
+        state: st,
+    };
+    log.emit_ushr(stride, select, a);
+    log.state
+}
+
+// emit_replace of a log and a state apart.
+pub fn emit_replace(log: &mut [u32], st: LogState, from: &[u32], to: &[u32]) -> LogState
+    ensures { lent result log.new ≡ run (replace_value_of from.now to.now) (lent st log.old) }
+{
+    let mut log = Log {
+        words: log,
+        state: st,
+    };
+    log.emit_replace(from, to);
+    log.state
+}
+
+// emit_dff of a log and a state apart.
 pub fn emit_dff(log: &mut [u32], st: LogState, f: FlipFlop) -> LogState
     ensures { lent result log.new ≡ run (add_dff_of (flip_flop_of f.entry)) (lent st log.old) }
 {
-    let width = f.bits.len();
-    let words = 4 + (width + (9 + trit_words(f)));
-    if !st.can_count(words, width) {
-        return st.overflow();
-    }
-    store_dff(log, st.used, st.next, f);
-    LogState {
-        used: st.used + words,
-        next: st.next + (width as u32),
-    }
+    let mut log = Log {
+        words: log,
+        state: st,
+    };
+    log.emit_dff(f);
+    log.state
 }

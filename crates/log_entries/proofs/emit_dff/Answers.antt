@@ -1,25 +1,13 @@
 -- `log_entries::emit_dff` meets its contract.
-use Rattle.log_entries.proofs.Dff.{dff_over, dff_emitted}
-use mathlib.Core.Path.{sym, ◌∙◌}
-use borrow.Author.Tests.{not-true, not-false}
-use Rattle.log_entries.specs.View.{lent}
+use Rattle.std.proofs.Common.{rules}
+use Rattle.rules.specs.Log.{add_dff_of}
 use Rattle.net_flip_flop.specs.View.{flip_flop_of}
-use mathlib.Core.Path.{ap}
-use mathlib.Core.Bool.{not}
+use Rattle.log_entries.proofs.Emission.{unnamed, run_name}
 use Rattle.log_entries.proofs.emit_dff.Goals as goal
-
-pub returns-then-not-can_count : goal.returns-then-not-can_count
-returns-then-not-can_count c =
-    let v = c.args in
-    let f = flip_flop_of v.f in
-    let l = lent v.st v.log.now in
-    let r = c.trit_words in
-    dff_over l f r.result r.ensures _ (sym c.can_count.ensures ∙ not-true _ (ap not c.if-not-can_count.true)) c.overflow.ensures
 
 pub returns : goal.returns
 returns c =
-    let v = c.args in
-    let f = flip_flop_of v.f in
-    let l = lent v.st v.log.now in
-    let r = c.trit_words in
-    dff_emitted l f r.result r.ensures _ (sym c.can_count.ensures ∙ not-false _ (ap not c.if-not-can_count.false)) c.store_dff.ensures
+    let t = add_dff_of (flip_flop_of c.args.f) in
+    let n = run_name t _ _ c.emit_dff.ensures in
+    let e = unnamed t 0 _ _ c.emit_dff.ensures in
+    search rules
