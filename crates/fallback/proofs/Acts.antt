@@ -58,7 +58,7 @@ unfolding emit_words counts
 one_most l ws k h = on (leb (l.state.used + length ws) max_words && ltb (l.state.next + k) X) refl
   where
     on : (b : Bool) → (leb (l.state.used + length ws) max_words && ltb (l.state.next + k) X) ≡ b
-        → (when◌then◌else◌ {A = Lent} b (record { log = sets l.log l.state.used ws; state = advanced l.state (length ws) k }) (record { log = l.log; state = overflowed l.state })).state.used ≤ max_words
+        → (when◌then◌else◌ {A = Lent} b (record { log = sets l.log l.state.used ws; state = advanced l.state (length ws) k; name = l.name }) (record { log = l.log; state = overflowed l.state; name = l.name })).state.used ≤ max_words
     on true e = leb-true _ max_words (and_true (leb (l.state.used + length ws) max_words) _ e).0
     on false e = h
 
@@ -74,7 +74,7 @@ run-most t l h = emit-most l (t l.state.next).entries h
 -- ---- a dry run
 module _ {A : Type 0} (t : Trace A) (s : LogState) (c : Chains t) (h : (t (start_net s)).next < X) (log : List ℕ) where
   abbrev dry : Lent
-  dry = record { log = log; state = dry_start s }
+  dry = record { log = log; state = dry_start s; name = 0 }
 
   dry_ran : (ran t dry).state ≡ record { used = length (added (t (start_net s))); next = (t (start_net s)).next }
   unfolding state_after dry_start
@@ -131,21 +131,21 @@ module _ (m : Memory) (nets trits output : List ℕ) (st : machine.LogState) (z 
   chains = chains_first st.next m nets trits output z
 
   -- what emit_unmap_all leaves
-  gave : (room log after : List ℕ) (l1 : Lent) (start : LogState) → length room ≡ max_outputs → Gave (unmapped_all M output (sets room 0 output)) (record { log = log; state = start }) l1 after
-      → Gave t (record { log = log; state = start }) l1 (record { memory = all_bare M; output = take (length output) after })
+  gave : (room log after : List ℕ) (l1 : Lent) (start : LogState) → length room ≡ max_outputs → Gave (unmapped_all M output (sets room 0 output)) (record { log = log; state = start; name = 0 }) l1 after
+      → Gave t (record { log = log; state = start; name = 0 }) l1 (record { memory = all_bare M; output = take (length output) after })
   gave room log after l1 start e g =
-      unmap_all_gave M (ready st.next m nets trits output z) output room (record { log = log; state = start }) l1 after (omega (arith, few_outputs, e)) g
+      unmap_all_gave M (ready st.next m nets trits output z) output room (record { log = log; state = start; name = 0 }) l1 after (omega (arith, few_outputs, e)) g
 
   pub dry_done : (room log after : List ℕ) (start r : machine.LogState) (front : List ℕ) → length room ≡ max_outputs → state_of start ≡ dry_start s
       → Gave (unmapped_all M output (sets room 0 output)) (lent start log) (lent r front) after → DryRun M output s (state_of r)
   dry_done room log after start r front e es g =
-      let q : state_of r ≡ (run t (record { log = log; state = dry_start s })).state =
-      ap (λ (x : Lent). x.state) (gave room log after (lent r front) (state_of start) e g).ran ∙ ap (λ (x : LogState). (run t (record { log = log; state = x })).state) es in
+      let q : state_of r ≡ (run t (record { log = log; state = dry_start s; name = 0 })).state =
+      ap (λ (x : Lent). x.state) (gave room log after (lent r front) (state_of start) e g).ran ∙ ap (λ (x : LogState). (run t (record { log = log; state = x; name = 0 })).state) es in
       record {
         full = λ o. over_full t s chains below log (sym (ap is_over q) ∙ o);
         words_are = λ o. ap (λ (x : LogState). x.used) (q ∙ exact_state t s chains below log (sym (ap is_over q) ∙ o));
         next_is = λ o. ap (λ (x : LogState). x.next) (q ∙ exact_state t s chains below log (sym (ap is_over q) ∙ o));
-        words-most = subst (λ (x : LogState). x.used ≤ max_words) (sym q) (run-most t (record { log = log; state = dry_start s }) (start_used t s chains below log));
+        words-most = subst (λ (x : LogState). x.used ≤ max_words) (sym q) (run-most t (record { log = log; state = dry_start s; name = 0 }) (start_used t s chains below log));
       }
 
 -- ---- no number refuses it

@@ -98,7 +98,7 @@ module _ (m : Memory) (nets trits output : List ℕ) (st : LogState) (log scratc
       (λ p. chains_whole st.next m nets trits output k _ _ (wide_rest st.next m nets trits output k (λ e. omega (arith, p, e))))
       (eq-zero-or-pos M.width)
 
-  after_is : N ≡ 0 → lent x.state log' ≡ run t (lent st log) → lent x.state log' ≡ record { log = log_after log (state_of st) (t st.next); state = state_after (state_of st) (t st.next) }
+  after_is : N ≡ 0 → lent x.state log' ≡ run t (lent st log) → lent x.state log' ≡ record { log = log_after log (state_of st) (t st.next); state = state_after (state_of st) (t st.next); name = 0 }
   after_is z e = e ∙ accepted_run t (length log) (state_of st) log (chains z) (acts.log_0 m nets trits output st log scratch z)
 
   module _ (n : ℕ) (e : x.refusal ≡ n) where

@@ -49,17 +49,17 @@ module _ {A : Type 0} (v : A) (t : Trace A) (w k number : ℕ) (c : number ≡ 0
   request_refused x e = refused v _ log s t x (e ∙ whole)
 
   -- no number: it fits, and the run is the trace's
-  pub request_fits : 0 ≡ (number or_else room_refusal (length log) s w k) → run t (record { log = log; state = s }) ≡ ran t (record { log = log; state = s })
+  pub request_fits : 0 ≡ (number or_else room_refusal (length log) s w k) → run t (record { log = log; state = s; name = 0 }) ≡ ran t (record { log = log; state = s; name = 0 })
   request_fits z =
       let o = else_zero number _ (sym z) in
       let d = c o.0 in
       let f : Fits (length log) s w k = room_fits (length log) s w k o.1 in
-      run_fits t (record { log = log; state = s }) d.chain (rw (d.words s.next) f.short) (below d f)
+      run_fits t (record { log = log; state = s; name = 0 }) d.chain (rw (d.words s.next) f.short) (below d f)
     where
       below : Counted t w k → Fits (length log) s w k → (t s.next).next < X
       below d f = let x = d.nets s.next in let y = f.high in omega arith
 
-  pub request_accepted : (after : List ℕ) (r : machine.LogState) → 0 ≡ (number or_else room_refusal (length log) s w k) → (number ≡ 0 → v ≡ (t s.next).value) → lent r after ≡ run t (record { log = log; state = s })
+  pub request_accepted : (after : List ℕ) (r : machine.LogState) → 0 ≡ (number or_else room_refusal (length log) s w k) → (number ≡ 0 → v ≡ (t s.next).value) → lent r after ≡ run t (record { log = log; state = s; name = 0 })
       → logged_of v (Ok r) after ≡ rules.logged (number or_else log_refusal (length log) s t) log s t
   request_accepted after r z g h =
       let q = h ∙ request_fits z in
@@ -103,7 +103,7 @@ module _ {A : Type 0} (v : A) (t : Trace A) (c : Chains t) (number : ℕ) (z : 0
   dry_refused x e = refused v _ log s t x (dry_whole e)
 
   pub dry_accepted : (after : List ℕ) (r : machine.LogState) → 0 ≡ log_refusal (length log) s t → (is_over (state_of r) ≡ false → v ≡ (t s.next).value)
-      → lent r after ≡ run t (record { log = log; state = s }) → logged_of v (Ok r) after ≡ rules.logged (number or_else log_refusal (length log) s t) log s t
+      → lent r after ≡ run t (record { log = log; state = s; name = 0 }) → logged_of v (Ok r) after ≡ rules.logged (number or_else log_refusal (length log) s t) log s t
   dry_accepted after r e g h =
       let x = sym e in
       let q = h ∙ accepted_run t (length log) s log c x in

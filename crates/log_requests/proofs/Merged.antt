@@ -57,7 +57,7 @@ module _ (v : Value) (log out : List ℕ) (s : LogState) (t : Trace Value) where
       log_refused x e = merge_refused (input or_else result or_else log_refusal (length log) s t) x (e ∙ whole)
 
       pub merge_accepted : (log' out' : List ℕ) (r : machine.LogState) → Chains t → 0 ≡ log_refusal (length log) s t → v ≡ (t s.next).value
-          → lent r log' ≡ run t (record { log = log; state = s }) → (is_over (state_of r) ≡ false → out' ≡ sets out 0 v)
+          → lent r log' ≡ run t (record { log = log; state = s; name = 0 }) → (is_over (state_of r) ≡ false → out' ≡ sets out 0 v)
           → merged_of v (Ok r) log' out' ≡ rules.merged (input or_else result or_else log_refusal (length log) s t) out log s t
       unfolding rules.merged
       merge_accepted log' out' r c y q h g =

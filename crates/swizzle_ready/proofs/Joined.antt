@@ -94,7 +94,7 @@ module _ (r : SwizzleRooms) (room : ℕ) (s : LogState) (mem : Memory) (nets tri
   q = layout_of M p
 
   abbrev l : Lent
-  l = record { log = log; state = s }
+  l = record { log = log; state = s; name = 0 }
 
   abbrev tw : Trace (List WideWrite)
   tw = swizzle_writes M q M.writes p.write_wide

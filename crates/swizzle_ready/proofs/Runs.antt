@@ -85,7 +85,7 @@ module _ (r : SwizzleRooms) (room : ℕ) (s : LogState) (g : Given) (output : Va
 
   module _ (log : List ℕ) where
     abbrev l : Lent
-    l = record { log = log; state = s }
+    l = record { log = log; state = s; name = 0 }
 
     abbrev writes : Counted (swizzle_writes m q m.writes p.write_wide) (writes_count_of m q m.writes p.write_wide).words (writes_count_of m q m.writes p.write_wide).nets
     writes = counted_writes m q m.writes p.write_wide
