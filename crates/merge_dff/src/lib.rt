@@ -2,7 +2,7 @@
 // that the merge of two columns serves.
 #![tactic(auto)]
 
-ghost use Rattle.std.specs.Prelude.{◌≡◌, map, ◌<◌, ◌≤◌, min, length, take};
+ghost use Rattle.std.specs.Prelude.{◌≡◌, map, ◌<◌, ◌≤◌, min, length};
 ghost use Rattle.std.proofs.lemmas.List.Edits.{sets};
 ghost use Rattle.lists.specs.Choice.{◌or_else◌};
 ghost use Rattle.rules.specs.Limits.{max_merge};
@@ -196,41 +196,38 @@ impl Trits {
     }
 }
 
-// What a merging flip-flop is found in: each bit's packed trits, the kept keys and their trits. It is lent, so that many merges clear it once.
-#[derive(Drop)]
-pub struct Packs {
-    pub column: [u32; rules::MAX_MERGE],
-    pub keys: Keys,
-    pub trits: Trits,
+// A flip-flop of the distinct bits: a bit's key is its data net and its packed trits.
+fn emit_merged(
+    log: &mut Log,
+    keys: &mut Keys,
+    trits: &mut Trits,
+    out: &mut [u32],
+    c: Controls,
+    bits: &[u32],
+    ps: &[u32],
+)
+    ensures log_after { lent_of log.new ≡ run (merge_packed (controls_of c) (limited bits.now) (limited ps.now)) (lent_of log.old) }
+    ensures out_after { out.new ≡ results (is_over (state_of log.new.state)) out.old 0 (merge_packed (controls_of c) (limited bits.now) (limited ps.now) log.old.state.next).value }
+{
+    let n = rules::MAX_MERGE.min(bits.len().min(ps.len()));
+    let k = keys.merge(bits, ps);
+    trits.emit_kept(log, out, c, &keys.x[..k], &keys.y[..k], &keys.at[..n]);
 }
 
-impl Packs {
-    // A flip-flop of the distinct bits: a bit's key is its data net and its packed trits, of which the first n of the column are.
-    fn emit_merged(&mut self, log: &mut Log, out: &mut [u32], c: Controls, bits: &[u32], n: usize)
-        requires { n ≤ max_merge }
-        ensures log_after { lent_of log.new ≡ run (merge_packed (controls_of c) (limited bits.now) (limited (take n self.old.column))) (lent_of log.old) }
-        ensures out_after { out.new ≡ results (is_over (state_of log.new.state)) out.old 0 (merge_packed (controls_of c) (limited bits.now) (limited (take n self.old.column)) log.old.state.next).value }
-    {
-        let k = self.keys.merge(bits, &self.column[..n]);
-        let m = rules::MAX_MERGE.min(bits.len().min(n));
-        self.trits.emit_kept(
-            log,
-            out,
-            c,
-            &self.keys.x[..k],
-            &self.keys.y[..k],
-            &self.keys.at[..m],
-        );
-    }
-}
-
-// add_dedup_dff without its numbers: a flip-flop in which equal bits are kept once.
-pub fn emit_dedup_dff(log: &mut Log, packs: &mut Packs, out: &mut [u32], f: FlipFlop)
+// add_dedup_dff without its numbers: a flip-flop in which equal bits are kept once. `column` is room for each bit's packed trits.
+pub fn emit_dedup_dff(
+    log: &mut Log,
+    keys: &mut Keys,
+    trits: &mut Trits,
+    column: &mut [u32; rules::MAX_MERGE],
+    out: &mut [u32],
+    f: FlipFlop,
+)
     ensures log_after { lent_of log.new ≡ run (add_dedup_dff_of (limited_dff f.entry)) (lent_of log.old) }
     ensures out_after { out.new ≡ results (is_over (state_of log.new.state)) out.old 0 (add_dedup_dff_of (limited_dff f.entry) log.old.state.next).value }
 {
-    let n = pack_trits(&mut packs.column, f.reset, f.clear, f.init);
-    packs.emit_merged(log, out, f.controls, f.bits, n);
+    let n = pack_trits(column, f.reset, f.clear, f.init);
+    emit_merged(log, keys, trits, out, f.controls, f.bits, &column[..n]);
 }
 
 // 1, 2 and 4 of a merging flip-flop.
@@ -254,14 +251,21 @@ fn input_refusal(room: usize, next: u32, f: FlipFlop) -> Result<(), Refusal>
 }
 
 // 20 and 21 of the log, by a dry run.
-fn log_refusal(room: usize, st: LogState, packs: &mut Packs, f: FlipFlop) -> Result<(), Refusal>
+fn log_refusal(
+    room: usize,
+    st: LogState,
+    keys: &mut Keys,
+    trits: &mut Trits,
+    column: &mut [u32; rules::MAX_MERGE],
+    f: FlipFlop,
+) -> Result<(), Refusal>
     ensures { number_of result ≡ log_refusal room (state_of st) (add_dedup_dff_of (limited_dff f.entry)) }
 {
     let mut dry = Log {
         words: &mut [],
         state: st.dry_start(),
     };
-    emit_dedup_dff(&mut dry, packs, &mut [], f);
+    emit_dedup_dff(&mut dry, keys, trits, column, &mut [], f);
     st.dry_refusal(room, dry.state)
 }
 
@@ -276,24 +280,22 @@ pub fn add_dedup_dff(
     ensures { merged_of (add_dedup_dff_of (flip_flop_of f.entry) st.next).value result log.new out.new ≡ add_dedup_dff_call out.old log.old (state_of st) (flip_flop_of f.entry) }
 {
     input_refusal(out.len(), st.next, f)?;
-    let mut packs = Packs {
-        column: [0; rules::MAX_MERGE],
-        keys: Keys {
-            x: [0; rules::MAX_MERGE],
-            y: [0; rules::MAX_MERGE],
-            at: [0; rules::MAX_MERGE],
-        },
-        trits: Trits {
-            clear: [0; rules::MAX_MERGE],
-            reset: [0; rules::MAX_MERGE],
-            init: [0; rules::MAX_MERGE],
-        },
+    let mut keys = Keys {
+        x: [0; rules::MAX_MERGE],
+        y: [0; rules::MAX_MERGE],
+        at: [0; rules::MAX_MERGE],
     };
-    log_refusal(log.len(), st, &mut packs, f)?;
+    let mut trits = Trits {
+        clear: [0; rules::MAX_MERGE],
+        reset: [0; rules::MAX_MERGE],
+        init: [0; rules::MAX_MERGE],
+    };
+    let mut column = [0; rules::MAX_MERGE];
+    log_refusal(log.len(), st, &mut keys, &mut trits, &mut column, f)?;
     let mut log = Log {
         words: log,
         state: st,
     };
-    emit_dedup_dff(&mut log, &mut packs, out, f);
+    emit_dedup_dff(&mut log, &mut keys, &mut trits, &mut column, out, f);
     Ok(log.state)
 }

@@ -22,7 +22,8 @@ use Rattle.port_transparency.specs.Pairs.{reading, plain, laid_over, laid_if, fi
 use Rattle.port_transparency.proofs.Covered.{zext_length, fits}
 use Rattle.port_overlay.specs.Laid.{laid_by, laid_as, laid_from, behind}
 use Rattle.port_overlay.proofs.Bounds.{most_dedup_mux, most_bitwise, bitwise_few}
-use Rattle.port_unmap_all.specs.All.{related, unmapped_to, unmapped_of, unmapped_at, unmapped_each, unmapped_all}
+use Rattle.port_unmap.specs.Trace.{related}
+use Rattle.port_unmap_all.specs.All.{unmapped_to, unmapped_of, unmapped_at, unmapped_each, unmapped_all}
 use Rattle.port_empty.specs.Empty.{emptied, emptied_if}
 
 -- ---- what a port sees of a write port that fits it

@@ -11,14 +11,16 @@ ghost use Rattle.rules.specs.Conditions.{long_value, bad_value};
 ghost use Rattle.rules.specs.Ports.{transparency_mux};
 ghost use Rattle.rules.specs.Refusals.{log_refusal, overlay_values, bad_overlay_lens, pair_ports_number, transparency_mux_number, overlay_refusal};
 ghost use Rattle.rules.specs.Answers.{transparency_mux_call};
-ghost use Rattle.log_entries.specs.View.{state_of, lent};
+ghost use Rattle.log_entries.specs.View.{state_of, lent_of};
 ghost use Rattle.net_memory.specs.View.{memory_of, read_port};
 ghost use Rattle.net_memory.specs.Given.{given_of};
 ghost use Rattle.port_transparency.specs.Gave.{Gave};
 ghost use Rattle.port_mux.specs.Call.{overlay_of, wanted_of, overlaid_of, overlaid, Paired};
 
-use log_entries::LogState;
+use log_entries::{Log, LogState};
+use merge_mux::emit::Keys;
 use net_memory::{Memory, MemoryReadPort};
+use port_transparency::{Overlay, Reading};
 
 // The number of the refusal, or the state after the request.
 #[derive(Clone, Copy)]
@@ -48,7 +50,7 @@ fn overlay_unlike(m: Memory, bits: &[u32], mask: &[u32], masked: bool, i: usize)
         return false;
     }
     let p = m.read_ports[i];
-    let n = lists::usize_of_u32(p.data_len);
+    let n = p.data_len as usize;
     if bits.len() != n {
         return true;
     }
@@ -82,7 +84,7 @@ fn pair_number(m: Memory, nets: &[u32], i: usize, j: usize) -> u32
         return 15;
     }
     let p = m.read_ports[i];
-    let kr = net_memory::wide::wide_log(m.width, lists::usize_of_u32(p.data_len));
+    let kr = net_memory::wide::wide_log(m.width, p.data_len as usize);
     if port_unmap::pair_short(m, nets, net_memory::read_nets(m, nets, i), kr, j) {
         return 14;
     }
@@ -129,19 +131,11 @@ fn room_number(data_room: usize, mask_room: usize, n: usize, masked: bool) -> u3
     0
 }
 
-// The pair's entries; data and mask after stand in `under` and `over`. The same function runs dry on an empty log.
+// The pair's entries; data and mask after stand under the overlay and in `over`. The same function runs dry on an empty log.
 fn emit_mux<'a>(
-    log: &mut [u32],
-    st: LogState,
-    under: &mut [u32; rules::MAX_MERGE],
+    log: &mut Log,
+    overlay: &mut Overlay,
     over: &mut [u32; rules::MAX_MERGE],
-    seen: &mut [u32; rules::MAX_MERGE],
-    cover: &mut [u32; rules::MAX_MERGE],
-    sel: &mut [u32; rules::MAX_MERGE],
-    spare: &mut [u32; rules::MAX_MERGE],
-    kx: &mut [u32; rules::MAX_MERGE],
-    ky: &mut [u32; rules::MAX_MERGE],
-    at: &mut [u32; rules::MAX_MERGE],
     m: Memory,
     nets: &'a [u32],
     trits: &[u8],
@@ -151,38 +145,30 @@ fn emit_mux<'a>(
     bits: &[u32],
     mask: &[u32],
     masked: bool,
-) -> LogState
+)
     requires { Paired m nets.now trits.now i j masked bits.now mask.now × (p ≡ read_port m i) }
-    ensures { Gave (transparency_mux (memory_of m nets.now trits.now) i j (overlay_of masked bits.now mask.now)) (lent st log.old) (lent result log.new) (overlay_of masked (take p.data_len under.new) (take p.data_len over.new)) }
+    ensures { Gave (transparency_mux (memory_of m nets.now trits.now) i j (overlay_of masked bits.now mask.now)) (lent_of log.old) (lent_of log.new) (overlay_of masked (take p.data_len overlay.new.under) (take p.data_len over.new)) }
 {
-    let n = lists::usize_of_u32(p.data_len);
-    let kr = net_memory::wide::wide_log(m.width, n);
-    let raddr = net_memory::read_nets(m, nets, i);
-    lists::copy(under, 0, bits);
+    let count = p.data_len as usize;
+    let r = Reading {
+        k: net_memory::wide::wide_log(m.width, count),
+        addr: net_memory::read_nets(m, nets, i),
+        count,
+    };
+    lists::copy(&mut overlay.under, 0, bits);
     if !masked {
-        return port_overlay::emit_pair(
-            log, st, under, seen, cover, sel, spare, kx, ky, at, m, nets, j, kr, raddr, n,
-        );
+        return port_overlay::emit_pair(log, overlay, m, nets, j, r);
     }
     lists::copy(over, 0, mask);
-    port_masked::emit_masked_pair(
-        log, st, under, over, seen, cover, sel, spare, kx, ky, at, m, nets, j, kr, raddr, n,
-    )
+    port_masked::emit_masked_pair(log, overlay, over, m, nets, j, r)
 }
 
 // 20 and 21 of it, by a run without a log.
 fn dry_number(
     room: usize,
     st: LogState,
-    under: &mut [u32; rules::MAX_MERGE],
+    overlay: &mut Overlay,
     over: &mut [u32; rules::MAX_MERGE],
-    seen: &mut [u32; rules::MAX_MERGE],
-    cover: &mut [u32; rules::MAX_MERGE],
-    sel: &mut [u32; rules::MAX_MERGE],
-    spare: &mut [u32; rules::MAX_MERGE],
-    kx: &mut [u32; rules::MAX_MERGE],
-    ky: &mut [u32; rules::MAX_MERGE],
-    at: &mut [u32; rules::MAX_MERGE],
     m: Memory,
     nets: &[u32],
     trits: &[u8],
@@ -196,31 +182,14 @@ fn dry_number(
     requires { Paired m nets.now trits.now i j masked bits.now mask.now × (p ≡ read_port m i) }
     ensures { result ≡ log_refusal room (state_of st) (transparency_mux (memory_of m nets.now trits.now) i j (overlay_of masked bits.now mask.now)) }
 {
-    let mut no_log = [0u32; 0];
-    let start = st.dry_start();
-    let dry = emit_mux(
-        &mut no_log,
-        start,
-        under,
-        over,
-        seen,
-        cover,
-        sel,
-        spare,
-        kx,
-        ky,
-        at,
-        m,
-        nets,
-        trits,
-        i,
-        p,
-        j,
-        bits,
-        mask,
-        masked,
+    let mut dry = Log {
+        words: &mut [],
+        state: st.dry_start(),
+    };
+    emit_mux(
+        &mut dry, overlay, over, m, nets, trits, i, p, j, bits, mask, masked,
     );
-    rules::number_of(st.dry_refusal(room, dry))
+    rules::number_of(st.dry_refusal(room, dry.state))
 }
 
 // The first n nets of `from`, where they are wanted, into lent room.
@@ -253,27 +222,24 @@ fn mux_fitting(
     requires { Paired m nets.now trits.now i j masked bits.now mask.now × (p ≡ read_port m i) × (p.data_len ≤ length bits_to.old) × (masked ≡ true → p.data_len ≤ length mask_to.old) }
     ensures { overlaid_of masked (length bits.now) result log.new bits_to.new mask_to.new ≡ overlaid (log_refusal (length log.old) (state_of st) (transparency_mux (memory_of m nets.now trits.now) i j (overlay_of masked bits.now mask.now))) bits_to.old mask_to.old log.old (state_of st) (transparency_mux (memory_of m nets.now trits.now) i j (overlay_of masked bits.now mask.now)) }
 {
-    let mut under = [0u32; rules::MAX_MERGE];
+    let mut overlay = Overlay {
+        under: [0; rules::MAX_MERGE],
+        bits: [0; rules::MAX_MERGE],
+        mask: [0; rules::MAX_MERGE],
+        select: [0; rules::MAX_MERGE],
+        spare: [0; rules::MAX_MERGE],
+        keys: Keys {
+            x: [0; rules::MAX_MERGE],
+            y: [0; rules::MAX_MERGE],
+            at: [0; rules::MAX_MERGE],
+        },
+    };
     let mut over = [0u32; rules::MAX_MERGE];
-    let mut seen = [0u32; rules::MAX_MERGE];
-    let mut cover = [0u32; rules::MAX_MERGE];
-    let mut sel = [0u32; rules::MAX_MERGE];
-    let mut spare = [0u32; rules::MAX_MERGE];
-    let mut kx = [0u32; rules::MAX_MERGE];
-    let mut ky = [0u32; rules::MAX_MERGE];
-    let mut at = [0u32; rules::MAX_MERGE];
     let k = dry_number(
         log.len(),
         st,
-        &mut under,
+        &mut overlay,
         &mut over,
-        &mut seen,
-        &mut cover,
-        &mut sel,
-        &mut spare,
-        &mut kx,
-        &mut ky,
-        &mut at,
         m,
         nets,
         trits,
@@ -287,13 +253,27 @@ fn mux_fitting(
     if k != 0 {
         return Answer::Refused(k);
     }
-    let after = emit_mux(
-        log, st, &mut under, &mut over, &mut seen, &mut cover, &mut sel, &mut spare, &mut kx,
-        &mut ky, &mut at, m, nets, trits, i, p, j, bits, mask, masked,
+    let mut log = Log {
+        words: log,
+        state: st,
+    };
+    emit_mux(
+        &mut log,
+        &mut overlay,
+        &mut over,
+        m,
+        nets,
+        trits,
+        i,
+        p,
+        j,
+        bits,
+        mask,
+        masked,
     );
-    store(bits_to, &under, bits.len(), true);
+    store(bits_to, &overlay.under, bits.len(), true);
     store(mask_to, &over, bits.len(), masked);
-    Answer::Accepted(after)
+    Answer::Accepted(log.state)
 }
 
 // A pair that numbers 1 to 4, 14 and 15 pass: the rooms, and then the log.
@@ -325,7 +305,8 @@ fn mux_pair(
 }
 
 // transparency_mux: the data of write port `write` over `bits`, which read port `read` reads, where the addresses are equal and the mask
-// is set; and its mask added to `mask`. The data after goes to `bits_to`, the mask after to `mask_to`.
+// is set; and its mask added to `mask`. The data after goes to `bits_to`, the mask after to `mask_to`. The call takes its log and the log's state apart,
+// as C hands them.
 pub fn transparency_mux(
     log: &mut [u32],
     st: LogState,

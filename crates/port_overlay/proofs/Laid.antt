@@ -1,6 +1,6 @@
 -- Write ports laid over what a port reads: one by its values, and the loop over the relations.
 use mathlib.Core.Path.{◌≡◌, refl, sym, ap, ◌∙◌}
-use Prim.Native.Nat.{ℕ, suc, ◌+◌, ◌-◌, ◌<◌, ◌≤◌}
+use Prim.Native.Nat.{ℕ, suc, ◌+◌, ◌<◌, ◌≤◌}
 use native.Mathlib.Numerals.{add-one}
 use mathlib.Core.Bool.{Bool, true, false}
 use mathlib.Core.List.{List, [], ◌∷◌}
@@ -10,20 +10,19 @@ use Rattle.rules.specs.Limits.{max_merge}
 use Rattle.net_memory.specs.View.{memory_of}
 use Rattle.net_memory.specs.declared.Memory.{Memory}
 use Rattle.log_entries.proofs.Emission.{run-done}
-use lib.ListN.{length, take, drop, get_or, drop_of_length-le}
-use lib.Seq.{sets, drop-cons}
+use lib.ListN.{length, drop, get_or, drop_of_length-le}
+use lib.Seq.{drop-cons}
 use Rattle.lists.specs.Choice.{when◌then◌else◌}
-use Rattle.lists.specs.Lists.{up_from}
 use Rattle.rules.specs.Value.{Value}
 use Rattle.rules.specs.Cell.{FlipFlop, WritePort, ReadPort, Mem, wide_log2, write_wide_log2, write_at, is_transparent}
-use Rattle.rules.specs.Log.{Dff, Void, Trace, ◌>>=◌, done, request, add_void_of, add_dff_of, replace_value_of}
+use Rattle.rules.specs.Log.{Trace, ◌>>=◌, done, request, add_void_of, add_dff_of, replace_value_of}
 use Rattle.rules.specs.Beside.Chain.{Chains}
-use Rattle.rules.specs.Ports.{Overlay, overlaid_mask, seen, seen_wider, seen_narrower}
-use Rattle.rules.proofs.Chain.{chains_void, chains_dff, chains_eq, chains_or, chains_bind, chains_done, chains_if, chains_dedup_mux, chains_bitwise_mux}
+use Rattle.rules.specs.Ports.{Overlay, seen, seen_wider, seen_narrower}
+use Rattle.rules.proofs.Chain.{chains_void, chains_dff, chains_eq, chains_bind, chains_done, chains_if, chains_dedup_mux, chains_bitwise_mux}
 use Rattle.log_entries.specs.Emission.{Lent, is_over, run}
 use Rattle.port_transparency.specs.Gave.{Gave}
-use Rattle.port_transparency.specs.Pairs.{writing, reading, plain, laid_over, laid_if, fitting}
-use Rattle.port_transparency.proofs.Gave.{gave_done, gave_bind, gave_fresh, gave_next, gave_held}
+use Rattle.port_transparency.specs.Pairs.{writing, plain, laid_over, laid_if, fitting}
+use Rattle.port_transparency.proofs.Gave.{gave_done, gave_bind, gave_next, gave_held}
 use Rattle.port_transparency.proofs.Covered.{chains_seen, chains_overlaid}
 use Rattle.port_overlay.specs.Laid.{laid_by, laid_as, laid_from, behind, unmapped, unmapped_if}
 
@@ -58,16 +57,16 @@ wide_is : (m : Mem) (w : WritePort) → wide_log2 m.width (length w.bits) ≡ wr
 unfolding write_wide_log2
 wide_is m w = refl
 
-pub pair_by : (m : Mem) (kw kr width n j : ℕ) (waddr wdata wmask raddr : Value) (o p : Overlay) (l l1 : Lent)
-    → waddr ≡ (write_at m j).addr → wdata ≡ (write_at m j).bits → wmask ≡ (write_at m j).mask → width ≡ m.width → kw ≡ wide_log2 width (length wdata)
-    → Gave (laid_if kw kr (writing waddr wdata wmask) (reading raddr n) o) l l1 p
-    → Gave (laid_by m kr (reading raddr n) j o) l l1 p
+pub wide_by : (m : Mem) (kw width : ℕ) (bits : Value) (w : WritePort) → bits ≡ w.bits → width ≡ m.width → kw ≡ wide_log2 width (length bits) → kw ≡ write_wide_log2 m w
+wide_by m kw width bits w eb ew ek = ek ∙ (λ i. wide_log2 (ew i) (length (eb i))) ∙ wide_is m w
+
+pub pair_by : (m : Mem) (kw kr j : ℕ) (w : WritePort) (r : ReadPort) (o p : Overlay) (l l1 : Lent)
+    → kw ≡ write_wide_log2 m (write_at m j) → w ≡ writing (write_at m j).addr (write_at m j).bits (write_at m j).mask
+    → Gave (laid_if kw kr w r o) l l1 p → Gave (laid_by m kr r j o) l l1 p
 unfolding laid_by
-pair_by m kw kr width n j waddr wdata wmask raddr o p l l1 ea eb em ew ek g =
-    let w = write_at m j in
-    let k : kw ≡ write_wide_log2 m w = ek ∙ (λ i. wide_log2 (ew i) (length (eb i))) ∙ wide_is m w in
-    let e : laid_if kw kr (writing waddr wdata wmask) (reading raddr n) o ≡ laid_if (write_wide_log2 m w) kr w (reading raddr n) o =
-    (λ i. laid_if (k i) kr (writing (ea i) (eb i) (em i)) (reading raddr n) o) ∙ laid_like (write_wide_log2 m w) kr w (reading raddr n) o in
+pair_by m kw kr j w r o p l l1 ek ew g =
+    let e : laid_if kw kr w r o ≡ laid_if (write_wide_log2 m (write_at m j)) kr (write_at m j) r o =
+    (λ i. laid_if (ek i) kr (ew i) r o) ∙ laid_like (write_wide_log2 m (write_at m j)) kr (write_at m j) r o in
     rw e at g
 
 -- ---- by its relation
@@ -106,26 +105,14 @@ module _ (m : Mem) (kr : ℕ) (r : ReadPort) (rels : List ℕ) where
   going_end o₀ l₀ j o l h inv = inv l o (rw (from_nil j o h) (gave_done o l))
 
 -- ---- the void nets, and the flip-flop
-pub void_fresh : (n : ℕ) (l l1 : Lent) (out out' : List ℕ) → l1 ≡ run (add_void_of n) l → out' ≡ sets out 0 (up_from l.state.next (l1.state.next - l.state.next)) → n ≤ length out
-    → Gave (add_void_of n) l l1 (take n out')
-unfolding add_void_of
-void_fresh n l l1 out out' q s h = gave_fresh (λ first. Void first n) n l l1 out out' (chains_void n) q s h
-
-dff_fresh : (f : FlipFlop) (l l1 : Lent) (out out' : List ℕ) → l1 ≡ run (add_dff_of f) l → out' ≡ sets out 0 (up_from l.state.next (l1.state.next - l.state.next)) → length f.bits ≤ length out
-    → Gave (add_dff_of f) l l1 (take (length f.bits) out')
-unfolding add_dff_of
-dff_fresh f l l1 out out' q s h = gave_fresh (λ first. Dff first f) (length f.bits) l l1 out out' (chains_dff f) q s h
-
 gave_ran : {A : Type 0} (t : Trace A) (l : Lent) → Gave t l (run t l) (t l.state.next).value
 gave_ran t l = record { ran = refl; value = λ o. refl }
 
-pub behind_ran : (f : FlipFlop) (from : Value) (n : ℕ) (l l1 l2 : Lent) (out out' : List ℕ) → length f.bits ≡ n → l1 ≡ run (add_dff_of f) l
-    → out' ≡ sets out 0 (up_from l.state.next (l1.state.next - l.state.next)) → n ≤ length out → l2 ≡ run (replace_value_of from (take n out')) l1 → l2 ≡ run (behind f from) l
+pub behind_ran : (f : FlipFlop) (from q : Value) (l l1 l2 : Lent) → Gave (add_dff_of f) l l1 q → l2 ≡ run (replace_value_of from q) l1 → l2 ≡ run (behind f from) l
 unfolding behind
-behind_ran f from n l l1 l2 out out' e q s h p =
-    let g : Gave (add_dff_of f) l l1 (take n out') = rw e at (dff_fresh f l l1 out out' q s (rw e h)) in
-    let t = replace_value_of from (take n out') in
-    p ∙ (gave_bind (add_dff_of f) (λ x. replace_value_of from x) l l1 (run t l1) (take n out') _ (chains_dff f) g (gave_ran t l1)).ran
+behind_ran f from q l l1 l2 g p =
+    let t = replace_value_of from q in
+    p ∙ (gave_bind (add_dff_of f) (λ x. replace_value_of from x) l l1 (run t l1) q _ (chains_dff f) g (gave_ran t l1)).ran
 
 pub width_is : (m : Memory) (nets trits : List ℕ) → m.width ≡ (memory_of m nets trits).width
 unfolding memory_of

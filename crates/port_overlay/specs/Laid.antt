@@ -4,8 +4,10 @@ use Rattle.rules.specs.Limits.{max_merge}
 use Rattle.lists.specs.Choice.{when◌then◌else◌}
 use Rattle.rules.specs.Value.{Value}
 use Rattle.rules.specs.Cell.{FlipFlop, Relation, ReadPort, Mem, write_at, write_wide_log2, is_transparent}
-use Rattle.rules.specs.Log.{Trace, ◌>>=◌, ◌>>◌, done, add_void_of, add_dff_of, replace_value_of}
+use Rattle.rules.specs.Log.{Trace, ◌>>=◌, done, add_void_of, add_dff_of, replace_value_of}
 use Rattle.rules.specs.Ports.{Overlay}
+use Rattle.net_flip_flop.specs.View.{controls_of, flip_flop}
+use Rattle.net_flip_flop.specs.declared.FlipFlop as machine
 use Rattle.port_transparency.specs.Pairs.{plain, laid_if}
 
 -- write port j over what a read port of this k reads
@@ -28,6 +30,10 @@ unfoldable pub behind : FlipFlop → Value → Trace Value
 behind f from = do
   q ← add_dff_of f
   replace_value_of from q
+
+-- a flip-flop with other bits
+abbrev pub with_bits : machine.FlipFlop → Value → FlipFlop
+with_bits f b = flip_flop (controls_of f.controls) b f.clear.now f.reset.now f.init.now
 
 -- unmap_read_dff of a port of n nets: its void nets, the write ports over them, and the flip-flop behind
 unfoldable pub unmapped : Mem → ℕ → ReadPort → ℕ → List Relation → (Value → FlipFlop) → Value → Trace Value

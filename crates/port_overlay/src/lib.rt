@@ -2,28 +2,20 @@
 // reads, and the flip-flop stands behind.
 #![tactic(auto)]
 
-ghost use Rattle.std.specs.Prelude.{◌≡◌, false, List, ℕ, ◌+◌, ◌<◌, ◌≤◌, length, take};
+ghost use Rattle.std.specs.Prelude.{◌≡◌, false, List, ℕ, ◌+◌, ◌≤◌, take};
 ghost use Rattle.rules.specs.Limits.{max_merge};
-ghost use Rattle.rules.specs.Cell.{write_at, wide_log2};
-ghost use Rattle.rules.specs.Log.{add_void_of};
-ghost use Rattle.net_flip_flop.specs.View.{controls_of, flip_flop};
+ghost use Rattle.rules.specs.Cell.{write_at, write_wide_log2};
 ghost use Rattle.log_entries.specs.Emission.{is_over, run};
-ghost use Rattle.log_entries.specs.View.{state_of, lent};
+ghost use Rattle.log_entries.specs.View.{state_of, lent_of};
 ghost use Rattle.net_memory.specs.View.{memory_of};
 ghost use Rattle.port_transparency.specs.Gave.{Gave};
-ghost use Rattle.port_transparency.specs.Pairs.{reading, plain};
-ghost use Rattle.port_overlay.specs.Laid.{laid_by, laid_as, laid_from, behind, unmapped, unmapped_if};
+ghost use Rattle.port_transparency.specs.Pairs.{writing, write_of, read_of, plain};
+ghost use Rattle.port_overlay.specs.Laid.{laid_by, laid_as, laid_from, behind, with_bits, unmapped, unmapped_if};
 
-use log_entries::LogState;
-use net_flip_flop::{Controls, FlipFlop};
+use log_entries::Log;
+use net_flip_flop::FlipFlop;
 use net_memory::Memory;
-
-// The state after an unmapping, and the net after its void nets.
-#[derive(Clone, Copy)]
-pub struct Unmapped {
-    pub state: LogState,
-    pub last: u32,
-}
+use port_transparency::{Overlay, Reading, Writing};
 
 // The address of write port i.
 pub fn write_addr(m: Memory, nets: &[u32], i: usize) -> &[u32]
@@ -47,215 +39,117 @@ pub fn write_data(m: Memory, nets: &[u32], i: usize) -> &[u32]
     net_memory::data_of(p, net_memory::write_nets(m, nets, i))
 }
 
-// Write port j over the n nets that a read port of this k reads.
+// Write port j, as a transparency reads it.
+pub fn writing(m: Memory, nets: &[u32], j: usize) -> Writing
+    ensures k_value { (trits : List ℕ) → result.k ≡ write_wide_log2 (memory_of m nets.now trits) (write_at (memory_of m nets.now trits) j) }
+    ensures port { (trits : List ℕ) → write_of result ≡ writing (write_at (memory_of m nets.now trits) j).addr (write_at (memory_of m nets.now trits) j).bits (write_at (memory_of m nets.now trits) j).mask }
+{
+    let bits = write_data(m, nets, j);
+    Writing {
+        k: net_memory::wide::wide_log(m.width, bits.len()),
+        addr: write_addr(m, nets, j),
+        bits,
+        mask: net_memory::write_mask(m, nets, j),
+    }
+}
+
+// Write port j over what a read port reads.
 pub fn emit_pair<'a>(
-    log: &mut [u32],
-    st: LogState,
-    under: &mut [u32; rules::MAX_MERGE],
-    bits: &mut [u32; rules::MAX_MERGE],
-    mask: &mut [u32; rules::MAX_MERGE],
-    sel: &mut [u32; rules::MAX_MERGE],
-    spare: &mut [u32; rules::MAX_MERGE],
-    kx: &mut [u32; rules::MAX_MERGE],
-    ky: &mut [u32; rules::MAX_MERGE],
-    at: &mut [u32; rules::MAX_MERGE],
+    log: &mut Log,
+    overlay: &mut Overlay,
     m: Memory,
     nets: &'a [u32],
     j: usize,
-    kr: u32,
-    raddr: &'a [u32],
-    n: usize,
-) -> LogState
-    ensures { (trits : List ℕ) → Gave (laid_by (memory_of m nets.now trits) kr (reading raddr.now n) j (plain (take n under.old))) (lent st log.old) (lent result log.new) (plain (take n under.new)) }
+    r: Reading<'a>,
+)
+    ensures { (trits : List ℕ) → Gave (laid_by (memory_of m nets.now trits) r.entry.k (read_of r.entry) j (plain (take r.entry.count overlay.old.under))) (lent_of log.old) (lent_of log.new) (plain (take r.entry.count overlay.new.under)) }
 {
-    let waddr = write_addr(m, nets, j);
-    let wdata = write_data(m, nets, j);
-    let wmask = net_memory::write_mask(m, nets, j);
-    let kw = net_memory::wide::wide_log(m.width, wdata.len());
-    port_transparency::emit_transparency(
-        log, st, under, bits, mask, sel, spare, kx, ky, at, kw, kr, waddr, raddr, wdata, wmask, n,
-    )
+    overlay.emit_transparency(log, writing(m, nets, j), r);
 }
 
 // The same where the relation to it is Transparent.
 fn emit_related<'a>(
-    log: &mut [u32],
-    st: LogState,
-    under: &mut [u32; rules::MAX_MERGE],
-    bits: &mut [u32; rules::MAX_MERGE],
-    mask: &mut [u32; rules::MAX_MERGE],
-    sel: &mut [u32; rules::MAX_MERGE],
-    spare: &mut [u32; rules::MAX_MERGE],
-    kx: &mut [u32; rules::MAX_MERGE],
-    ky: &mut [u32; rules::MAX_MERGE],
-    at: &mut [u32; rules::MAX_MERGE],
+    log: &mut Log,
+    overlay: &mut Overlay,
     m: Memory,
     nets: &'a [u32],
     x: u8,
     j: usize,
-    kr: u32,
-    raddr: &'a [u32],
-    n: usize,
-) -> LogState
-    ensures { (trits : List ℕ) → Gave (laid_as (memory_of m nets.now trits) kr (reading raddr.now n) x j (plain (take n under.old))) (lent st log.old) (lent result log.new) (plain (take n under.new)) }
+    r: Reading<'a>,
+)
+    ensures { (trits : List ℕ) → Gave (laid_as (memory_of m nets.now trits) r.entry.k (read_of r.entry) x j (plain (take r.entry.count overlay.old.under))) (lent_of log.old) (lent_of log.new) (plain (take r.entry.count overlay.new.under)) }
 {
     if x != 2 {
-        return st;
+        return;
     }
-    emit_pair(
-        log, st, under, bits, mask, sel, spare, kx, ky, at, m, nets, j, kr, raddr, n,
-    )
+    emit_pair(log, overlay, m, nets, j, r);
 }
 
 // The write ports that these relations are Transparent to, one after the other.
 fn emit_pairs<'a>(
-    log: &mut [u32],
-    st: LogState,
-    under: &mut [u32; rules::MAX_MERGE],
-    bits: &mut [u32; rules::MAX_MERGE],
-    mask: &mut [u32; rules::MAX_MERGE],
-    sel: &mut [u32; rules::MAX_MERGE],
-    spare: &mut [u32; rules::MAX_MERGE],
-    kx: &mut [u32; rules::MAX_MERGE],
-    ky: &mut [u32; rules::MAX_MERGE],
-    at: &mut [u32; rules::MAX_MERGE],
+    log: &mut Log,
+    overlay: &mut Overlay,
     m: Memory,
     nets: &'a [u32],
     rels: &[u8],
-    kr: u32,
-    raddr: &'a [u32],
-    n: usize,
-) -> LogState
-    ensures { (trits : List ℕ) → Gave (laid_from (memory_of m nets.now trits) kr (reading raddr.now n) 0 rels.now (plain (take n under.old))) (lent st log.old) (lent result log.new) (plain (take n under.new)) }
+    r: Reading<'a>,
+)
+    ensures { (trits : List ℕ) → Gave (laid_from (memory_of m nets.now trits) r.entry.k (read_of r.entry) 0 rels.now (plain (take r.entry.count overlay.old.under))) (lent_of log.old) (lent_of log.new) (plain (take r.entry.count overlay.new.under)) }
 {
-    let mut state = st;
-    let mut j = 0;
-    while j < rels.len() {
-        state = emit_related(
-            log, state, under, bits, mask, sel, spare, kx, ky, at, m, nets, rels[j], j, kr, raddr,
-            n,
-        );
-        j += 1;
+    for (j, x) in rels.iter().enumerate() {
+        emit_related(log, overlay, m, nets, *x, j, r);
     }
-    state
 }
 
-// The void nets that the port reads into.
-fn emit_start(log: &mut [u32], st: LogState, under: &mut [u32], n: u32) -> LogState
-    requires { n ≤ length under.old }
-    ensures { Gave (add_void_of n) (lent st log.old) (lent result log.new) (take n under.new) }
-{
-    let after = log_entries::emit_void(log, st, n);
-    lists::store_run(under, 0, st.next, after.next);
-    after
-}
-
-// The flip-flop of n nets, whose results take the place of those of `from`.
-fn emit_behind(
-    log: &mut [u32],
-    st: LogState,
-    q: &mut [u32],
-    c: Controls,
-    under: &[u32],
-    n: usize,
-    clear: &[u8],
-    reset: &[u8],
-    init: &[u8],
-    from: &[u32],
-) -> LogState
-    requires { (n ≤ length under.now) × (n ≤ length q.old) }
-    ensures { lent result log.new ≡ run (behind (flip_flop (controls_of c) (take n under.now) clear.now reset.now init.now) from.now) (lent st log.old) }
-{
-    let after = log_entries::emit_dff(
-        log,
-        st,
-        FlipFlop {
-            controls: c,
-            bits: &under[..n],
-            clear: clear,
-            reset: reset,
-            init: init,
-        },
-    );
-    lists::store_run(q, 0, st.next, after.next);
-    log_entries::emit_replace(log, after, from, &q[..n])
-}
-
-// A port of n nets, with its relations, its controls and trits, whose outputs are `from`.
-fn emit_unmapped<'a>(
-    log: &mut [u32],
-    st: LogState,
-    under: &mut [u32; rules::MAX_MERGE],
-    bits: &mut [u32; rules::MAX_MERGE],
-    mask: &mut [u32; rules::MAX_MERGE],
-    sel: &mut [u32; rules::MAX_MERGE],
-    spare: &mut [u32; rules::MAX_MERGE],
-    kx: &mut [u32; rules::MAX_MERGE],
-    ky: &mut [u32; rules::MAX_MERGE],
-    at: &mut [u32; rules::MAX_MERGE],
-    m: Memory,
-    nets: &'a [u32],
-    raddr: &'a [u32],
-    rels: &[u8],
-    n: u32,
-    c: Controls,
-    clear: &[u8],
-    reset: &[u8],
-    init: &[u8],
-    from: &[u32],
-) -> Unmapped
+// The flip-flop of n nets that stands behind a port: its results take the place of the port's outputs, which `f` has as its bits.
+fn emit_behind(log: &mut Log, overlay: &mut Overlay, f: FlipFlop, n: usize)
     requires { n ≤ max_merge }
-    ensures by_index { (trits : List ℕ) → lent result.state log.new ≡ run (unmapped (memory_of m nets.now trits) (wide_log2 m.width n) (reading raddr.now n) n rels.now (λ b. flip_flop (controls_of c) b clear.now reset.now init.now) from.now) (lent st log.old) }
-    ensures last_value { is_over (state_of result.state) ≡ false → result.last ≡ st.next + n }
+    ensures { lent_of log.new ≡ run (behind (with_bits f.entry (take n overlay.old.under)) f.entry.bits.now) (lent_of log.old) }
 {
-    let kr = net_memory::wide::wide_log(m.width, n as usize);
-    let s1 = emit_start(log, st, under, n);
-    let s2 = emit_pairs(
-        log, s1, under, bits, mask, sel, spare, kx, ky, at, m, nets, rels, kr, raddr, n as usize,
-    );
-    let s3 = emit_behind(
-        log, s2, bits, c, under, n as usize, clear, reset, init, from,
-    );
-    Unmapped {
-        state: s3,
-        last: s1.next,
-    }
+    let data = FlipFlop {
+        bits: &overlay.under[..n],
+        ..f
+    };
+    port_transparency::dff_into(log, &mut overlay.bits, data);
+    log.emit_replace(f.bits, &overlay.bits[..n]);
+}
+
+// A port with its relations and its flip-flop, which has the port's outputs as its bits. Gives the net after the void nets.
+fn emit_unmapped<'a>(
+    log: &mut Log,
+    overlay: &mut Overlay,
+    m: Memory,
+    nets: &'a [u32],
+    rels: &[u8],
+    r: Reading<'a>,
+    f: FlipFlop,
+) -> u32
+    requires { r.count ≤ max_merge }
+    ensures by_index { (trits : List ℕ) → lent_of log.new ≡ run (unmapped (memory_of m nets.now trits) r.entry.k (read_of r.entry) r.entry.count rels.now (with_bits f.entry) f.entry.bits.now) (lent_of log.old) }
+    ensures last_value { is_over (state_of log.new.state) ≡ false → result ≡ log.old.state.next + r.entry.count }
+{
+    port_transparency::void_into(log, &mut overlay.under, r.count as u32);
+    let last = log.state.next;
+    emit_pairs(log, overlay, m, nets, rels, r);
+    emit_behind(log, overlay, f, r.count);
+    last
 }
 
 // The same of any port: one of more nets than a merge takes, which no memory has, gives nothing.
 pub fn emit_unmap<'a>(
-    log: &mut [u32],
-    st: LogState,
-    under: &mut [u32; rules::MAX_MERGE],
-    bits: &mut [u32; rules::MAX_MERGE],
-    mask: &mut [u32; rules::MAX_MERGE],
-    sel: &mut [u32; rules::MAX_MERGE],
-    spare: &mut [u32; rules::MAX_MERGE],
-    kx: &mut [u32; rules::MAX_MERGE],
-    ky: &mut [u32; rules::MAX_MERGE],
-    at: &mut [u32; rules::MAX_MERGE],
+    log: &mut Log,
+    overlay: &mut Overlay,
     m: Memory,
     nets: &'a [u32],
-    raddr: &'a [u32],
     rels: &[u8],
-    n: u32,
-    c: Controls,
-    clear: &[u8],
-    reset: &[u8],
-    init: &[u8],
-    from: &[u32],
-) -> Unmapped
-    ensures by_index { (trits : List ℕ) → lent result.state log.new ≡ run (unmapped_if (memory_of m nets.now trits) (wide_log2 m.width n) (reading raddr.now n) n rels.now (λ b. flip_flop (controls_of c) b clear.now reset.now init.now) from.now) (lent st log.old) }
-    ensures last_value { n ≤ max_merge → is_over (state_of result.state) ≡ false → result.last ≡ st.next + n }
+    r: Reading<'a>,
+    f: FlipFlop,
+) -> u32
+    ensures by_index { (trits : List ℕ) → lent_of log.new ≡ run (unmapped_if (memory_of m nets.now trits) r.entry.k (read_of r.entry) r.entry.count rels.now (with_bits f.entry) f.entry.bits.now) (lent_of log.old) }
+    ensures last_value { r.entry.count ≤ max_merge → is_over (state_of log.new.state) ≡ false → result ≡ log.old.state.next + r.entry.count }
 {
-    if rules::MAX_MERGE < n as usize {
-        return Unmapped {
-            state: st,
-            last: st.next,
-        };
+    if rules::MAX_MERGE < r.count {
+        return log.state.next;
     }
-    emit_unmapped(
-        log, st, under, bits, mask, sel, spare, kx, ky, at, m, nets, raddr, rels, n, c, clear,
-        reset, init, from,
-    )
+    emit_unmapped(log, overlay, m, nets, rels, r, f)
 }

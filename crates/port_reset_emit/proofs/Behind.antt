@@ -36,16 +36,6 @@ use Rattle.port_overlay.specs.Laid.{laid_from}
 use Rattle.port_overlay.proofs.Laid.{chains_laid_from}
 use Rattle.port_reset_emit.specs.Behind.{start_trit, mask_behind, choice, reset_behind, reset_laid, reset_if}
 
--- ---- the flip-flop of the data
-dff_fresh : (f : FlipFlop) (l l1 : Lent) (out out' : List ℕ) → l1 ≡ run (add_dff_of f) l → out' ≡ sets out 0 (up_from l.state.next (l1.state.next - l.state.next))
-    → length f.bits ≤ length out → Gave (add_dff_of f) l l1 (take (length f.bits) out')
-unfolding add_dff_of
-dff_fresh f l l1 out out' q s h = gave_fresh (λ first. Dff first f) (length f.bits) l l1 out out' (chains_dff f) q s h
-
-pub data_gave : (f : FlipFlop) (n : ℕ) (l l1 : Lent) (out out' : List ℕ) → length f.bits ≡ n → l1 ≡ run (add_dff_of f) l
-    → out' ≡ sets out 0 (up_from l.state.next (l1.state.next - l.state.next)) → n ≤ length out → Gave (add_dff_of f) l l1 (take n out')
-data_gave f n l l1 out out' e q s h = rw e at (dff_fresh f l l1 out out' q s (rw e h))
-
 -- ---- the mask's
 pub first_filled : (u w : List ℕ) (n t : ℕ) → w ≡ sets u 0 (replicate n t) → n ≤ length u → take n w ≡ replicate n t
 first_filled u w n t e h = take_stored u w (replicate n t) n e (sym (length-replicate n t)) h
@@ -178,7 +168,3 @@ module _ (m : Mem) (kr : ℕ) (r : ReadPort) (n : ℕ) (xs : List ℕ) (f g : Va
   pub if_few : (l l1 : Lent) (v : Value) → n ≤ max_merge → Gave (reset_laid m kr r n xs f g from) l l1 v → Gave (reset_if m kr r n xs f g from) l l1 v
   unfolding reset_if
   if_few l l1 v h k = rw (le-ltb max_merge n h) k
-
-pub laid_wide : (m : Mem) (j kr : ℕ) (r : ReadPort) (n : ℕ) (xs : List ℕ) (f g : Value → FlipFlop) (from : Value) (l l1 : Lent) (v : Value) → j ≡ kr
-    → Gave (reset_laid m j r n xs f g from) l l1 v → Gave (reset_laid m kr r n xs f g from) l l1 v
-laid_wide m j kr r n xs f g from l l1 v e q = rw e at q

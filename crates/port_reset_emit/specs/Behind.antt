@@ -1,12 +1,14 @@
 -- unmap_read_init_reset_transparency without its numbers: the write ports laid over no data, the flip-flops of data and mask, and the muxes by them.
-use Rattle.std.specs.Prelude.{ℕ, Bool, List, [], replicate, ltb}
+use Rattle.std.specs.Prelude.{ℕ, Bool, not, List, [], replicate, ltb}
 use Rattle.lists.specs.Choice.{when◌then◌else◌}
 use Rattle.rules.specs.Limits.{max_merge, trit_x}
-use Rattle.rules.specs.Logic.{undef, ones}
+use Rattle.rules.specs.Logic.{undef, ones, is_undef}
 use Rattle.rules.specs.Value.{Value, x_nets}
 use Rattle.rules.specs.Cell.{Controls, FlipFlop, Relation, ReadPort, Mem, or_empty}
 use Rattle.rules.specs.Log.{Trace, ◌>>=◌, ◌>>◌, done, add_void_of, add_dff_of, replace_value_of}
 use Rattle.rules.specs.Merge.{add_dedup_dff_of, add_bitwise_mux_of}
+use Rattle.net_flip_flop.specs.View.{controls_of}
+use Rattle.net_flip_flop.specs.declared.FlipFlop as machine
 use Rattle.port_transparency.specs.Pairs.{with_mask}
 use Rattle.port_overlay.specs.Laid.{laid_from}
 
@@ -17,6 +19,10 @@ start_trit initial = when initial then 1 else trit_x
 -- the flip-flop of a mask of n nets
 unfoldable pub mask_behind : Controls → Bool → ℕ → Value → FlipFlop
 mask_behind c initial n mask = record { bits = mask; controls = c; clear_value = ones n; reset_value = ones n; init_value = when initial then ones n else undef n }
+
+-- the mask's flip-flop behind this one
+abbrev pub mask_of : machine.FlipFlop → ℕ → Value → FlipFlop
+mask_of f n mask = mask_behind (controls_of f.controls) (not (is_undef f.init.now)) n mask
 
 -- muxes whose results take the place of these nets
 unfoldable pub choice : Value → Value → Value → Value → Trace Value

@@ -1,16 +1,16 @@
 -- Runs with the values that they give: one after the other, and of one request.
 use mathlib.Core.Path.{◌≡◌, refl, sym, ap, ◌∙◌}
-use Prim.Native.Nat.{ℕ, ◌+◌, ◌-◌, ◌<◌, ◌≤◌}
+use Prim.Native.Nat.{ℕ, ◌-◌, ◌≤◌}
 use mathlib.Core.Bool.{false}
 use mathlib.Core.List.{List, ◌++◌, append_assoc}
-use lib.ListN.{length, take, set}
+use lib.ListN.{length, take}
 use lib.Seq.{sets}
 use Rattle.lists.specs.Lists.{up_from}
-use Rattle.lists.proofs.UpFrom.{length_up, count_step, count_end}
+use Rattle.lists.proofs.UpFrom.{length_up}
 use Rattle.lists.proofs.Stores.{take_stored}
-use Rattle.lists.proofs.Store.{sets_out}
-use native.Mathlib.Numerals.{add-one}
-use Rattle.rules.specs.Log.{Entry, Trace, ◌>>=◌, done, request}
+use Rattle.rules.specs.Cell.{FlipFlop}
+use Rattle.rules.specs.Log.{Entry, Void, Dff, Trace, ◌>>=◌, done, request, add_void_of, add_dff_of}
+use Rattle.rules.proofs.Chain.{chains_void, chains_dff}
 use Rattle.rules.specs.Beside.Chain.{Chains}
 use Rattle.rules.proofs.Traces.{bind_value}
 use Rattle.log_entries.specs.Emission.{Lent, is_over, emit, run}
@@ -77,3 +77,13 @@ module _ (e : ℕ → Entry) (k : ℕ) (l l1 : Lent) (out out' : List ℕ) where
         ap (λ (j : ℕ). up_from n (j - n)) (gave_next (request e k) l l1 c q o) ∙ request_nets e k n in
         take_stored out out' (request e k n).value k (s ∙ ap (sets out 0) m) (sym (length_request n)) h;
   }
+
+pub void_fresh : (n : ℕ) (l l1 : Lent) (out out' : List ℕ) → l1 ≡ run (add_void_of n) l → out' ≡ sets out 0 (up_from l.state.next (l1.state.next - l.state.next)) → n ≤ length out
+    → Gave (add_void_of n) l l1 (take n out')
+unfolding add_void_of
+void_fresh n l l1 out out' q s h = gave_fresh (λ first. Void first n) n l l1 out out' (chains_void n) q s h
+
+pub dff_fresh : (f : FlipFlop) (l l1 : Lent) (out out' : List ℕ) → l1 ≡ run (add_dff_of f) l → out' ≡ sets out 0 (up_from l.state.next (l1.state.next - l.state.next)) → length f.bits ≤ length out
+    → Gave (add_dff_of f) l l1 (take (length f.bits) out')
+unfolding add_dff_of
+dff_fresh f l l1 out out' q s h = gave_fresh (λ first. Dff first f) (length f.bits) l l1 out out' (chains_dff f) q s h

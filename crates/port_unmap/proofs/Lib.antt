@@ -4,3 +4,4 @@ pub mod Short
 pub mod Act
 pub mod Rooms
 pub mod Passed
+pub mod Emitted

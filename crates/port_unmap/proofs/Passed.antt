@@ -1,7 +1,7 @@
 -- What is known of a call that numbers 1 to 4, 14 and 15 pass, and the call by its number.
 use mathlib.Core.Path.{◌≡◌, refl, sym, ap, ◌∙◌}
 use mathlib.Core.Logic.{◌≢◌}
-use Prim.Native.Nat.{ℕ, ◌-◌, ◌*◌, ◌<◌, min}
+use Prim.Native.Nat.{ℕ, ◌*◌, ◌<◌, min}
 use native.Mathlib.Nat.{add-zero}
 use native.Mathlib.Omega.{arith}
 use mathlib.Core.Bool.{Bool, true, false, not}

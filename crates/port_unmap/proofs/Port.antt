@@ -1,8 +1,11 @@
 -- The values that the code reads of port i are the view's, and its trace is the rules'.
 use mathlib.Core.Path.{◌≡◌, refl, sym, ap, ◌∙◌}
-use Prim.Native.Nat.{ℕ, ◌+◌, ◌-◌, ◌^◌, ◌<◌, ◌≤◌}
+use Prim.Native.Nat.{ℕ, ◌+◌, ◌^◌, ◌<◌, ◌≤◌}
 use native.Mathlib.Nat.{mul-le-mul, le_refl}
-use lib.Seq.{take-take}
+use lib.Seq.{take-take, take_all}
+use Rattle.std.specs.Borrow.{GName}
+use Rattle.log_entries.proofs.Emission.{named, unnamed}
+use Rattle.port_unmap.specs.Trace.{related, port_trace}
 use native.Mathlib.Omega.{arith}
 use lib.Pow.{pow_mono}
 use mathlib.Core.Bool.{false}
@@ -21,7 +24,7 @@ use Rattle.rules.specs.Conditions.{short_pair, bad_write_shape}
 use Rattle.rules.specs.Ports.{Overlay, transparencies, unmap_dff}
 use Rattle.rules.proofs.Counted.{start_le}
 use Rattle.net_flip_flop.specs.declared.Controls.{Controls}
-use Rattle.net_flip_flop.specs.View.{controls_of, flip_flop}
+use Rattle.net_flip_flop.specs.View.{flip_flop}
 use Rattle.log_entries.specs.Emission.{Lent, run}
 use Rattle.net_memory.specs.declared.Memory.{Memory}
 use Rattle.net_memory.specs.declared.MemoryReadPort.{MemoryReadPort}
@@ -142,28 +145,19 @@ module _ (m : Memory) (nets trits : List ℕ) (i : ℕ) (c : Controls) (g : Read
   laid_own : (o : Overlay) → laid_from Mv (read_wide_log2 Mv (read_at_of Mv i)) (reading (read_at_of Mv i).addr (read_at_of Mv i).data_len) 0 own-flip.relations o ≡ transparencies Mv i (transparent_from 0 own-flip.relations) o
   laid_own o = laid_all m nets trits i c g.port own-flip.relations o (omega (arith, g.port.related)) long_of
 
-  pub port_runs_lem : (output : Value) (l : Lent)
-      → run (unmapped_if Mv (wide_log2 m.width (read_port m i).data_len) (reading (read_nets m nets i) (read_port m i).data_len) (read_port m i).data_len own-flip.relations (λ b. flip_flop own-flip.controls b own-flip.clear_value own-flip.reset_value own-flip.init_value) (output_slice Mv i output)) l
-      ≡ run (unmap_dff Mv i output own-flip) l
-  port_runs_lem output l =
-      let e = data_is m nets trits i c g.port in
-      let a = addr_is m nets trits i c g.port in
-      let k = wide_is m nets trits i c g.port in
-      (λ j. run (unmapped_if Mv (k j) (reading (sym a j) (sym e j)) (sym e j) own-flip.relations (behind_is own-flip j) (output_slice Mv i output)) l)
-      ∙ few_is Mv (read_wide_log2 Mv (read_at_of Mv i)) (reading (read_at_of Mv i).addr (read_at_of Mv i).data_len) (read_at_of Mv i).data_len own-flip.relations (flip_flop_of own-flip) (output_slice Mv i output) l (omega (arith, read_few m nets trits i c g.port))
-      ∙ unmap_runs Mv i (read_wide_log2 Mv (read_at_of Mv i)) (reading (read_at_of Mv i).addr (read_at_of Mv i).data_len) output own-flip l laid_own
+  -- the entries as port_overlay gives them
+  pub own_run : (output : Value) (l : Lent) → run (port_trace Mv i output own-flip) l ≡ run (unmap_dff Mv i output own-flip) l
+  own_run output l =
+      let r = read_at_of Mv i in
+      let e : related own-flip ≡ own-flip.relations = take_all 8 own-flip.relations (omega (arith, g.port.related, g.port.few)) in
+      (λ j. run (unmapped_if Mv (read_wide_log2 Mv r) (reading r.addr r.data_len) r.data_len (e j) (flip_flop_of own-flip) (output_slice Mv i output)) l)
+      ∙ few_is Mv (read_wide_log2 Mv r) (reading r.addr r.data_len) r.data_len own-flip.relations (flip_flop_of own-flip) (output_slice Mv i output) l (omega (arith, read_few m nets trits i c g.port))
+      ∙ unmap_runs Mv i (read_wide_log2 Mv r) (reading r.addr r.data_len) output own-flip l laid_own
 
-  -- the same as the code has it
-  pub port_from : (output : Value) (p : MemoryReadPort) (raddr rels own clear reset init from : List ℕ) (start : ℕ) (l l1 : Lent) → p ≡ read_port m i → raddr ≡ read_nets m nets i
-      → rels ≡ part 0 p.relations_len p.relations → own ≡ read_trits m trits i → clear ≡ part 0 p.clear_len own → reset ≡ part p.clear_len p.reset_len own
-      → init ≡ part (p.clear_len + p.reset_len) p.init_len own → start ≡ output_start Mv i → from ≡ part start p.data_len output
-      → l1 ≡ run (unmapped_if Mv (wide_log2 m.width p.data_len) (reading raddr p.data_len) p.data_len rels (λ b. flip_flop (controls_of c) b clear reset init) from) l
-      → l1 ≡ run (unmap_dff Mv i output own-flip) l
-  port_from output p raddr rels own clear reset init from start l l1 ep ea er eo ec es ei et ef h =
-      let r1 = er ∙ (λ k. part 0 (ep k).relations_len (ep k).relations) in
-      let c1 = ec ∙ (λ k. part 0 (ep k).clear_len (eo k)) in
-      let s1 = es ∙ (λ k. part (ep k).clear_len (ep k).reset_len (eo k)) in
-      let i1 = ei ∙ (λ k. part ((ep k).clear_len + (ep k).reset_len) (ep k).init_len (eo k)) in
-      let f1 = ef ∙ (λ k. part (et k) (ep k).data_len output) ∙ slice_is m nets trits i c g.port output in
-      h ∙ (λ k. run (unmapped_if Mv (wide_log2 m.width (ep k).data_len) (reading (ea k) (ep k).data_len) (ep k).data_len (r1 k) (λ b. flip_flop (controls_of c) b (c1 k) (s1 k) (i1 k)) (f1 k)) l)
-      ∙ port_runs_lem output l
+  -- and so what the code leaves, by the name of its words
+  pub own_ran : (n : GName) (output : Value) (l l1 : Lent) → l1 ≡ run (port_trace Mv i output own-flip) l → named n l1 ≡ run (unmap_dff Mv i output own-flip) (named n l)
+  own_ran n output l l1 e = unnamed (unmap_dff Mv i output own-flip) n l l1 (e ∙ own_run output l)
+
+  -- its few nets
+  pub port_few : (p : MemoryReadPort) → p ≡ read_port m i → (A : Type 0) (last next : ℕ) → (p.data_len ≤ max_merge → A → last ≡ next + p.data_len) → A → last ≡ next + (read_port m i).data_len
+  port_few p e A last next h a = h (rw e (data_few m nets trits i c g.port)) a ∙ ap (λ (q : MemoryReadPort). next + q.data_len) e

@@ -1,29 +1,24 @@
 -- A memory and its outputs after an unmapping fit the arrays that they were lent in.
 use mathlib.Core.Path.{◌≡◌, sym, ◌∙◌, subst}
-use Prim.Native.Nat.{ℕ, ◌+◌, ◌<◌, ◌≤◌, min}
+use Prim.Native.Nat.{ℕ, ◌<◌, ◌≤◌, min}
 use native.Mathlib.Nat.{le_refl}
 use native.Mathlib.Omega.{arith}
 use mathlib.Core.Option.{Option, none, some}
-use mathlib.Core.List.{List, [], ◌∷◌, ◌++◌}
-use lib.ListN.{length, take, drop, length-append, length-take, length-drop}
+use mathlib.Core.List.{List}
+use lib.ListN.{length}
 use lib.Seq.{sets, length-sets}
 use borrow.Author.Tests.{le-ltb}
-use Rattle.lists.specs.Lists.{sum_by, part, up_from, concat_map}
-use Rattle.lists.specs.Views.{views}
+use Rattle.lists.specs.Lists.{up_from}
 use Rattle.lists.proofs.Choice.{or_both, if_false}
 use Rattle.rules.specs.Limits.{max_ports}
 use Rattle.rules.specs.Value.{Value}
-use Rattle.rules.specs.Cell.{ReadFlipFlop, ReadPort, Mem, read_at_of, output_start, held, port_nets, flip_flop_trits, port_trits, flat_nets, flat_trits}
+use Rattle.rules.specs.Cell.{ReadFlipFlop, Mem, read_at_of, output_start, flat_nets, flat_trits}
 use Rattle.rules.specs.Conditions.{no_room_of}
 use Rattle.rules.specs.Log.{done}
 use Rattle.rules.specs.Ports.{Driving, unmap_dff, unmap_read_dff_of, unmap_read_dff}
 use Rattle.rules.specs.Refusals.{Rooms, no_rooms, driving_refusal}
-use Rattle.net_memory.specs.FlipFlop.{MemoryReadFlipFlop}
-use Rattle.std.specs.Prelude.{None, Some}
-use Rattle.net_memory.specs.declared.MemoryWritePort.{MemoryWritePort}
-use Rattle.net_memory.specs.declared.MemoryReadPort.{MemoryReadPort}
 use Rattle.net_memory.specs.declared.Memory.{Memory}
-use Rattle.net_memory.specs.View.{write_ports_of, read_ports_of, write_size, addr_size, trit_size, no_trits, write_by, read_by, flip_flop_by, writes_of, reads_of, reads_start, memory_of}
+use Rattle.net_memory.specs.View.{memory_of}
 use Rattle.port_unmap.specs.Call.{unclocking, rooms_of}
 use Rattle.port_unmap.proofs.Act.{unmap_memory, unmap_output, unclock_view}
 use Rattle.net_memory.proofs.Fits.{nets_fit, trits_fit}

@@ -1,7 +1,7 @@
 -- 14 of a port, and the numbers in their order.
 use mathlib.Core.Path.{◌≡◌, refl, sym, ap, ◌∙◌}
 use mathlib.Core.Logic.{◌≢◌}
-use Prim.Native.Nat.{ℕ, suc, ◌+◌, ◌-◌, ◌<◌, ◌≤◌, min}
+use Prim.Native.Nat.{ℕ, suc, ◌+◌, ◌<◌, ◌≤◌, min}
 use native.Mathlib.Numerals.{add-one}
 use mathlib.Core.Bool.{Bool, true, false, not, ◌&&◌, ◌||◌}
 use mathlib.Core.Option.{none, some}
@@ -33,12 +33,11 @@ test_is : (t : Bool) → not (eqb (when t then 14 else 0) 0) ≡ t
 test_is true = refl
 test_is false = refl
 
-pub short_is : (m : Mem) (r : ReadPort) (kw kr width j n : ℕ) (waddr wdata raddr : Value) → n ≡ narrower_select_refusal kw kr waddr raddr → kw ≡ wide_log2 width (length wdata) → width ≡ m.width
-    → waddr ≡ (write_at m j).addr → wdata ≡ (write_at m j).bits → kr ≡ read_wide_log2 m r → raddr ≡ r.addr → not (eqb n 0) ≡ short_pair m r j
-unfolding narrower_select_refusal short_pair write_wide_log2
-short_is m r kw kr width j n waddr wdata raddr en ek ew ea ed er eq =
-    let k : kw ≡ wide_log2 m.width (length (write_at m j).bits) = ek ∙ (λ i. wide_log2 (ew i) (length (ed i))) in
-    ap (λ (x : ℕ). not (eqb x 0)) en ∙ test_is (too_few_bits kw kr waddr raddr) ∙ (λ i. too_few_bits (k i) (er i) (ea i) (eq i))
+pub short_is : (m : Mem) (r : ReadPort) (kw kr j n : ℕ) (waddr raddr : Value) → n ≡ narrower_select_refusal kw kr waddr raddr → kw ≡ write_wide_log2 m (write_at m j)
+    → waddr ≡ (write_at m j).addr → kr ≡ read_wide_log2 m r → raddr ≡ r.addr → not (eqb n 0) ≡ short_pair m r j
+unfolding narrower_select_refusal short_pair
+short_is m r kw kr j n waddr raddr en ek ea er eq =
+    ap (λ (x : ℕ). not (eqb x 0)) en ∙ test_is (too_few_bits kw kr waddr raddr) ∙ (λ i. too_few_bits (ek i) (er i) (ea i) (eq i))
 
 -- by the relation
 pub rel_not : (x : ℕ) (b : Bool) → x ≢ 2 → false ≡ (is_transparent x && b)

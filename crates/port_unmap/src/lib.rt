@@ -1,25 +1,27 @@
 // memory/src/lib.rs, unmap_read_dff: a read port reads at once, and its flip-flop stands behind it as a cell of its own.
 #![tactic(auto)]
 
-ghost use Rattle.std.specs.Prelude.{◌≡◌, false, List, ℕ, ◌+◌, ◌<◌, min, length, ◌&&◌};
+ghost use Rattle.std.specs.Prelude.{◌≡◌, false, List, ℕ, ◌+◌, ◌<◌, ◌≤◌, min, length, ◌&&◌};
 ghost use Rattle.lists.specs.Lists.{any};
-ghost use Rattle.rules.specs.Limits.{max_ports};
+ghost use Rattle.rules.specs.Limits.{max_ports, max_merge};
 ghost use Rattle.rules.specs.Cell.{ReadPort, read_at_of, read_wide_log2, is_transparent, transparent_from};
 ghost use Rattle.rules.specs.Conditions.{short_pair, short_port};
 ghost use Rattle.rules.specs.Refusals.{log_refusal, unmap_read_dff_number};
 ghost use Rattle.rules.specs.Answers.{driven, unmap_read_dff_call};
 ghost use Rattle.rules.specs.Ports.{unmap_dff, unmap_read_dff};
 ghost use Rattle.log_entries.specs.Emission.{is_over, run};
-ghost use Rattle.log_entries.specs.View.{state_of, lent};
+ghost use Rattle.log_entries.specs.View.{state_of, lent_of};
 ghost use Rattle.net_memory.specs.View.{memory_of, read_port};
 ghost use Rattle.net_memory.specs.Given.{given_of};
 ghost use Rattle.port_unmap.specs.Ready.{own_flip_flop, Ready};
+ghost use Rattle.port_unmap.specs.Trace.{port_trace};
 ghost use Rattle.port_unmap.specs.Call.{unclocking, driving, rooms_of, driven_of, NewStruct};
 
-use log_entries::LogState;
-use net_flip_flop::Controls;
+use log_entries::{Log, LogState};
+use merge_mux::emit::Keys;
+use net_flip_flop::{Controls, FlipFlop};
 use net_memory::{Memory, MemoryReadPort};
-use port_overlay::Unmapped;
+use port_transparency::{Overlay, Reading};
 
 // The number that refuses an unmapping, or 0; the memory and the log's state after it.
 #[derive(Clone, Copy)]
@@ -29,18 +31,10 @@ pub struct Driven {
     pub state: LogState,
 }
 
-// Port i, whose controls are c, unmapped: the same function runs dry on an empty log.
-fn emit_port(
-    log: &mut [u32],
-    st: LogState,
-    under: &mut [u32; rules::MAX_MERGE],
-    bits: &mut [u32; rules::MAX_MERGE],
-    mask: &mut [u32; rules::MAX_MERGE],
-    sel: &mut [u32; rules::MAX_MERGE],
-    spare: &mut [u32; rules::MAX_MERGE],
-    kx: &mut [u32; rules::MAX_MERGE],
-    ky: &mut [u32; rules::MAX_MERGE],
-    at: &mut [u32; rules::MAX_MERGE],
+// Port i, whose controls are c, unmapped: the same function runs dry on an empty log. Gives the net after the void nets.
+pub fn emit_port(
+    log: &mut Log,
+    overlay: &mut Overlay,
     m: Memory,
     nets: &[u32],
     trits: &[u8],
@@ -48,51 +42,35 @@ fn emit_port(
     p: MemoryReadPort,
     c: Controls,
     output: &[u32],
-) -> Unmapped
-    requires { Ready m nets.now trits.now i c × (p ≡ read_port m i) }
-    ensures log_after { lent result.state log.new ≡ run (unmap_dff (memory_of m nets.now trits.now) i output.now (own_flip_flop m trits.now i c)) (lent st log.old) }
-    ensures last_value { is_over (state_of result.state) ≡ false → result.last ≡ st.next + (read_port m i).data_len }
+) -> u32
+    requires { (i < min max_ports m.read_count) × (p ≡ read_port m i) }
+    ensures log_after { lent_of log.new ≡ run (port_trace (memory_of m nets.now trits.now) i output.now (own_flip_flop m trits.now i c)) (lent_of log.old) }
+    ensures last_value { p.data_len ≤ max_merge → is_over (state_of log.new.state) ≡ false → result ≡ log.old.state.next + p.data_len }
 {
     let relations = p.relations;
     let rels = lists::part(&relations, 0, p.relations_len as usize);
+    let count = p.data_len as usize;
+    let r = Reading {
+        k: net_memory::wide::wide_log(m.width, count),
+        addr: net_memory::read_nets(m, nets, i),
+        count,
+    };
     let own = net_memory::read_trits(m, trits, i);
-    let from = lists::part(output, net_memory::output_start(m, i), p.data_len as usize);
-    port_overlay::emit_unmap(
-        log,
-        st,
-        under,
-        bits,
-        mask,
-        sel,
-        spare,
-        kx,
-        ky,
-        at,
-        m,
-        nets,
-        net_memory::read_nets(m, nets, i),
-        rels,
-        p.data_len,
-        c,
-        net_memory::clear_of(p, own),
-        net_memory::reset_of(p, own),
-        net_memory::init_of(p, own),
-        from,
-    )
+    let f = FlipFlop {
+        controls: c,
+        bits: lists::part(output, net_memory::output_start(m, i), count),
+        clear: net_memory::clear_of(p, own),
+        reset: net_memory::reset_of(p, own),
+        init: net_memory::init_of(p, own),
+    };
+    port_overlay::emit_unmap(log, overlay, m, nets, rels, r, f)
 }
 
 // 20 and 21 of it, by a run without a log.
 fn dry_number(
     room: usize,
     st: LogState,
-    under: &mut [u32; rules::MAX_MERGE],
-    bits: &mut [u32; rules::MAX_MERGE],
-    mask: &mut [u32; rules::MAX_MERGE],
-    sel: &mut [u32; rules::MAX_MERGE],
-    spare: &mut [u32; rules::MAX_MERGE],
-    kx: &mut [u32; rules::MAX_MERGE],
-    ky: &mut [u32; rules::MAX_MERGE],
-    at: &mut [u32; rules::MAX_MERGE],
+    overlay: &mut Overlay,
     m: Memory,
     nets: &[u32],
     trits: &[u8],
@@ -104,39 +82,20 @@ fn dry_number(
     requires { Ready m nets.now trits.now i c × (p ≡ read_port m i) }
     ensures { result ≡ log_refusal room (state_of st) (unmap_dff (memory_of m nets.now trits.now) i output.now (own_flip_flop m trits.now i c)) }
 {
-    let mut no_log = [0u32; 0];
-    let start = st.dry_start();
-    let dry = emit_port(
-        &mut no_log,
-        start,
-        under,
-        bits,
-        mask,
-        sel,
-        spare,
-        kx,
-        ky,
-        at,
-        m,
-        nets,
-        trits,
-        i,
-        p,
-        c,
-        output,
-    );
-    let after = dry.state;
-    rules::number_of(st.dry_refusal(room, after))
+    let mut dry = Log {
+        words: &mut [],
+        state: st.dry_start(),
+    };
+    emit_port(&mut dry, overlay, m, nets, trits, i, p, c, output);
+    rules::number_of(st.dry_refusal(room, dry.state))
 }
 
 // The pair of a read port of this k and address and write port j has too few address bits.
 pub fn pair_short(m: Memory, nets: &[u32], raddr: &[u32], kr: u32, j: usize) -> bool
     ensures { (trits : List ℕ) (r : ReadPort) → kr ≡ read_wide_log2 (memory_of m nets.now trits) r → raddr.now ≡ r.addr → result ≡ short_pair (memory_of m nets.now trits) r j }
 {
-    let waddr = port_overlay::write_addr(m, nets, j);
-    let wdata = port_overlay::write_data(m, nets, j);
-    let kw = net_memory::wide::wide_log(m.width, wdata.len());
-    rules::number_of(net_value::narrower_select_refusal(waddr, raddr, kw, kr)) != 0
+    let w = port_overlay::writing(m, nets, j);
+    rules::number_of(net_value::narrower_select_refusal(w.addr, raddr, w.k, kr)) != 0
 }
 
 // The same where the relation to it is Transparent.
@@ -153,12 +112,10 @@ fn related_short(m: Memory, nets: &[u32], raddr: &[u32], kr: u32, x: u8, j: usiz
 fn pairs_short(m: Memory, nets: &[u32], raddr: &[u32], kr: u32, rels: &[u8]) -> bool
     ensures { (trits : List ℕ) (r : ReadPort) → kr ≡ read_wide_log2 (memory_of m nets.now trits) r → raddr.now ≡ r.addr → result ≡ any (short_pair (memory_of m nets.now trits) r) (transparent_from 0 rels.now) }
 {
-    let mut j = 0;
-    while j < rels.len() {
-        if related_short(m, nets, raddr, kr, rels[j], j) {
+    for (j, x) in rels.iter().enumerate() {
+        if related_short(m, nets, raddr, kr, *x, j) {
             return true;
         }
-        j += 1;
     }
     false
 }
@@ -243,33 +200,19 @@ fn unmap_clocked(
     ensures log_after { driven_of result nets.now trits.now output.new log.new ≡ driven (log_refusal (length log.old) (state_of st) (unmap_dff (memory_of m nets.now trits.now) i output.old (own_flip_flop m trits.now i c))) log.old (state_of st) (driving m nets.now trits.now output.old) (unmap_dff (memory_of m nets.now trits.now) i output.old (own_flip_flop m trits.now i c)) }
     ensures new_struct { NewStruct m st i result }
 {
-    let mut under = [0u32; rules::MAX_MERGE];
-    let mut bits = [0u32; rules::MAX_MERGE];
-    let mut mask = [0u32; rules::MAX_MERGE];
-    let mut sel = [0u32; rules::MAX_MERGE];
-    let mut spare = [0u32; rules::MAX_MERGE];
-    let mut kx = [0u32; rules::MAX_MERGE];
-    let mut ky = [0u32; rules::MAX_MERGE];
-    let mut at = [0u32; rules::MAX_MERGE];
-    let n = dry_number(
-        log.len(),
-        st,
-        &mut under,
-        &mut bits,
-        &mut mask,
-        &mut sel,
-        &mut spare,
-        &mut kx,
-        &mut ky,
-        &mut at,
-        m,
-        nets,
-        trits,
-        i,
-        p,
-        c,
-        output,
-    );
+    let mut overlay = Overlay {
+        under: [0; rules::MAX_MERGE],
+        bits: [0; rules::MAX_MERGE],
+        mask: [0; rules::MAX_MERGE],
+        select: [0; rules::MAX_MERGE],
+        spare: [0; rules::MAX_MERGE],
+        keys: Keys {
+            x: [0; rules::MAX_MERGE],
+            y: [0; rules::MAX_MERGE],
+            at: [0; rules::MAX_MERGE],
+        },
+    };
+    let n = dry_number(log.len(), st, &mut overlay, m, nets, trits, i, p, c, output);
     if n != 0 {
         return Driven {
             refusal: n,
@@ -277,18 +220,18 @@ fn unmap_clocked(
             state: st,
         };
     }
-    let done = emit_port(
-        log, st, &mut under, &mut bits, &mut mask, &mut sel, &mut spare, &mut kx, &mut ky, &mut at,
-        m, nets, trits, i, p, c, output,
-    );
-    let state = done.state;
+    let mut log = Log {
+        words: log,
+        state: st,
+    };
+    let last = emit_port(&mut log, &mut overlay, m, nets, trits, i, p, c, output);
     let start = net_memory::output_start(m, i);
-    lists::store_run(output, start, st.next, done.last);
+    lists::store_run(output, start, st.next, last);
     let memory = unclock(m, i, p);
     Driven {
         refusal: 0,
         memory,
-        state,
+        state: log.state,
     }
 }
 
@@ -319,7 +262,8 @@ fn unmap_port(
     }
 }
 
-// unmap_read_dff: the port reads at once into new void nets, which take its place among the outputs; its flip-flop stands behind.
+// unmap_read_dff: the port reads at once into new void nets, which take its place among the outputs; its flip-flop stands behind. The call takes its log
+// and the log's state apart, as C hands them.
 pub fn unmap_read_dff(
     log: &mut [u32],
     st: LogState,

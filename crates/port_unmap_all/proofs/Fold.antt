@@ -24,7 +24,8 @@ use Rattle.rules.specs.Log.{Entry, Made, Trace, ◌>>=◌, ◌>>◌, done, reque
 use Rattle.rules.specs.Ports.{Overlay, transparency_mux, transparencies, Driving, unmap_dff, unmap_read_dff_of, unmap_read_dff, unmap_each, unmap_all}
 use Rattle.port_transparency.specs.Pairs.{reading, plain, laid_over}
 use Rattle.port_overlay.specs.Laid.{laid_from, behind}
-use Rattle.port_unmap_all.specs.All.{related, unmapped_to, unmapped_of, unmapped_at, unmapped_each, unmapped_all, bare, all_bare}
+use Rattle.port_unmap.specs.Trace.{related}
+use Rattle.port_unmap_all.specs.All.{unmapped_to, unmapped_of, unmapped_at, unmapped_each, unmapped_all, bare, all_bare}
 use Rattle.port_unmap_all.proofs.Bare.{bare_to, bare_at, bare_sum, bare_set, bare_none, bare-all}
 
 -- a port's trace, with any value of its void nets

@@ -33,7 +33,8 @@ use Rattle.port_transparency.specs.Gave.{Gave}
 use Rattle.port_transparency.specs.Pairs.{reading}
 use Rattle.port_overlay.specs.Laid.{laid_from}
 use Rattle.port_overlay.proofs.Fits.{Shaped, Reads, reads_shaped, from_is}
-use Rattle.port_unmap_all.specs.All.{related, unmapped_to, unmapped_of, unmapped_at, unmapped_each, unmapped_all, all_bare, AllReady}
+use Rattle.port_unmap.specs.Trace.{related}
+use Rattle.port_unmap_all.specs.All.{unmapped_to, unmapped_of, unmapped_at, unmapped_each, unmapped_all, all_bare, AllReady}
 use Rattle.port_unmap_all.proofs.Fold.{Like, Fine, all_like}
 
 -- ---- each clocked port is fine

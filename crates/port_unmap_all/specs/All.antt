@@ -1,20 +1,17 @@
 -- All read ports unmapped as the code does it: each from the memory and the outputs as given, its void nets stored in a room for the outputs after.
-use Rattle.std.specs.Prelude.{◌≡◌, ℕ, ◌≤◌, false, List, [], ◌∷◌, map, length, take, ltb}
+use Rattle.std.specs.Prelude.{◌≡◌, ℕ, ◌≤◌, false, List, [], ◌∷◌, map, length, ltb}
 use Rattle.std.proofs.Math.Option.{Option, none, some}
 use Rattle.std.proofs.lemmas.List.Edits.{sets}
 use Rattle.lists.specs.Choice.{when◌then◌else◌}
 use Rattle.lists.specs.Lists.{any, up_from}
-use Rattle.rules.specs.Limits.{max_merge, max_ports}
+use Rattle.rules.specs.Limits.{max_merge}
 use Rattle.rules.specs.Value.{Value}
 use Rattle.rules.specs.Cell.{ReadFlipFlop, ReadPort, Mem, read_at_of, read_wide_log2, flip_flop_of, output_start, output_slice, with_reads}
 use Rattle.rules.specs.Conditions.{bad_write_shape, bad_read_shape, short_ports}
 use Rattle.rules.specs.Log.{Trace, ◌>>=◌, ◌>>◌, done, add_void_of}
 use Rattle.port_transparency.specs.Pairs.{reading, plain}
-use Rattle.port_overlay.specs.Laid.{laid_from, behind, unmapped_if}
-
--- a port's relations, of which a struct has eight at most
-abbrev pub related : ReadFlipFlop → List ℕ
-related f = take max_ports f.relations
+use Rattle.port_overlay.specs.Laid.{laid_from, behind}
+use Rattle.port_unmap.specs.Trace.{related}
 
 -- unmap_read_dff of clocked port i: the void nets take its place in the room
 unfoldable pub unmapped_to : Mem → ℕ → Value → ReadFlipFlop → Value → Trace Value
@@ -42,11 +39,6 @@ unmapped_each (i ∷ is) m output room = do
 -- all of them
 unfoldable pub unmapped_all : Mem → Value → Value → Trace Value
 unmapped_all m output room = unmapped_each (up_from 0 (length m.reads)) m output room
-
--- the entries of one port, as port_overlay gives them
-abbrev pub port_trace : Mem → ℕ → Value → ReadFlipFlop → Trace Value
-port_trace m i output f =
-    unmapped_if m (read_wide_log2 m (read_at_of m i)) (reading (read_at_of m i).addr (read_at_of m i).data_len) (read_at_of m i).data_len (related f) (flip_flop_of f) (output_slice m i output)
 
 -- a port without its flip-flop, and a memory of such ports
 abbrev pub bare : ReadPort → ReadPort

@@ -17,6 +17,6 @@ returns c =
     let v = c.args in
     let q = c.pack_trits-n in
     let p = c.emit_merged in
-    let s : length v.packs.now.column ≡ max_merge = omega arith in
-    let e = rules_merge (controls_of v.f.controls) v.f.bits.now v.f.clear.now v.f.reset.now v.f.init.now _ q.ensures.bytes (column v.packs.now.column q.new.to _ q.result q.ensures.to_after s q.ensures.value) in
+    let s : length v.column.now ≡ max_merge = omega arith in
+    let e = rules_merge (controls_of v.f.controls) v.f.bits.now v.f.clear.now v.f.reset.now v.f.init.now _ q.ensures.bytes (column v.column.now q.new.to _ q.result q.ensures.to_after s q.ensures.value) in
     record { log_after = p.ensures.log_after ∙ ap (λ (t : Trace Value). run t (lent_of v.log.now)) e; out_after = p.ensures.out_after ∙ ap (λ (t : Trace Value). results (is_over (state_of p.new.log.state)) v.out.now 0 (t v.log.now.state.next).value) e }

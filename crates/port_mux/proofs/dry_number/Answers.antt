@@ -2,7 +2,7 @@
 use mathlib.Core.Path.{◌∙◌}
 use Rattle.rules.specs.Ports.{transparency_mux}
 use Rattle.log_entries.specs.View.{state_of}
-use Rattle.log_entries.proofs.Emission.{dry_called}
+use Rattle.log_entries.proofs.Emission.{dry_called, unnamed, run_name}
 use Rattle.net_memory.specs.View.{memory_of}
 use Rattle.port_overlay.proofs.Bounds.{chains_mux_at}
 use Rattle.port_mux.specs.Call.{overlay_of}
@@ -12,10 +12,11 @@ use Rattle.port_mux.proofs.dry_number.Goals as goal
 pub returns : goal.returns
 returns c =
     let v = c.args in
-    let p = c.emit_mux-dry in
+    let p = c.emit_mux in
     let q = c.dry_refusal in
     let s = state_of v.st in
     let w = memory_of v.m v.nets.now v.trits.now in
     let o = overlay_of v.masked v.bits.now v.mask.now in
+    let n = run_name (transparency_mux w v.i v.j o) _ _ p.ensures.ran in
     dry_called (transparency_mux w v.i v.j o) v.room s _ (chains_mux_at w v.i v.j o) (mux_below v.m v.nets.now v.trits.now v.i v.j v.masked v.bits.now v.mask.now c.requires.0 s)
-    p.new.log _ (state_of p.result) c.number_of.result c.dry_start-start.ensures p.ensures.ran (c.number_of.ensures ∙ q.ensures)
+    p.new.log.words.now _ (state_of p.new.log.state) c.number_of.result c.dry_start.ensures (unnamed (transparency_mux w v.i v.j o) 0 _ _ p.ensures.ran) (c.number_of.ensures ∙ q.ensures)

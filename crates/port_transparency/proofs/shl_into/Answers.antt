@@ -3,7 +3,7 @@ use mathlib.Core.Path.{sym}
 use native.Mathlib.Omega.{arith}
 use lib.ListN.{take}
 use lib.Seq.{length-take-le}
-use Rattle.log_entries.specs.View.{lent}
+use Rattle.log_entries.specs.View.{lent_of}
 use Rattle.port_transparency.proofs.Seen.{length_zext, zext_stored, gave_shl}
 use Rattle.port_transparency.proofs.shl_into.Goals as goal
 
@@ -13,7 +13,7 @@ slice_bounds-emit_shl-end-2 c = sym (length-take-le _ _ (omega (arith, c.require
 pub returns : goal.returns
 returns c =
     let v = c.args in
-    let p = c.emit_shl-after in
+    let p = c.emit_shl in
     let z = c.store_zext.new.out in
-    gave_shl v.select.now v.v.now (take v.n z) v.n (lent v.st v.log.now) (lent p.result p.new.log) v.out.now c.store_run.new.to c.requires.0
+    gave_shl v.select.now v.v.now (take v.n z) v.n (lent_of v.log.now) (lent_of p.new.self) v.out.now c.store_run.new.to c.requires.0
     (zext_stored v.z.now z v.v.now v.n v.n c.store_zext.ensures (length_zext v.v.now v.n c.requires.0) c.requires.3) p.ensures c.store_run.ensures c.requires.2

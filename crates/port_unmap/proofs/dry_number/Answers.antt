@@ -1,20 +1,25 @@
 -- `port_unmap::dry_number` meets its contract.
 use mathlib.Core.Path.{◌∙◌}
 use Rattle.log_entries.specs.View.{state_of}
-use Rattle.log_entries.proofs.Emission.{dry_called}
+use Rattle.log_entries.proofs.Emission.{dry_called, run_name}
 use Rattle.rules.specs.Ports.{unmap_dff}
 use Rattle.net_memory.specs.View.{memory_of}
 use Rattle.port_overlay.proofs.Bounds.{chains_unmap}
 use Rattle.port_unmap.specs.Ready.{own_flip_flop}
-use Rattle.port_unmap.proofs.Port.{unmap_below}
+use Rattle.port_unmap.specs.Trace.{port_trace}
+use Rattle.port_unmap.proofs.Port.{unmap_below, own_ran}
 use Rattle.port_unmap.proofs.dry_number.Goals as goal
+
+pub emit_port-requires : goal.emit_port-requires
+emit_port-requires c = (c.requires.0.port.there, c.requires.1)
 
 pub returns : goal.returns
 returns c =
     let v = c.args in
-    let p = c.emit_port-dry in
+    let p = c.emit_port in
     let q = c.dry_refusal in
     let s = state_of v.st in
     let f = own_flip_flop v.m v.trits.now v.i v.c in
+    let n = run_name (port_trace (memory_of v.m v.nets.now v.trits.now) v.i v.output.now f) _ _ p.ensures.log_after in
     dry_called (unmap_dff (memory_of v.m v.nets.now v.trits.now) v.i v.output.now f) v.room s _ (chains_unmap (memory_of v.m v.nets.now v.trits.now) v.i v.output.now f) (unmap_below v.m v.nets.now v.trits.now v.i v.c c.requires.0 v.output.now s)
-    p.new.log _ (state_of p.result.state) c.number_of.result c.dry_start-start.ensures p.ensures.log_after (c.number_of.ensures ∙ q.ensures)
+    p.new.log.words.now _ (state_of p.new.log.state) c.number_of.result c.dry_start.ensures (own_ran v.m v.nets.now v.trits.now v.i v.c c.requires.0 0 v.output.now _ _ p.ensures.log_after) (c.number_of.ensures ∙ q.ensures)

@@ -1,6 +1,5 @@
 -- `port_unmap::pairs_short` meets its contract.
 use mathlib.Core.Path.{refl, sym, ◌∙◌}
-use Prim.Native.Nat.{◌-◌}
 use native.Mathlib.Omega.{arith}
 use Rattle.rules.specs.Conditions.{short_pair}
 use Rattle.net_memory.specs.View.{memory_of}
@@ -15,23 +14,17 @@ returns-then-related_short c =
     let v = c.args in
     let h = c.loop-j in
     let p = c.related_short in
-    λ trits r e q. left_found (short_pair (memory_of v.m v.nets.now trits) r) v.rels.now h.j c.loop-j-test.true (h.invariant trits r e q) (sym c.if-related_short.true ∙ p.ensures trits r e q)
-
-pub overflow_add-j : goal.overflow_add-j
-overflow_add-j c = omega (arith, c.loop-j-test.true, c.well_formed.1.1.1.1.0)
-
-pub loop-j-smaller : goal.loop-j-smaller
-loop-j-smaller c = omega (arith, c.loop-j-test.true)
+    λ trits r e q. left_found (short_pair (memory_of v.m v.nets.now trits) r) v.rels.now h.j (omega arith) (h.invariant trits r e q) (sym c.if-related_short.true ∙ p.ensures trits r e q)
 
 pub loop-j-preserved : goal.loop-j-preserved
 loop-j-preserved c =
     let v = c.args in
     let h = c.loop-j in
     let p = c.related_short in
-    λ trits r e q. left_next (short_pair (memory_of v.m v.nets.now trits) r) v.rels.now h.j c.loop-j-test.true (h.invariant trits r e q) (sym c.if-related_short.false ∙ p.ensures trits r e q)
+    λ trits r e q. left_next (short_pair (memory_of v.m v.nets.now trits) r) v.rels.now h.j (omega arith) (h.invariant trits r e q) (sym c.if-related_short.false ∙ p.ensures trits r e q)
 
 pub returns : goal.returns
 returns c =
     let v = c.args in
     let h = c.loop-j in
-    λ trits r e q. left_end (short_pair (memory_of v.m v.nets.now trits) r) v.rels.now h.j c.loop-j-test.false (h.invariant trits r e q)
+    λ trits r e q. left_end (short_pair (memory_of v.m v.nets.now trits) r) v.rels.now h.j (omega arith) (h.invariant trits r e q)

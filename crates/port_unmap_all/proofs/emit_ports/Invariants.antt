@@ -1,14 +1,10 @@
 -- The invariants of `port_unmap_all::emit_ports`.
 use mathlib.Core.Path.{◌≡◌}
-use Prim.Native.Nat.{◌-◌, ◌≤◌}
 use lib.ListN.{length}
-use Rattle.log_entries.specs.View.{lent}
+use Rattle.log_entries.specs.View.{lent_of}
 use Rattle.net_memory.specs.View.{memory_of}
 use Rattle.port_unmap_all.proofs.Walk.{Going}
 use Rattle.port_unmap_all.proofs.emit_ports.Given as goal
 
 abbrev pub invariant-loop-i : goal.invariant-loop-i
-invariant-loop-i l = (l.i ≤ l.count) × (length l.log ≡ length l.initial.log) × (length l.after ≡ length l.initial.after) × Going (memory_of l.m l.nets l.trits) l.output l.count l.initial.after (lent l.initial.state l.initial.log) l.i l.after (lent l.state l.log)
-
-abbrev pub decreases-loop-i : goal.decreases-loop-i
-decreases-loop-i l = l.count - l.i
+invariant-loop-i l = (length l.after ≡ length l.initial.after) × Going (memory_of l.m l.nets l.trits) l.output l.count l.initial.after (lent_of l.initial.log) l.i l.after (lent_of l.log)
