@@ -6,17 +6,16 @@ use native.Mathlib.Omega.{arith}
 use mathlib.Core.List.{List, [], ◌∷◌, ◌++◌, map, append-nil}
 use lib.ListN.{length, get_or, set, take, drop, drop_of_length-le}
 use lib.Seq.{take_all, take-suc-set, drop-set-lt, drop-cons, append_snoc}
-use Rattle.lists.specs.Lists.{sum_by}
 use Rattle.lists.specs.Views.{views}
 use Rattle.rules.specs.Limits.{max_ports}
 use Rattle.rules.specs.Cell as rules
 use Rattle.rules.specs.Cell.{with_reads}
 use Rattle.net_memory.specs.declared.MemoryReadPort.{MemoryReadPort}
 use Rattle.net_memory.specs.declared.Memory.{Memory}
-use Rattle.net_memory.specs.View.{memory_of, no_read_port, read_ports_of, addr_size, trit_size, read_by, reads_start, reads_of}
+use Rattle.net_memory.specs.View.{memory_of, no_read_port, read_ports_of, addr_size, trit_size, read_by, reads_start}
 use Rattle.port_unmap.specs.Call.{without}
 use Rattle.port_unmap_all.specs.All.{bare, all_bare}
-use Rattle.fallback_bare.specs.Bare.{with_ports, bare_of}
+use Rattle.fallback_bare.specs.Bare.{bare_of}
 
 -- ---- the loop: what is left from i on gives the whole
 abbrev pub left_from : ℕ → List MemoryReadPort → List MemoryReadPort

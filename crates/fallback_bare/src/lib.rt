@@ -13,16 +13,9 @@ use net_memory::{Memory, MemoryReadPort};
 fn bare_port(p: MemoryReadPort) -> MemoryReadPort
     ensures { result ≡ without p }
 {
-    let relations = p.relations;
     MemoryReadPort {
-        addr_len: p.addr_len,
-        data_len: p.data_len,
-        clear_len: p.clear_len,
-        reset_len: p.reset_len,
-        init_len: p.init_len,
-        relations_len: p.relations_len,
-        relations,
         flip_flop: None,
+        ..p
     }
 }
 
@@ -32,12 +25,8 @@ pub fn bare_memory(m: Memory) -> Memory
     ensures value { result ≡ bare_of m }
 {
     let mut out = m;
-    let mut i = 0;
-    while i < rules::MAX_PORTS {
-        let p = out.read_ports[i];
-        let q = bare_port(p);
-        out.read_ports[i] = q;
-        i += 1;
+    for i in 0..rules::MAX_PORTS {
+        out.read_ports[i] = bare_port(out.read_ports[i]);
     }
     out
 }

@@ -19,7 +19,7 @@ use Rattle.rules.specs.Numbers.{largest}
 use Rattle.rules.specs.Value.{Value}
 use Rattle.rules.specs.Cell.{WritePort, ReadPort, Mem, wide_log2, write_wide_log2}
 use Rattle.rules.specs.Conditions.{bad_depth, bad_data_len, unequal, bad_write_shape}
-use Rattle.rules.specs.Log.{◌>>=◌, ◌>>◌, done}
+use Rattle.rules.specs.Log.{◌>>=◌, done}
 use Rattle.rules.specs.Merge.{runs}
 use Rattle.rules.specs.Geometry.{Layout, layout_of, row_len_of, all_chunks, columns}
 use Rattle.rules.specs.Swizzle.{Split, split_by, split_addr, sources, repeating, blank, mem_part, mask_pieces, WideWrite, swizzle_write, swizzle_writes, write_part, swizzle_reads, read_part, result_mem, swizzle}

@@ -18,7 +18,7 @@ use Rattle.rules.specs.Limits.{X, None, addr_bits}
 use Rattle.rules.specs.Numbers.{softs, bits_for}
 use Rattle.rules.specs.Value.{Value}
 use Rattle.rules.specs.Log.{done}
-use Rattle.rules.specs.Geometry.{Layout, row_len_of, all_chunks, columns}
+use Rattle.rules.specs.Geometry.{Layout, row_len_of, all_chunks}
 use Rattle.rules.specs.Swizzle.{Role, High, roles, low_roles, mux_roles, count_doubles, Split, split_by, split_addr, piece_start, old_rows, sources, repeating, store_rows, store_piece, piece_mask, mask_pieces}
 use Rattle.rules.proofs.Traces.{bind_value}
 use Rattle.swizzle_laws.proofs.ReadCounts.{bits_enough}

@@ -55,13 +55,10 @@ fn mask_runs(width: u32, mask: &[u32]) -> usize
     let mut left: u32 = 0;
     let mut last: u32 = 0;
     let mut runs: usize = 0;
-    let mut i = 0;
-    while i < end {
-        let net = mask[i];
-        runs += starts_run(left, last, net);
+    for i in 0..end {
+        runs += starts_run(left, last, mask[i]);
         left = left_after(width, left);
-        last = net;
-        i += 1;
+        last = mask[i];
     }
     runs
 }
@@ -72,7 +69,7 @@ fn pieces_by(depth: usize, rows: usize, addr: usize, wide: usize) -> usize
     ensures { ((k : ℕ) → wide ≡ 2 ^ k → result ≡ pieces_by depth rows addr k) × (result ≤ depth) }
 {
     let bits = addr.min(32) as u32;
-    let most = lists::usize_of_u64(lists::two_to(bits)).min(rows / wide);
+    let most = (lists::two_to(bits) as usize).min(rows / wide);
     depth / rows * most
 }
 
@@ -94,7 +91,7 @@ fn port_runs(p: MemoryWritePort, x: &[u32], depth: usize, width: u32, rows: usiz
     ensures { (result ≡ runs_by_of depth width rows (write_by p x.now [])) × (result ≤ port_most) }
 {
     let k = net_memory::wide::wide_log(width, net_memory::data_count(p, x));
-    let wide = lists::usize_of_u64(lists::two_to(k));
+    let wide = lists::two_to(k) as usize;
     let addr = net_memory::addr_of(p, x).len();
     let runs = mask_runs(width, net_memory::mask_of(p, x));
     spread_runs(depth, pieces_by(depth, rows, addr, wide), wide, runs)
@@ -107,11 +104,9 @@ fn ports_runs(m: Memory, nets: &[u32], depth: usize, rows: usize) -> usize
 {
     let count = net_memory::ports_used(m.write_count);
     let mut runs: usize = 0;
-    let mut i = 0;
-    while i < count {
-        let p = m.write_ports[i];
-        runs += port_runs(p, net_memory::write_nets(m, nets, i), depth, m.width, rows);
-        i += 1;
+    for i in 0..count {
+        let own = net_memory::write_nets(m, nets, i);
+        runs += port_runs(m.write_ports[i], own, depth, m.width, rows);
     }
     runs
 }
@@ -160,7 +155,7 @@ fn widest_rows(m: Memory, nets: &[u32]) -> usize
     ensures { ((trits : List ℕ) → result ≡ 2 ^ max_wide_log2 (memory_of m nets.now trits)) × (0 < result) }
 {
     let s = fallback_plan::fallback_swizzle(m, nets);
-    lists::usize_of_u32(s.soft_addr_bits_mask) + 1
+    s.soft_addr_bits_mask as usize + 1
 }
 
 // The words and nets of all rows of a fallback; none where a size is past the limits.
@@ -168,17 +163,11 @@ pub fn rows_size(m: Memory, nets: &[u32]) -> RowsSize
     ensures by_index { (trits : List ℕ) → (result.words ≡ size_words (memory_of m nets.now trits)) × (result.nets ≡ size_nets (memory_of m nets.now trits)) }
     ensures words_bound { (result.words < 4294967296) × (result.nets < 4294967296) }
 {
-    if rules::MAX_DEPTH < m.depth {
+    if rules::MAX_DEPTH < m.depth || rules::MAX_WIDTH < m.width || m.width == 0 {
         return RowsSize { words: 0, nets: 0 };
     }
-    if rules::MAX_WIDTH < m.width {
-        return RowsSize { words: 0, nets: 0 };
-    }
-    if m.width == 0 {
-        return RowsSize { words: 0, nets: 0 };
-    }
-    let depth = lists::usize_of_u32(m.depth);
-    let width = lists::usize_of_u32(m.width);
+    let depth = m.depth as usize;
+    let width = m.width as usize;
     let reads = net_memory::ports_used(m.read_count);
     let writes = net_memory::ports_used(m.write_count);
     let runs = ports_runs(m, nets, depth, widest_rows(m, nets));

@@ -4,14 +4,14 @@ use Prim.Native.Nat.{ℕ, ◌+◌, ◌-◌, ◌/◌, ◌^◌, ◌<◌, ◌≤◌
 use native.Mathlib.Numerals.{add-one}
 use native.Mathlib.Omega.{arith}
 use mathlib.Core.List.{List, [], ◌∷◌, map}
-use lib.ListN.{length, get_or, take, drop, replicate, length-map, get_or-map, drop_of_length-le, length-take, length-replicate}
-use lib.Seq.{sets, drop-cons, get_or-take}
+use lib.ListN.{length, get_or, take, drop, replicate, length-map, get_or-map, drop_of_length-le, length-replicate}
+use lib.Seq.{sets, drop-cons}
 use Rattle.lists.specs.Lists.{up_from}
 use Rattle.lists.proofs.Stores.{take_stored}
 use Rattle.lists.proofs.Parts.{get_d_any}
 use Rattle.rules.specs.Limits.{addr_bits, max_ports}
-use Rattle.rules.specs.Numbers.{top_bits, largest}
-use Rattle.rules.specs.Cell.{ReadPort, WritePort, Mem, Plan, wide_log2, write_wide_log2, read_wide_log2, read_at_of}
+use Rattle.rules.specs.Numbers.{largest}
+use Rattle.rules.specs.Cell.{ReadPort, WritePort, Mem, wide_log2, write_wide_log2, read_wide_log2, read_at_of}
 use Rattle.rules.specs.Fallback.{max_wide_log2, fallback_plan}
 use Rattle.rules.proofs.Walks.{tops_le}
 use Rattle.net_memory.specs.declared.Memory.{Memory}

@@ -1,21 +1,20 @@
 -- The scratch of the split by the plan of a fallback: the pieces of a read port are no more bits than the memory has.
 use mathlib.Core.Path.{◌≡◌, refl, sym, ap, ◌∙◌, subst}
-use Prim.Native.Nat.{ℕ, zero, suc, ◌+◌, ◌-◌, ◌*◌, ◌^◌, ◌≤◌}
+use Prim.Native.Nat.{ℕ, zero, ◌-◌, ◌*◌, ◌^◌, ◌≤◌}
 use native.Mathlib.Nat.{mul_assoc, mul_comm, mul-le-mul_right}
 use native.Mathlib.Omega.{arith}
-use mathlib.Core.Bool.{Bool, false, not}
+use mathlib.Core.Bool.{false}
 use mathlib.Core.List.{List, [], ◌∷◌, map}
-use lib.Dec.{eqb}
 use borrow.Author.Tests.{eqb-true, not-false}
 use Rattle.lists.specs.Lists.{any, pairs}
 use Rattle.lists.proofs.Choice.{or_false}
 use Rattle.rules.specs.Limits.{addr_bits}
 use Rattle.rules.specs.Numbers.{largest}
 use Rattle.rules.specs.Cell.{ReadPort, Mem, read_wide_log2}
-use Rattle.rules.specs.Geometry.{Layout, layout_of, all_chunks}
+use Rattle.rules.specs.Geometry.{layout_of, all_chunks}
 use Rattle.rules.specs.Swizzle.{split_addr, piece_nets}
 use Rattle.rules.specs.Conditions.{bad_depth, bad_data_len, bad_read_shape}
-use Rattle.rules.specs.Fallback.{max_wide_log2, fallback_plan}
+use Rattle.rules.specs.Fallback.{fallback_plan}
 use Rattle.fallback_plan.proofs.Numbers.{K, q, chunks_all, whole_depth, reads_low}
 use Rattle.fallback_plan.proofs.Pieces.{pieces_fit_lem}
 

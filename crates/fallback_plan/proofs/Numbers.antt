@@ -2,7 +2,7 @@
 use mathlib.Core.Path.{◌≡◌, refl, sym, ap, ◌∙◌, subst}
 use mathlib.Core.Logic.{◌≢◌, ⊎_elim}
 use Prim.Native.Nat.{ℕ, zero, suc, ◌+◌, ◌-◌, ◌*◌, ◌/◌, ◌%◌, ◌^◌, ◌<◌, ◌≤◌, min, max}
-use native.Mathlib.Nat.{zero-add, pow-succ', mul_comm, mul_assoc, mul-one, one-mul, eq-zero-or-pos, div-add-mod', mod-one, div-one, mul-zero, mul-add-div_right, div-eq_of_lt}
+use native.Mathlib.Nat.{zero-add, pow-succ', mul_comm, mul_assoc, mul-one, eq-zero-or-pos, div-add-mod', mod-one, div-one, mul-zero, mul-add-div_right, div-eq_of_lt}
 use native.Mathlib.Omega.{arith}
 use lib.Pow.{pow_pos}
 use mathlib.Core.Bool.{Bool, true, false, not, ◌&&◌, ◌||◌}
@@ -10,14 +10,14 @@ use mathlib.Core.Option.{none}
 use mathlib.Core.List.{List, [], ◌∷◌, map}
 use lib.ListN.{length, get_or, length-map}
 use lib.Dec.{eqb, ltb, leb}
-use borrow.Author.Tests.{eq-eqb, ne_eqb, eqb-true, not-false, le-ltb, lt-leb}
+use borrow.Author.Tests.{eq-eqb, eqb-true, not-false, le-ltb, lt-leb}
 use Rattle.lists.specs.Choice.{when◌then◌else◌, ◌or_else◌}
 use Rattle.lists.specs.Lists.{any, pairs, up_from}
 use Rattle.lists.proofs.Choice.{or_false, if_true}
 use Rattle.lists.proofs.UpFrom.{length_up}
 use Rattle.rules.specs.Limits.{None, addr_bits, max_bits, max_columns, max_image}
 use Rattle.rules.specs.Numbers.{ceil_div, softs, top_bits, largest}
-use Rattle.rules.specs.Cell.{WritePort, ReadPort, Mem, Plan, write_wide_log2, read_wide_log2, read_at_of}
+use Rattle.rules.specs.Cell.{WritePort, ReadPort, Mem, write_wide_log2, read_wide_log2, read_at_of}
 use Rattle.rules.specs.Geometry.{Layout, layout_of, soft_bits, soft, row_len_of, full_depth_of, full_chunks, part_depth_of, all_chunks, full_mems, all_mems, columns}
 use Rattle.rules.specs.Image.{rows_before, mem_start, trits}
 use Rattle.rules.specs.Conditions.{indivisible, bad_depth, times, bad_entry, bad_names, bad_entries, bad_soft_mask, bad_wide, bad_writes, bad_reads, all_reads, result_too_large, image_too_large}

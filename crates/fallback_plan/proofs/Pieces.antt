@@ -1,11 +1,11 @@
 -- The pieces of a port by the plan of a fallback: no more than there are rows of the port, so that they fit where the rows do.
 use mathlib.Core.Path.{◌≡◌, refl, sym, ap, ◌∙◌, subst}
 use Prim.Native.Nat.{ℕ, zero, suc, ◌+◌, ◌-◌, ◌*◌, ◌/◌, ◌%◌, ◌^◌, ◌<◌, ◌≤◌, min}
-use native.Mathlib.Nat.{pow-succ', div-one, div-div-eq-div-mul, mul_assoc, mul_comm, le_trans, mul-le-mul_left, mul-le-mul_right, pow-le-pow_right}
+use native.Mathlib.Nat.{pow-succ', div-one, div-div-eq-div-mul, mul_assoc, mul-le-mul_left, mul-le-mul_right, pow-le-pow_right}
 use native.Mathlib.Omega.{arith}
 use lib.Pow.{pow-add}
 use mathlib.Core.Bool.{Bool, true, false}
-use mathlib.Core.List.{List, [], ◌∷◌}
+use mathlib.Core.List.{[], ◌∷◌}
 use lib.ListN.{length}
 use lib.Dec.{eqb}
 use borrow.Author.Tests.{eqb-true, eqb-false}
@@ -15,7 +15,7 @@ use Rattle.rules.specs.Numbers.{softs}
 use Rattle.rules.specs.Value.{Value}
 use Rattle.rules.specs.Log.{flag}
 use Rattle.rules.specs.Geometry.{Layout, all_chunks}
-use Rattle.rules.specs.Swizzle.{Role, Soft, High, role_of, doubles, wide_after, rows_after, roles, count_doubles, Split, split_by, split_addr}
+use Rattle.rules.specs.Swizzle.{Role, Soft, High, role_of, doubles, roles, count_doubles, split_by, split_addr}
 use Rattle.fallback_plan.proofs.Numbers.{half_ones, ones-softs}
 use Rattle.fallback_plan.proofs.Spots.{wide_none, rows_none}
 

@@ -8,7 +8,7 @@ use lib.Pow.{pow_pos}
 use mathlib.Core.Bool.{Bool, true, false, ◌&&◌}
 use mathlib.Core.List.{List, [], ◌∷◌, ◌++◌}
 use lib.ListN.{length, replicate}
-use lib.Dec.{eqb, ltb}
+use lib.Dec.{eqb}
 use borrow.Author.Tests.{eq-eqb}
 use Rattle.lists.specs.Choice.{when◌then◌else◌}
 use Rattle.lists.specs.Lists.{all}
@@ -16,7 +16,7 @@ use Rattle.lists.proofs.Choice.{and_true}
 use Rattle.rules.specs.Numbers.{softs, bits_for}
 use Rattle.rules.specs.Value.{Value}
 use Rattle.rules.specs.Geometry.{Layout, Spot, under, row_len_of, all_chunks, columns}
-use Rattle.rules.specs.Swizzle.{Role, Soft, Wide, Row, High, role_of, is_chunk, is_row, wide_after, rows_after, roles, low_roles, mux_roles, spot_by, Split, count_doubles, split_by, split_addr, piece_start}
+use Rattle.rules.specs.Swizzle.{Role, Soft, Wide, High, role_of, is_chunk, is_row, wide_after, rows_after, roles, low_roles, mux_roles, spot_by, Split, count_doubles, split_by, split_addr, piece_start}
 use Rattle.fallback_plan.proofs.Numbers.{half_ones}
 
 abbrev pub Chunks : List Role → Type 0

@@ -14,26 +14,14 @@ ghost use Rattle.swizzle_plan.specs.Calls.{plan_of};
 use net_memory::Memory;
 use swizzle_plan::MemorySwizzle;
 
-// The larger of two wide logs.
-fn larger_log(a: u32, b: u32) -> u32
-    ensures { result ≡ max a b }
-{
-    if a < b {
-        return b;
-    }
-    a
-}
-
 // The largest of the first wide logs.
 fn largest_of(logs: [u32; rules::MAX_PORTS], count: usize) -> u32
     requires { count ≤ max_ports }
     ensures { result ≡ largest (take count logs) }
 {
     let mut most: u32 = 0;
-    let mut i = 0;
-    while i < count {
-        most = larger_log(most, logs[i]);
-        i += 1;
+    for i in 0..count {
+        most = most.max(logs[i]);
     }
     most
 }
@@ -42,13 +30,10 @@ fn largest_of(logs: [u32; rules::MAX_PORTS], count: usize) -> u32
 fn largest_read(m: Memory) -> u32
     ensures { (nets trits : List ℕ) → result ≡ largest (map (read_wide_log2 (memory_of m nets trits)) (memory_of m nets trits).reads) }
 {
-    let count = net_memory::ports_used(m.read_count);
     let mut most: u32 = 0;
-    let mut i = 0;
-    while i < count {
+    for i in 0..net_memory::ports_used(m.read_count) {
         let k = net_memory::wide::wide_log(m.width, net_memory::read_data_len(m, i));
-        most = larger_log(most, k);
-        i += 1;
+        most = most.max(k);
     }
     most
 }
@@ -59,7 +44,7 @@ fn max_wide(m: Memory, nets: &[u32]) -> u32
 {
     let logs = swizzle_plan::logs::write_logs(m, nets);
     let count = net_memory::ports_used(m.write_count);
-    larger_log(largest_of(logs, count), largest_read(m))
+    largest_of(logs, count).max(largest_read(m))
 }
 
 // The plan; its entries are the bits in order, and every new wide log is 0.

@@ -12,11 +12,11 @@ ghost use Rattle.rules.specs.Answers.{add_void_call, add_not_call, add_pair_call
 ghost use Rattle.net_value.specs.View.{control_of};
 ghost use Rattle.net_flip_flop.specs.View.{controls_of, flip_flop_of};
 ghost use Rattle.log_entries.specs.Emission.{is_over, run};
-ghost use Rattle.log_entries.specs.View.{state_of, lent};
+ghost use Rattle.log_entries.specs.View.{state_of, lent_of};
 ghost use Rattle.log_requests.specs.Answers.{logged_of, net_logged_of, controls_logged_of};
 ghost use Rattle.log_requests.specs.Remap.{nots_of, gated_reset};
 
-use log_entries::LogState;
+use log_entries::{Log, LogState};
 use net_flip_flop::{Controls, FlipFlop};
 use net_value::{ControlNet, Net};
 use rules::Refusal;
@@ -85,7 +85,12 @@ pub fn add_void(log: &mut [u32], st: LogState, width: u32) -> Result<LogState, R
     ensures { logged_of (up_from st.next width) result log.new ≡ add_void_call log.old (state_of st) width }
 {
     st.room_refusal(log.len(), 4, width as usize)?;
-    Ok(log_entries::emit_void(log, st, width))
+    let mut log = Log {
+        words: log,
+        state: st,
+    };
+    log.emit_void(width);
+    Ok(log.state)
 }
 
 // Kind 2: the inverse of each net.
@@ -93,7 +98,12 @@ pub fn add_not(log: &mut [u32], st: LogState, a: &[u32]) -> Result<LogState, Ref
     ensures { logged_of (up_from st.next (length a.now)) result log.new ≡ add_not_call log.old (state_of st) a.now }
 {
     value_refusal(log.len(), st, a)?;
-    Ok(log_entries::emit_not(log, st, a))
+    let mut log = Log {
+        words: log,
+        state: st,
+    };
+    log.emit_not(a);
+    Ok(log.state)
 }
 
 // Kind 3: net by net. (Each request is its test and its emission: one function over the kind would be no plainer.)
@@ -101,7 +111,12 @@ pub fn add_and(log: &mut [u32], st: LogState, a: &[u32], b: &[u32]) -> Result<Lo
     ensures { logged_of (up_from st.next (length a.now)) result log.new ≡ add_pair_call add_and_of log.old (state_of st) a.now b.now }
 {
     pair_refusal(log.len(), st, a, b, a.len())?;
-    Ok(log_entries::emit_and(log, st, a, b))
+    let mut log = Log {
+        words: log,
+        state: st,
+    };
+    log.emit_and(a, b);
+    Ok(log.state)
 }
 
 // Kind 4: net by net.
@@ -109,7 +124,12 @@ pub fn add_or(log: &mut [u32], st: LogState, a: &[u32], b: &[u32]) -> Result<Log
     ensures { logged_of (up_from st.next (length a.now)) result log.new ≡ add_pair_call add_or_of log.old (state_of st) a.now b.now }
 {
     pair_refusal(log.len(), st, a, b, a.len())?;
-    Ok(log_entries::emit_or(log, st, a, b))
+    let mut log = Log {
+        words: log,
+        state: st,
+    };
+    log.emit_or(a, b);
+    Ok(log.state)
 }
 
 // Kind 6: whether two values are equal, in one net.
@@ -117,7 +137,12 @@ pub fn add_eq(log: &mut [u32], st: LogState, a: &[u32], b: &[u32]) -> Result<Log
     ensures { logged_of st.next result log.new ≡ add_pair_call add_eq_of log.old (state_of st) a.now b.now }
 {
     pair_refusal(log.len(), st, a, b, 1)?;
-    Ok(log_entries::emit_eq(log, st, a, b))
+    let mut log = Log {
+        words: log,
+        state: st,
+    };
+    log.emit_eq(a, b);
+    Ok(log.state)
 }
 
 // Kind 10: each net of a value replaced by another's.
@@ -130,7 +155,12 @@ pub fn replace_value(
     ensures { logged_of [] result log.new ≡ add_pair_call replace_value_of log.old (state_of st) from.now to.now }
 {
     pair_refusal(log.len(), st, from, to, 0)?;
-    Ok(log_entries::emit_replace(log, st, from, to))
+    let mut log = Log {
+        words: log,
+        state: st,
+    };
+    log.emit_replace(from, to);
+    Ok(log.state)
 }
 
 // Kind 7: a value moved up by select times stride.
@@ -144,7 +174,12 @@ pub fn add_shl(
     ensures { logged_of (up_from st.next (length a.now)) result log.new ≡ add_shift_call add_shl_of log.old (state_of st) stride select.now a.now }
 {
     shift_refusal(log.len(), st, select, a)?;
-    Ok(log_entries::emit_shl(log, st, stride, select, a))
+    let mut log = Log {
+        words: log,
+        state: st,
+    };
+    log.emit_shl(stride, select, a);
+    Ok(log.state)
 }
 
 // Kind 8: down.
@@ -158,7 +193,12 @@ pub fn add_ushr(
     ensures { logged_of (up_from st.next (length a.now)) result log.new ≡ add_shift_call add_ushr_of log.old (state_of st) stride select.now a.now }
 {
     shift_refusal(log.len(), st, select, a)?;
-    Ok(log_entries::emit_ushr(log, st, stride, select, a))
+    let mut log = Log {
+        words: log,
+        state: st,
+    };
+    log.emit_ushr(stride, select, a);
+    Ok(log.state)
 }
 
 // 1, 2 and 4 of a mux, or of a merging one.
@@ -207,7 +247,12 @@ pub fn add_mux(
     ensures { logged_of (up_from st.next (length a.now)) result log.new ≡ add_mux_call log.old (state_of st) (control_of select) a.now b.now }
 {
     mux_refusal(log.len(), st, select, a, b)?;
-    Ok(log_entries::emit_mux(log, st, select, a, b))
+    let mut log = Log {
+        words: log,
+        state: st,
+    };
+    log.emit_mux(select, a, b);
+    Ok(log.state)
 }
 
 // Whether some trits of a flip-flop are not one to each bit.
@@ -257,7 +302,12 @@ pub fn add_dff(log: &mut [u32], st: LogState, f: FlipFlop) -> Result<LogState, R
     ensures { logged_of (up_from st.next (length f.entry.bits.now)) result log.new ≡ add_dff_call log.old (state_of st) (flip_flop_of f.entry) }
 {
     dff_refusal(log.len(), st, f)?;
-    Ok(log_entries::emit_dff(log, st, f))
+    let mut log = Log {
+        words: log,
+        state: st,
+    };
+    log.emit_dff(f);
+    Ok(log.state)
 }
 
 // The nots that into_pos logs: 1 where the control is Neg.
@@ -285,16 +335,17 @@ fn into_pos_refusal(room: usize, st: LogState, c: ControlNet) -> Result<(), Refu
 }
 
 // The net of a control, with a not where it is Neg.
-fn emit_into_pos(log: &mut [u32], st: LogState, c: ControlNet) -> PosNet
-    ensures log_after { lent result.state log.new ≡ run (into_pos_of (control_of c)) (lent st log.old) }
-    ensures net_value { result.net.0 ∷ [] ≡ (into_pos_of (control_of c) st.next).value }
+fn emit_into_pos(log: &mut Log, c: ControlNet) -> Net
+    ensures log_after { lent_of log.new ≡ run (into_pos_of (control_of c)) (lent_of log.old) }
+    ensures net_value { result.0 ∷ [] ≡ (into_pos_of (control_of c) log.old.state.next).value }
 {
     match c {
-        ControlNet::Pos(net) => PosNet { net, state: st },
-        ControlNet::Neg(n) => PosNet {
-            net: Net(st.next),
-            state: log_entries::emit_not(log, st, &[n.0]),
-        },
+        ControlNet::Pos(net) => net,
+        ControlNet::Neg(n) => {
+            let net = Net(log.state.next);
+            log.emit_not(&[n.0]);
+            net
+        }
     }
 }
 
@@ -303,7 +354,15 @@ pub fn into_pos(log: &mut [u32], st: LogState, c: ControlNet) -> Result<PosNet, 
     ensures { net_logged_of result log.new ≡ into_pos_call log.old (state_of st) (control_of c) }
 {
     into_pos_refusal(log.len(), st, c)?;
-    Ok(emit_into_pos(log, st, c))
+    let mut log = Log {
+        words: log,
+        state: st,
+    };
+    let net = emit_into_pos(&mut log, c);
+    Ok(PosNet {
+        net,
+        state: log.state,
+    })
 }
 
 // The controls with another reset, which is over the enable.
@@ -319,36 +378,29 @@ fn with_reset(c: Controls, reset: ControlNet) -> Controls
 }
 
 // A reset that is its and with the enable: not of the reset, not of the enable, and.
-fn emit_gated(log: &mut [u32], st: LogState, c: Controls) -> Remapped
-    ensures log_after { lent result.state log.new ≡ run (gated_reset (controls_of c)) (lent st log.old) }
-    ensures controls_value { is_over (state_of result.state) ≡ false → controls_of result.controls ≡ (gated_reset (controls_of c) st.next).value }
+fn emit_gated(log: &mut Log, c: Controls) -> Controls
+    ensures log_after { lent_of log.new ≡ run (gated_reset (controls_of c)) (lent_of log.old) }
+    ensures controls_value { is_over (state_of log.new.state) ≡ false → controls_of result ≡ (gated_reset (controls_of c) log.old.state.next).value }
 {
-    let reset = emit_into_pos(log, st, c.reset);
-    let enable = emit_into_pos(log, reset.state, c.enable);
-    let st = enable.state;
-    let state = log_entries::emit_and(log, st, &[reset.net.0], &[enable.net.0]);
-    let controls = with_reset(c, ControlNet::Pos(Net(st.next)));
-    Remapped { controls, state }
+    let reset = emit_into_pos(log, c.reset);
+    let enable = emit_into_pos(log, c.enable);
+    let gated = log.state.next;
+    log.emit_and(&[reset.0], &[enable.0]);
+    with_reset(c, ControlNet::Pos(Net(gated)))
 }
 
 // remap_reset_over_enable, without its numbers.
-fn emit_remap(log: &mut [u32], st: LogState, c: Controls) -> Remapped
-    ensures log_after { lent result.state log.new ≡ run (remap_reset_over_enable_of (controls_of c)) (lent st log.old) }
-    ensures controls_value { is_over (state_of result.state) ≡ false → controls_of result.controls ≡ (remap_reset_over_enable_of (controls_of c) st.next).value }
+fn emit_remap(log: &mut Log, c: Controls) -> Controls
+    ensures log_after { lent_of log.new ≡ run (remap_reset_over_enable_of (controls_of c)) (lent_of log.old) }
+    ensures controls_value { is_over (state_of log.new.state) ≡ false → controls_of result ≡ (remap_reset_over_enable_of (controls_of c) log.old.state.next).value }
 {
     if c.reset_over_enable {
-        return Remapped {
-            controls: c,
-            state: st,
-        };
+        return c;
     }
     if net_value::is_always(c.reset, false) || net_value::is_always(c.enable, true) {
-        return Remapped {
-            controls: with_reset(c, c.reset),
-            state: st,
-        };
+        return with_reset(c, c.reset);
     }
-    emit_gated(log, st, c)
+    emit_gated(log, c)
 }
 
 // 4 of the two controls that remap_reset_over_enable reads.
@@ -371,9 +423,21 @@ pub fn remap_reset_over_enable(
     ensures { controls_logged_of result log.new ≡ remap_call log.old (state_of st) (controls_of c) }
 {
     remap_input_refusal(st.next, c)?;
-    let dry = emit_remap(&mut [], st.dry_start(), c);
+    let mut dry = Log {
+        words: &mut [],
+        state: st.dry_start(),
+    };
+    emit_remap(&mut dry, c);
     st.dry_refusal(log.len(), dry.state)?;
-    Ok(emit_remap(log, st, c))
+    let mut log = Log {
+        words: log,
+        state: st,
+    };
+    let controls = emit_remap(&mut log, c);
+    Ok(Remapped {
+        controls,
+        state: log.state,
+    })
 }
 
 // 20 where the result nets of a merge, one per bit, do not fit the room for them.

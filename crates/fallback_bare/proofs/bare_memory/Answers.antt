@@ -1,6 +1,5 @@
 -- `fallback_bare::bare_memory` meets its contract.
 use mathlib.Core.Path.{◌≡◌, refl, ap, ◌∙◌}
-use Prim.Native.Nat.{◌-◌}
 use native.Mathlib.Omega.{arith}
 use lib.ListN.{set, length-set}
 use Rattle.net_memory.specs.declared.Memory.{Memory}
@@ -16,7 +15,7 @@ loop-i-init c = (omega arith, refl, read_ports_8 c.args.m _ c.well_formed.0, ref
 pub loop-i-preserved : goal.loop-i-preserved
 loop-i-preserved c =
     let h = c.loop-i in
-    let p = c.bare_port-q in
+    let p = c.bare_port in
     (omega (arith, c.loop-i-test.true), ap (λ (x : Memory). with_ports x (set h.out.read_ports h.i p.result)) h.invariant.1, length-set h.out.read_ports h.i p.result ∙ h.invariant.2, left_turn h.i h.out.read_ports _ p.result (omega (arith, c.loop-i-test.true, h.invariant.2)) h.invariant.3 p.ensures)
 
 pub returns : goal.returns

@@ -1,6 +1,5 @@
 -- `fallback_masks::mask_runs` meets its contract.
 use mathlib.Core.Path.{refl}
-use Prim.Native.Nat.{◌-◌}
 use native.Mathlib.Omega.{arith}
 use Rattle.fallback_masks.proofs.Numbers.{count_start, count_turn, count_end, runs_long, runs_short}
 use Rattle.fallback_masks.proofs.mask_runs.Goals as goal

@@ -1,5 +1,4 @@
 -- `fallback_masks::pieces_by` meets its contract.
-use mathlib.Core.Path.{◌∙◌}
 use native.Mathlib.Omega.{arith}
 use Rattle.fallback_masks.proofs.Numbers.{pieces_low, pieces_is}
 use Rattle.fallback_masks.proofs.pieces_by.Goals as goal
@@ -12,4 +11,4 @@ overflow_mul-result c =
 pub returns : goal.returns
 returns c =
     let v = c.args in
-    (λ k e. pieces_is v.depth v.rows v.addr v.wide k _ _ _ c.min-bits.ensures (c.usize_of_u64.ensures ∙ c.two_to.ensures.value) c.min-most.ensures e, pieces_low v.depth v.rows _ v.wide _ c.min-most.ensures)
+    (λ k e. pieces_is v.depth v.rows v.addr v.wide k _ _ _ c.min-bits.ensures c.two_to.ensures.value c.min-most.ensures e, pieces_low v.depth v.rows _ v.wide _ c.min-most.ensures)

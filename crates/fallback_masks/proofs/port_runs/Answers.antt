@@ -16,7 +16,7 @@ returns c =
     let p = write_by v.p v.x.now [] in
     let k = c.wide_log-k.result in
     let low : min k 32 ≡ k = omega (arith, c.wide_log-k.ensures.1) in
-    let wide = c.usize_of_u64-wide.ensures ∙ c.two_to.ensures.value ∙ ap (λ (n : ℕ). 2 ^ n) low in (
+    let wide = c.two_to-wide.ensures.value ∙ ap (λ (n : ℕ). 2 ^ n) low in (
       port_is v.depth v.width v.rows _ k _ _ _ p (c.wide_log-k.ensures.0 ∙ ap (wide_log2 v.width) c.data_count.ensures.0) (ap length c.addr_of-addr.ensures)
           (c.mask_runs-runs.ensures.0 ∙ ap (mask_runs v.width) c.mask_of.ensures) (c.pieces_by.ensures.0 k wide) (c.spread_runs.ensures.0 k wide),
       c.spread_runs.ensures.1,

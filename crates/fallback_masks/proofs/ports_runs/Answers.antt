@@ -1,5 +1,5 @@
 -- `fallback_masks::ports_runs` meets its contract.
-use Prim.Native.Nat.{◌-◌, ◌<◌, min}
+use Prim.Native.Nat.{◌<◌, min}
 use native.Mathlib.Omega.{arith}
 use mathlib.Core.List.{[]}
 use Rattle.rules.specs.Limits.{max_ports}
@@ -30,7 +30,7 @@ loop-i-preserved c =
     let f = runs_by_of v.depth v.m.width v.rows in
     let h : l.i < min max_ports v.m.write_count = omega (arith, c.ports_used-count.ensures.0) in
     let n = writes_length v.m _ k.well_formed.0 v.nets.now in
-    let r = port_at_lem v.m v.nets.now [] f l.i c.port_runs-runs.result c.write_nets.result.now h c.write_nets.ensures c.port_runs-runs.ensures.0 in
+    let r = port_at_lem v.m v.nets.now [] f l.i c.port_runs-runs.result c.write_nets-own.result.now h c.write_nets-own.ensures c.port_runs-runs.ensures.0 in
     (omega arith, omega arith, summing_turn f (writes_of v.m v.nets.now) l.runs l.i c.port_runs-runs.result no_write_of (omega (arith, n, h)) l.invariant.2 r)
 
 pub returns : goal.returns

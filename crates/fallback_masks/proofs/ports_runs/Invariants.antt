@@ -1,5 +1,5 @@
 -- The invariants of `fallback_masks::ports_runs`.
-use Prim.Native.Nat.{◌-◌, ◌*◌, ◌≤◌}
+use Prim.Native.Nat.{◌*◌, ◌≤◌}
 use Rattle.net_memory.specs.View.{writes_of}
 use Rattle.fallback_masks.specs.Steps.{runs_by_of, port_most}
 use Rattle.fallback_masks.proofs.Numbers.{Summing}
@@ -7,6 +7,3 @@ use Rattle.fallback_masks.proofs.ports_runs.Given as goal
 
 abbrev pub invariant-loop-i : goal.invariant-loop-i
 invariant-loop-i l = (l.i ≤ l.count) × (l.runs ≤ l.i * port_most) × Summing (runs_by_of l.depth l.m.width l.rows) (writes_of l.m l.nets) l.runs l.i
-
-abbrev pub decreases-loop-i : goal.decreases-loop-i
-decreases-loop-i l = l.count - l.i

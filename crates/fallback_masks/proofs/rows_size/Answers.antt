@@ -1,25 +1,24 @@
 -- `fallback_masks::rows_size` meets its contract.
 use Prim.Native.Nat.{◌≤◌}
+use mathlib.Core.Path.{refl}
 use native.Mathlib.Omega.{arith}
 use Rattle.rules.specs.Limits.{max_depth, max_width}
 use Rattle.net_memory.proofs.Sized.{writes_length, reads_length}
 use Rattle.fallback_masks.proofs.Numbers.{deep_size, wide_size, flat_size, size_words_lem, size_nets_lem}
+use Rattle.fallback_masks.proofs.rows_size.Goals.{then-m-gt-MAX_DEPTH-via-then-m-gt-MAX_DEPTH, then-m-gt-MAX_DEPTH-via-else-m-gt-MAX_DEPTH+then-m-gt-MAX_WIDTH, then-m-gt-MAX_DEPTH-via-else-m-gt-MAX_DEPTH+else-m-gt-MAX_WIDTH+then-m-eq0}
 use Rattle.fallback_masks.proofs.rows_size.Goals as goal
 
 pub returns-then-m-gt-MAX_DEPTH : goal.returns-then-m-gt-MAX_DEPTH
 returns-then-m-gt-MAX_DEPTH c =
     let v = c.args in
-    record { by_index = λ trits. deep_size v.m v.nets.now trits c.if-m-gt-MAX_DEPTH.true; words_bound = (omega arith, omega arith) }
-
-pub returns-then-m-gt-MAX_WIDTH : goal.returns-then-m-gt-MAX_WIDTH
-returns-then-m-gt-MAX_WIDTH c =
-    let v = c.args in
-    record { by_index = λ trits. wide_size v.m v.nets.now trits c.if-m-gt-MAX_WIDTH.true; words_bound = (omega arith, omega arith) }
-
-pub returns-then-m-eq0 : goal.returns-then-m-eq0
-returns-then-m-eq0 c =
-    let v = c.args in
-    record { by_index = λ trits. flat_size v.m v.nets.now trits c.if-m-eq0.true; words_bound = (omega arith, omega arith) }
+    record {
+      by_index = λ trits. elim c.then-m-gt-MAX_DEPTH.branch [
+        | then-m-gt-MAX_DEPTH-via-then-m-gt-MAX_DEPTH w ↦ deep_size v.m v.nets.now trits w.if-m-gt-MAX_DEPTH.true
+        | then-m-gt-MAX_DEPTH-via-else-m-gt-MAX_DEPTH+then-m-gt-MAX_WIDTH w ↦ wide_size v.m v.nets.now trits w.if-m-gt-MAX_WIDTH.true
+        | then-m-gt-MAX_DEPTH-via-else-m-gt-MAX_DEPTH+else-m-gt-MAX_WIDTH+then-m-eq0 w ↦ flat_size v.m v.nets.now trits w.if-m-eq0.true
+      ];
+      words_bound = (omega arith, omega arith);
+    }
 
 pub returns : goal.returns
 returns c =
@@ -28,8 +27,6 @@ returns c =
     let nets = k.args.nets.now in
     let a : m.depth ≤ max_depth = omega (arith, c.if-m-gt-MAX_DEPTH.false) in
     let b : m.width ≤ max_width = omega (arith, c.if-m-gt-MAX_WIDTH.false) in
-    let depth = c.usize_of_u32-depth.ensures.0 in
-    let width = c.usize_of_u32-width.ensures.0 in
     let reads = c.ports_used-reads.ensures.0 in
     let writes = c.ports_used-writes.ensures.0 in
     let rows = c.widest_rows.ensures.0 in
@@ -39,8 +36,8 @@ returns c =
     let lw = writes_length m _ k.well_formed.0 nets in
     record {
       by_index = λ trits. (
-        size_words_lem m nets trits _ _ _ _ _ _ depth width reads writes (lr trits) lw (rows trits) runs a b w _ c.words_by.ensures.0,
-        size_nets_lem m nets trits _ _ _ _ _ _ depth width reads writes (lr trits) lw (rows trits) runs a b w _ c.nets_by.ensures.0,
+        size_words_lem m nets trits _ _ _ _ _ _ refl refl reads writes (lr trits) lw (rows trits) runs a b w _ c.words_by.ensures.0,
+        size_nets_lem m nets trits _ _ _ _ _ _ refl refl reads writes (lr trits) lw (rows trits) runs a b w _ c.nets_by.ensures.0,
       );
       words_bound = (c.words_by.ensures.1, c.nets_by.ensures.1);
     }

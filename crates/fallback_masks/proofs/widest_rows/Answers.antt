@@ -1,10 +1,8 @@
 -- `fallback_masks::widest_rows` meets its contract.
-use mathlib.Core.Path.{ap, ◌∙◌}
-use Prim.Native.Nat.{ℕ, ◌+◌}
 use native.Mathlib.Omega.{arith}
 use Rattle.fallback_masks.proofs.Numbers.{widest_is}
 use Rattle.fallback_masks.proofs.widest_rows.Goals as goal
 
 pub returns : goal.returns
 returns c =
-    (λ trits. ap (λ (n : ℕ). n + 1) c.usize_of_u32.ensures.0 ∙ widest_is _ _ (c.fallback_swizzle-s.ensures trits), omega arith)
+    (λ trits. widest_is _ _ (c.fallback_swizzle-s.ensures trits), omega arith)

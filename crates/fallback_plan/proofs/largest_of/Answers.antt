@@ -1,6 +1,5 @@
 -- `fallback_plan::largest_of` meets its contract.
 use mathlib.Core.Path.{sym}
-use Prim.Native.Nat.{◌-◌}
 use native.Mathlib.Omega.{arith}
 use lib.ListN.{take, length-take}
 use lib.Seq.{get_or-take}
@@ -10,23 +9,11 @@ use Rattle.fallback_plan.proofs.largest_of.Goals as goal
 pub loop-i-init : goal.loop-i-init
 loop-i-init c = most_start (take c.args.count c.args.logs)
 
-pub offset_bounds-logs-i : goal.offset_bounds-logs-i
-offset_bounds-logs-i c = omega (arith, c.loop-i-test.true, c.requires)
-
-pub bounds-logs-i : goal.bounds-logs-i
-bounds-logs-i c = omega (arith, c.loop-i-test.true, c.requires)
-
-pub overflow_add-i : goal.overflow_add-i
-overflow_add-i c = omega (arith, c.loop-i-test.true, c.requires)
-
-pub loop-i-smaller : goal.loop-i-smaller
-loop-i-smaller c = omega (arith, c.loop-i-test.true)
-
 pub loop-i-preserved : goal.loop-i-preserved
 loop-i-preserved c =
     let v = c.args in
     let h = c.loop-i in
-    most_turn (take v.count v.logs) h.i h.most _ _ (omega (arith, length-take v.count v.logs, c.loop-i-test.true, c.requires)) h.invariant (sym (get_or-take v.count v.logs h.i 0 c.loop-i-test.true)) c.larger_log-most.ensures
+    most_turn (take v.count v.logs) h.i h.most _ _ (omega (arith, length-take v.count v.logs, c.loop-i-test.true, c.requires)) h.invariant (sym (get_or-take v.count v.logs h.i 0 c.loop-i-test.true)) c.max-most.ensures
 
 pub returns : goal.returns
 returns c =

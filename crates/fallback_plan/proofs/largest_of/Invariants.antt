@@ -1,11 +1,7 @@
 -- The invariants of `fallback_plan::largest_of`.
-use Prim.Native.Nat.{◌-◌}
 use lib.ListN.{take}
 use Rattle.fallback_plan.proofs.Logs.{Most}
 use Rattle.fallback_plan.proofs.largest_of.Given as goal
 
 abbrev pub invariant-loop-i : goal.invariant-loop-i
 invariant-loop-i l = Most (take l.count l.logs) l.i l.most
-
-abbrev pub decreases-loop-i : goal.decreases-loop-i
-decreases-loop-i l = l.count - l.i

@@ -1,11 +1,8 @@
 -- The invariants of `fallback_plan::largest_read`.
-use Prim.Native.Nat.{ℕ, ◌-◌}
+use Prim.Native.Nat.{ℕ}
 use mathlib.Core.List.{List}
 use Rattle.fallback_plan.proofs.Logs.{Most, read_logs}
 use Rattle.fallback_plan.proofs.largest_read.Given as goal
 
 abbrev pub invariant-loop-i : goal.invariant-loop-i
 invariant-loop-i l = (nets trits : List ℕ) → Most (read_logs l.m nets trits) l.i l.most
-
-abbrev pub decreases-loop-i : goal.decreases-loop-i
-decreases-loop-i l = l.count - l.i

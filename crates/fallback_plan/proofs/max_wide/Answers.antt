@@ -16,4 +16,4 @@ returns c =
     let v = c.args in
     λ trits. most_is v.m v.nets.now trits c.largest_of.result c.largest_read.result _
     (c.largest_of.ensures ∙ ap (λ (k : ℕ). largest (take k c.write_logs-logs.result)) c.ports_used-count.ensures.0 ∙ ap largest (write_logs_lem v.m v.nets.now trits c.write_logs-logs.result (c.write_logs-logs.ensures trits) (writes_length v.m _ c.well_formed.0 v.nets.now)))
-    (c.largest_read.ensures v.nets.now trits) c.larger_log.ensures
+    (c.largest_read.ensures v.nets.now trits) c.max.ensures

@@ -9,6 +9,8 @@ use Rattle.rules.proofs.Counted.{counted_and}
 use Rattle.rules.specs.Log.{add_and_of}
 use Rattle.lists.specs.Lists.{up_from}
 use Rattle.std.proofs.lemmas.Result.{err_from_is_err_and}
+use Rattle.std.proofs.Common.{rules}
+use Rattle.log_entries.proofs.Emission.{unnamed, run_name}
 use Rattle.log_requests.proofs.add_and.Goals as goal
 
 pub returns-in_err-pair_refusal : goal.returns-in_err-pair_refusal
@@ -23,4 +25,6 @@ unfolding add_pair_call add_pair_refusal
 returns c =
     let v = c.args in
     let p = c.emit_and in
-    request_accepted (up_from v.st.next (length v.a.now)) (add_and_of v.a.now v.b.now) (4 + (length v.a.now + length v.b.now)) (length v.a.now) (pair_number v.st.next v.a.now v.b.now) (λ z. counted_and v.a.now v.b.now) v.log.now (state_of v.st) p.new.log p.result c.in_ok-pair_refusal.ensures (λ z. value_and v.a.now v.b.now v.st.next) p.ensures
+    let n = run_name (add_and_of v.a.now v.b.now) _ _ p.ensures in
+    let e = request_accepted (up_from v.st.next (length v.a.now)) (add_and_of v.a.now v.b.now) (4 + (length v.a.now + length v.b.now)) (length v.a.now) (pair_number v.st.next v.a.now v.b.now) (λ z. counted_and v.a.now v.b.now) v.log.now (state_of v.st) p.new.self.words.now p.new.self.state c.in_ok-pair_refusal.ensures (λ z. value_and v.a.now v.b.now v.st.next) (unnamed (add_and_of v.a.now v.b.now) 0 _ _ p.ensures) in
+    search rules

@@ -12,6 +12,8 @@ use Rattle.rules.specs.Log.{add_dff_of}
 use Rattle.lists.specs.Lists.{up_from}
 use Rattle.rules.proofs.Entries.{value_dff}
 use Rattle.std.proofs.lemmas.Result.{err_from_is_err_and}
+use Rattle.std.proofs.Common.{rules}
+use Rattle.log_entries.proofs.Emission.{unnamed, run_name}
 use Rattle.log_requests.proofs.add_dff.Goals as goal
 
 pub returns-in_err-dff_refusal : goal.returns-in_err-dff_refusal
@@ -28,4 +30,6 @@ returns c =
     let v = c.args in
     let f = flip_flop_of v.f in
     let p = c.emit_dff in
-    request_accepted (up_from v.st.next (length v.f.bits.now)) (add_dff_of f) (13 + 4 * length v.f.bits.now) (length v.f.bits.now) (dff_number v.st.next f) (counted_dff_4 v.st.next f) v.log.now (state_of v.st) p.new.log p.result c.in_ok-dff_refusal.ensures (λ z. sym (value_dff f v.st.next)) p.ensures
+    let n = run_name (add_dff_of f) _ _ p.ensures in
+    let e = request_accepted (up_from v.st.next (length v.f.bits.now)) (add_dff_of f) (13 + 4 * length v.f.bits.now) (length v.f.bits.now) (dff_number v.st.next f) (counted_dff_4 v.st.next f) v.log.now (state_of v.st) p.new.self.words.now p.new.self.state c.in_ok-dff_refusal.ensures (λ z. sym (value_dff f v.st.next)) (unnamed (add_dff_of f) 0 _ _ p.ensures) in
+    search rules

@@ -9,6 +9,8 @@ use Rattle.rules.proofs.Counted.{counted_ushr}
 use Rattle.rules.specs.Log.{add_ushr_of}
 use Rattle.lists.specs.Lists.{up_from}
 use Rattle.std.proofs.lemmas.Result.{err_from_is_err_and}
+use Rattle.std.proofs.Common.{rules}
+use Rattle.log_entries.proofs.Emission.{unnamed, run_name}
 use Rattle.log_requests.proofs.add_ushr.Goals as goal
 
 pub returns-in_err-shift_refusal : goal.returns-in_err-shift_refusal
@@ -23,4 +25,6 @@ unfolding add_shift_call add_shift_refusal
 returns c =
     let v = c.args in
     let p = c.emit_ushr in
-    request_accepted (up_from v.st.next (length v.a.now)) (add_ushr_of v.stride v.select.now v.a.now) (6 + (length v.select.now + length v.a.now)) (length v.a.now) (shift_number v.st.next v.select.now v.a.now) (λ z. counted_ushr v.stride v.select.now v.a.now) v.log.now (state_of v.st) p.new.log p.result c.in_ok-shift_refusal.ensures (λ z. value_ushr v.stride v.select.now v.a.now v.st.next) p.ensures
+    let n = run_name (add_ushr_of v.stride v.select.now v.a.now) _ _ p.ensures in
+    let e = request_accepted (up_from v.st.next (length v.a.now)) (add_ushr_of v.stride v.select.now v.a.now) (6 + (length v.select.now + length v.a.now)) (length v.a.now) (shift_number v.st.next v.select.now v.a.now) (λ z. counted_ushr v.stride v.select.now v.a.now) v.log.now (state_of v.st) p.new.self.words.now p.new.self.state c.in_ok-shift_refusal.ensures (λ z. value_ushr v.stride v.select.now v.a.now v.st.next) (unnamed (add_ushr_of v.stride v.select.now v.a.now) 0 _ _ p.ensures) in
+    search rules

@@ -1,6 +1,6 @@
 -- `log_requests::emit_remap` meets its contract.
 use mathlib.Core.Path.{sym, ap, ◌∙◌}
-use Rattle.log_entries.specs.View.{lent}
+use Rattle.log_entries.specs.View.{lent_of}
 use Rattle.net_flip_flop.specs.View.{controls_of}
 use Rattle.log_requests.proofs.Remap.{remap_set, remap_flag, remap_gated}
 use Rattle.lists.proofs.Choice.{or_left, or_right, or_both}
@@ -16,7 +16,7 @@ use Rattle.log_requests.proofs.emit_remap.Goals.{then-is_always-via-then-is_alwa
 pub returns-then-c : goal.returns-then-c
 returns-then-c c =
     let v = c.args in
-    let r = remap_set (controls_of v.c) (lent v.st v.log.now) c.if-c.true in
+    let r = remap_set (controls_of v.c) (lent_of v.log.now) c.if-c.true in
     record { log_after = r.0; controls_value = λ o. r.1 }
 
 -- one of the two constants that settle it
@@ -30,7 +30,7 @@ settled c =
 pub returns-then-is_always : goal.returns-then-is_always
 returns-then-is_always c =
     let v = c.args in
-    let r = remap_flag (controls_of v.c) (lent v.st v.log.now) c.if-c.false (settled c) in
+    let r = remap_flag (controls_of v.c) (lent_of v.log.now) c.if-c.false (settled c) in
     record { log_after = r.0; controls_value = λ o. c.with_reset.ensures ∙ r.1 }
 
 pub returns : goal.returns
@@ -39,4 +39,4 @@ returns c =
     let k = controls_of v.c in
     let p = c.emit_gated in
     let e = sym (remap_gated k c.if-c.false (or_both (sym c.is_always.ensures ∙ c.if-is_always.false) (sym c.is_always-else-is_always.ensures ∙ c.if-is_always-2.false))) in
-    record { log_after = p.ensures.log_after ∙ ap (λ (t : Trace Controls). run t (lent v.st v.log.now)) e; controls_value = λ o. p.ensures.controls_value o ∙ ap (λ (t : Trace Controls). (t v.st.next).value) e }
+    record { log_after = p.ensures.log_after ∙ ap (λ (t : Trace Controls). run t (lent_of v.log.now)) e; controls_value = λ o. p.ensures.controls_value o ∙ ap (λ (t : Trace Controls). (t v.log.now.state.next).value) e }

@@ -10,6 +10,8 @@ use Rattle.rules.specs.Log.{into_pos_of}
 use Rattle.rules.specs.Refusals.{control_number, into_pos_refusal}
 use Rattle.rules.specs.Answers.{into_pos_call}
 use Rattle.std.proofs.lemmas.Result.{err_from_is_err_and}
+use Rattle.std.proofs.Common.{rules}
+use Rattle.log_entries.proofs.Emission.{unnamed, run_name}
 use Rattle.log_requests.proofs.into_pos.Goals as goal
 
 pub returns-in_err-into_pos_refusal : goal.returns-in_err-into_pos_refusal
@@ -25,5 +27,7 @@ unfolding into_pos_call into_pos_refusal
 returns c =
     let v = c.args in
     let k = control_of v.c in
-    let p = c.emit_into_pos in
-    request_accepted (p.result.net.0 ∷ []) (into_pos_of k) (5 * nots_of k) (nots_of k) (control_number v.st.next k) (λ z. counted_into_pos k) v.log.now (state_of v.st) p.new.log p.result.state c.in_ok-into_pos_refusal.ensures (λ z. p.ensures.net_value) p.ensures.log_after
+    let p = c.emit_into_pos-net in
+    let n = run_name (into_pos_of k) _ _ p.ensures.log_after in
+    let e = request_accepted (p.result.0 ∷ []) (into_pos_of k) (5 * nots_of k) (nots_of k) (control_number v.st.next k) (λ z. counted_into_pos k) v.log.now (state_of v.st) p.new.log.words.now p.new.log.state c.in_ok-into_pos_refusal.ensures (λ z. p.ensures.net_value) (unnamed (into_pos_of k) 0 _ _ p.ensures.log_after) in
+    search rules

@@ -9,6 +9,8 @@ use Rattle.rules.specs.Answers.{add_pair_call}
 use Rattle.rules.proofs.Counted.{counted_replace}
 use Rattle.rules.specs.Log.{replace_value_of}
 use Rattle.std.proofs.lemmas.Result.{err_from_is_err_and}
+use Rattle.std.proofs.Common.{rules}
+use Rattle.log_entries.proofs.Emission.{unnamed, run_name}
 use Rattle.log_requests.proofs.replace_value.Goals as goal
 
 pub returns-in_err-pair_refusal : goal.returns-in_err-pair_refusal
@@ -23,4 +25,6 @@ unfolding add_pair_call add_pair_refusal
 returns c =
     let v = c.args in
     let p = c.emit_replace in
-    request_accepted ([]) (replace_value_of v.from.now v.to.now) (4 + (length v.from.now + length v.to.now)) (0) (pair_number v.st.next v.from.now v.to.now) (λ z. counted_replace v.from.now v.to.now) v.log.now (state_of v.st) p.new.log p.result c.in_ok-pair_refusal.ensures (λ z. value_replace v.from.now v.to.now v.st.next) p.ensures
+    let n = run_name (replace_value_of v.from.now v.to.now) _ _ p.ensures in
+    let e = request_accepted ([]) (replace_value_of v.from.now v.to.now) (4 + (length v.from.now + length v.to.now)) (0) (pair_number v.st.next v.from.now v.to.now) (λ z. counted_replace v.from.now v.to.now) v.log.now (state_of v.st) p.new.self.words.now p.new.self.state c.in_ok-pair_refusal.ensures (λ z. value_replace v.from.now v.to.now v.st.next) (unnamed (replace_value_of v.from.now v.to.now) 0 _ _ p.ensures) in
+    search rules
