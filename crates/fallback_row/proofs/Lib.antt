@@ -1,2 +1,2 @@
 -- Laws of the parts of a row's register.
-pub mod Row
+pub mod Register

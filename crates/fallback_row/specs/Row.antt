@@ -1,5 +1,5 @@
 -- The parts of a row's register as the code makes them, for any lengths.
-use Rattle.std.specs.Prelude.{ℕ, Bool, ◌||◌, not, List, [], length, eqb, ltb}
+use Rattle.std.specs.Prelude.{ℕ, Bool, ◌||◌, not, [], length, eqb, ltb}
 use Rattle.lists.specs.Choice.{when◌then◌else◌}
 use Rattle.lists.specs.Lists.{up_from}
 use Rattle.rules.specs.Limits.{max_merge, max_nets}

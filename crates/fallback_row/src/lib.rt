@@ -12,95 +12,51 @@ ghost use Rattle.rules.specs.Log.{add_void_of, replace_value_of};
 ghost use Rattle.net_value.specs.View.{control_of};
 ghost use Rattle.net_flip_flop.specs.View.{controls_of};
 ghost use Rattle.log_entries.specs.Emission.{run};
-ghost use Rattle.log_entries.specs.View.{lent};
+ghost use Rattle.log_entries.specs.View.{lent_of};
 ghost use Rattle.port_transparency.specs.Gave.{Gave};
 ghost use Rattle.fallback_row.specs.Row.{start_if, over, over_if, held_back, held_if, driven_by};
 
-use log_entries::LogState;
+use log_entries::Log;
+use merge_mux::emit::Keys;
 use net_flip_flop::{Controls, FlipFlop};
 use net_value::{ControlNet, Net};
 
-// The void nets of a row of w bits.
-fn void_nets(log: &mut [u32], st: LogState, row: &mut [u32; rules::MAX_MERGE], w: u32) -> LogState
-    requires { w ≤ max_merge }
-    ensures { Gave (add_void_of w) (lent st log.old) (lent result log.new) (take w row.new) }
-{
-    let after = log_entries::emit_void(log, st, w);
-    lists::store_run(row, 0, st.next, after.next);
-    after
+// A row: its nets as the write ports leave them, and room for muxes. It is lent, so that many rows clear it once.
+#[derive(Drop)]
+pub struct Row {
+    pub nets: [u32; rules::MAX_MERGE],
+    pub spare: [u32; rules::MAX_MERGE],
+    pub keys: Keys,
 }
 
-// The same of any w: they become the first of `row`.
-pub fn emit_start(
-    log: &mut [u32],
-    st: LogState,
-    row: &mut [u32; rules::MAX_MERGE],
-    w: u32,
-) -> LogState
-    ensures { Gave (start_if w (take w row.old)) (lent st log.old) (lent result log.new) (take w row.new) }
+// The void nets of a row of w bits, which become the first of `out`; any w.
+pub fn emit_start(log: &mut Log, out: &mut [u32; rules::MAX_MERGE], w: u32)
+    ensures { Gave (start_if w (take w out.old)) (lent_of log.old) (lent_of log.new) (take w out.new) }
 {
-    if rules::MAX_MERGE < lists::usize_of_u32(w) {
-        return st;
+    if rules::MAX_MERGE < w as usize {
+        return;
     }
-    void_nets(log, st, row, w)
+    port_transparency::void_into(log, out, w);
 }
 
 // A write port over the row.
-fn over_row(
-    log: &mut [u32],
-    st: LogState,
-    row: &mut [u32],
-    spare: &mut [u32],
-    kx: &mut [u32; rules::MAX_MERGE],
-    ky: &mut [u32; rules::MAX_MERGE],
-    at: &mut [u32; rules::MAX_MERGE],
-    w: usize,
-    mask: &[u32],
-    bits: &[u32],
-) -> LogState
-    requires { (w ≤ max_merge) × (length mask.now ≡ w) × (length bits.now ≡ w) × (max_merge ≤ length row.old) × (max_merge ≤ length spare.old) }
-    ensures { Gave (over mask.now bits.now (take w row.old)) (lent st log.old) (lent result log.new) (take w row.new) }
+fn over_row(log: &mut Log, row: &mut Row, w: usize, mask: &[u32], bits: &[u32])
+    requires { (w ≤ max_merge) × (length mask.now ≡ w) × (length bits.now ≡ w) }
+    ensures { Gave (over mask.now bits.now (take w row.old.nets)) (lent_of log.old) (lent_of log.new) (take w row.new.nets) }
 {
-    let after = merge_mux::emit::emit_bitwise_mux_with(
-        log,
-        st,
-        spare,
-        kx,
-        ky,
-        at,
-        mask,
-        bits,
-        &row[..w],
-    );
-    lists::copy(row, 0, &spare[..w]);
-    after
+    let under = &row.nets[..w];
+    merge_mux::emit::emit_bitwise_mux(log, &mut row.keys, &mut row.spare, mask, bits, under);
+    lists::copy(&mut row.nets, 0, &row.spare[..w]);
 }
 
 // The same of any port; one whose data or mask is not as long as the row gives nothing.
-pub fn emit_over(
-    log: &mut [u32],
-    st: LogState,
-    row: &mut [u32; rules::MAX_MERGE],
-    spare: &mut [u32; rules::MAX_MERGE],
-    kx: &mut [u32; rules::MAX_MERGE],
-    ky: &mut [u32; rules::MAX_MERGE],
-    at: &mut [u32; rules::MAX_MERGE],
-    w: usize,
-    mask: &[u32],
-    bits: &[u32],
-) -> LogState
-    ensures { Gave (over_if w mask.now bits.now (take w row.old)) (lent st log.old) (lent result log.new) (take w row.new) }
+pub fn emit_over(log: &mut Log, row: &mut Row, w: usize, mask: &[u32], bits: &[u32])
+    ensures { Gave (over_if w mask.now bits.now (take w row.old.nets)) (lent_of log.old) (lent_of log.new) (take w row.new.nets) }
 {
-    if rules::MAX_MERGE < w {
-        return st;
+    if rules::MAX_MERGE < w || mask.len() != w || bits.len() != w {
+        return;
     }
-    if mask.len() != w {
-        return st;
-    }
-    if bits.len() != w {
-        return st;
-    }
-    over_row(log, st, row, spare, kx, ky, at, w, mask, bits)
+    over_row(log, row, w, mask, bits);
 }
 
 // The controls of a plain flip-flop.
@@ -117,62 +73,47 @@ fn plain_controls(clock: ControlNet) -> Controls
 }
 
 // The flip-flop of the row, whose results take the place of the first w nets of `q`.
-fn held_row(
-    log: &mut [u32],
-    st: LogState,
-    spare: &mut [u32],
-    w: usize,
-    clock: ControlNet,
-    init: &[u8],
-    row: &[u32],
-    q: &[u32],
-) -> LogState
-    requires { (w ≤ max_merge) × (max_merge ≤ length spare.old) × (max_merge ≤ length row.now) × (max_merge ≤ length q.now) }
-    ensures { lent result log.new ≡ run (held_back (control_of clock) init.now (take w row.now) (take w q.now)) (lent st log.old) }
+fn held_row(log: &mut Log, row: &mut Row, w: usize, clock: ControlNet, init: &[u8], q: &[u32])
+    requires { (w ≤ max_merge) × (max_merge ≤ length q.now) }
+    ensures { lent_of log.new ≡ run (held_back (control_of clock) init.now (take w row.old.nets) (take w q.now)) (lent_of log.old) }
 {
-    let c = plain_controls(clock);
-    let after = log_entries::emit_dff(
-        log,
-        st,
-        FlipFlop {
-            controls: c,
-            bits: &row[..w],
-            clear: init,
-            reset: init,
-            init: init,
-        },
-    );
-    lists::store_run(spare, 0, st.next, after.next);
-    log_entries::emit_replace(log, after, &q[..w], &spare[..w])
+    let f = FlipFlop {
+        controls: plain_controls(clock),
+        bits: &row.nets[..w],
+        clear: init,
+        reset: init,
+        init,
+    };
+    port_transparency::dff_into(log, &mut row.spare, f);
+    log.emit_replace(&q[..w], &row.spare[..w]);
 }
 
 // The same of any w.
 pub fn emit_held(
-    log: &mut [u32],
-    st: LogState,
-    spare: &mut [u32; rules::MAX_MERGE],
+    log: &mut Log,
+    row: &mut Row,
     w: usize,
     clock: ControlNet,
     init: &[u8],
-    row: &[u32; rules::MAX_MERGE],
     q: &[u32; rules::MAX_MERGE],
-) -> LogState
-    ensures { lent result log.new ≡ run (held_if w (control_of clock) init.now (take w row.now) (take w q.now)) (lent st log.old) }
+)
+    ensures { lent_of log.new ≡ run (held_if w (control_of clock) init.now (take w row.old.nets) (take w q.now)) (lent_of log.old) }
 {
     if rules::MAX_MERGE < w {
-        return st;
+        return;
     }
-    held_row(log, st, spare, w, clock, init, row, q)
+    held_row(log, row, w, clock, init, q);
 }
 
 // The net of a trit.
+#[tactic(auto, unfolding(rules::specs::Value::net_of_trit))]
 fn net_of_trit(t: u8) -> u32
     ensures { result ≡ net_of_trit t }
 {
     if t == rules::TRIT_X {
         return rules::NET_X;
     }
-    lists::u32_of_u8(t)
+    u32::from(t)
 }
 
 // The nets of trits, from the start of `row` on.
@@ -180,46 +121,33 @@ pub fn const_row(row: &mut [u32], init: &[u8])
     ensures { row.new ≡ sets row.old 0 (of_const init.now) }
 {
     let n = row.len().min(init.len());
-    let mut i = 0;
-    while i < n {
+    for i in 0..n {
         row[i] = net_of_trit(init[i]);
-        i += 1;
     }
 }
 
 // The w outputs from `first` on replaced by the row.
-fn drive(
-    log: &mut [u32],
-    st: LogState,
-    spare: &mut [u32],
-    first: u32,
-    w: u32,
-    q: &[u32],
-) -> LogState
+fn drive(log: &mut Log, spare: &mut [u32], first: u32, w: u32, q: &[u32])
     requires { (w ≤ max_merge) × (first ≤ max_nets) × (max_merge ≤ length spare.old) × (max_merge ≤ length q.now) }
-    ensures { lent result log.new ≡ run (replace_value_of (up_from first w) (take w q.now)) (lent st log.old) }
+    ensures { lent_of log.new ≡ run (replace_value_of (up_from first w) (take w q.now)) (lent_of log.old) }
 {
-    let n = lists::usize_of_u32(w);
+    let n = w as usize;
     lists::store_run(spare, 0, first, first + w);
-    log_entries::emit_replace(log, st, &spare[..n], &q[..n])
+    log.emit_replace(&spare[..n], &q[..n]);
 }
 
 // The same of any w and any first net.
 pub fn emit_drive(
-    log: &mut [u32],
-    st: LogState,
+    log: &mut Log,
     spare: &mut [u32; rules::MAX_MERGE],
     first: u32,
     w: u32,
     q: &[u32; rules::MAX_MERGE],
-) -> LogState
-    ensures { lent result log.new ≡ run (driven_by first w (take w q.now)) (lent st log.old) }
+)
+    ensures { lent_of log.new ≡ run (driven_by first w (take w q.now)) (lent_of log.old) }
 {
-    if rules::MAX_MERGE < lists::usize_of_u32(w) {
-        return st;
+    if rules::MAX_MERGE < w as usize || rules::MAX_NETS < first {
+        return;
     }
-    if rules::MAX_NETS < first {
-        return st;
-    }
-    drive(log, st, spare, first, w, q)
+    drive(log, spare, first, w, q);
 }

@@ -28,7 +28,7 @@ use Rattle.port_transparency.proofs.Gave.{gave_done, gave_bind, gave_same}
 use Rattle.swizzle_result.specs.declared.WideMemory.{WideMemory}
 use Rattle.swizzle_parts.specs.Parts.{read_port}
 use Rattle.fallback_row.specs.Row.{start_if, over_if, held_back, held_if, driven_by}
-use Rattle.fallback_row.proofs.Row.{length_const, driven_high}
+use Rattle.fallback_row.proofs.Register.{length_const, driven_high}
 use Rattle.fallback_rows.specs.Rows.{writes_by, write_numbers, clock_of, register_by, row_by, drives, read_numbers, row_trace, mem_at, row_if, rows_of, lowered}
 use Rattle.fallback_rows.proofs.Chained.{chains_over, chains_writes, chains_held, chains_row_by, chains_driven, chains_row_if}
 

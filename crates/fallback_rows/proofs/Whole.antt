@@ -28,7 +28,7 @@ use Rattle.swizzle_result.specs.View.{write_ports_of, read_ports_of, write_size,
 use Rattle.swizzle_parts.specs.Parts.{no_read_of, read_port, is_small, is_there, Small}
 use Rattle.swizzle_parts.proofs.Found.{small_is, found, write_found}
 use Rattle.fallback_row.specs.Row.{over_if, held_back, driven_by}
-use Rattle.fallback_row.proofs.Row.{fit, length_const}
+use Rattle.fallback_row.proofs.Register.{fit, length_const}
 use Rattle.fallback_rows.specs.Rows.{writes_by, write_numbers, clock_of, register_by, row_by, drives, read_numbers, row_trace, mem_at, row_if, rows_of, lowered}
 
 -- ---- traces

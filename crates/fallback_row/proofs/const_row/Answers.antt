@@ -1,9 +1,8 @@
 -- `fallback_row::const_row` meets its contract.
 use mathlib.Core.Path.{refl}
-use Prim.Native.Nat.{◌-◌}
 use native.Mathlib.Omega.{arith}
 use lib.ListN.{length-set}
-use Rattle.fallback_row.proofs.Row.{const_turn, const_done}
+use Rattle.fallback_row.proofs.Register.{const_turn, const_done}
 use Rattle.fallback_row.proofs.const_row.Goals as goal
 
 pub loop-i-init : goal.loop-i-init

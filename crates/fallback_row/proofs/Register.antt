@@ -4,11 +4,11 @@ use mathlib.Core.Logic.{◌≢◌}
 use Prim.Native.Nat.{ℕ, ◌+◌, ◌-◌, ◌<◌, ◌≤◌, min}
 use native.Mathlib.Nat.{zero-add}
 use native.Mathlib.Omega.{arith}
-use mathlib.Core.Bool.{Bool, true, false, ◌||◌, not}
-use mathlib.Core.List.{List, [], map}
+use mathlib.Core.Bool.{Bool, true, false, ◌||◌}
+use mathlib.Core.List.{List, []}
 use lib.ListN.{length, take, get_or, set, length-map, get_or-map}
 use lib.Seq.{sets}
-use lib.Dec.{eqb, ltb}
+use lib.Dec.{ltb}
 use borrow.Author.Tests.{lt-ltb, le-ltb, eq-eqb, ne_eqb}
 use Rattle.lists.specs.Choice.{when◌then◌else◌}
 use Rattle.lists.specs.Lists.{up_from}
@@ -18,7 +18,6 @@ use Rattle.lists.proofs.Store.{copy_turn, copy_done}
 use Rattle.rules.specs.Limits.{max_merge, max_nets}
 use Rattle.rules.specs.Value.{Value, Control, net_of_trit, of_const}
 use Rattle.rules.specs.Log.{Trace, done, add_void_of, replace_value_of}
-use Rattle.rules.specs.Merge.{add_bitwise_mux_of}
 use Rattle.log_entries.specs.Emission.{Lent, is_over, run}
 use Rattle.log_entries.proofs.Emission.{run-done}
 use Rattle.merge_mux.specs.Runs.{bitwise_of}
