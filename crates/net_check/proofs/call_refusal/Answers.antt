@@ -1,8 +1,8 @@
--- `net_check::memory_number` meets its contract.
+-- `net_check::call_refusal` meets its contract.
 use mathlib.Core.Path.{sym, ◌∙◌}
 use Prim.Native.Nat.{◌-◌}
 use Rattle.net_check.proofs.Sizes.{by_one, by_large, by_two, by_lens, by_four, by_parts}
-use Rattle.net_check.proofs.memory_number.Goals as goal
+use Rattle.net_check.proofs.call_refusal.Goals as goal
 
 pub returns-then-one : goal.returns-then-one
 returns-then-one c =
@@ -27,9 +27,9 @@ returns-then-lens_bad c =
 pub returns-then-four : goal.returns-then-four
 returns-then-four c =
     let v = c.args in
-    by_four v.one v.two v.four v.next v.m v.nets.now v.trits.now c.if-one.false (sym (c.too_large.ensures v.nets.now v.trits.now) ∙ c.if-too_large.false) c.if-two.false (sym c.lens_bad.ensures ∙ c.if-lens_bad.false) _ c.parts_number-number.ensures _ c.lower.ensures c.if-four.true
+    c.answer.ensures ∙ by_four v.one v.two v.four v.next v.m v.nets.now v.trits.now c.if-one.false (sym (c.too_large.ensures v.nets.now v.trits.now) ∙ c.if-too_large.false) c.if-two.false (sym c.lens_bad.ensures ∙ c.if-lens_bad.false) _ c.parts_refusal-refusal.ensures _ c.lower.ensures c.if-four.true
 
 pub returns : goal.returns
 returns c =
     let v = c.args in
-    by_parts v.one v.two v.four v.next v.m v.nets.now v.trits.now c.if-one.false (sym (c.too_large.ensures v.nets.now v.trits.now) ∙ c.if-too_large.false) c.if-two.false (sym c.lens_bad.ensures ∙ c.if-lens_bad.false) _ c.parts_number-number.ensures c.if-four.false
+    c.answer-2.ensures ∙ by_parts v.one v.two v.four v.next v.m v.nets.now v.trits.now c.if-one.false (sym (c.too_large.ensures v.nets.now v.trits.now) ∙ c.if-too_large.false) c.if-two.false (sym c.lens_bad.ensures ∙ c.if-lens_bad.false) _ c.parts_refusal-refusal.ensures c.if-four.false
