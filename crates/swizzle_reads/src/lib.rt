@@ -24,7 +24,7 @@ use net_value::{ControlNet, Net};
 use swizzle_columns::WidePort;
 use swizzle_pieces::Pieces;
 use swizzle_result::{WideMemory, WideReadPort};
-use swizzle_split::{Outcome, Split};
+use swizzle_split::Split;
 
 // Room for a part of an address, which has at most 32 nets.
 const ROOM: usize = rules::ADDR_BITS as usize;
@@ -346,7 +346,7 @@ fn read_port(
     let mut mux = [0u32; ROOM];
     let addr = net_memory::read_addr_of(r, nets);
     let old = net_memory::wide::wide_log(p.width, lists::usize_of_u32(r.data_len));
-    let Outcome::Accepted(s) = swizzle_split::split_addr(&mut hw, &mut mux, p, old, new, addr)
+    let Some(s) = swizzle_split::split_addr(&mut hw, &mut mux, p, old, new, addr)
     else {
         return g;
     };

@@ -16,7 +16,7 @@ use net_memory::Memory;
 use net_value::{ControlNet, Net};
 use swizzle_columns::WidePort;
 use swizzle_result::WideWritePort;
-use swizzle_split::{Outcome, Split};
+use swizzle_split::Split;
 
 // The state after all write ports, how many nets they take, and the ports of the result.
 #[derive(Clone, Copy)]
@@ -157,7 +157,7 @@ fn place_port(
 {
     let mut hw = [0u32; ADDR_ROOM];
     let mut mux = [0u32; ADDR_ROOM];
-    let Outcome::Accepted(s) = swizzle_split::split_addr(&mut hw, &mut mux, q, old, new, addr)
+    let Some(s) = swizzle_split::split_addr(&mut hw, &mut mux, q, old, new, addr)
     else {
         return Placing {
             state: st,
