@@ -14,7 +14,7 @@ use Rattle.port_overlay.specs.Laid.{behind}
 use Rattle.swizzle_result.specs.declared.WideMemory.{WideMemory}
 use Rattle.swizzle_parts.specs.Parts.{read_port}
 use Rattle.fallback_row.specs.Row.{unfit, over_if, held_back, driven_by}
-use Rattle.fallback_rows.specs.Rows.{writes_by, write_numbers, clock_of, register_by, row_by, drives, read_numbers, row_trace, mem_at, row_if, rows_of}
+use Rattle.fallback_rows.specs.Rows.{writes_by, write_numbers, clock_of, register_by, row_by, drives, read_numbers, row_trace, mem_at, row_if}
 
 pub chains_over : (w : ℕ) (mask bits v : Value) → Chains (over_if w mask bits v)
 unfolding over_if

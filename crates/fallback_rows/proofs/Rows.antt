@@ -1,11 +1,11 @@
 -- The loops over the ports and the memories, and a row from its parts.
 use mathlib.Core.Path.{◌≡◌, refl, sym, ap, ◌∙◌, subst}
 use mathlib.Core.Logic.{◌≢◌}
-use Prim.Native.Nat.{ℕ, ◌+◌, ◌-◌, ◌*◌, ◌<◌, ◌≤◌, min}
+use Prim.Native.Nat.{ℕ, ◌+◌, ◌-◌, ◌*◌, ◌<◌, ◌≤◌}
 use native.Mathlib.Nat.{mul-le-mul}
 use native.Mathlib.Omega.{arith}
 use mathlib.Core.Bool.{Bool, true, false, ◌||◌}
-use mathlib.Core.List.{List, [], ◌∷◌}
+use mathlib.Core.List.{List, []}
 use lib.ListN.{length, take}
 use lib.Seq.{sets, length-take-le}
 use lib.Dec.{eqb, ltb}
@@ -14,21 +14,21 @@ use Rattle.lists.specs.Choice.{when◌then◌else◌}
 use Rattle.lists.specs.Lists.{part, up_from}
 use Rattle.lists.proofs.UpFrom.{count_step, count_end}
 use Rattle.lists.proofs.Stores.{take_stored}
-use Rattle.rules.specs.Limits.{max_merge, max_ports, max_unit, max_columns, max_nets}
+use Rattle.rules.specs.Limits.{max_merge, max_unit, max_columns, max_nets}
 use Rattle.rules.specs.Logic.{Const}
 use Rattle.rules.specs.Value.{Value, Control, of_const}
 use Rattle.rules.specs.Cell.{Mem, write_at}
 use Rattle.rules.specs.Log.{Trace, ◌>>=◌, ◌>>◌, done, add_void_of, replace_value_of}
 use Rattle.rules.specs.Beside.Chain.{Chains}
 use Rattle.rules.proofs.Chain.{chains_void}
-use Rattle.log_entries.specs.Emission.{Lent, is_over, run}
+use Rattle.log_entries.specs.Emission.{Lent, run}
 use Rattle.log_entries.proofs.Emission.{run-done, run_then}
 use Rattle.port_transparency.specs.Gave.{Gave}
 use Rattle.port_transparency.proofs.Gave.{gave_done, gave_bind, gave_same}
 use Rattle.swizzle_result.specs.declared.WideMemory.{WideMemory}
 use Rattle.swizzle_parts.specs.Parts.{read_port}
 use Rattle.fallback_row.specs.Row.{start_if, over_if, held_back, held_if, driven_by}
-use Rattle.fallback_row.proofs.Register.{length_const, driven_high}
+use Rattle.fallback_row.proofs.Register.{length_const}
 use Rattle.fallback_rows.specs.Rows.{writes_by, write_numbers, clock_of, register_by, row_by, drives, read_numbers, row_trace, mem_at, row_if, rows_of, lowered}
 use Rattle.fallback_rows.proofs.Chained.{chains_over, chains_writes, chains_held, chains_row_by, chains_driven, chains_row_if}
 

@@ -4,11 +4,11 @@ use mathlib.Core.Logic.{◌≢◌, ⊎_elim}
 use Prim.Native.Nat.{ℕ, zero, suc, ◌+◌, ◌*◌, ◌^◌, ◌<◌, ◌≤◌, min}
 use native.Mathlib.Nat.{zero-add, zero-mul, eq-zero-or-pos}
 use native.Mathlib.Omega.{arith}
-use mathlib.Core.Bool.{Bool, true, false, ◌||◌}
+use mathlib.Core.Bool.{Bool, true, false}
 use mathlib.Core.List.{List, [], ◌∷◌, ◌++◌, map, append_assoc, append-nil}
-use lib.ListN.{length, take, drop, length-take, drop_of_length-le}
+use lib.ListN.{length, drop, length-take, drop_of_length-le}
 use lib.Seq.{drop-cons, take_at, drop_at, get_or-take}
-use lib.Dec.{eqb, ltb}
+use lib.Dec.{eqb}
 use borrow.Author.Tests.{le-ltb, eq-eqb, ne_eqb, lt-ltb}
 use Rattle.lists.specs.Choice.{when◌then◌else◌}
 use Rattle.lists.specs.Lists.{up_from, concat_map}
@@ -25,7 +25,7 @@ use Rattle.port_overlay.specs.Laid.{behind}
 use Rattle.swizzle_result.specs.declared.WideReadPort.{WideReadPort}
 use Rattle.swizzle_result.specs.declared.WideMemory.{WideMemory}
 use Rattle.swizzle_result.specs.View.{write_ports_of, read_ports_of, write_size, no_trits, write_by, addr_size, trit_size, read_by, reads_start, output_by, result_of, results_of}
-use Rattle.swizzle_parts.specs.Parts.{no_read_of, read_port, is_small, is_there, Small}
+use Rattle.swizzle_parts.specs.Parts.{no_read_of, read_port, is_small, is_there}
 use Rattle.swizzle_parts.proofs.Found.{small_is, found, write_found}
 use Rattle.fallback_row.specs.Row.{over_if, held_back, driven_by}
 use Rattle.fallback_row.proofs.Register.{fit, length_const}

@@ -1,5 +1,5 @@
 -- The rows as registers as the code makes them: by the numbers of the ports and of the memories that a struct and the lent arrays hold.
-use Rattle.std.specs.Prelude.{ℕ, ◌+◌, ◌*◌, min, Bool, ◌||◌, List, [], ◌∷◌, length, get_or, eqb, ltb}
+use Rattle.std.specs.Prelude.{ℕ, ◌+◌, ◌*◌, min, ◌||◌, List, [], ◌∷◌, length, eqb, ltb}
 use Rattle.lists.specs.Choice.{when◌then◌else◌}
 use Rattle.lists.specs.Lists.{up_from}
 use Rattle.rules.specs.Limits.{max_ports, max_unit, max_columns}
