@@ -18,8 +18,10 @@ ghost use Rattle.fallback.specs.Split.{Passes, SplitDone, Prepared, Ready, split
 ghost use Rattle.fallback.specs.Refusal.{Later, Asked, HasWidth, DryRun};
 ghost use Rattle.fallback.specs.Answer.{lowered_of, Lowers};
 
-use log_entries::LogState;
+use log_entries::{Log, LogState};
+use merge_mux::emit::Keys;
 use net_memory::Memory;
+use port_transparency::Overlay;
 use swizzle_call::Swizzled;
 use swizzle_counts::SwizzleRooms;
 use swizzle_result::WideMemory;
@@ -69,7 +71,12 @@ fn lower_made(log: &mut [u32], st: LogState, g: WideMemory, nets: &[u32], image:
     requires { Prepared g nets.now image.now }
     ensures { lent result log.new ≡ run (lower_rows (results_of g nets.now [] image.now)) (lent st log.old) }
 {
-    fallback_rows::emit_lowered(log, st, g, nets, image)
+    let mut log = Log {
+        words: log,
+        state: st,
+    };
+    fallback_rows::emit_lowered(&mut log, g, nets, image);
+    log.state
 }
 
 // The split and the registers, of a memory that passes the numbers of a fallback; `m` may have flip-flops, which are taken for unmapped.
@@ -130,14 +137,7 @@ fn scratch_need(m: Memory) -> usize
 fn dry_unmapped(
     st: LogState,
     after: &mut [u32],
-    under: &mut [u32; rules::MAX_MERGE],
-    bits: &mut [u32; rules::MAX_MERGE],
-    mask: &mut [u32; rules::MAX_MERGE],
-    sel: &mut [u32; rules::MAX_MERGE],
-    spare: &mut [u32; rules::MAX_MERGE],
-    kx: &mut [u32; rules::MAX_MERGE],
-    ky: &mut [u32; rules::MAX_MERGE],
-    at: &mut [u32; rules::MAX_MERGE],
+    overlay: &mut Overlay,
     m: Memory,
     nets: &[u32],
     trits: &[u8],
@@ -148,23 +148,7 @@ fn dry_unmapped(
 {
     let mut no_log = [0u32; 0];
     let start = st.dry_start();
-    port_unmap_all::emit_unmap_all(
-        &mut no_log,
-        start,
-        after,
-        under,
-        bits,
-        mask,
-        sel,
-        spare,
-        kx,
-        ky,
-        at,
-        m,
-        nets,
-        trits,
-        output,
-    )
+    port_unmap_all::emit_unmap_all_with(&mut no_log, start, overlay, after, m, nets, trits, output)
 }
 
 // The next free net after so many more. One outside the limits stays, and counts past the limit are all alike.
@@ -282,14 +266,7 @@ fn act(
     st: LogState,
     tables: &mut [u32],
     after: &mut [u32],
-    under: &mut [u32; rules::MAX_MERGE],
-    bits: &mut [u32; rules::MAX_MERGE],
-    mask: &mut [u32; rules::MAX_MERGE],
-    sel: &mut [u32; rules::MAX_MERGE],
-    spare: &mut [u32; rules::MAX_MERGE],
-    kx: &mut [u32; rules::MAX_MERGE],
-    ky: &mut [u32; rules::MAX_MERGE],
-    at: &mut [u32; rules::MAX_MERGE],
+    overlay: &mut Overlay,
     m: Memory,
     nets: &[u32],
     trits: &[u8],
@@ -299,8 +276,8 @@ fn act(
     ensures log_after { lent result log.new ≡ run (lower_fallback (memory_of m nets.now trits.now) output.now) (lent st log.old) }
     ensures tables_unchanged { drop (fallback_scratch (memory_of m nets.now trits.now)) tables.new ≡ drop (fallback_scratch (memory_of m nets.now trits.now)) tables.old }
 {
-    let state = port_unmap_all::emit_unmap_all(
-        log, st, after, under, bits, mask, sel, spare, kx, ky, at, m, nets, trits, output,
+    let state = port_unmap_all::emit_unmap_all_with(
+        log, st, overlay, after, m, nets, trits, output,
     );
     if m.width == 0 {
         return state;
@@ -322,14 +299,7 @@ fn lower_asked(
     st: LogState,
     tables: &mut [u32],
     after: &mut [u32],
-    under: &mut [u32; rules::MAX_MERGE],
-    bits: &mut [u32; rules::MAX_MERGE],
-    mask: &mut [u32; rules::MAX_MERGE],
-    sel: &mut [u32; rules::MAX_MERGE],
-    spare: &mut [u32; rules::MAX_MERGE],
-    kx: &mut [u32; rules::MAX_MERGE],
-    ky: &mut [u32; rules::MAX_MERGE],
-    at: &mut [u32; rules::MAX_MERGE],
+    overlay: &mut Overlay,
     m: Memory,
     nets: &[u32],
     trits: &[u8],
@@ -338,9 +308,7 @@ fn lower_asked(
     requires { Asked m nets.now trits.now output.now st (length tables.old) × (length after.old ≡ max_outputs) }
     ensures { Lowers m nets.now trits.now output.now st log.old tables.old result log.new tables.new }
 {
-    let dry = dry_unmapped(
-        st, after, under, bits, mask, sel, spare, kx, ky, at, m, nets, trits, output,
-    );
+    let dry = dry_unmapped(st, after, overlay, m, nets, trits, output);
     let n = log_number(log.len(), st, dry, tables.len(), m, nets, trits, output);
     if n != 0 {
         return Lowered {
@@ -348,9 +316,7 @@ fn lower_asked(
             state: st,
         };
     }
-    let state = act(
-        log, st, tables, after, under, bits, mask, sel, spare, kx, ky, at, m, nets, trits, output,
-    );
+    let state = act(log, st, tables, after, overlay, m, nets, trits, output);
     Lowered { refusal: 0, state }
 }
 
@@ -381,16 +347,27 @@ pub fn lower_fallback(
         };
     }
     let mut after = [0u32; rules::MAX_OUTPUTS];
-    let mut under = [0u32; rules::MAX_MERGE];
-    let mut bits = [0u32; rules::MAX_MERGE];
-    let mut mask = [0u32; rules::MAX_MERGE];
-    let mut sel = [0u32; rules::MAX_MERGE];
-    let mut spare = [0u32; rules::MAX_MERGE];
-    let mut kx = [0u32; rules::MAX_MERGE];
-    let mut ky = [0u32; rules::MAX_MERGE];
-    let mut at = [0u32; rules::MAX_MERGE];
+    let mut overlay = Overlay {
+        under: [0; rules::MAX_MERGE],
+        bits: [0; rules::MAX_MERGE],
+        mask: [0; rules::MAX_MERGE],
+        select: [0; rules::MAX_MERGE],
+        spare: [0; rules::MAX_MERGE],
+        keys: Keys {
+            x: [0; rules::MAX_MERGE],
+            y: [0; rules::MAX_MERGE],
+            at: [0; rules::MAX_MERGE],
+        },
+    };
     lower_asked(
-        log, st, scratch, &mut after, &mut under, &mut bits, &mut mask, &mut sel, &mut spare,
-        &mut kx, &mut ky, &mut at, m, nets, trits, output,
+        log,
+        st,
+        scratch,
+        &mut after,
+        &mut overlay,
+        m,
+        nets,
+        trits,
+        output,
     )
 }

@@ -14,8 +14,8 @@ ghost use Rattle.rules.specs.Answers.{add_dedup_dff_call};
 ghost use Rattle.log_requests.specs.Merged.{merged_of};
 ghost use Rattle.net_flip_flop.specs.View.{controls_of, flip_flop_of};
 ghost use Rattle.log_entries.specs.Emission.{is_over, run};
-ghost use Rattle.log_entries.specs.View.{state_of, lent, lent_of};
-ghost use Rattle.merge_mux.specs.Results.{limited, results, Scratch};
+ghost use Rattle.log_entries.specs.View.{state_of, lent_of};
+ghost use Rattle.merge_mux.specs.Results.{limited, results};
 ghost use Rattle.merge_dff.specs.Packs.{pack_of, packed_byte, packs, unpacked, merge_packed, limited_dff, Bytes};
 
 use log_entries::{Log, LogState};
@@ -53,108 +53,6 @@ fn unpack_part(to: &mut [u8], ps: &[u32], by: u32)
     for i in 0..n {
         to[i] = (ps[i] / by % 256) as u8;
     }
-}
-
-// A flip-flop of kept bits, whose result nets go to each bit by its place; their trits are unpacked into lent scratch.
-fn emit_kept_dff(
-    log: &mut [u32],
-    st: LogState,
-    out: &mut [u32],
-    clear: &mut [u8; rules::MAX_MERGE],
-    reset: &mut [u8; rules::MAX_MERGE],
-    init: &mut [u8; rules::MAX_MERGE],
-    c: Controls,
-    bits: &[u32],
-    ps: &[u32],
-    at: &[u32],
-) -> LogState
-    requires { length ps.now ≤ max_merge }
-    ensures log_after { lent result log.new ≡ run (add_dff_of (unpacked (controls_of c) bits.now ps.now)) (lent st log.old) }
-    ensures out_after { out.new ≡ results (is_over (state_of result)) out.old 0 (spread at.now (add_dff_of (unpacked (controls_of c) bits.now ps.now) st.next).value) }
-{
-    unpack_part(clear, ps, 256);
-    unpack_part(reset, ps, 1);
-    unpack_part(init, ps, 65536);
-    let n = ps.len();
-    let f = FlipFlop {
-        controls: c,
-        bits,
-        clear: lists::part(clear, 0, n),
-        reset: lists::part(reset, 0, n),
-        init: lists::part(init, 0, n),
-    };
-    let after = log_entries::emit_dff(log, st, f);
-    merge_mux::emit::spread_results(out, 0, st, after, at);
-    after
-}
-
-// A flip-flop of the distinct bits, found in lent scratch: a bit's key is its data net and its packed trits.
-fn merge_packed(
-    log: &mut [u32],
-    st: LogState,
-    out: &mut [u32],
-    kx: &mut [u32],
-    ky: &mut [u32],
-    at: &mut [u32],
-    clear: &mut [u8; rules::MAX_MERGE],
-    reset: &mut [u8; rules::MAX_MERGE],
-    init: &mut [u8; rules::MAX_MERGE],
-    c: Controls,
-    bits: &[u32],
-    ps: &[u32],
-) -> LogState
-    requires { Scratch kx.old ky.old at.old }
-    ensures log_after { lent result log.new ≡ run (merge_packed (controls_of c) (limited bits.now) (limited ps.now)) (lent st log.old) }
-    ensures out_after { out.new ≡ results (is_over (state_of result)) out.old 0 (merge_packed (controls_of c) (limited bits.now) (limited ps.now) st.next).value }
-{
-    let n = rules::MAX_MERGE.min(bits.len().min(ps.len()));
-    let k = merge_keys::merge(kx, ky, at, bits, ps);
-    emit_kept_dff(
-        log,
-        st,
-        out,
-        clear,
-        reset,
-        init,
-        c,
-        &kx[..k],
-        &ky[..k],
-        &at[..n],
-    )
-}
-
-// add_dedup_dff without its numbers, with lent scratch: a flip-flop in which equal bits are kept once.
-pub fn emit_dedup_dff_with(
-    log: &mut [u32],
-    st: LogState,
-    out: &mut [u32],
-    column: &mut [u32; rules::MAX_MERGE],
-    kx: &mut [u32; rules::MAX_MERGE],
-    ky: &mut [u32; rules::MAX_MERGE],
-    at: &mut [u32; rules::MAX_MERGE],
-    clears: &mut [u8; rules::MAX_MERGE],
-    resets: &mut [u8; rules::MAX_MERGE],
-    inits: &mut [u8; rules::MAX_MERGE],
-    f: FlipFlop,
-) -> LogState
-    ensures log_after { lent result log.new ≡ run (add_dedup_dff_of (limited_dff f.entry)) (lent st log.old) }
-    ensures out_after { out.new ≡ results (is_over (state_of result)) out.old 0 (add_dedup_dff_of (limited_dff f.entry) st.next).value }
-{
-    let n = pack_trits(column, f.reset, f.clear, f.init);
-    merge_packed(
-        log,
-        st,
-        out,
-        kx,
-        ky,
-        at,
-        clears,
-        resets,
-        inits,
-        f.controls,
-        f.bits,
-        lists::part(column, 0, n),
-    )
 }
 
 // Room for the trits of a flip-flop's kept bits.

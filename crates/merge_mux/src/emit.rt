@@ -10,7 +10,7 @@ ghost use Rattle.net_value.specs.View.{control_of};
 ghost use Rattle.log_entries.specs.Emission.{is_over, run};
 ghost use Rattle.log_entries.specs.View.{state_of, lent, lent_of};
 ghost use Rattle.merge_mux.specs.Runs.{run_at, Run, Bits, Within, bits_taken, bitwise_of};
-ghost use Rattle.merge_mux.specs.Results.{limited, results, Scratch, Found};
+ghost use Rattle.merge_mux.specs.Results.{limited, results, Found};
 
 use log_entries::{Log, LogState};
 use net_value::{ControlNet, Net};
@@ -184,9 +184,7 @@ pub fn emit_bitwise_mux(
     mux_runs(log, keys, nets, &s[..n], &a[..n], &b[..n]);
 }
 
-// ---- of a log and a state apart, for the callers that are still to do
-
-// A mux of kept bits, whose result nets go to each bit by its place, from `to` on.
+// emit_kept_mux of a log and a state apart, for a caller that is still to do.
 pub fn emit_kept_mux_with(
     log: &mut [u32],
     st: LogState,
@@ -200,125 +198,10 @@ pub fn emit_kept_mux_with(
     ensures log_after { lent result log.new ≡ run (add_mux_of (control_of select) a.now b.now) (lent st log.old) }
     ensures out_after { out.new ≡ results (is_over (state_of result)) out.old to (spread at.now (add_mux_of (control_of select) a.now b.now st.next).value) }
 {
-    let after = log_entries::emit_mux(log, st, select, a, b);
-    spread_results(out, to, st, after, at);
-    after
-}
-
-// A mux of the distinct pairs of bits, found in lent scratch.
-fn dedup_mux_in(
-    log: &mut [u32],
-    st: LogState,
-    out: &mut [u32],
-    to: usize,
-    kx: &mut [u32],
-    ky: &mut [u32],
-    at: &mut [u32],
-    select: ControlNet,
-    a: &[u32],
-    b: &[u32],
-) -> LogState
-    requires { Scratch kx.old ky.old at.old }
-    ensures log_after { lent result log.new ≡ run (add_dedup_mux_of (control_of select) (limited a.now) (limited b.now)) (lent st log.old) }
-    ensures out_after { out.new ≡ results (is_over (state_of result)) out.old to (add_dedup_mux_of (control_of select) (limited a.now) (limited b.now) st.next).value }
-{
-    let n = rules::MAX_MERGE.min(a.len().min(b.len()));
-    let k = merge_keys::merge(kx, ky, at, a, b);
-    emit_kept_mux_with(log, st, out, to, select, &kx[..k], &ky[..k], &at[..n])
-}
-
-// The same with lent scratch, so that a caller with many merges clears it once.
-pub fn emit_dedup_mux_with(
-    log: &mut [u32],
-    st: LogState,
-    out: &mut [u32],
-    kx: &mut [u32; rules::MAX_MERGE],
-    ky: &mut [u32; rules::MAX_MERGE],
-    at: &mut [u32; rules::MAX_MERGE],
-    select: ControlNet,
-    a: &[u32],
-    b: &[u32],
-) -> LogState
-    ensures log_after { lent result log.new ≡ run (add_dedup_mux_of (control_of select) (limited a.now) (limited b.now)) (lent st log.old) }
-    ensures out_after { out.new ≡ results (is_over (state_of result)) out.old 0 (add_dedup_mux_of (control_of select) (limited a.now) (limited b.now) st.next).value }
-{
-    dedup_mux_in(log, st, out, 0, kx, ky, at, select, a, b)
-}
-
-// The mux of one run: a merging mux of the bits from i to e, by one net.
-fn mux_run_in(
-    log: &mut [u32],
-    st: LogState,
-    nets: &mut [u32],
-    kx: &mut [u32],
-    ky: &mut [u32],
-    at: &mut [u32],
-    select: u32,
-    a: &[u32],
-    b: &[u32],
-    i: usize,
-    e: usize,
-) -> LogState
-    requires { Run a.now b.now i e × Scratch kx.old ky.old at.old }
-    ensures log_after { lent result log.new ≡ run (add_dedup_mux_of (Pos select) (part i (e - i) a.now) (part i (e - i) b.now)) (lent st log.old) }
-    ensures nets_after { nets.new ≡ results (is_over (state_of result)) nets.old i (add_dedup_mux_of (Pos select) (part i (e - i) a.now) (part i (e - i) b.now) st.next).value }
-{
-    dedup_mux_in(
-        log,
-        st,
-        nets,
-        i,
-        kx,
-        ky,
-        at,
-        ControlNet::Pos(Net(select)),
-        &a[i..e],
-        &b[i..e],
-    )
-}
-
-// A merging mux for each run of equal neighbouring selects; the result nets go to lent scratch.
-fn bitwise_in(
-    log: &mut [u32],
-    st: LogState,
-    nets: &mut [u32],
-    kx: &mut [u32],
-    ky: &mut [u32],
-    at: &mut [u32],
-    s: &[u32],
-    a: &[u32],
-    b: &[u32],
-) -> LogState
-    requires { Bits s.now a.now b.now × Scratch kx.old ky.old at.old }
-    ensures log_after { lent result log.new ≡ run (add_bitwise_mux_of s.now a.now b.now) (lent st log.old) }
-    ensures nets_after { is_over (state_of result) ≡ false → nets.new ≡ sets nets.old 0 (add_bitwise_mux_of s.now a.now b.now st.next).value }
-{
-    let mut state = st;
-    let mut i = 0;
-    // goes from run to run, and not from index to index
-    while i < s.len() {
-        let e = run_end(s, i);
-        state = mux_run_in(log, state, nets, kx, ky, at, s[i], a, b, i, e);
-        i = e;
-    }
-    state
-}
-
-// The same with lent scratch; the result nets go to `nets`, which is left open where the emission overflowed.
-pub fn emit_bitwise_mux_with(
-    log: &mut [u32],
-    st: LogState,
-    nets: &mut [u32],
-    kx: &mut [u32; rules::MAX_MERGE],
-    ky: &mut [u32; rules::MAX_MERGE],
-    at: &mut [u32; rules::MAX_MERGE],
-    s: &[u32],
-    a: &[u32],
-    b: &[u32],
-) -> LogState
-    ensures log_after { lent result log.new ≡ run (bitwise_of s.now a.now b.now) (lent st log.old) }
-    ensures nets_after { is_over (state_of result) ≡ false → nets.new ≡ sets nets.old 0 (bitwise_of s.now a.now b.now st.next).value }
-{
-    let n = bits_of(s, a, b);
-    bitwise_in(log, st, nets, kx, ky, at, &s[..n], &a[..n], &b[..n])
+    let mut log = Log {
+        words: log,
+        state: st,
+    };
+    emit_kept_mux(&mut log, out, to, select, a, b, at);
+    log.state
 }

@@ -3,12 +3,13 @@
 
 ghost use Rattle.std.specs.Prelude.{◌≡◌};
 ghost use Rattle.rules.specs.Value.{control_words};
+ghost use Rattle.rules.specs.Cell.{plain_controls};
 ghost use Rattle.rules.specs.Conditions.{bad_controls};
 ghost use Rattle.net_value.specs.View.{control_of};
 ghost use Rattle.rules.specs.Beside.Decode.{controls_words};
 ghost use Rattle.net_flip_flop.specs.View.{controls_of};
 
-use net_value::ControlNet;
+use net_value::{ControlNet, Net};
 
 // What a flip-flop and a clocked read port share.
 #[derive(Clone, Copy)]
@@ -42,6 +43,20 @@ pub fn control_words(c: ControlNet) -> [u32; 2]
 }
 
 impl Controls {
+    // Nothing but a clock.
+    #[tactic(auto, unfolding(rules::specs::Cell::plain_controls))]
+    pub fn plain(clock: ControlNet) -> Controls
+        ensures { controls_of result ≡ plain_controls (control_of clock) }
+    {
+        Controls {
+            clock,
+            clear: ControlNet::Pos(Net(0)),
+            reset: ControlNet::Pos(Net(0)),
+            enable: ControlNet::Pos(Net(1)),
+            reset_over_enable: false,
+        }
+    }
+
     // Whether some control is bad below the next free net.
     #[tactic(auto, unfolding(rules::specs::Conditions::bad_controls, rules::specs::Conditions::bad_control))]
     pub fn is_bad(self, next: u32) -> bool

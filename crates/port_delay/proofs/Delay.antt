@@ -1,15 +1,15 @@
 -- The flip-flops of a delayed port: each with the nets that it gives, and all three.
 use mathlib.Core.Path.{◌≡◌, refl, sym, ap, ◌∙◌, subst}
-use Prim.Native.Nat.{ℕ, ◌-◌, ◌≤◌, ◌<◌}
+use Prim.Native.Nat.{ℕ, ◌≤◌}
 use native.Mathlib.Omega.{arith}
 use mathlib.Core.Bool.{Bool, true, false}
 use mathlib.Core.List.{List, []}
 use lib.ListN.{length, take, replicate, length-replicate}
 use lib.Seq.{sets}
 use lib.Dec.{eqb, ltb}
-use borrow.Author.Tests.{lt-ltb, le-ltb, ltb-false, eqb-true, eq-eqb}
+use borrow.Author.Tests.{le-ltb, ltb-false, eqb-true, eq-eqb}
 use Rattle.lists.specs.Choice.{when◌then◌else◌}
-use Rattle.lists.specs.Lists.{pairs, up_from}
+use Rattle.lists.specs.Lists.{pairs}
 use Rattle.lists.specs.Distinct.{places}
 use Rattle.lists.proofs.Choice.{if_true, if_false}
 use Rattle.lists.proofs.Pairs.{pairs_size}
@@ -19,8 +19,8 @@ use Rattle.rules.specs.Limits.{max_merge}
 use Rattle.rules.specs.Logic.{undef, zeros}
 use Rattle.rules.specs.Value.{Control}
 use Rattle.rules.specs.Cell.{Controls, FlipFlop, WritePort, plain_controls, new_flip_flop, with_init}
-use Rattle.rules.specs.Log.{Dff, Trace, ◌>>=◌, done, add_dff_of}
-use Rattle.rules.specs.Merge.{same4, dff_keys, spread, add_dedup_dff_of}
+use Rattle.rules.specs.Log.{Trace, ◌>>=◌, done, add_dff_of}
+use Rattle.rules.specs.Merge.{same4, dff_keys, add_dedup_dff_of}
 use Rattle.rules.specs.Ports.{delayed}
 use Rattle.rules.proofs.Chain.{chains_dff, chains_dedup_dff}
 use Rattle.net_flip_flop.specs.View.{flip_flop}
@@ -29,7 +29,7 @@ use Rattle.merge_mux.specs.Results.{limited, results}
 use Rattle.merge_mux.proofs.Found.{limited-all}
 use Rattle.merge_mux.proofs.Spread.{length_spread, results_are}
 use Rattle.port_transparency.specs.Gave.{Gave}
-use Rattle.port_transparency.proofs.Gave.{gave_done, gave_bind, gave_same, gave_fresh}
+use Rattle.port_transparency.proofs.Gave.{gave_done, gave_bind, gave_same}
 use Rattle.port_delay.specs.Delay.{start_trit, mask_delay, port_of, cut, delayable, delayed_if, Delayable}
 
 -- trits of one kind, stored at the front of scratch
@@ -46,17 +46,13 @@ start_is true n = refl
 start_is false n = refl
 
 -- ---- a plain flip-flop
-module _ (bits xs out out' : List ℕ) (clock : Control) (c : Controls) (l l1 : Lent) (ec : c ≡ plain_controls clock) (ex : xs ≡ undef (length bits))
-    (er : l1 ≡ run (add_dff_of (flip_flop c bits xs xs xs)) l) (eo : out' ≡ sets out 0 (up_from l.state.next (l1.state.next - l.state.next))) (h : length bits ≤ length out) where
+module _ (bits xs v : List ℕ) (clock : Control) (c : Controls) (l l1 : Lent) (ec : c ≡ plain_controls clock) (ex : xs ≡ undef (length bits)) where
   plain_is : flip_flop c bits xs xs xs ≡ new_flip_flop bits clock
   unfolding new_flip_flop
   plain_is = λ k. record { bits = bits; controls = ec k; clear_value = ex k; reset_value = ex k; init_value = ex k }
 
-  pub plain_gave : Gave (add_dff_of (new_flip_flop bits clock)) l l1 (take (length bits) out')
-  unfolding add_dff_of new_flip_flop
-  plain_gave =
-      gave_fresh (λ first. Dff first (new_flip_flop bits clock)) (length bits) l l1 out out' (chains_dff (new_flip_flop bits clock))
-      (er ∙ ap (λ (f : FlipFlop). run (add_dff_of f) l) plain_is) eo h
+  pub plain_gave : Gave (add_dff_of (flip_flop c bits xs xs xs)) l l1 v → Gave (add_dff_of (new_flip_flop bits clock)) l l1 v
+  plain_gave g = subst (λ (f : FlipFlop). Gave (add_dff_of f) l l1 v) plain_is g
 
 -- ---- the mask's
 module _ (mask trits out out' : List ℕ) (allX : Bool) (clock : Control) (c : Controls) (l l1 : Lent) (ec : c ≡ plain_controls clock)
@@ -112,14 +108,6 @@ module _ (allX : Bool) (addr bits mask a d k : List ℕ) (clock : Control) (l l1
       (gave_same (add_dedup_dff_of (with_init (new_flip_flop mask clock) (when allX then undef (length bits) else zeros (length bits)))) _ l2 l3 (take (length mask) k) (chains_dedup_dff _) as_data))
 
 -- ---- by the test
-pub can_not_addr : (addr bits mask : ℕ) → max_merge < addr → false ≡ delayable addr bits mask
-unfolding delayable
-can_not_addr addr bits mask h = sym (if_true (ltb max_merge addr) _ _ (lt-ltb max_merge addr h))
-
-pub can_not_bits : (addr bits mask : ℕ) → addr ≤ max_merge → max_merge < bits → false ≡ delayable addr bits mask
-unfolding delayable
-can_not_bits addr bits mask g h = sym (if_false (ltb max_merge addr) _ _ (le-ltb max_merge addr g) ∙ if_true (ltb max_merge bits) _ _ (lt-ltb max_merge bits h))
-
 pub can_by : (addr bits mask : ℕ) → addr ≤ max_merge → bits ≤ max_merge → eqb mask bits ≡ delayable addr bits mask
 unfolding delayable
 can_by addr bits mask g h = sym (if_false (ltb max_merge addr) _ _ (le-ltb max_merge addr g) ∙ if_false (ltb max_merge bits) _ _ (le-ltb max_merge bits h))

@@ -2,7 +2,7 @@
 use Rattle.std.specs.Prelude.{◌≡◌, ℕ, ◌≤◌, Bool, false, List, length, take, eqb, ltb}
 use Rattle.lists.specs.Choice.{when◌then◌else◌}
 use Rattle.rules.specs.Limits.{max_merge, trit_x}
-use Rattle.rules.specs.Logic.{Const, undef, zeros}
+use Rattle.rules.specs.Logic.{undef, zeros}
 use Rattle.rules.specs.Value.{Value, Control, inverse}
 use Rattle.rules.specs.Cell.{FlipFlop, WritePort, new_flip_flop, with_init}
 use Rattle.rules.specs.Log.{Trace, done}

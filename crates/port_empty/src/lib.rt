@@ -7,53 +7,45 @@ ghost use Rattle.rules.specs.Value.{x_nets};
 ghost use Rattle.rules.specs.Log.{replace_value_of};
 ghost use Rattle.rules.specs.Refusals.{log_refusal};
 ghost use Rattle.log_entries.specs.Emission.{run};
-ghost use Rattle.log_entries.specs.View.{state_of, lent};
+ghost use Rattle.log_entries.specs.View.{state_of, lent, lent_of};
 ghost use Rattle.net_memory.specs.View.{memory_of};
 ghost use Rattle.port_empty.specs.Empty.{emptied_if};
 
-use log_entries::LogState;
+use log_entries::{Log, LogState};
+use merge_mux::emit::Keys;
 use net_memory::Memory;
+use port_transparency::Overlay;
 
 // The first n nets of `after` replaced by X.
-fn emit_unknown(log: &mut [u32], st: LogState, after: &[u32], n: usize) -> LogState
+fn emit_unknown(log: &mut Log, after: &[u32], n: usize)
     requires { (n ≤ length after.now) × (n ≤ max_outputs) }
-    ensures { lent result log.new ≡ run (replace_value_of (take n after.now) (x_nets n)) (lent st log.old) }
+    ensures { lent_of log.new ≡ run (replace_value_of (take n after.now) (x_nets n)) (lent_of log.old) }
 {
     let unknown = [rules::NET_X; rules::MAX_OUTPUTS];
-    log_entries::emit_replace(log, st, &after[..n], &unknown[..n])
+    log.emit_replace(&after[..n], &unknown[..n]);
 }
 
 // With the room for the outputs after.
 fn emit_emptied(
-    log: &mut [u32],
-    st: LogState,
+    log: &mut Log,
+    overlay: &mut Overlay,
     after: &mut [u32; rules::MAX_OUTPUTS],
-    under: &mut [u32; rules::MAX_MERGE],
-    bits: &mut [u32; rules::MAX_MERGE],
-    mask: &mut [u32; rules::MAX_MERGE],
-    sel: &mut [u32; rules::MAX_MERGE],
-    spare: &mut [u32; rules::MAX_MERGE],
-    kx: &mut [u32; rules::MAX_MERGE],
-    ky: &mut [u32; rules::MAX_MERGE],
-    at: &mut [u32; rules::MAX_MERGE],
     m: Memory,
     nets: &[u32],
     trits: &[u8],
     output: &[u32],
-) -> LogState
-    ensures { lent result log.new ≡ run (emptied_if (memory_of m nets.now trits.now) output.now) (lent st log.old) }
+)
+    ensures { lent_of log.new ≡ run (emptied_if (memory_of m nets.now trits.now) output.now) (lent_of log.old) }
 {
     let n = output.len();
     if rules::MAX_OUTPUTS < n {
-        return st;
+        return;
     }
-    let state = port_unmap_all::emit_unmap_all(
-        log, st, after, under, bits, mask, sel, spare, kx, ky, at, m, nets, trits, output,
-    );
-    emit_unknown(log, state, after, n)
+    port_unmap_all::emit_unmap_all(log, overlay, after, m, nets, trits, output);
+    emit_unknown(log, after, n);
 }
 
-// Depth 0 of a swizzle, without its numbers; the same function runs dry on an empty log.
+// Depth 0 of a swizzle, without its numbers, of a log and a state apart; the same function runs dry on an empty log.
 pub fn emit_empty(
     log: &mut [u32],
     st: LogState,
@@ -65,18 +57,24 @@ pub fn emit_empty(
     ensures { lent result log.new ≡ run (emptied_if (memory_of m nets.now trits.now) output.now) (lent st log.old) }
 {
     let mut after = [0u32; rules::MAX_OUTPUTS];
-    let mut under = [0u32; rules::MAX_MERGE];
-    let mut bits = [0u32; rules::MAX_MERGE];
-    let mut mask = [0u32; rules::MAX_MERGE];
-    let mut sel = [0u32; rules::MAX_MERGE];
-    let mut spare = [0u32; rules::MAX_MERGE];
-    let mut kx = [0u32; rules::MAX_MERGE];
-    let mut ky = [0u32; rules::MAX_MERGE];
-    let mut at = [0u32; rules::MAX_MERGE];
-    emit_emptied(
-        log, st, &mut after, &mut under, &mut bits, &mut mask, &mut sel, &mut spare, &mut kx,
-        &mut ky, &mut at, m, nets, trits, output,
-    )
+    let mut overlay = Overlay {
+        under: [0; rules::MAX_MERGE],
+        bits: [0; rules::MAX_MERGE],
+        mask: [0; rules::MAX_MERGE],
+        select: [0; rules::MAX_MERGE],
+        spare: [0; rules::MAX_MERGE],
+        keys: Keys {
+            x: [0; rules::MAX_MERGE],
+            y: [0; rules::MAX_MERGE],
+            at: [0; rules::MAX_MERGE],
+        },
+    };
+    let mut log = Log {
+        words: log,
+        state: st,
+    };
+    emit_emptied(&mut log, &mut overlay, &mut after, m, nets, trits, output);
+    log.state
 }
 
 // 20 and 21 of it, by a run without a log.
@@ -90,8 +88,6 @@ pub fn empty_refusal(
 ) -> u32
     ensures { result ≡ log_refusal room (state_of st) (emptied_if (memory_of m nets.now trits.now) output.now) }
 {
-    let mut no_log = [0u32; 0];
-    let start = st.dry_start();
-    let dry = emit_empty(&mut no_log, start, m, nets, trits, output);
+    let dry = emit_empty(&mut [], st.dry_start(), m, nets, trits, output);
     rules::number_of(st.dry_refusal(room, dry))
 }

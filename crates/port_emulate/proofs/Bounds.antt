@@ -1,10 +1,10 @@
 -- A memory without a number is delayed by few nets, whose lists fit the scratch.
-use mathlib.Core.Path.{◌≡◌, refl, sym, ap, ◌∙◌, subst}
-use Prim.Native.Nat.{ℕ, suc, ◌+◌, ◌*◌, ◌^◌, ◌<◌, ◌≤◌, min}
+use mathlib.Core.Path.{◌≡◌, refl, subst}
+use Prim.Native.Nat.{ℕ, suc, ◌+◌, ◌*◌, ◌^◌, ◌<◌, ◌≤◌}
 use native.Mathlib.Nat.{mul-le-mul}
 use native.Mathlib.Omega.{arith}
-use mathlib.Core.Bool.{Bool, true, false, not, ◌||◌}
-use mathlib.Core.List.{List, [], ◌∷◌, map}
+use mathlib.Core.Bool.{Bool, false, not}
+use mathlib.Core.List.{List, [], ◌∷◌}
 use lib.ListN.{length, get_or, length-map}
 use lib.Pow.{pow_mono}
 use lib.Dec.{eqb}
@@ -15,21 +15,20 @@ use Rattle.lists.proofs.Choice.{or_false, else_zero}
 use Rattle.lists.proofs.All.{any_at}
 use Rattle.lists.proofs.Distinct.{length_kept}
 use Rattle.lists.proofs.Pairs.{pairs_size}
-use Rattle.rules.specs.Limits.{max_ports, X}
+use Rattle.rules.specs.Limits.{X}
 use Rattle.rules.specs.Logic.{is_undef}
 use Rattle.rules.specs.Cell.{FlipFlop, WritePort, Mem, new_flip_flop, with_init, is_read_before_write}
 use Rattle.rules.specs.Log.{Trace, ◌>>=◌, done, add_dff_of, LogState, start_net}
 use Rattle.rules.specs.Merge.{same4, dff_keys, dff_of, spread, add_dedup_dff_of}
 use Rattle.rules.specs.Ports.{relates_to, delayed, delay_writes, emulate_read_before_write}
-use Rattle.rules.specs.Conditions.{bad_write_shape, bad_read_shape, bad_shape, unclocked}
+use Rattle.rules.specs.Conditions.{bad_write_shape, bad_shape, unclocked}
 use Rattle.rules.specs.Refusals.{mem_number, emulate_number}
 use Rattle.rules.proofs.Counted.{AtMost, most_counted, most-done, most_bind, most_if, counted_dff, start_le}
 use Rattle.net_memory.specs.declared.Memory.{Memory}
 use Rattle.net_memory.specs.Given.{given_of}
 use Rattle.net_memory.specs.View.{writes_of, reads_start, nets_total, memory_of}
 use Rattle.net_check.proofs.Accept.{Valid, valid, exact, sizes}
-use Rattle.port_overlay.proofs.Fits.{Shaped, Writes, writes_shaped}
-use Rattle.port_delay.specs.Delay.{Delayable}
+use Rattle.port_overlay.proofs.Fits.{Shaped, writes_shaped}
 use Rattle.port_emulate.specs.Delays.{delays, no_write_of, Fitting}
 use Rattle.port_emulate.proofs.Delays.{delays_are}
 

@@ -19,14 +19,14 @@ use Rattle.rules.specs.Answers.{emulate_call}
 use Rattle.log_entries.specs.Emission.{Lent, is_over, run}
 use Rattle.log_entries.specs.View.{state_of, lent}
 use Rattle.log_entries.specs.declared.LogState as machine
-use Rattle.log_entries.proofs.Emission.{accepted_run, accepted_held}
+use Rattle.log_entries.proofs.Emission.{accepted_run, accepted_held, named, unnamed, run_name}
 use Rattle.net_memory.specs.declared.Memory.{Memory}
 use Rattle.net_memory.specs.Given.{given_of}
 use Rattle.net_memory.specs.View.{writes_of, memory_of}
 use Rattle.port_unmap.specs.Call.{driven_of}
 use Rattle.port_unmap.proofs.Act.{driven_refused, driven-done}
 use Rattle.port_settle.specs.Settled.{is_read, turned_from, turned_mem, settled_mem, turning, settling}
-use Rattle.port_emulate.specs.Delays.{rooms_of, PortsDone, Emulated}
+use Rattle.port_emulate.specs.Delays.{rooms_of, delays, PortsDone, Emulated}
 use Rattle.port_emulate.proofs.Delays.{delays_are, chains_emulate}
 use Rattle.port_emulate.proofs.Number.{delays_rules, dry_run}
 
@@ -110,3 +110,15 @@ all_new m st nets nets' v w st' ev ew e = record {
   state_kept = λ h. absurd (h refl);
   size = e;
 }
+
+-- ---- a log and its state apart
+module _ (m : Memory) (allX : Bool) (nets nets' : List ℕ) (l l1 : Lent) (d : PortsDone m allX nets nets' l l1) where
+  pub done_unnamed : PortsDone m allX nets nets' (named 0 l) (named 0 l1)
+  done_unnamed = record {
+    gave = λ x y. record { ran = unnamed (delays (is_read m x y) allX 0 (writes_of m nets)) 0 l l1 (d.gave x y).ran; value = (d.gave x y).value };
+    kept = d.kept;
+    size = d.size;
+  }
+
+pub log_name : (m : Memory) (nets : List ℕ) (allX : Bool) (nets' : List ℕ) (l l1 : Lent) → PortsDone m allX nets nets' l l1 → l1.name ≡ l.name
+log_name m nets allX nets' l l1 d = run_name (delays (is_read m [] []) allX 0 (writes_of m nets)) l l1 (d.gave [] []).ran

@@ -15,7 +15,7 @@ use Rattle.rules.specs.Log.{Trace, ◌>>=◌, done}
 use Rattle.rules.specs.Beside.Chain.{Chains}
 use Rattle.rules.specs.Ports.{relates_to, delayed, delay_writes, emulate_read_before_write}
 use Rattle.rules.proofs.Chain.{chains_dff, chains_dedup_dff, chains_bind, chains_done, chains_if}
-use Rattle.log_entries.specs.Emission.{Lent, is_over, run}
+use Rattle.log_entries.specs.Emission.{Lent, run}
 use Rattle.log_entries.proofs.Emission.{run-done, run_then, run_same}
 use Rattle.port_transparency.specs.Gave.{Gave}
 use Rattle.port_transparency.proofs.Gave.{gave_done}

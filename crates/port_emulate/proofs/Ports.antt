@@ -8,8 +8,8 @@ use mathlib.Core.List.{List, [], ◌∷◌, ◌++◌, append-nil}
 use lib.ListN.{length, take, drop, get_or, set, drop_of_length-le, length-set}
 use lib.Seq.{drop-cons, drop-drop, take_all}
 use Rattle.lists.specs.Choice.{when◌then◌else◌}
-use Rattle.rules.specs.Cell.{WritePort, ReadPort, Mem}
-use Rattle.rules.specs.Log.{Trace, ◌>>=◌, done}
+use Rattle.rules.specs.Cell.{WritePort, Mem}
+use Rattle.rules.specs.Log.{done}
 use Rattle.rules.specs.Ports.{delayed}
 use Rattle.log_entries.specs.Emission.{Lent}
 use Rattle.net_memory.specs.declared.Memory.{Memory}

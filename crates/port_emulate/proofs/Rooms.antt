@@ -1,22 +1,16 @@
 -- A memory after an emulation fits the arrays that it was lent in.
-use mathlib.Core.Path.{◌≡◌, refl, sym, ap, ◌∙◌, subst}
+use mathlib.Core.Path.{◌≡◌, refl, ap, ◌∙◌}
 use mathlib.Core.Bool.{Bool, true, false}
-use Prim.Native.Nat.{ℕ, suc, ◌+◌, ◌<◌, ◌≤◌, min}
+use Prim.Native.Nat.{ℕ, suc, ◌+◌, ◌≤◌}
 use native.Mathlib.Nat.{le_refl}
 use native.Mathlib.Omega.{arith}
 use mathlib.Core.Option.{Option, none, some}
 use mathlib.Core.List.{List, [], ◌∷◌, ◌++◌, map}
-use lib.ListN.{length, take, drop, length-append, length-take, length-drop}
-use borrow.Author.Tests.{le-ltb}
-use Rattle.lists.specs.Lists.{sum_by, part, pairs, up_from, concat_map}
-use Rattle.lists.specs.Views.{views}
-use Rattle.lists.proofs.Choice.{or_both, if_false}
-use Rattle.rules.specs.Limits.{max_ports}
-use Rattle.rules.specs.Value.{Value}
+use lib.ListN.{length, length-append}
+use Rattle.lists.specs.Lists.{pairs, concat_map}
 use Rattle.rules.specs.Cell.{FlipFlop, WritePort, ReadFlipFlop, ReadPort, Mem, new_flip_flop, with_init, is_read_before_write, held, port_nets, flip_flop_trits, port_trits, flat_nets, flat_trits}
-use Rattle.rules.specs.Conditions.{no_room_of}
 use Rattle.rules.specs.Log.{◌>>=◌, done, add_dff_of, request}
-use Rattle.rules.specs.Merge.{same4, dff_keys, spread, add_dedup_dff_of}
+use Rattle.rules.specs.Merge.{same4, dff_keys, add_dedup_dff_of}
 use Rattle.lists.specs.Distinct.{places}
 use Rattle.lists.proofs.Distinct.{length_places}
 use Rattle.lists.proofs.Pairs.{pairs_size}
@@ -24,14 +18,10 @@ use Rattle.lists.proofs.UpFrom.{length_up}
 use Rattle.lists.specs.Choice.{when◌then◌else◌}
 use Rattle.merge_mux.proofs.Spread.{length_spread}
 use Rattle.rules.specs.Logic.{is_undef, undef, zeros}
-use Rattle.rules.specs.Ports.{Driving, relates_to, delayed, delay_writes, settled_flip_flop, settled_port, emulate_read_before_write}
-use Rattle.rules.specs.Refusals.{Rooms, no_rooms, driving_refusal, alone}
-use Rattle.net_memory.specs.FlipFlop.{MemoryReadFlipFlop}
-use Rattle.std.specs.Prelude.{None, Some}
-use Rattle.net_memory.specs.declared.MemoryWritePort.{MemoryWritePort}
-use Rattle.net_memory.specs.declared.MemoryReadPort.{MemoryReadPort}
+use Rattle.rules.specs.Ports.{relates_to, delayed, delay_writes, settled_flip_flop, settled_port, emulate_read_before_write}
+use Rattle.rules.specs.Refusals.{driving_refusal, alone}
 use Rattle.net_memory.specs.declared.Memory.{Memory}
-use Rattle.net_memory.specs.View.{write_ports_of, read_ports_of, write_size, addr_size, trit_size, no_trits, write_by, read_by, flip_flop_by, writes_of, reads_of, reads_start, memory_of}
+use Rattle.net_memory.specs.View.{memory_of}
 use Rattle.net_memory.proofs.Fits.{nets_fit, trits_fit}
 use Rattle.port_unmap.proofs.Rooms.{enough}
 

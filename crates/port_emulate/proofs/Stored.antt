@@ -1,34 +1,33 @@
 -- A delayed port's nets in place of its own, and all ports one after the other.
 use mathlib.Core.Path.{◌≡◌, refl, sym, ap, ◌∙◌, subst}
-use Prim.Native.Nat.{ℕ, suc, ◌+◌, ◌<◌, ◌≤◌, min}
+use Prim.Native.Nat.{ℕ, ◌+◌, ◌<◌, ◌≤◌}
 use native.Mathlib.Omega.{arith}
-use native.Mathlib.Numerals.{add-one}
 use mathlib.Core.Bool.{Bool, true, false}
-use mathlib.Core.List.{List, [], ◌∷◌, ◌++◌, append_assoc}
-use lib.ListN.{length, take, drop, get_or, set, length-append, drop_of_length-le}
-use lib.Seq.{sets, length-sets, drop-cons, set-get_or, get_or-set_same, take-suc-set}
+use mathlib.Core.List.{List, [], ◌++◌, append_assoc}
+use lib.ListN.{length, take, get_or, set, length-append}
+use lib.Seq.{sets, length-sets, set-get_or, get_or-set_same}
 use Rattle.lists.specs.Choice.{when◌then◌else◌}
 use Rattle.lists.specs.Lists.{part}
 use Rattle.lists.proofs.Choice.{if_true}
 use Rattle.lists.proofs.Parts.{length_part}
 use Rattle.lists.proofs.Stores.{sets_then}
-use Rattle.rules.specs.Limits.{max_ports, max_merge}
+use Rattle.rules.specs.Limits.{max_merge}
 use Rattle.rules.specs.Value.{inverse}
-use Rattle.rules.specs.Cell.{WritePort, ReadPort, Mem}
-use Rattle.rules.specs.Log.{Trace, ◌>>=◌, done}
+use Rattle.rules.specs.Cell.{WritePort, Mem}
+use Rattle.rules.specs.Log.{Trace, done}
 use Rattle.rules.specs.Ports.{delayed}
 use Rattle.log_entries.specs.Emission.{Lent}
 use Rattle.net_value.specs.View.{control_of}
 use Rattle.net_memory.specs.declared.MemoryWritePort.{MemoryWritePort}
 use Rattle.net_memory.specs.declared.Memory.{Memory}
-use Rattle.net_memory.specs.View.{write_port, write_start, write_size, write_by, writes_of, reads_start, memory_of, with_write_port}
+use Rattle.net_memory.specs.View.{write_port, write_start, write_size, write_by, writes_of, memory_of, with_write_port}
 use Rattle.net_memory.proofs.Ports.{writes_at}
 use Rattle.net_memory.proofs.Changes.{with_write, write_end, write_stored, with_write_same}
 use Rattle.port_transparency.specs.Gave.{Gave}
 use Rattle.port_delay.specs.Delay.{cut, delayable, delayed_if, Delayable}
 use Rattle.port_delay.proofs.Delay.{can}
 use Rattle.port_settle.specs.Settled.{is_read, turned_by}
-use Rattle.port_emulate.specs.Delays.{delayed_by, cut_by, delays, no_write_of, port_at, PortReady, PortDone}
+use Rattle.port_emulate.specs.Delays.{delayed_by, cut_by, no_write_of, port_at, PortReady, PortDone}
 
 -- ---- three stores are one
 pub three_stored : (l l1 l2 l3 a d k : List ℕ) (at x y : ℕ) → l1 ≡ sets l at a → l2 ≡ sets l1 (at + x) d → l3 ≡ sets l2 (at + x + y) k → length a ≡ x → length d ≡ y

@@ -9,7 +9,7 @@ ghost use Rattle.rules.specs.Refusals.{log_refusal};
 ghost use Rattle.rules.specs.Logic.{is_undef};
 ghost use Rattle.rules.specs.Answers.{emulate_call};
 ghost use Rattle.log_entries.specs.Emission.{run};
-ghost use Rattle.log_entries.specs.View.{state_of, lent};
+ghost use Rattle.log_entries.specs.View.{state_of, lent_of};
 ghost use Rattle.net_memory.specs.View.{write_by, writes_of, reads_start, memory_of};
 ghost use Rattle.net_memory.specs.Given.{given_of};
 ghost use Rattle.port_transparency.specs.Gave.{Gave};
@@ -18,192 +18,101 @@ ghost use Rattle.port_settle.specs.Settled.{is_read};
 ghost use Rattle.port_unmap.specs.Call.{driven_of};
 ghost use Rattle.port_emulate.specs.Delays.{delayed_by, cut_by, delays, Fitting, PortReady, PortDone, PortsDone, rooms_of, input_number, Emulated};
 
-use log_entries::LogState;
+use log_entries::{Log, LogState};
+use merge_dff::Trits;
+use merge_mux::emit::Keys;
 use net_memory::{Memory, MemoryWritePort};
+use port_delay::Room;
 use port_unmap::Driven;
 
-// Write port j with these nets, delayed where a read port reads before it writes; the results are the first nets of `a`, `d` and `k`.
+// Write port j with these nets, delayed where a read port reads before it writes; the results are the first nets of the room's `addr`, `bits` and `mask`.
 fn emit_port(
-    log: &mut [u32],
-    st: LogState,
-    a: &mut [u32; rules::MAX_MERGE],
-    d: &mut [u32; rules::MAX_MERGE],
-    k: &mut [u32; rules::MAX_MERGE],
-    column: &mut [u32; rules::MAX_MERGE],
-    kx: &mut [u32; rules::MAX_MERGE],
-    ky: &mut [u32; rules::MAX_MERGE],
-    places: &mut [u32; rules::MAX_MERGE],
-    own_trits: &mut [u8; rules::MAX_MERGE],
-    clears: &mut [u8; rules::MAX_MERGE],
-    resets: &mut [u8; rules::MAX_MERGE],
-    inits: &mut [u8; rules::MAX_MERGE],
+    log: &mut Log,
+    delay: &mut Room,
     all_x: bool,
     m: Memory,
     j: usize,
     p: MemoryWritePort,
     own: &[u32],
-) -> LogState
-    ensures { (nets trits : List ℕ) → Gave (delayed_by (is_read m nets trits j) all_x (write_by p own.now []) (cut (write_by p own.now []) a.old d.old k.old)) (lent st log.old) (lent result log.new) (cut_by (is_read m nets trits j) (write_by p own.now []) a.new d.new k.new) }
+)
+    ensures { (nets trits : List ℕ) → Gave (delayed_by (is_read m nets trits j) all_x (write_by p own.now []) (cut (write_by p own.now []) delay.old.addr delay.old.bits delay.old.mask)) (lent_of log.old) (lent_of log.new) (cut_by (is_read m nets trits j) (write_by p own.now []) delay.new.addr delay.new.bits delay.new.mask) }
 {
     if !port_relations::relates_to(m, j, port_relations::READ_BEFORE_WRITE) {
-        return st;
+        return;
     }
-    port_delay::emit_delayed(
-        log, st, a, d, k, column, kx, ky, places, own_trits, clears, resets, inits, all_x, p, own,
-    )
+    delay.emit_delayed(log, all_x, p, own);
 }
 
-// Stores the first nets of `a`, `d` and `k`, as many as a write port has, from `at` on.
-fn store_port(
-    nets: &mut [u32],
-    at: usize,
-    p: MemoryWritePort,
-    a: &[u32; rules::MAX_MERGE],
-    d: &[u32; rules::MAX_MERGE],
-    k: &[u32; rules::MAX_MERGE],
-)
+// Stores the room's first nets, as many as a write port has, from `at` on.
+fn store_port(nets: &mut [u32], at: usize, p: MemoryWritePort, delay: &Room)
     requires { (at ≤ 0x1800000000) × (p.addr_len ≤ max_merge) × (p.data_len ≤ max_merge) × (p.mask_len ≤ max_merge) }
-    ensures nets_after { nets.new ≡ sets nets.old at (take p.addr_len a.now ++ (take p.data_len d.now ++ take p.mask_len k.now)) }
-    ensures a_len { (length a.now ≡ max_merge) × (length d.now ≡ max_merge) × (length k.now ≡ max_merge) }
+    ensures nets_after { nets.new ≡ sets nets.old at (take p.addr_len delay.now.addr ++ (take p.data_len delay.now.bits ++ take p.mask_len delay.now.mask)) }
+    ensures lens { (length delay.now.addr ≡ max_merge) × (length delay.now.bits ≡ max_merge) × (length delay.now.mask ≡ max_merge) }
 {
-    let x = lists::usize_of_u32(p.addr_len);
-    let y = lists::usize_of_u32(p.data_len);
-    let z = lists::usize_of_u32(p.mask_len);
-    lists::copy(nets, at, lists::part(a, 0, x));
-    lists::copy(nets, at + x, lists::part(d, 0, y));
-    lists::copy(nets, at + x + y, lists::part(k, 0, z));
+    let x = p.addr_len as usize;
+    let y = p.data_len as usize;
+    let z = p.mask_len as usize;
+    lists::copy(nets, at, &delay.addr[..x]);
+    lists::copy(nets, at + x, &delay.bits[..y]);
+    lists::copy(nets, at + x + y, &delay.mask[..z]);
 }
 
 // Write port j, delayed where a read port reads before it writes: its flip-flops' results take the place of its nets.
 fn delay_port(
-    log: &mut [u32],
-    st: LogState,
+    log: &mut Log,
     nets: &mut [u32],
-    a: &mut [u32; rules::MAX_MERGE],
-    d: &mut [u32; rules::MAX_MERGE],
-    k: &mut [u32; rules::MAX_MERGE],
-    column: &mut [u32; rules::MAX_MERGE],
-    kx: &mut [u32; rules::MAX_MERGE],
-    ky: &mut [u32; rules::MAX_MERGE],
-    places: &mut [u32; rules::MAX_MERGE],
-    own_trits: &mut [u8; rules::MAX_MERGE],
-    clears: &mut [u8; rules::MAX_MERGE],
-    resets: &mut [u8; rules::MAX_MERGE],
-    inits: &mut [u8; rules::MAX_MERGE],
+    delay: &mut Room,
     all_x: bool,
     m: Memory,
     j: usize,
     p: MemoryWritePort,
     at: usize,
-) -> LogState
+)
     requires { PortReady m nets.old j at p }
-    ensures { PortDone m all_x j nets.old nets.new (lent st log.old) (lent result log.new) }
+    ensures { PortDone m all_x j nets.old nets.new (lent_of log.old) (lent_of log.new) }
 {
     let own = lists::part(nets, at, net_memory::write_size(p));
-    let after = emit_port(
-        log, st, a, d, k, column, kx, ky, places, own_trits, clears, resets, inits, all_x, m, j, p,
-        own,
-    );
-    if !port_relations::relates_to(m, j, port_relations::READ_BEFORE_WRITE) {
-        return after;
+    emit_port(log, delay, all_x, m, j, p, own);
+    if port_relations::relates_to(m, j, port_relations::READ_BEFORE_WRITE) {
+        store_port(nets, at, p, delay);
     }
-    store_port(nets, at, p, a, d, k);
-    after
 }
 
 // All write ports in turn, their nets in place.
-fn delay_ports(
-    log: &mut [u32],
-    st: LogState,
-    nets: &mut [u32],
-    a: &mut [u32; rules::MAX_MERGE],
-    d: &mut [u32; rules::MAX_MERGE],
-    k: &mut [u32; rules::MAX_MERGE],
-    column: &mut [u32; rules::MAX_MERGE],
-    kx: &mut [u32; rules::MAX_MERGE],
-    ky: &mut [u32; rules::MAX_MERGE],
-    places: &mut [u32; rules::MAX_MERGE],
-    own_trits: &mut [u8; rules::MAX_MERGE],
-    clears: &mut [u8; rules::MAX_MERGE],
-    resets: &mut [u8; rules::MAX_MERGE],
-    inits: &mut [u8; rules::MAX_MERGE],
-    all_x: bool,
-    m: Memory,
-) -> LogState
+fn delay_ports(log: &mut Log, nets: &mut [u32], delay: &mut Room, all_x: bool, m: Memory)
     requires { Fitting (writes_of m nets.old) × (reads_start m ≤ length nets.old) }
-    ensures { PortsDone m all_x nets.old nets.new (lent st log.old) (lent result log.new) }
+    ensures { PortsDone m all_x nets.old nets.new (lent_of log.old) (lent_of log.new) }
 {
     let count = net_memory::ports_used(m.write_count);
-    let mut state = st;
     let mut at: usize = 0;
-    let mut j = 0;
-    while j < count {
+    for j in 0..count {
         let p = m.write_ports[j];
-        state = delay_port(
-            log, state, nets, a, d, k, column, kx, ky, places, own_trits, clears, resets, inits,
-            all_x, m, j, p, at,
-        );
+        delay_port(log, nets, delay, all_x, m, j, p, at);
         at += net_memory::write_size(p);
-        j += 1;
     }
-    state
 }
 
 // All write ports, one after the other. No net of the memory is stored.
-fn emit_ports(
-    log: &mut [u32],
-    st: LogState,
-    a: &mut [u32; rules::MAX_MERGE],
-    d: &mut [u32; rules::MAX_MERGE],
-    k: &mut [u32; rules::MAX_MERGE],
-    column: &mut [u32; rules::MAX_MERGE],
-    kx: &mut [u32; rules::MAX_MERGE],
-    ky: &mut [u32; rules::MAX_MERGE],
-    places: &mut [u32; rules::MAX_MERGE],
-    own_trits: &mut [u8; rules::MAX_MERGE],
-    clears: &mut [u8; rules::MAX_MERGE],
-    resets: &mut [u8; rules::MAX_MERGE],
-    inits: &mut [u8; rules::MAX_MERGE],
-    all_x: bool,
-    m: Memory,
-    nets: &[u32],
-) -> LogState
+fn emit_ports(log: &mut Log, delay: &mut Room, all_x: bool, m: Memory, nets: &[u32])
     requires { Fitting (writes_of m nets.now) }
-    ensures { (x y : List ℕ) → lent result log.new ≡ run (delays (is_read m x y) all_x 0 (writes_of m nets.now)) (lent st log.old) }
+    ensures { (x y : List ℕ) → lent_of log.new ≡ run (delays (is_read m x y) all_x 0 (writes_of m nets.now)) (lent_of log.old) }
 {
     let count = net_memory::ports_used(m.write_count);
-    let mut state = st;
     let mut at: usize = 0;
-    let mut j = 0;
-    while j < count {
+    for j in 0..count {
         let p = m.write_ports[j];
         let size = net_memory::write_size(p);
         let own = lists::part(nets, at, size);
-        state = emit_port(
-            log, state, a, d, k, column, kx, ky, places, own_trits, clears, resets, inits, all_x,
-            m, j, p, own,
-        );
+        emit_port(log, delay, all_x, m, j, p, own);
         at += size;
-        j += 1;
     }
-    state
 }
 
 // 20 and 21, by a run without a log.
 fn log_number(
     room: usize,
     st: LogState,
-    a: &mut [u32; rules::MAX_MERGE],
-    d: &mut [u32; rules::MAX_MERGE],
-    k: &mut [u32; rules::MAX_MERGE],
-    column: &mut [u32; rules::MAX_MERGE],
-    kx: &mut [u32; rules::MAX_MERGE],
-    ky: &mut [u32; rules::MAX_MERGE],
-    places: &mut [u32; rules::MAX_MERGE],
-    own_trits: &mut [u8; rules::MAX_MERGE],
-    clears: &mut [u8; rules::MAX_MERGE],
-    resets: &mut [u8; rules::MAX_MERGE],
-    inits: &mut [u8; rules::MAX_MERGE],
+    delay: &mut Room,
     all_x: bool,
     m: Memory,
     nets: &[u32],
@@ -211,45 +120,20 @@ fn log_number(
     requires { Fitting (writes_of m nets.now) }
     ensures { (trits : List ℕ) → input_number st.next m nets.now trits ≡ 0 → all_x ≡ is_undef (memory_of m nets.now trits).init → result ≡ log_refusal room (state_of st) (emulate_read_before_write (memory_of m nets.now trits)) }
 {
-    let mut no_log = [0u32; 0];
-    let start = st.dry_start();
-    let dry = emit_ports(
-        &mut no_log,
-        start,
-        a,
-        d,
-        k,
-        column,
-        kx,
-        ky,
-        places,
-        own_trits,
-        clears,
-        resets,
-        inits,
-        all_x,
-        m,
-        nets,
-    );
-    rules::number_of(st.dry_refusal(room, dry))
+    let mut dry = Log {
+        words: &mut [],
+        state: st.dry_start(),
+    };
+    emit_ports(&mut dry, delay, all_x, m, nets);
+    rules::number_of(st.dry_refusal(room, dry.state))
 }
 
-// A memory without a number of its own: 20 and 21 by a dry run, then the same for good. The arrays are scratch of both.
+// A memory without a number of its own: 20 and 21 by a dry run, then the same for good. The room serves both.
 fn emulate_in(
     log: &mut [u32],
     st: LogState,
     nets: &mut [u32],
-    a: &mut [u32; rules::MAX_MERGE],
-    d: &mut [u32; rules::MAX_MERGE],
-    k: &mut [u32; rules::MAX_MERGE],
-    column: &mut [u32; rules::MAX_MERGE],
-    kx: &mut [u32; rules::MAX_MERGE],
-    ky: &mut [u32; rules::MAX_MERGE],
-    places: &mut [u32; rules::MAX_MERGE],
-    own_trits: &mut [u8; rules::MAX_MERGE],
-    clears: &mut [u8; rules::MAX_MERGE],
-    resets: &mut [u8; rules::MAX_MERGE],
-    inits: &mut [u8; rules::MAX_MERGE],
+    delay: &mut Room,
     m: Memory,
     trits: &[u8],
 ) -> Driven
@@ -258,24 +142,7 @@ fn emulate_in(
     ensures emulated { Emulated m st nets.old nets.new result }
 {
     let all_x = net_logic::is_undef(lists::part(trits, 0, net_memory::init_size(m)));
-    let n = log_number(
-        log.len(),
-        st,
-        a,
-        d,
-        k,
-        column,
-        kx,
-        ky,
-        places,
-        own_trits,
-        clears,
-        resets,
-        inits,
-        all_x,
-        m,
-        nets,
-    );
+    let n = log_number(log.len(), st, delay, all_x, m, nets);
     if n != 0 {
         return Driven {
             refusal: n,
@@ -286,19 +153,20 @@ fn emulate_in(
     let turned = port_settle::turn_clocks(m);
     // The flip-flops run by the clocks as they were.
     let clocked = m;
-    let state = delay_ports(
-        log, st, nets, a, d, k, column, kx, ky, places, own_trits, clears, resets, inits, all_x,
-        clocked,
-    );
+    let mut log = Log {
+        words: log,
+        state: st,
+    };
+    delay_ports(&mut log, nets, delay, all_x, clocked);
     let memory = port_settle::settle_relations(m, turned);
     Driven {
         refusal: 0,
         memory,
-        state,
+        state: log.state,
     }
 }
 
-// The same with scratch of its own.
+// The same with a room of its own.
 fn emulate_passed(
     log: &mut [u32],
     st: LogState,
@@ -310,39 +178,28 @@ fn emulate_passed(
     ensures log_after { driven_of result nets.new trits.now [] log.new ≡ emulate_call (rooms_of nets.old trits.now) log.old (state_of st) (given_of m nets.old trits.now) }
     ensures emulated { Emulated m st nets.old nets.new result }
 {
-    let mut a = [0u32; rules::MAX_MERGE];
-    let mut d = [0u32; rules::MAX_MERGE];
-    let mut k = [0u32; rules::MAX_MERGE];
-    let mut column = [0u32; rules::MAX_MERGE];
-    let mut kx = [0u32; rules::MAX_MERGE];
-    let mut ky = [0u32; rules::MAX_MERGE];
-    let mut places = [0u32; rules::MAX_MERGE];
-    let mut own_trits = [0u8; rules::MAX_MERGE];
-    let mut clears = [0u8; rules::MAX_MERGE];
-    let mut resets = [0u8; rules::MAX_MERGE];
-    let mut inits = [0u8; rules::MAX_MERGE];
-    emulate_in(
-        log,
-        st,
-        nets,
-        &mut a,
-        &mut d,
-        &mut k,
-        &mut column,
-        &mut kx,
-        &mut ky,
-        &mut places,
-        &mut own_trits,
-        &mut clears,
-        &mut resets,
-        &mut inits,
-        m,
-        trits,
-    )
+    let mut delay = Room {
+        addr: [0; rules::MAX_MERGE],
+        bits: [0; rules::MAX_MERGE],
+        mask: [0; rules::MAX_MERGE],
+        starts: [0; rules::MAX_MERGE],
+        column: [0; rules::MAX_MERGE],
+        keys: Keys {
+            x: [0; rules::MAX_MERGE],
+            y: [0; rules::MAX_MERGE],
+            at: [0; rules::MAX_MERGE],
+        },
+        trits: Trits {
+            clear: [0; rules::MAX_MERGE],
+            reset: [0; rules::MAX_MERGE],
+            init: [0; rules::MAX_MERGE],
+        },
+    };
+    emulate_in(log, st, nets, &mut delay, m, trits)
 }
 
 // emulate_read_before_write: write ports that some read port reads before they write are delayed by half a cycle; relations to them are Undefined.
-// A refused call changes nothing.
+// A refused call changes nothing. The call takes its log and the log's state apart, as C hands them.
 pub fn emulate_read_before_write(
     log: &mut [u32],
     st: LogState,

@@ -1,17 +1,13 @@
 -- An unmapping is in sequence and gives few nets, so that a run without a log never reaches X.
-use mathlib.Core.Path.{◌≡◌, refl}
 use Prim.Native.Nat.{ℕ, ◌+◌, ◌≤◌}
 use native.Mathlib.Omega.{arith}
 use mathlib.Core.Bool.{Bool, true, false}
-use mathlib.Core.Option.{some}
-use mathlib.Core.List.{List, []}
 use lib.ListN.{length, replicate, length-replicate}
-use Rattle.lists.specs.Lists.{up_from}
 use Rattle.lists.proofs.UpFrom.{length_up}
 use Rattle.rules.specs.Limits.{X}
 use Rattle.rules.specs.Value.{Value, x_nets}
-use Rattle.rules.specs.Cell.{FlipFlop, ReadFlipFlop, Mem, write_at, read_at_of, transparent_ports, flip_flop_of, or_empty, output_slice}
-use Rattle.rules.specs.Log.{Trace, ◌>>=◌, ◌>>◌, done, request, add_void_of, add_dff_of, replace_value_of}
+use Rattle.rules.specs.Cell.{ReadFlipFlop, Mem, write_at, read_at_of, transparent_ports, flip_flop_of, or_empty}
+use Rattle.rules.specs.Log.{◌>>◌, request, add_void_of, add_dff_of, replace_value_of}
 use Rattle.rules.specs.Merge.{add_dedup_dff_of, add_bitwise_mux_of}
 use Rattle.rules.specs.Beside.Chain.{Chains}
 use Rattle.rules.specs.Ports.{Overlay, transparencies, wanted, mask_flip_flop, unmap_reset}

@@ -1,7 +1,7 @@
 -- What is known of a call that numbers 1 to 4, 14 and 15 pass, and the call by its number.
 use mathlib.Core.Path.{◌≡◌, refl, sym, ap, ◌∙◌}
 use mathlib.Core.Logic.{◌≢◌}
-use Prim.Native.Nat.{ℕ, ◌<◌, ◌≤◌, min}
+use Prim.Native.Nat.{ℕ, ◌<◌, min}
 use native.Mathlib.Nat.{le_refl}
 use native.Mathlib.Omega.{arith}
 use mathlib.Core.Bool.{Bool, true, false, not, ◌&&◌}
@@ -14,7 +14,7 @@ use Rattle.lists.proofs.Choice.{refused_not, else_zero, else_first, else_rest, i
 use Rattle.rules.specs.Limits.{max_ports}
 use Rattle.rules.specs.Value.{Value}
 use Rattle.rules.specs.Cell.{ReadFlipFlop, ReadPort, Mem, read_at_of, is_some}
-use Rattle.rules.specs.Log.{Trace, done, LogState, start_net}
+use Rattle.rules.specs.Log.{Trace, done, start_net}
 use Rattle.rules.specs.Conditions.{unclocked, short_pair, short_port}
 use Rattle.rules.specs.Ports.{Driving, wanted, is_plain, unmap_reset, unmap_reset_of, unmap_read_init_reset_transparency}
 use Rattle.rules.specs.Refusals.{Rooms, port_number, room_refusal, log_refusal, driving_number, driving_refusal, driven_refusal, flip_flop_refusal, unmap_reset_number, unmap_read_init_reset_transparency_refusal}

@@ -1,6 +1,6 @@
 -- The values that the code reads of port i are the view's, and its trace is the rules'.
 use mathlib.Core.Path.{◌≡◌, refl, sym, ap, ◌∙◌, subst}
-use Prim.Native.Nat.{ℕ, ◌+◌, ◌-◌, ◌<◌, ◌≤◌}
+use Prim.Native.Nat.{ℕ, ◌+◌, ◌<◌, ◌≤◌}
 use native.Mathlib.Omega.{arith}
 use mathlib.Core.Bool.{Bool, true, false, not}
 use mathlib.Core.List.{List, []}
@@ -11,7 +11,7 @@ use Rattle.lists.specs.Lists.{any, part}
 use Rattle.rules.specs.Limits.{max_merge, X}
 use Rattle.rules.specs.Logic.{is_undef}
 use Rattle.rules.specs.Value.{Value, x_nets}
-use Rattle.rules.specs.Cell.{FlipFlop, ReadFlipFlop, ReadPort, Mem, read_at_of, wide_log2, read_wide_log2, flip_flop_of, or_empty, output_slice, output_start, with_output, transparent_from}
+use Rattle.rules.specs.Cell.{FlipFlop, ReadFlipFlop, ReadPort, Mem, read_at_of, wide_log2, read_wide_log2, flip_flop_of, or_empty, output_slice, output_start, with_output}
 use Rattle.rules.specs.Conditions.{short_pair}
 use Rattle.rules.specs.Log.{LogState, Trace, start_net, ◌>>=◌, ◌>>◌, done}
 use Rattle.rules.specs.Ports.{Overlay, transparencies, wanted, has_init, mask_flip_flop, unmap_reset}
@@ -104,21 +104,21 @@ module _ (m : Memory) (nets trits : List ℕ) (i : ℕ) (c : Controls) (incl : B
       (ap (any (short_pair M (read_at_of M i))) (sym (wanted_is incl F)) ∙ g.long)
       ∙ ap (λ (js : List ℕ). transparencies M i js o) (sym (wanted_is incl F))
 
-  module _ (output : Value) (p : MemoryReadPort) (raddr rels own clear reset init from : List ℕ) (start : ℕ) (l l1 : Lent) (w : Value)
-      (ep : p ≡ read_port m i) (ea : raddr ≡ read_nets m nets i) (er : rels ≡ (when incl then part 0 p.relations_len p.relations else [])) (eo : own ≡ read_trits m trits i)
+  module _ (output : Value) (p : MemoryReadPort) (raddr rels own clear reset init from : List ℕ) (kr start : ℕ) (l l1 : Lent) (w : Value)
+      (ep : p ≡ read_port m i) (ek : kr ≡ wide_log2 m.width p.data_len) (ea : raddr ≡ read_nets m nets i) (er : rels ≡ (when incl then part 0 p.relations_len p.relations else [])) (eo : own ≡ read_trits m trits i)
       (ec : clear ≡ part 0 p.clear_len own) (es : reset ≡ part p.clear_len p.reset_len own) (ei : init ≡ part (p.clear_len + p.reset_len) p.init_len own)
       (et : start ≡ output_start M i) (ef : from ≡ part start p.data_len output)
-      (h : Gave (reset_if M (wide_log2 m.width p.data_len) (reading raddr p.data_len) p.data_len rels (λ b. flip_flop (controls_of c) b clear reset init) (λ k. mask_behind (controls_of c) (not (is_undef init)) p.data_len k) from) l l1 w) where
+      (h : Gave (reset_if M kr (reading raddr p.data_len) p.data_len rels (λ b. flip_flop (controls_of c) b clear reset init) (λ k. mask_behind (controls_of c) (not (is_undef init)) p.data_len k) from) l l1 w) where
     abbrev size : ℕ
     size = (read_at_of M i).data_len
 
     long_of : p.data_len ≡ size
     long_of = ap (λ (q : MemoryReadPort). q.data_len) ep ∙ sym (data_is m nets trits i c g.port)
 
-    trace_is : reset_if M (wide_log2 m.width p.data_len) (reading raddr p.data_len) p.data_len rels (λ b. flip_flop (controls_of c) b clear reset init) (λ k. mask_behind (controls_of c) (not (is_undef init)) p.data_len k) from
+    trace_is : reset_if M kr (reading raddr p.data_len) p.data_len rels (λ b. flip_flop (controls_of c) b clear reset init) (λ k. mask_behind (controls_of c) (not (is_undef init)) p.data_len k) from
         ≡ reset_if M (read_wide_log2 M (read_at_of M i)) (reading (read_at_of M i).addr size) size own_rels (λ b. flip_flop F.controls b F.clear_value F.reset_value F.init_value) (λ k. mask_behind F.controls (not (is_undef F.init_value)) size k) (output_slice M i output)
     trace_is =
-        let k1 = ap (λ (q : MemoryReadPort). wide_log2 m.width q.data_len) ep ∙ wide_is m nets trits i c g.port in
+        let k1 = ek ∙ ap (λ (q : MemoryReadPort). wide_log2 m.width q.data_len) ep ∙ wide_is m nets trits i c g.port in
         let a1 = ea ∙ sym (addr_is m nets trits i c g.port) in
         let r1 = er ∙ (λ k. when incl then part 0 (ep k).relations_len (ep k).relations else []) in
         let c1 = ec ∙ (λ k. part 0 (ep k).clear_len (eo k)) in

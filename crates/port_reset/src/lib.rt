@@ -11,7 +11,7 @@ ghost use Rattle.rules.specs.Ports.{unmap_reset, unmap_read_init_reset_transpare
 ghost use Rattle.rules.specs.Refusals.{flip_flop_refusal, log_refusal, driven_refusal, unmap_reset_number};
 ghost use Rattle.rules.specs.Answers.{driven, unmap_reset_call};
 ghost use Rattle.log_entries.specs.Emission.{is_over, run};
-ghost use Rattle.log_entries.specs.View.{state_of, lent};
+ghost use Rattle.log_entries.specs.View.{state_of, lent_of};
 ghost use Rattle.std.specs.Prelude.{Some};
 ghost use Rattle.net_memory.specs.View.{memory_of, read_port};
 ghost use Rattle.net_memory.specs.Given.{given_of};
@@ -20,10 +20,13 @@ ghost use Rattle.port_unmap.specs.Call.{driving, rooms_of, driven_of};
 ghost use Rattle.port_reset.specs.Ready.{ResetReady};
 ghost use Rattle.port_reset.specs.Call.{Acted, ResetStruct};
 
-use log_entries::LogState;
-use net_flip_flop::Controls;
+use log_entries::{Log, LogState};
+use merge_dff::Trits;
+use merge_mux::emit::Keys;
+use net_flip_flop::{Controls, FlipFlop};
 use net_memory::{Memory, MemoryReadPort};
-use port_reset_emit::ResetNets;
+use port_reset_emit::{Mask, ResetNets};
+use port_transparency::{Overlay, Reading};
 use port_unmap::Driven;
 
 // 14, where Transparent relations are to go.
@@ -63,22 +66,9 @@ fn reset_number(
 
 // Port i, whose controls are c, unmapped: the same function runs dry on an empty log.
 fn emit_port(
-    log: &mut [u32],
-    st: LogState,
-    under: &mut [u32; rules::MAX_MERGE],
-    over: &mut [u32; rules::MAX_MERGE],
-    bits: &mut [u32; rules::MAX_MERGE],
-    mask: &mut [u32; rules::MAX_MERGE],
-    sel: &mut [u32; rules::MAX_MERGE],
-    spare: &mut [u32; rules::MAX_MERGE],
-    kx: &mut [u32; rules::MAX_MERGE],
-    ky: &mut [u32; rules::MAX_MERGE],
-    at: &mut [u32; rules::MAX_MERGE],
-    clears: &mut [u8; rules::MAX_MERGE],
-    resets: &mut [u8; rules::MAX_MERGE],
-    inits: &mut [u8; rules::MAX_MERGE],
-    ones: &mut [u8; rules::MAX_MERGE],
-    starts: &mut [u8; rules::MAX_MERGE],
+    log: &mut Log,
+    overlay: &mut Overlay,
+    mask: &mut Mask,
     m: Memory,
     nets: &[u32],
     trits: &[u8],
@@ -89,62 +79,35 @@ fn emit_port(
     output: &[u32],
 ) -> ResetNets
     requires { ResetReady m nets.now trits.now i c incl × (p ≡ read_port m i) }
-    ensures log_after { lent result.state log.new ≡ run (unmap_reset (memory_of m nets.now trits.now) i incl output.now (own_flip_flop m trits.now i c)) (lent st log.old) }
-    ensures output_value { is_over (state_of result.state) ≡ false → with_output (memory_of m nets.now trits.now) i (up_from result.first (result.last - result.first)) output.now ≡ (unmap_reset (memory_of m nets.now trits.now) i incl output.now (own_flip_flop m trits.now i c) st.next).value.output }
+    ensures log_after { lent_of log.new ≡ run (unmap_reset (memory_of m nets.now trits.now) i incl output.now (own_flip_flop m trits.now i c)) (lent_of log.old) }
+    ensures output_value { is_over (state_of log.new.state) ≡ false → with_output (memory_of m nets.now trits.now) i (up_from result.first (result.last - result.first)) output.now ≡ (unmap_reset (memory_of m nets.now trits.now) i incl output.now (own_flip_flop m trits.now i c) log.old.state.next).value.output }
 {
     let relations = p.relations;
     let all = lists::part(&relations, 0, p.relations_len as usize);
     let rels = port_unreset::wanted_relations(all, incl);
+    let count = p.data_len as usize;
+    let r = Reading {
+        k: net_memory::wide::wide_log(m.width, count),
+        addr: net_memory::read_nets(m, nets, i),
+        count,
+    };
     let own = net_memory::read_trits(m, trits, i);
-    let from = lists::part(output, net_memory::output_start(m, i), p.data_len as usize);
-    port_reset_emit::emit_reset(
-        log,
-        st,
-        under,
-        over,
-        bits,
-        mask,
-        sel,
-        spare,
-        kx,
-        ky,
-        at,
-        clears,
-        resets,
-        inits,
-        ones,
-        starts,
-        m,
-        nets,
-        net_memory::read_nets(m, nets, i),
-        rels,
-        p.data_len,
-        c,
-        net_memory::clear_of(p, own),
-        net_memory::reset_of(p, own),
-        net_memory::init_of(p, own),
-        from,
-    )
+    let f = FlipFlop {
+        controls: c,
+        bits: lists::part(output, net_memory::output_start(m, i), count),
+        clear: net_memory::clear_of(p, own),
+        reset: net_memory::reset_of(p, own),
+        init: net_memory::init_of(p, own),
+    };
+    port_reset_emit::emit_reset(log, overlay, mask, m, nets, rels, r, f)
 }
 
 // 20 and 21 of it, by a run without a log.
 fn dry_number(
     room: usize,
     st: LogState,
-    under: &mut [u32; rules::MAX_MERGE],
-    over: &mut [u32; rules::MAX_MERGE],
-    bits: &mut [u32; rules::MAX_MERGE],
-    mask: &mut [u32; rules::MAX_MERGE],
-    sel: &mut [u32; rules::MAX_MERGE],
-    spare: &mut [u32; rules::MAX_MERGE],
-    kx: &mut [u32; rules::MAX_MERGE],
-    ky: &mut [u32; rules::MAX_MERGE],
-    at: &mut [u32; rules::MAX_MERGE],
-    clears: &mut [u8; rules::MAX_MERGE],
-    resets: &mut [u8; rules::MAX_MERGE],
-    inits: &mut [u8; rules::MAX_MERGE],
-    ones: &mut [u8; rules::MAX_MERGE],
-    starts: &mut [u8; rules::MAX_MERGE],
+    overlay: &mut Overlay,
+    mask: &mut Mask,
     m: Memory,
     nets: &[u32],
     trits: &[u8],
@@ -157,36 +120,14 @@ fn dry_number(
     requires { ResetReady m nets.now trits.now i c incl × (p ≡ read_port m i) }
     ensures { result ≡ log_refusal room (state_of st) (unmap_reset (memory_of m nets.now trits.now) i incl output.now (own_flip_flop m trits.now i c)) }
 {
-    let mut no_log = [0u32; 0];
-    let start = st.dry_start();
-    let dry = emit_port(
-        &mut no_log,
-        start,
-        under,
-        over,
-        bits,
-        mask,
-        sel,
-        spare,
-        kx,
-        ky,
-        at,
-        clears,
-        resets,
-        inits,
-        ones,
-        starts,
-        m,
-        nets,
-        trits,
-        i,
-        p,
-        c,
-        incl,
-        output,
+    let mut dry = Log {
+        words: &mut [],
+        state: st.dry_start(),
+    };
+    emit_port(
+        &mut dry, overlay, mask, m, nets, trits, i, p, c, incl, output,
     );
-    let after = dry.state;
-    rules::number_of(st.dry_refusal(room, after))
+    rules::number_of(st.dry_refusal(room, dry.state))
 }
 
 // 20 and 21 by a dry run, then the same for good; the void nets become the port's outputs.
@@ -195,20 +136,8 @@ fn unmap_with(
     st: LogState,
     output: &mut [u32],
     trits: &mut [u8],
-    under: &mut [u32; rules::MAX_MERGE],
-    over: &mut [u32; rules::MAX_MERGE],
-    bits: &mut [u32; rules::MAX_MERGE],
-    mask: &mut [u32; rules::MAX_MERGE],
-    sel: &mut [u32; rules::MAX_MERGE],
-    spare: &mut [u32; rules::MAX_MERGE],
-    kx: &mut [u32; rules::MAX_MERGE],
-    ky: &mut [u32; rules::MAX_MERGE],
-    at: &mut [u32; rules::MAX_MERGE],
-    clears: &mut [u8; rules::MAX_MERGE],
-    resets: &mut [u8; rules::MAX_MERGE],
-    inits: &mut [u8; rules::MAX_MERGE],
-    ones: &mut [u8; rules::MAX_MERGE],
-    starts: &mut [u8; rules::MAX_MERGE],
+    overlay: &mut Overlay,
+    mask: &mut Mask,
     m: Memory,
     nets: &[u32],
     i: usize,
@@ -223,20 +152,8 @@ fn unmap_with(
     let n = dry_number(
         log.len(),
         st,
-        under,
-        over,
-        bits,
+        overlay,
         mask,
-        sel,
-        spare,
-        kx,
-        ky,
-        at,
-        clears,
-        resets,
-        inits,
-        ones,
-        starts,
         m,
         nets,
         trits,
@@ -253,11 +170,13 @@ fn unmap_with(
             state: st,
         };
     }
+    let mut log = Log {
+        words: log,
+        state: st,
+    };
     let done = emit_port(
-        log, st, under, over, bits, mask, sel, spare, kx, ky, at, clears, resets, inits, ones,
-        starts, m, nets, trits, i, p, c, incl, output,
+        &mut log, overlay, mask, m, nets, trits, i, p, c, incl, output,
     );
-    let state = done.state;
     let start = net_memory::output_start(m, i);
     lists::store_run(output, start, done.first, done.last);
     port_unreset::blank(trits, m, i);
@@ -265,11 +184,11 @@ fn unmap_with(
     Driven {
         refusal: 0,
         memory,
-        state,
+        state: log.state,
     }
 }
 
-// The same with its scratch.
+// The same with its rooms.
 fn unmap_clocked(
     log: &mut [u32],
     st: LogState,
@@ -286,39 +205,35 @@ fn unmap_clocked(
     ensures log_after { driven_of result nets.now trits.new output.new log.new ≡ driven (log_refusal (length log.old) (state_of st) (unmap_reset (memory_of m nets.now trits.old) i incl output.old (own_flip_flop m trits.old i c))) log.old (state_of st) (driving m nets.now trits.old output.old) (unmap_reset (memory_of m nets.now trits.old) i incl output.old (own_flip_flop m trits.old i c)) }
     ensures acted { Acted m st i c incl result trits.old trits.new }
 {
-    let mut under = [0u32; rules::MAX_MERGE];
-    let mut over = [0u32; rules::MAX_MERGE];
-    let mut bits = [0u32; rules::MAX_MERGE];
-    let mut mask = [0u32; rules::MAX_MERGE];
-    let mut sel = [0u32; rules::MAX_MERGE];
-    let mut spare = [0u32; rules::MAX_MERGE];
-    let mut kx = [0u32; rules::MAX_MERGE];
-    let mut ky = [0u32; rules::MAX_MERGE];
-    let mut at = [0u32; rules::MAX_MERGE];
-    let mut clears = [0u8; rules::MAX_MERGE];
-    let mut resets = [0u8; rules::MAX_MERGE];
-    let mut inits = [0u8; rules::MAX_MERGE];
-    let mut ones = [0u8; rules::MAX_MERGE];
-    let mut starts = [0u8; rules::MAX_MERGE];
+    let mut overlay = Overlay {
+        under: [0; rules::MAX_MERGE],
+        bits: [0; rules::MAX_MERGE],
+        mask: [0; rules::MAX_MERGE],
+        select: [0; rules::MAX_MERGE],
+        spare: [0; rules::MAX_MERGE],
+        keys: Keys {
+            x: [0; rules::MAX_MERGE],
+            y: [0; rules::MAX_MERGE],
+            at: [0; rules::MAX_MERGE],
+        },
+    };
+    let mut mask = Mask {
+        over: [0; rules::MAX_MERGE],
+        trits: Trits {
+            clear: [0; rules::MAX_MERGE],
+            reset: [0; rules::MAX_MERGE],
+            init: [0; rules::MAX_MERGE],
+        },
+        ones: [0; rules::MAX_MERGE],
+        starts: [0; rules::MAX_MERGE],
+    };
     unmap_with(
         log,
         st,
         output,
         trits,
-        &mut under,
-        &mut over,
-        &mut bits,
+        &mut overlay,
         &mut mask,
-        &mut sel,
-        &mut spare,
-        &mut kx,
-        &mut ky,
-        &mut at,
-        &mut clears,
-        &mut resets,
-        &mut inits,
-        &mut ones,
-        &mut starts,
         m,
         nets,
         i,
@@ -384,7 +299,8 @@ fn unmap_port(
 }
 
 // unmap_read_init_reset_transparency: new void nets take the port's place among the outputs, and the flip-flops of data and mask stand behind with the
-// muxes; the port keeps its clock and enable, and its clear, reset and init trits become X.
+// muxes; the port keeps its clock and enable, and its clear, reset and init trits become X. The call takes its log and the log's state apart, as C hands
+// them.
 pub fn unmap_read_init_reset_transparency(
     log: &mut [u32],
     st: LogState,

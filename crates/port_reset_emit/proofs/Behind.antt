@@ -18,9 +18,8 @@ use Rattle.rules.specs.Limits.{max_merge, X}
 use Rattle.rules.specs.Logic.{undef, ones}
 use Rattle.rules.specs.Value.{Value, x_nets}
 use Rattle.rules.specs.Cell.{Controls, FlipFlop, ReadPort, Mem, or_empty}
-use Rattle.rules.specs.Log.{Dff, Trace, ◌>>=◌, ◌>>◌, done, request, add_void_of, add_dff_of, replace_value_of}
+use Rattle.rules.specs.Log.{◌>>=◌, ◌>>◌, done, request, add_void_of, add_dff_of, replace_value_of}
 use Rattle.rules.specs.Merge.{same4, dff_keys, add_dedup_dff_of, add_bitwise_mux_of}
-use Rattle.rules.specs.Ports.{Overlay}
 use Rattle.rules.proofs.Chain.{chains_void, chains_dff, chains_dedup_dff, chains_bitwise_mux, chains_replace}
 use Rattle.net_flip_flop.specs.View.{flip_flop}
 use Rattle.log_entries.specs.Emission.{Lent, is_over, run}
@@ -30,7 +29,7 @@ use Rattle.merge_mux.proofs.Found.{limited-all}
 use Rattle.merge_mux.proofs.Spread.{length_spread, results_are}
 use Rattle.port_transparency.specs.Gave.{Gave}
 use Rattle.port_transparency.specs.Pairs.{with_mask}
-use Rattle.port_transparency.proofs.Gave.{gave_done, gave_bind, gave_fresh, gave_next, gave_held}
+use Rattle.port_transparency.proofs.Gave.{gave_done, gave_bind, gave_next, gave_held}
 use Rattle.port_transparency.proofs.Covered.{gave_bitwise}
 use Rattle.port_overlay.specs.Laid.{laid_from}
 use Rattle.port_overlay.proofs.Laid.{chains_laid_from}

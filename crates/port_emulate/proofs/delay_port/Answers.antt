@@ -3,9 +3,8 @@ use mathlib.Core.Path.{sym, ap, ◌∙◌, subst}
 use Prim.Native.Nat.{ℕ}
 use native.Mathlib.Omega.{arith}
 use mathlib.Core.List.{List, []}
-use borrow.Author.Tests.{not-true, not-false}
 use Rattle.lists.specs.Lists.{part}
-use Rattle.log_entries.specs.View.{lent}
+use Rattle.log_entries.specs.View.{lent_of}
 use Rattle.net_memory.specs.View.{write_by, write_size}
 use Rattle.net_memory.proofs.Sized.{writes_length}
 use Rattle.port_transparency.specs.Gave.{Gave}
@@ -13,35 +12,34 @@ use Rattle.port_delay.specs.Delay.{cut}
 use Rattle.port_settle.specs.Settled.{is_read}
 use Rattle.port_emulate.specs.Delays.{delayed_by, cut_by}
 use Rattle.port_emulate.proofs.Stored.{few_lens, kept-done, stored_done}
-use mathlib.Core.Bool.{not}
 use Rattle.port_emulate.proofs.delay_port.Goals as goal
 
-pub returns-then-not-relates_to : goal.returns-then-not-relates_to
-returns-then-not-relates_to c =
+pub returns-else-relates_to : goal.returns-else-relates_to
+returns-else-relates_to c =
     let v = c.args in
-    let e = c.emit_port-after in
-    let l = lent v.st v.log.now in
-    let l1 = lent e.result e.new.log in
+    let e = c.emit_port in
+    let l = lent_of v.log.now in
+    let l1 = lent_of e.new.log in
     let own = c.part-own.ensures.part ∙ ap (λ (n : ℕ). part v.at n v.nets.now) c.write_size.ensures.0 in
-    kept-done v.m v.nets.now v.j v.at v.p c.requires v.all_x (cut (write_by v.p (part v.at (write_size v.p) v.nets.now) []) v.a.now v.d.now v.k.now) e.new.a e.new.d e.new.k l l1
-    (λ x y. sym (c.relates_to.ensures x y) ∙ not-true _ (ap not c.if-not-relates_to.true))
-    (λ x y. subst (λ (o : List ℕ). Gave (delayed_by (is_read v.m x y v.j) v.all_x (write_by v.p o []) (cut (write_by v.p o []) v.a.now v.d.now v.k.now)) l l1 (cut_by (is_read v.m x y v.j) (write_by v.p o []) e.new.a e.new.d e.new.k)) own (e.ensures x y))
+    kept-done v.m v.nets.now v.j v.at v.p c.requires v.all_x (cut (write_by v.p (part v.at (write_size v.p) v.nets.now) []) v.delay.now.addr v.delay.now.bits v.delay.now.mask) e.new.delay.addr e.new.delay.bits e.new.delay.mask l l1
+    (λ x y. sym (c.relates_to.ensures x y) ∙ c.if-relates_to.false)
+    (λ x y. subst (λ (o : List ℕ). Gave (delayed_by (is_read v.m x y v.j) v.all_x (write_by v.p o []) (cut (write_by v.p o []) v.delay.now.addr v.delay.now.bits v.delay.now.mask)) l l1 (cut_by (is_read v.m x y v.j) (write_by v.p o []) e.new.delay.addr e.new.delay.bits e.new.delay.mask)) own (e.ensures x y))
 
 pub store_port-requires : goal.store_port-requires
 store_port-requires c =
     let v = c.args in
     few_lens v.m v.nets.now v.j v.at v.p c.requires
 
-pub returns : goal.returns
-returns c =
+pub returns-then-relates_to : goal.returns-then-relates_to
+returns-then-relates_to c =
     let v = c.args in
-    let e = c.emit_port-after in
-    let l = lent v.st v.log.now in
-    let l1 = lent e.result e.new.log in
+    let e = c.emit_port in
+    let l = lent_of v.log.now in
+    let l1 = lent_of e.new.log in
     let s = c.store_port in
     let f = few_lens v.m v.nets.now v.j v.at v.p c.requires in
-    let n = writes_length v.m _ c.well_formed.1.1.1.1.1.1.1.1.1.1.1.1.1.1.1.0 v.nets.now in
+    let n = writes_length v.m _ c.well_formed.1.1.1.1.0 v.nets.now in
     let own = c.part-own.ensures.part ∙ ap (λ (n : ℕ). part v.at n v.nets.now) c.write_size.ensures.0 in
-    stored_done v.m v.nets.now v.j v.at v.p c.requires s.new.nets e.new.a e.new.d e.new.k (omega (arith, f.1, s.ensures.a_len.0)) (omega (arith, f.2, s.ensures.a_len.1)) (omega (arith, f.3, s.ensures.a_len.2)) s.ensures.nets_after v.all_x (cut (write_by v.p (part v.at (write_size v.p) v.nets.now) []) v.a.now v.d.now v.k.now) l l1 (omega (arith, n, c.requires.there))
-    (λ x y. sym (c.relates_to.ensures x y) ∙ not-false _ (ap not c.if-not-relates_to.false))
-    (λ x y. subst (λ (o : List ℕ). Gave (delayed_by (is_read v.m x y v.j) v.all_x (write_by v.p o []) (cut (write_by v.p o []) v.a.now v.d.now v.k.now)) l l1 (cut_by (is_read v.m x y v.j) (write_by v.p o []) e.new.a e.new.d e.new.k)) own (e.ensures x y))
+    stored_done v.m v.nets.now v.j v.at v.p c.requires s.new.nets e.new.delay.addr e.new.delay.bits e.new.delay.mask (omega (arith, f.1, s.ensures.lens.0)) (omega (arith, f.2, s.ensures.lens.1)) (omega (arith, f.3, s.ensures.lens.2)) s.ensures.nets_after v.all_x (cut (write_by v.p (part v.at (write_size v.p) v.nets.now) []) v.delay.now.addr v.delay.now.bits v.delay.now.mask) l l1 (omega (arith, n, c.requires.there))
+    (λ x y. sym (c.relates_to.ensures x y) ∙ c.if-relates_to.true)
+    (λ x y. subst (λ (o : List ℕ). Gave (delayed_by (is_read v.m x y v.j) v.all_x (write_by v.p o []) (cut (write_by v.p o []) v.delay.now.addr v.delay.now.bits v.delay.now.mask)) l l1 (cut_by (is_read v.m x y v.j) (write_by v.p o []) e.new.delay.addr e.new.delay.bits e.new.delay.mask)) own (e.ensures x y))

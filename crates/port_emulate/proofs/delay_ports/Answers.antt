@@ -1,10 +1,10 @@
 -- `port_emulate::delay_ports` meets its contract.
 use mathlib.Core.Path.{refl, sym, ◌∙◌}
-use Prim.Native.Nat.{◌+◌, ◌-◌, ◌<◌, min}
+use Prim.Native.Nat.{◌+◌, ◌<◌, min}
 use native.Mathlib.Omega.{arith}
 use Rattle.lists.proofs.Sum.{sum_take_more}
 use Rattle.rules.specs.Limits.{max_ports}
-use Rattle.log_entries.specs.View.{lent}
+use Rattle.log_entries.specs.View.{lent_of}
 use Rattle.net_memory.specs.View.{no_write_port, write_size}
 use Rattle.net_memory.proofs.Sized.{writes_length}
 use Rattle.port_emulate.proofs.Ports.{starts, turned, going_fit, going_ends}
@@ -13,61 +13,51 @@ use Rattle.port_emulate.proofs.delay_ports.Goals as goal
 pub loop-j-init : goal.loop-j-init
 loop-j-init c =
     let v = c.args in
-    (refl, omega arith, refl, starts v.m v.all_x v.nets.now (lent v.st v.log.now))
+    (omega arith, refl, starts v.m v.all_x v.nets.now (lent_of v.log.now))
 
-pub delay_port-state-requires : goal.delay_port-state-requires
-delay_port-state-requires c =
+pub delay_port-requires : goal.delay_port-requires
+delay_port-requires c =
     let v = c.args in
     let m = v.m in
     let h = c.loop-j in
-    let g = h.invariant.3 in
-    let n = writes_length m _ c.well_formed.1.1.1.1.1.1.1.1.1.1.1.1.1.1.1.0 v.nets.now in
-    let i : h.j < min max_ports m.write_count = omega (arith, c.loop-j-test.true, c.ports_used-count.ensures.0) in
+    let g = h.invariant.2 in
+    let n = writes_length m _ c.well_formed.1.1.1.1.0 v.nets.now in
+    let i : h.j < min max_ports m.write_count = omega (arith, c.ports_used-count.ensures.0) in
     record {
       there = i;
       port_is = refl;
-      at_is = h.invariant.2;
-      low = omega (arith, h.invariant.1, i);
+      at_is = h.invariant.1;
+      low = omega (arith, h.invariant.0, i);
       room = omega (arith, c.requires.1, g.size);
-      fit = going_fit m v.all_x v.nets.now (lent v.st v.log.now) h.j h.nets (lent h.state h.log) g c.requires.0 (omega (arith, n, i));
+      fit = going_fit m v.all_x v.nets.now (lent_of v.log.now) h.j h.nets (lent_of h.log) g c.requires.0 (omega (arith, n, i));
     }
 
 pub overflow_add-at : goal.overflow_add-at
 overflow_add-at c =
-    omega (arith, c.loop-j.invariant.1, c.write_size-at.ensures.1, c.loop-j-test.true, c.ports_used-count.ensures.1)
-
-pub overflow_add-j : goal.overflow_add-j
-overflow_add-j c = omega (arith, c.loop-j-test.true, c.ports_used-count.ensures.1)
-
-pub loop-j-smaller : goal.loop-j-smaller
-loop-j-smaller c = omega (arith, c.loop-j-test.true)
+    omega (arith, c.loop-j.invariant.0, c.write_size-at.ensures.1, c.ports_used-count.ensures.1)
 
 pub loop-j-preserved : goal.loop-j-preserved
 loop-j-preserved c =
     let v = c.args in
     let m = v.m in
     let h = c.loop-j in
-    let p = c.delay_port-state in
-    let g = h.invariant.3 in
-    let n = writes_length m _ c.well_formed.1.1.1.1.1.1.1.1.1.1.1.1.1.1.1.0 v.nets.now in
-    let i : h.j < min max_ports m.write_count = omega (arith, c.loop-j-test.true, c.ports_used-count.ensures.0) in
+    let p = c.delay_port in
+    let g = h.invariant.2 in
+    let n = writes_length m _ c.well_formed.1.1.1.1.0 v.nets.now in
+    let i : h.j < min max_ports m.write_count = omega (arith, c.ports_used-count.ensures.0) in
     let z = c.write_size-at.ensures.0 in (
-      p.auto.log ∙ h.invariant.0,
-      omega (arith, h.invariant.1, c.write_size-at.ensures.1),
-      (λ x. h.invariant.2 x + z x) ∙ sym (sum_take_more write_size no_write_port refl m.write_ports h.j),
-      turned m v.all_x v.nets.now (lent v.st v.log.now) h.j h.nets p.new.nets (lent h.state h.log) (lent p.result p.new.log) g p.ensures (omega (arith, n, i)),
+      omega (arith, h.invariant.0, c.write_size-at.ensures.1),
+      (λ x. h.invariant.1 x + z x) ∙ sym (sum_take_more write_size no_write_port refl m.write_ports h.j),
+      turned m v.all_x v.nets.now (lent_of v.log.now) h.j h.nets p.new.nets (lent_of h.log) (lent_of p.new.log) g p.ensures (omega (arith, n, i)),
     )
 
-pub shape_of-log : goal.shape_of-log
-shape_of-log c = c.loop-j.invariant.0
-
 pub shape_of-nets : goal.shape_of-nets
-shape_of-nets c = c.loop-j.invariant.3.size
+shape_of-nets c = c.loop-j.invariant.2.size
 
 pub returns : goal.returns
 returns c =
     let v = c.args in
     let m = v.m in
     let h = c.loop-j in
-    let n = writes_length m _ c.well_formed.1.1.1.1.1.1.1.1.1.1.1.1.1.1.1.0 v.nets.now in
-    going_ends m v.all_x v.nets.now (lent v.st v.log.now) h.j h.nets (lent h.state h.log) h.invariant.3 (omega (arith, n, c.loop-j-test.false, c.ports_used-count.ensures.0))
+    let n = writes_length m _ c.well_formed.1.1.1.1.0 v.nets.now in
+    going_ends m v.all_x v.nets.now (lent_of v.log.now) h.j h.nets (lent_of h.log) h.invariant.2 (omega (arith, n, c.ports_used-count.ensures.0))

@@ -3,7 +3,7 @@ use mathlib.Core.Path.{sym, ap, ◌∙◌}
 use mathlib.Core.List.{[]}
 use borrow.Author.Tests.{not-true, not-false}
 use Rattle.net_memory.specs.View.{write_by}
-use Rattle.log_entries.specs.View.{lent}
+use Rattle.log_entries.specs.View.{lent_of}
 use Rattle.port_delay.specs.Delay.{cut}
 use Rattle.port_emulate.proofs.Delays.{port_not, port_yes}
 use mathlib.Core.Bool.{not}
@@ -14,12 +14,12 @@ returns-then-not-relates_to c =
     λ nets trits.
     let v = c.args in
     let p = write_by v.p v.own.now [] in
-    let l = lent v.st v.log.now in
-    port_not v.all_x p (cut p v.a.now v.d.now v.k.now) v.a.now v.d.now v.k.now l l _ (sym (c.relates_to.ensures nets trits) ∙ not-true _ (ap not c.if-not-relates_to.true))
+    let l = lent_of v.log.now in
+    port_not v.all_x p (cut p v.delay.now.addr v.delay.now.bits v.delay.now.mask) v.delay.now.addr v.delay.now.bits v.delay.now.mask l l _ (sym (c.relates_to.ensures nets trits) ∙ not-true _ (ap not c.if-not-relates_to.true))
 
 pub returns : goal.returns
 returns c =
     λ nets trits.
     let v = c.args in
     let p = write_by v.p v.own.now [] in
-    port_yes v.all_x p (cut p v.a.now v.d.now v.k.now) c.emit_delayed.new.a c.emit_delayed.new.d c.emit_delayed.new.k (lent v.st v.log.now) (lent c.emit_delayed.result c.emit_delayed.new.log) _ (sym (c.relates_to.ensures nets trits) ∙ not-false _ (ap not c.if-not-relates_to.false)) c.emit_delayed.ensures
+    port_yes v.all_x p (cut p v.delay.now.addr v.delay.now.bits v.delay.now.mask) c.emit_delayed.new.self.addr c.emit_delayed.new.self.bits c.emit_delayed.new.self.mask (lent_of v.log.now) (lent_of c.emit_delayed.new.log) _ (sym (c.relates_to.ensures nets trits) ∙ not-false _ (ap not c.if-not-relates_to.false)) c.emit_delayed.ensures

@@ -1,10 +1,11 @@
 -- `port_emulate::emulate_in` meets its contract.
+use Rattle.std.proofs.Common.{rules}
 use mathlib.Core.Path.{sym, ◌∙◌}
 use lib.ListN.{length}
 use Rattle.log_entries.specs.View.{state_of}
 use Rattle.port_emulate.proofs.Bounds.{fits_all, nets_there}
 use Rattle.port_emulate.proofs.Number.{all_x_is, refused_log}
-use Rattle.port_emulate.proofs.Call.{call_refused, call_done, all-kept, all_new}
+use Rattle.port_emulate.proofs.Call.{call_refused, call_done, all-kept, all_new, log_name, done_unnamed}
 use Rattle.port_emulate.proofs.emulate_in.Goals as goal
 
 pub log_number-n-requires : goal.log_number-n-requires
@@ -23,8 +24,8 @@ returns-then-n-ne0 c =
     let e = refused_log m x y (length v.log.now) (state_of v.st) n c.requires (c.log_number-n.ensures y c.requires b) in
     record { log_after = call_refused m x y v.log.now v.st n e c.if-n-ne0.true; emulated = all-kept m v.st x n c.if-n-ne0.true }
 
-pub delay_ports-state-requires : goal.delay_ports-state-requires
-delay_ports-state-requires c =
+pub delay_ports-requires : goal.delay_ports-requires
+delay_ports-requires c =
     let v = c.args in
     (fits_all v.st.next v.m v.nets.now v.trits.now c.requires, nets_there v.st.next v.m v.nets.now v.trits.now c.requires)
 
@@ -39,7 +40,9 @@ returns c =
     let n = c.log_number-n.result in
     let z = c.log_number-n.ensures y c.requires b in
     let e = refused_log m x y (length log) (state_of v.st) n c.requires z in
-    let d = c.delay_ports-state in
+    let d = c.delay_ports in
     let t = c.turn_clocks-turned in
     let w = c.settle_relations-memory in
-    record { log_after = call_done m x y log v.st c.is_undef-all_x.result d.new.nets d.new.log d.result b (sym z ∙ c.if-n-ne0.false) d.ensures t.result w.result (sym e ∙ c.if-n-ne0.false) (t.ensures.by_index x d.new.nets y) (w.ensures.by_index x d.new.nets y); emulated = all_new m v.st x d.new.nets t.result w.result d.result t.ensures.by_index_2 w.ensures.by_index_2 d.ensures.size }
+    let u = log_name m x c.is_undef-all_x.result d.new.nets _ _ d.ensures in
+    let k = call_done m x y log v.st c.is_undef-all_x.result d.new.nets d.new.log.words.now d.new.log.state b (sym z ∙ c.if-n-ne0.false) (done_unnamed m c.is_undef-all_x.result x d.new.nets _ _ d.ensures) t.result w.result (sym e ∙ c.if-n-ne0.false) (t.ensures.by_index x d.new.nets y) (w.ensures.by_index x d.new.nets y) in
+    record { log_after = search rules; emulated = all_new m v.st x d.new.nets t.result w.result d.new.log.state t.ensures.by_index_2 w.ensures.by_index_2 d.ensures.size }

@@ -1,7 +1,7 @@
 -- `port_reset::dry_number` meets its contract.
 use mathlib.Core.Path.{◌∙◌}
 use Rattle.log_entries.specs.View.{state_of}
-use Rattle.log_entries.proofs.Emission.{dry_called}
+use Rattle.log_entries.proofs.Emission.{dry_called, unnamed, run_name}
 use Rattle.rules.specs.Ports.{unmap_reset}
 use Rattle.net_memory.specs.View.{memory_of}
 use Rattle.port_unmap.specs.Ready.{own_flip_flop}
@@ -9,15 +9,16 @@ use Rattle.port_reset.proofs.Bounds.{chains_reset}
 use Rattle.port_reset.proofs.Port.{reset_below}
 use Rattle.port_reset.proofs.dry_number.Goals as goal
 
-pub emit_port-dry-requires : goal.emit_port-dry-requires
-emit_port-dry-requires c = (c.requires.0, c.requires.1)
+pub emit_port-requires : goal.emit_port-requires
+emit_port-requires c = (c.requires.0, c.requires.1)
 
 pub returns : goal.returns
 returns c =
     let v = c.args in
-    let p = c.emit_port-dry in
+    let p = c.emit_port in
     let q = c.dry_refusal in
     let s = state_of v.st in
     let f = own_flip_flop v.m v.trits.now v.i v.c in
     let w = memory_of v.m v.nets.now v.trits.now in
-    dry_called (unmap_reset w v.i v.incl v.output.now f) v.room s _ (chains_reset w v.i v.incl v.output.now f) (reset_below v.m v.nets.now v.trits.now v.i v.c v.incl c.requires.0 v.output.now s) p.new.log _ (state_of p.result.state) c.number_of.result c.dry_start-start.ensures p.ensures.log_after (c.number_of.ensures ∙ q.ensures)
+    let n = run_name (unmap_reset w v.i v.incl v.output.now f) _ _ p.ensures.log_after in
+    dry_called (unmap_reset w v.i v.incl v.output.now f) v.room s _ (chains_reset w v.i v.incl v.output.now f) (reset_below v.m v.nets.now v.trits.now v.i v.c v.incl c.requires.0 v.output.now s) p.new.log.words.now _ (state_of p.new.log.state) c.number_of.result c.dry_start.ensures (unnamed (unmap_reset w v.i v.incl v.output.now f) 0 _ _ p.ensures.log_after) (c.number_of.ensures ∙ q.ensures)

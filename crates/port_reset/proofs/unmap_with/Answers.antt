@@ -1,4 +1,9 @@
 -- `port_reset::unmap_with` meets its contract.
+use Rattle.std.proofs.Common.{rules}
+use Rattle.rules.specs.Ports.{unmap_reset}
+use Rattle.net_memory.specs.View.{memory_of}
+use Rattle.log_entries.proofs.Emission.{unnamed, run_name}
+use Rattle.port_unmap.specs.Ready.{own_flip_flop}
 use Rattle.port_reset.proofs.Act.{clocked_refused, clocked-done, acted_kept, acted_done}
 use Rattle.port_reset.proofs.unmap_with.Goals as goal
 
@@ -14,9 +19,6 @@ returns-then-n-ne0 c =
 pub emit_port-done-requires : goal.emit_port-done-requires
 emit_port-done-requires c = (c.requires.0, c.requires.1)
 
-pub shape_of-log : goal.shape_of-log
-shape_of-log c = c.emit_port-done.auto.log
-
 pub shape_of-output : goal.shape_of-output
 shape_of-output c = c.store_run.auto.to
 
@@ -29,4 +31,7 @@ returns c =
     let n = c.dry_number-n in
     let u = c.emit_port-done in
     let s = c.output_start-start in
-    record { log_after = clocked-done v.m v.nets.now v.trits.now v.i v.c v.incl c.requires.0 v.output.now v.log.now v.st n.result u.result.first u.result.last s.result c.unreset-memory.result u.result.state c.blank.new.trits c.store_run.new.to u.new.log n.ensures c.if-n-ne0.false u.ensures.log_after u.ensures.output_value (s.ensures.by_index v.nets.now v.trits.now) c.store_run.ensures c.blank.ensures c.unreset-memory.ensures; acted = acted_done v.m v.st v.i v.c v.incl v.trits.now c.unreset-memory.result u.result.state c.blank.new.trits c.unreset-memory.ensures c.blank.ensures }
+    let b = unmap_reset (memory_of v.m v.nets.now v.trits.now) v.i v.incl v.output.now (own_flip_flop v.m v.trits.now v.i v.c) in
+    let a = run_name b _ _ u.ensures.log_after in
+    let w = clocked-done v.m v.nets.now v.trits.now v.i v.c v.incl c.requires.0 v.output.now v.log.now v.st n.result u.result.first u.result.last s.result c.unreset-memory.result u.new.log.state c.blank.new.trits c.store_run.new.to u.new.log.words.now n.ensures c.if-n-ne0.false (unnamed b 0 _ _ u.ensures.log_after) u.ensures.output_value (s.ensures.by_index v.nets.now v.trits.now) c.store_run.ensures c.blank.ensures c.unreset-memory.ensures in
+    record { log_after = search rules; acted = acted_done v.m v.st v.i v.c v.incl v.trits.now c.unreset-memory.result u.new.log.state c.blank.new.trits c.unreset-memory.ensures c.blank.ensures }
