@@ -19,9 +19,8 @@ use Rattle.log_entries.specs.Emission.{Lent, is_over, run}
 use Rattle.log_entries.proofs.Emission.{run_same}
 use Rattle.merge_keys.specs.Keys.{firsts, seconds}
 use Rattle.net_flip_flop.specs.View.{flip_flop}
-use Rattle.merge_mux.specs.Results.{limited, results}
+use Rattle.merge_mux.specs.Results.{limited, results, Found}
 use Rattle.merge_mux.proofs.Nets.{request_nets, trace_results}
-use Rattle.merge_mux.proofs.Found.{Found}
 use Rattle.merge_dff.specs.Packs.{packed_byte, packs, unpacked, merge_packed, Bytes}
 use Rattle.merge_dff.proofs.Keys.{merged_keys, merged-places}
 

@@ -2,7 +2,7 @@
 // that the merge of two columns serves.
 #![tactic(auto)]
 
-ghost use Rattle.std.specs.Prelude.{◌≡◌, map, ◌<◌, ◌≤◌, min, length};
+ghost use Rattle.std.specs.Prelude.{◌≡◌, map, ◌<◌, ◌≤◌, min, length, take};
 ghost use Rattle.std.proofs.lemmas.List.Edits.{sets};
 ghost use Rattle.lists.specs.Choice.{◌or_else◌};
 ghost use Rattle.rules.specs.Limits.{max_merge};
@@ -14,11 +14,12 @@ ghost use Rattle.rules.specs.Answers.{add_dedup_dff_call};
 ghost use Rattle.log_requests.specs.Merged.{merged_of};
 ghost use Rattle.net_flip_flop.specs.View.{controls_of, flip_flop_of};
 ghost use Rattle.log_entries.specs.Emission.{is_over, run};
-ghost use Rattle.log_entries.specs.View.{state_of, lent};
+ghost use Rattle.log_entries.specs.View.{state_of, lent, lent_of};
 ghost use Rattle.merge_mux.specs.Results.{limited, results, Scratch};
 ghost use Rattle.merge_dff.specs.Packs.{pack_of, packed_byte, packs, unpacked, merge_packed, limited_dff, Bytes};
 
-use log_entries::LogState;
+use log_entries::{Log, LogState};
+use merge_mux::emit::Keys;
 use net_flip_flop::{Controls, FlipFlop};
 use rules::Refusal;
 
@@ -156,31 +157,80 @@ pub fn emit_dedup_dff_with(
     )
 }
 
-// The same with scratch of its own.
-pub fn emit_dedup_dff(log: &mut [u32], st: LogState, out: &mut [u32], f: FlipFlop) -> LogState
-    ensures log_after { lent result log.new ≡ run (add_dedup_dff_of (limited_dff f.entry)) (lent st log.old) }
-    ensures out_after { out.new ≡ results (is_over (state_of result)) out.old 0 (add_dedup_dff_of (limited_dff f.entry) st.next).value }
-{
-    let mut column = [0u32; rules::MAX_MERGE];
-    let mut kx = [0u32; rules::MAX_MERGE];
-    let mut ky = [0u32; rules::MAX_MERGE];
-    let mut at = [0u32; rules::MAX_MERGE];
-    let mut clears = [0u8; rules::MAX_MERGE];
-    let mut resets = [0u8; rules::MAX_MERGE];
-    let mut inits = [0u8; rules::MAX_MERGE];
-    emit_dedup_dff_with(
-        log,
-        st,
-        out,
-        &mut column,
-        &mut kx,
-        &mut ky,
-        &mut at,
-        &mut clears,
-        &mut resets,
-        &mut inits,
-        f,
+// Room for the trits of a flip-flop's kept bits.
+#[derive(Drop)]
+pub struct Trits {
+    pub clear: [u8; rules::MAX_MERGE],
+    pub reset: [u8; rules::MAX_MERGE],
+    pub init: [u8; rules::MAX_MERGE],
+}
+
+impl Trits {
+    // A flip-flop of kept bits, whose result nets go to each bit by its place; their trits are unpacked.
+    fn emit_kept(
+        &mut self,
+        log: &mut Log,
+        out: &mut [u32],
+        c: Controls,
+        bits: &[u32],
+        ps: &[u32],
+        at: &[u32],
     )
+        requires { length ps.now ≤ max_merge }
+        ensures log_after { lent_of log.new ≡ run (add_dff_of (unpacked (controls_of c) bits.now ps.now)) (lent_of log.old) }
+        ensures out_after { out.new ≡ results (is_over (state_of log.new.state)) out.old 0 (spread at.now (add_dff_of (unpacked (controls_of c) bits.now ps.now) log.old.state.next).value) }
+    {
+        unpack_part(&mut self.clear, ps, 256);
+        unpack_part(&mut self.reset, ps, 1);
+        unpack_part(&mut self.init, ps, 65536);
+        let n = ps.len();
+        let st = log.state;
+        log.emit_dff(FlipFlop {
+            controls: c,
+            bits,
+            clear: &self.clear[..n],
+            reset: &self.reset[..n],
+            init: &self.init[..n],
+        });
+        merge_mux::emit::spread_results(out, 0, st, log.state, at);
+    }
+}
+
+// What a merging flip-flop is found in: each bit's packed trits, the kept keys and their trits. It is lent, so that many merges clear it once.
+#[derive(Drop)]
+pub struct Packs {
+    pub column: [u32; rules::MAX_MERGE],
+    pub keys: Keys,
+    pub trits: Trits,
+}
+
+impl Packs {
+    // A flip-flop of the distinct bits: a bit's key is its data net and its packed trits, of which the first n of the column are.
+    fn emit_merged(&mut self, log: &mut Log, out: &mut [u32], c: Controls, bits: &[u32], n: usize)
+        requires { n ≤ max_merge }
+        ensures log_after { lent_of log.new ≡ run (merge_packed (controls_of c) (limited bits.now) (limited (take n self.old.column))) (lent_of log.old) }
+        ensures out_after { out.new ≡ results (is_over (state_of log.new.state)) out.old 0 (merge_packed (controls_of c) (limited bits.now) (limited (take n self.old.column)) log.old.state.next).value }
+    {
+        let k = self.keys.merge(bits, &self.column[..n]);
+        let m = rules::MAX_MERGE.min(bits.len().min(n));
+        self.trits.emit_kept(
+            log,
+            out,
+            c,
+            &self.keys.x[..k],
+            &self.keys.y[..k],
+            &self.keys.at[..m],
+        );
+    }
+}
+
+// add_dedup_dff without its numbers: a flip-flop in which equal bits are kept once.
+pub fn emit_dedup_dff(log: &mut Log, packs: &mut Packs, out: &mut [u32], f: FlipFlop)
+    ensures log_after { lent_of log.new ≡ run (add_dedup_dff_of (limited_dff f.entry)) (lent_of log.old) }
+    ensures out_after { out.new ≡ results (is_over (state_of log.new.state)) out.old 0 (add_dedup_dff_of (limited_dff f.entry) log.old.state.next).value }
+{
+    let n = pack_trits(&mut packs.column, f.reset, f.clear, f.init);
+    packs.emit_merged(log, out, f.controls, f.bits, n);
 }
 
 // 1, 2 and 4 of a merging flip-flop.
@@ -204,14 +254,19 @@ fn input_refusal(room: usize, next: u32, f: FlipFlop) -> Result<(), Refusal>
 }
 
 // 20 and 21 of the log, by a dry run.
-fn log_refusal(room: usize, st: LogState, f: FlipFlop) -> Result<(), Refusal>
+fn log_refusal(room: usize, st: LogState, packs: &mut Packs, f: FlipFlop) -> Result<(), Refusal>
     ensures { number_of result ≡ log_refusal room (state_of st) (add_dedup_dff_of (limited_dff f.entry)) }
 {
-    let dry = emit_dedup_dff(&mut [], st.dry_start(), &mut [], f);
-    st.dry_refusal(room, dry)
+    let mut dry = Log {
+        words: &mut [],
+        state: st.dry_start(),
+    };
+    emit_dedup_dff(&mut dry, packs, &mut [], f);
+    st.dry_refusal(room, dry.state)
 }
 
-// add_dedup_dff: a flip-flop in which equal bits are kept once; the result net of each bit goes to `out`. A refused call changes nothing.
+// add_dedup_dff: a flip-flop in which equal bits are kept once; the result net of each bit goes to `out`. A refused call changes nothing. The call takes
+// its log and the log's state apart, as C hands them.
 pub fn add_dedup_dff(
     log: &mut [u32],
     st: LogState,
@@ -221,6 +276,24 @@ pub fn add_dedup_dff(
     ensures { merged_of (add_dedup_dff_of (flip_flop_of f.entry) st.next).value result log.new out.new ≡ add_dedup_dff_call out.old log.old (state_of st) (flip_flop_of f.entry) }
 {
     input_refusal(out.len(), st.next, f)?;
-    log_refusal(log.len(), st, f)?;
-    Ok(emit_dedup_dff(log, st, out, f))
+    let mut packs = Packs {
+        column: [0; rules::MAX_MERGE],
+        keys: Keys {
+            x: [0; rules::MAX_MERGE],
+            y: [0; rules::MAX_MERGE],
+            at: [0; rules::MAX_MERGE],
+        },
+        trits: Trits {
+            clear: [0; rules::MAX_MERGE],
+            reset: [0; rules::MAX_MERGE],
+            init: [0; rules::MAX_MERGE],
+        },
+    };
+    log_refusal(log.len(), st, &mut packs, f)?;
+    let mut log = Log {
+        words: log,
+        state: st,
+    };
+    emit_dedup_dff(&mut log, &mut packs, out, f);
+    Ok(log.state)
 }

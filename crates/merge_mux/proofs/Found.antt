@@ -3,9 +3,8 @@ use mathlib.Core.Path.{◌≡◌, sym, ap, ◌∙◌}
 use Prim.Native.Nat.{ℕ, ◌≤◌, min}
 use native.Mathlib.Omega.{arith}
 use mathlib.Core.List.{List, []}
-use lib.ListN.{length, take, length-map, length-take}
+use lib.ListN.{length, length-map, length-take}
 use lib.Seq.{sets, length-sets, take_all}
-use Rattle.lists.specs.Lists.{pairs}
 use Rattle.lists.specs.Distinct.{kept, places}
 use Rattle.lists.proofs.Stores.{take_stored}
 use Rattle.lists.proofs.Pairs.{pairs_size, take_pairs}
@@ -13,21 +12,7 @@ use Rattle.lists.proofs.Distinct.{length_kept, length_places}
 use Rattle.rules.specs.Limits.{max_merge}
 use Rattle.rules.specs.Merge.{Key2, same2}
 use Rattle.merge_keys.specs.Keys.{room, merging, firsts, seconds}
-use Rattle.merge_mux.specs.Results.{limited, Scratch}
-
--- the keys that are merged
-abbrev pub keys_of : List ℕ → List ℕ → List Key2
-keys_of a b = pairs (limited a) (limited b)
-
-pub record Found (a b kx ky at : List ℕ) (n k : ℕ) : Type 0 where
-  pub kept_x : take k kx ≡ firsts (kept same2 (keys_of a b))
-  pub kept_y : take k ky ≡ seconds (kept same2 (keys_of a b))
-  pub placed : take n at ≡ places same2 (keys_of a b)
-  pub counted : k ≡ length (kept same2 (keys_of a b))
-  pub few : k ≤ max_merge
-  pub in_kx : k ≤ length kx
-  pub in_ky : k ≤ length ky
-  pub in_at : n ≤ length at
+use Rattle.merge_mux.specs.Results.{limited, Scratch, keys_of, Found}
 
 limited_size : (a : List ℕ) → length (limited a) ≡ min max_merge (length a)
 unfolding limited

@@ -12,9 +12,8 @@ use Rattle.rules.proofs.Chain.{chains_mux}
 use Rattle.log_entries.specs.Emission.{Lent, is_over, run}
 use Rattle.log_entries.proofs.Emission.{run_same}
 use Rattle.merge_keys.specs.Keys.{firsts, seconds}
-use Rattle.merge_mux.specs.Results.{limited, results}
+use Rattle.merge_mux.specs.Results.{limited, results, Found}
 use Rattle.merge_mux.proofs.Nets.{request_nets, trace_results}
-use Rattle.merge_mux.proofs.Found.{Found}
 
 -- the nets that a mux gives are those up to its next free net
 mux_nets_lem : (c : Control) (a b : Value) (n : ℕ) → up_from n ((add_mux_of c a b n).next - n) ≡ (add_mux_of c a b n).value

@@ -1,19 +1,36 @@
 // memory/src/lib.rs, DesignExt: add_dedup_mux and add_bitwise_mux. Equal bits are kept once, in order of first appearance.
-ghost use Rattle.std.specs.Prelude.{◌≡◌, false, ◌+◌, ◌-◌, ◌<◌, ◌≤◌, length, drop, get_or};
+ghost use Rattle.std.specs.Prelude.{◌≡◌, false, ◌+◌, ◌-◌, ◌<◌, ◌≤◌, min, length, drop, get_or};
 ghost use Rattle.std.proofs.lemmas.List.Edits.{sets};
 ghost use Rattle.lists.specs.Lists.{part, up_from};
-ghost use Rattle.rules.specs.Limits.{X};
+ghost use Rattle.rules.specs.Limits.{max_merge, X};
 ghost use Rattle.rules.specs.Log.{add_mux_of};
 ghost use Rattle.rules.specs.Merge.{spread, add_dedup_mux_of, add_bitwise_mux_of};
 ghost use Rattle.rules.specs.Value.{Pos};
 ghost use Rattle.net_value.specs.View.{control_of};
 ghost use Rattle.log_entries.specs.Emission.{is_over, run};
-ghost use Rattle.log_entries.specs.View.{state_of, lent};
+ghost use Rattle.log_entries.specs.View.{state_of, lent, lent_of};
 ghost use Rattle.merge_mux.specs.Runs.{run_at, Run, Bits, Within, bits_taken, bitwise_of};
-ghost use Rattle.merge_mux.specs.Results.{limited, results, Scratch};
+ghost use Rattle.merge_mux.specs.Results.{limited, results, Scratch, Found};
 
-use log_entries::LogState;
+use log_entries::{Log, LogState};
 use net_value::{ControlNet, Net};
+
+// The keys that a merge keeps, and each bit's place among them: room that is lent, so that many merges clear it once.
+#[derive(Drop)]
+pub struct Keys {
+    pub x: [u32; rules::MAX_MERGE],
+    pub y: [u32; rules::MAX_MERGE],
+    pub at: [u32; rules::MAX_MERGE],
+}
+
+impl Keys {
+    // Keeps the keys of two columns, as many as a merge takes, and returns how many are kept.
+    pub fn merge(&mut self, a: &[u32], b: &[u32]) -> usize
+        ensures { Found a.now b.now self.new.x self.new.y self.new.at (min max_merge (min (length a.now) (length b.now))) result }
+    {
+        merge_keys::merge(&mut self.x, &mut self.y, &mut self.at, a, b)
+    }
+}
 
 // The net of a kept bit: `first` is that of the first of `width` kept bits.
 fn net_at(first: u32, width: u32, place: u32) -> u32
@@ -51,6 +68,126 @@ pub fn spread_results(out: &mut [u32], to: usize, st: LogState, after: LogState,
 
 // A mux of kept bits, whose result nets go to each bit by its place, from `to` on.
 pub fn emit_kept_mux(
+    log: &mut Log,
+    out: &mut [u32],
+    to: usize,
+    select: ControlNet,
+    a: &[u32],
+    b: &[u32],
+    at: &[u32],
+)
+    ensures log_after { lent_of log.new ≡ run (add_mux_of (control_of select) a.now b.now) (lent_of log.old) }
+    ensures out_after { out.new ≡ results (is_over (state_of log.new.state)) out.old to (spread at.now (add_mux_of (control_of select) a.now b.now log.old.state.next).value) }
+{
+    let st = log.state;
+    log.emit_mux(select, a, b);
+    spread_results(out, to, st, log.state, at);
+}
+
+// add_dedup_mux without its numbers: a mux in which equal bits are kept once. The result net of each bit goes to `out`, from `to` on.
+pub fn emit_dedup_mux(
+    log: &mut Log,
+    keys: &mut Keys,
+    out: &mut [u32],
+    to: usize,
+    select: ControlNet,
+    a: &[u32],
+    b: &[u32],
+)
+    ensures log_after { lent_of log.new ≡ run (add_dedup_mux_of (control_of select) (limited a.now) (limited b.now)) (lent_of log.old) }
+    ensures out_after { out.new ≡ results (is_over (state_of log.new.state)) out.old to (add_dedup_mux_of (control_of select) (limited a.now) (limited b.now) log.old.state.next).value }
+{
+    let n = rules::MAX_MERGE.min(a.len().min(b.len()));
+    let k = keys.merge(a, b);
+    emit_kept_mux(
+        log,
+        out,
+        to,
+        select,
+        &keys.x[..k],
+        &keys.y[..k],
+        &keys.at[..n],
+    );
+}
+
+// The end of the run of equal neighbours that starts at i.
+fn run_end(s: &[u32], i: usize) -> usize
+    requires { i < length s.now }
+    ensures value { result ≡ i + run_at (drop i s.now) }
+    ensures lower_bound { (i < result) × (result ≤ length s.now) }
+{
+    let first = s[i];
+    for e in i + 1..s.len() {
+        if s[e] != first {
+            return e;
+        }
+    }
+    s.len()
+}
+
+// The mux of one run: a merging mux of the bits from i to e, by one net.
+fn mux_run(
+    log: &mut Log,
+    keys: &mut Keys,
+    nets: &mut [u32],
+    select: u32,
+    a: &[u32],
+    b: &[u32],
+    i: usize,
+    e: usize,
+)
+    requires { Run a.now b.now i e }
+    ensures log_after { lent_of log.new ≡ run (add_dedup_mux_of (Pos select) (part i (e - i) a.now) (part i (e - i) b.now)) (lent_of log.old) }
+    ensures nets_after { nets.new ≡ results (is_over (state_of log.new.state)) nets.old i (add_dedup_mux_of (Pos select) (part i (e - i) a.now) (part i (e - i) b.now) log.old.state.next).value }
+{
+    let select = ControlNet::Pos(Net(select));
+    emit_dedup_mux(log, keys, nets, i, select, &a[i..e], &b[i..e]);
+}
+
+// A merging mux for each run of equal neighbouring selects.
+fn mux_runs(log: &mut Log, keys: &mut Keys, nets: &mut [u32], s: &[u32], a: &[u32], b: &[u32])
+    requires { Bits s.now a.now b.now }
+    ensures log_after { lent_of log.new ≡ run (add_bitwise_mux_of s.now a.now b.now) (lent_of log.old) }
+    ensures nets_after { is_over (state_of log.new.state) ≡ false → nets.new ≡ sets nets.old 0 (add_bitwise_mux_of s.now a.now b.now log.old.state.next).value }
+{
+    let mut i = 0;
+    // goes from run to run, and not from index to index
+    while i < s.len() {
+        let e = run_end(s, i);
+        mux_run(log, keys, nets, s[i], a, b, i, e);
+        i = e;
+    }
+}
+
+// How many bits a bitwise mux of these values has.
+fn bits_of(s: &[u32], a: &[u32], b: &[u32]) -> usize
+    ensures value { result ≡ bits_taken s.now a.now b.now }
+    ensures within { Within s.now a.now b.now result }
+{
+    rules::MAX_MERGE.min(s.len()).min(a.len().min(b.len()))
+}
+
+// add_bitwise_mux without its numbers: a merging mux for each run of equal neighbouring selects. The result net of each bit goes to `nets`, which is left
+// open where the emission overflowed.
+pub fn emit_bitwise_mux(
+    log: &mut Log,
+    keys: &mut Keys,
+    nets: &mut [u32],
+    s: &[u32],
+    a: &[u32],
+    b: &[u32],
+)
+    ensures log_after { lent_of log.new ≡ run (bitwise_of s.now a.now b.now) (lent_of log.old) }
+    ensures nets_after { is_over (state_of log.new.state) ≡ false → nets.new ≡ sets nets.old 0 (bitwise_of s.now a.now b.now log.old.state.next).value }
+{
+    let n = bits_of(s, a, b);
+    mux_runs(log, keys, nets, &s[..n], &a[..n], &b[..n]);
+}
+
+// ---- of a log and a state apart, for the callers that are still to do
+
+// A mux of kept bits, whose result nets go to each bit by its place, from `to` on.
+pub fn emit_kept_mux_with(
     log: &mut [u32],
     st: LogState,
     out: &mut [u32],
@@ -87,25 +224,7 @@ fn dedup_mux_in(
 {
     let n = rules::MAX_MERGE.min(a.len().min(b.len()));
     let k = merge_keys::merge(kx, ky, at, a, b);
-    emit_kept_mux(log, st, out, to, select, &kx[..k], &ky[..k], &at[..n])
-}
-
-// add_dedup_mux without its numbers: a mux in which equal bits are kept once.
-pub fn emit_dedup_mux(
-    log: &mut [u32],
-    st: LogState,
-    out: &mut [u32],
-    select: ControlNet,
-    a: &[u32],
-    b: &[u32],
-) -> LogState
-    ensures log_after { lent result log.new ≡ run (add_dedup_mux_of (control_of select) (limited a.now) (limited b.now)) (lent st log.old) }
-    ensures out_after { out.new ≡ results (is_over (state_of result)) out.old 0 (add_dedup_mux_of (control_of select) (limited a.now) (limited b.now) st.next).value }
-{
-    let mut kx = [0u32; rules::MAX_MERGE];
-    let mut ky = [0u32; rules::MAX_MERGE];
-    let mut at = [0u32; rules::MAX_MERGE];
-    dedup_mux_in(log, st, out, 0, &mut kx, &mut ky, &mut at, select, a, b)
+    emit_kept_mux_with(log, st, out, to, select, &kx[..k], &ky[..k], &at[..n])
 }
 
 // The same with lent scratch, so that a caller with many merges clears it once.
@@ -126,23 +245,8 @@ pub fn emit_dedup_mux_with(
     dedup_mux_in(log, st, out, 0, kx, ky, at, select, a, b)
 }
 
-// The end of the run of equal neighbours that starts at i.
-fn run_end(s: &[u32], i: usize) -> usize
-    requires { i < length s.now }
-    ensures value { result ≡ i + run_at (drop i s.now) }
-    ensures lower_bound { (i < result) × (result ≤ length s.now) }
-{
-    let first = s[i];
-    for e in i + 1..s.len() {
-        if s[e] != first {
-            return e;
-        }
-    }
-    s.len()
-}
-
 // The mux of one run: a merging mux of the bits from i to e, by one net.
-fn mux_run(
+fn mux_run_in(
     log: &mut [u32],
     st: LogState,
     nets: &mut [u32],
@@ -194,53 +298,10 @@ fn bitwise_in(
     // goes from run to run, and not from index to index
     while i < s.len() {
         let e = run_end(s, i);
-        state = mux_run(log, state, nets, kx, ky, at, s[i], a, b, i, e);
+        state = mux_run_in(log, state, nets, kx, ky, at, s[i], a, b, i, e);
         i = e;
     }
     state
-}
-
-// How many bits a bitwise mux of these values has.
-fn bits_of(s: &[u32], a: &[u32], b: &[u32]) -> usize
-    ensures value { result ≡ bits_taken s.now a.now b.now }
-    ensures within { Within s.now a.now b.now result }
-{
-    rules::MAX_MERGE.min(s.len()).min(a.len().min(b.len()))
-}
-
-// add_bitwise_mux without its numbers: a merging mux for each run of equal neighbouring selects.
-pub fn emit_bitwise_mux(
-    log: &mut [u32],
-    st: LogState,
-    out: &mut [u32],
-    s: &[u32],
-    a: &[u32],
-    b: &[u32],
-) -> LogState
-    ensures log_after { lent result log.new ≡ run (bitwise_of s.now a.now b.now) (lent st log.old) }
-    ensures out_after { out.new ≡ results (is_over (state_of result)) out.old 0 (bitwise_of s.now a.now b.now st.next).value }
-{
-    let n = bits_of(s, a, b);
-    let mut nets = [0u32; rules::MAX_MERGE];
-    let mut kx = [0u32; rules::MAX_MERGE];
-    let mut ky = [0u32; rules::MAX_MERGE];
-    let mut at = [0u32; rules::MAX_MERGE];
-    let after = bitwise_in(
-        log,
-        st,
-        &mut nets,
-        &mut kx,
-        &mut ky,
-        &mut at,
-        &s[..n],
-        &a[..n],
-        &b[..n],
-    );
-    if after.is_over() {
-        return after;
-    }
-    lists::copy(out, 0, &nets[..n]);
-    after
 }
 
 // The same with lent scratch; the result nets go to `nets`, which is left open where the emission overflowed.

@@ -13,7 +13,8 @@ ghost use Rattle.log_requests.specs.Merged.{merged_of};
 ghost use Rattle.merge_mux.specs.Results.{limited};
 ghost use Rattle.merge_mux.specs.Runs.{bitwise_of};
 
-use log_entries::LogState;
+use emit::Keys;
+use log_entries::{Log, LogState};
 use net_value::ControlNet;
 use rules::Refusal;
 
@@ -38,17 +39,22 @@ fn mux_input_refusal(
 fn mux_log_refusal(
     room: usize,
     st: LogState,
+    keys: &mut Keys,
     select: ControlNet,
     a: &[u32],
     b: &[u32],
 ) -> Result<(), Refusal>
     ensures { number_of result ≡ log_refusal room (state_of st) (add_dedup_mux_of (control_of select) (limited a.now) (limited b.now)) }
 {
-    let dry = emit::emit_dedup_mux(&mut [], st.dry_start(), &mut [], select, a, b);
-    st.dry_refusal(room, dry)
+    let mut dry = Log {
+        words: &mut [],
+        state: st.dry_start(),
+    };
+    emit::emit_dedup_mux(&mut dry, keys, &mut [], 0, select, a, b);
+    st.dry_refusal(room, dry.state)
 }
 
-// A mux in which equal bits are kept once; the result net of each bit goes to `out`.
+// A mux in which equal bits are kept once; the result net of each bit goes to `out`. A call takes its log and the log's state apart, as C hands them.
 pub fn add_dedup_mux(
     log: &mut [u32],
     st: LogState,
@@ -60,8 +66,18 @@ pub fn add_dedup_mux(
     ensures { merged_of (add_dedup_mux_of (control_of select) a.now b.now st.next).value result log.new out.new ≡ add_dedup_mux_call out.old log.old (state_of st) (control_of select) a.now b.now }
 {
     mux_input_refusal(out.len(), st.next, select, a, b)?;
-    mux_log_refusal(log.len(), st, select, a, b)?;
-    Ok(emit::emit_dedup_mux(log, st, out, select, a, b))
+    let mut keys = Keys {
+        x: [0; rules::MAX_MERGE],
+        y: [0; rules::MAX_MERGE],
+        at: [0; rules::MAX_MERGE],
+    };
+    mux_log_refusal(log.len(), st, &mut keys, select, a, b)?;
+    let mut log = Log {
+        words: log,
+        state: st,
+    };
+    emit::emit_dedup_mux(&mut log, &mut keys, out, 0, select, a, b);
+    Ok(log.state)
 }
 
 // 1 and 2 of a bitwise mux.
@@ -113,14 +129,19 @@ fn bitwise_input_refusal(
 fn bitwise_log_refusal(
     room: usize,
     st: LogState,
+    keys: &mut Keys,
     s: &[u32],
     a: &[u32],
     b: &[u32],
 ) -> Result<(), Refusal>
     ensures { number_of result ≡ log_refusal room (state_of st) (bitwise_of s.now a.now b.now) }
 {
-    let dry = emit::emit_bitwise_mux(&mut [], st.dry_start(), &mut [], s, a, b);
-    st.dry_refusal(room, dry)
+    let mut dry = Log {
+        words: &mut [],
+        state: st.dry_start(),
+    };
+    emit::emit_bitwise_mux(&mut dry, keys, &mut [], s, a, b);
+    st.dry_refusal(room, dry.state)
 }
 
 // A merging mux for each run of equal neighbouring selects; the result net of each bit goes to `out`.
@@ -135,6 +156,16 @@ pub fn add_bitwise_mux(
     ensures { merged_of (add_bitwise_mux_of s.now a.now b.now st.next).value result log.new out.new ≡ add_bitwise_mux_call out.old log.old (state_of st) s.now a.now b.now }
 {
     bitwise_input_refusal(out.len(), st.next, s, a, b)?;
-    bitwise_log_refusal(log.len(), st, s, a, b)?;
-    Ok(emit::emit_bitwise_mux(log, st, out, s, a, b))
+    let mut keys = Keys {
+        x: [0; rules::MAX_MERGE],
+        y: [0; rules::MAX_MERGE],
+        at: [0; rules::MAX_MERGE],
+    };
+    bitwise_log_refusal(log.len(), st, &mut keys, s, a, b)?;
+    let mut log = Log {
+        words: log,
+        state: st,
+    };
+    emit::emit_bitwise_mux(&mut log, &mut keys, out, s, a, b);
+    Ok(log.state)
 }

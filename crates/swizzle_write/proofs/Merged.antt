@@ -10,8 +10,8 @@ use Rattle.lists.specs.Distinct.{kept, places}
 use Rattle.rules.specs.Limits.{max_merge}
 use Rattle.rules.specs.Merge.{Key2, same2}
 use Rattle.merge_keys.specs.Keys.{merging, firsts, seconds}
-use Rattle.merge_mux.specs.Results.{limited, Scratch}
-use Rattle.merge_mux.proofs.Found.{Found, found, keys_of, limited-all}
+use Rattle.merge_mux.specs.Results.{limited, Scratch, Found, keys_of}
+use Rattle.merge_mux.proofs.Found.{found, limited-all}
 use Rattle.swizzle_write.specs.Jobs.{Kept}
 
 module _ (mask zeros kx ky at kx' ky' at' : List ℕ) (k : ℕ) (few : length mask ≤ max_merge) (z : zeros ≡ replicate (length mask) 0)

@@ -55,7 +55,7 @@ fn emit_piece(
         lists::copy(piece, 0, mask);
         return after;
     }
-    merge_mux::emit::emit_kept_mux(
+    merge_mux::emit::emit_kept_mux_with(
         log,
         after,
         piece,

@@ -1,4 +1,5 @@
 -- `merge_dff::add_dedup_dff` meets its contract.
+use Rattle.std.proofs.Common.{rules}
 use mathlib.Core.Path.{refl, sym, ap, ◌∙◌}
 use mathlib.Core.List.{List}
 use Prim.Native.Nat.{ℕ}
@@ -9,6 +10,8 @@ use Rattle.rules.specs.Refusals.{log_refusal, result_refusal, merge_dff_number, 
 use Rattle.rules.specs.Answers.{add_dedup_dff_call}
 use Rattle.rules.proofs.Chain.{chains_dedup_dff}
 use Rattle.log_entries.specs.Emission.{run}
+use Rattle.log_entries.proofs.Emission.{unnamed, run_name}
+use Rattle.merge_dff.specs.Packs.{limited_dff}
 use Rattle.log_entries.specs.View.{state_of, lent}
 use Rattle.net_flip_flop.specs.View.{controls_of, flip_flop, flip_flop_of}
 use Rattle.log_requests.proofs.Merged.{input_refused, log_refused, merge_accepted}
@@ -54,6 +57,9 @@ returns c =
     let a = all_bits v.st.next (length v.out.now) (controls_of v.f.controls) v.f.bits.now v.f.clear.now v.f.reset.now v.f.init.now (sym z) in
     let e = c.in_ok-log_refusal.ensures ∙ ap (λ (b : List ℕ). log_refusal (length v.log.now) s (add_dedup_dff_of (flip_flop (controls_of v.f.controls) b v.f.clear.now v.f.reset.now v.f.init.now))) a in
     let p = c.emit_dedup_dff in
-    merge_accepted (add_dedup_dff_of f v.st.next).value v.log.now v.out.now s (add_dedup_dff_of f) number result z p.new.log _ p.result (chains_dedup_dff f) e refl
-    (p.ensures.log_after ∙ ap (λ (b : List ℕ). run (add_dedup_dff_of (flip_flop (controls_of v.f.controls) b v.f.clear.now v.f.reset.now v.f.init.now)) (lent v.st v.log.now)) a)
-    (λ o. p.ensures.out_after ∙ results_are _ v.out.now 0 _ o ∙ ap (λ (b : List ℕ). sets v.out.now 0 (add_dedup_dff_of (flip_flop (controls_of v.f.controls) b v.f.clear.now v.f.reset.now v.f.init.now) v.st.next).value) a)
+    let n = run_name (add_dedup_dff_of (limited_dff v.f)) _ _ p.ensures.log_after in
+    let e0 = unnamed (add_dedup_dff_of (limited_dff v.f)) 0 _ _ p.ensures.log_after in
+    let w = merge_accepted (add_dedup_dff_of f v.st.next).value v.log.now v.out.now s (add_dedup_dff_of f) number result z p.new.log.words.now _ p.new.log.state (chains_dedup_dff f) e refl
+    (e0 ∙ ap (λ (b : List ℕ). run (add_dedup_dff_of (flip_flop (controls_of v.f.controls) b v.f.clear.now v.f.reset.now v.f.init.now)) (lent v.st v.log.now)) a)
+    (λ o. p.ensures.out_after ∙ results_are _ v.out.now 0 _ o ∙ ap (λ (b : List ℕ). sets v.out.now 0 (add_dedup_dff_of (flip_flop (controls_of v.f.controls) b v.f.clear.now v.f.reset.now v.f.init.now) v.st.next).value) a) in
+    search rules

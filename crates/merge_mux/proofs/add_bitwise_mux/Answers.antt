@@ -1,13 +1,15 @@
 -- `merge_mux::add_bitwise_mux` meets its contract.
+use Rattle.std.proofs.Common.{rules}
 use mathlib.Core.Path.{refl, sym, ap, ◌∙◌}
 use lib.ListN.{length}
 use lib.Seq.{sets}
 use Rattle.rules.specs.Value.{Value}
 use Rattle.rules.specs.Log.{Trace}
 use Rattle.log_entries.specs.Emission.{run}
+use Rattle.log_entries.proofs.Emission.{unnamed, run_name}
+use Rattle.merge_mux.specs.Runs.{bitwise_of}
 use Rattle.log_entries.specs.View.{state_of, lent}
 use Rattle.log_requests.proofs.Merged.{input_refused, log_refused, merge_accepted}
-use Rattle.merge_mux.proofs.Spread.{results_are}
 use Rattle.rules.specs.Answers.{add_bitwise_mux_call}
 use Rattle.rules.specs.Merge.{add_bitwise_mux_of}
 use Rattle.rules.specs.Refusals.{bitwise_number, result_refusal, log_refusal, add_bitwise_mux_refusal}
@@ -53,6 +55,9 @@ returns c =
     let a = bitwise_all v.st.next (length v.out.now) v.s.now v.a.now v.b.now (sym z) in
     let e = c.in_ok-bitwise_log_refusal.ensures ∙ ap (λ (u : Trace Value). log_refusal (length v.log.now) s u) a in
     let p = c.emit_bitwise_mux in
-    merge_accepted (t v.st.next).value v.log.now v.out.now s t number result z p.new.log _ p.result (chains_bitwise_mux v.s.now v.a.now v.b.now) e refl
-    (p.ensures.log_after ∙ ap (λ (u : Trace Value). run u (lent v.st v.log.now)) a)
-    (λ o. p.ensures.out_after ∙ results_are _ v.out.now 0 _ o ∙ ap (λ (u : Trace Value). sets v.out.now 0 (u v.st.next).value) a)
+    let e0 = unnamed (bitwise_of v.s.now v.a.now v.b.now) 0 _ _ p.ensures.log_after in
+    let n = run_name (bitwise_of v.s.now v.a.now v.b.now) _ _ p.ensures.log_after in
+    let w = merge_accepted (t v.st.next).value v.log.now v.out.now s t number result z p.new.log.words.now _ p.new.log.state (chains_bitwise_mux v.s.now v.a.now v.b.now) e refl
+    (e0 ∙ ap (λ (u : Trace Value). run u (lent v.st v.log.now)) a)
+    (λ o. p.ensures.nets_after o ∙ ap (λ (u : Trace Value). sets v.out.now 0 (u v.st.next).value) a) in
+    search rules

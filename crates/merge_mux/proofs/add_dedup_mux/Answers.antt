@@ -1,10 +1,13 @@
 -- `merge_mux::add_dedup_mux` meets its contract.
+use Rattle.std.proofs.Common.{rules}
 use mathlib.Core.Path.{refl, sym, ap, ◌∙◌}
 use lib.ListN.{length}
 use lib.Seq.{sets}
 use Rattle.rules.specs.Value.{Value}
 use Rattle.rules.specs.Log.{Trace}
 use Rattle.log_entries.specs.Emission.{run}
+use Rattle.log_entries.proofs.Emission.{unnamed, run_name}
+use Rattle.merge_mux.specs.Results.{limited}
 use Rattle.log_entries.specs.View.{state_of, lent}
 use Rattle.log_requests.proofs.Merged.{input_refused, log_refused, merge_accepted}
 use Rattle.merge_mux.proofs.Spread.{results_are}
@@ -54,6 +57,9 @@ returns c =
     let a = mux_all v.st.next (length v.out.now) (control_of v.select) v.a.now v.b.now (sym z) in
     let e = c.in_ok-mux_log_refusal.ensures ∙ ap (λ (u : Trace Value). log_refusal (length v.log.now) s u) a in
     let p = c.emit_dedup_mux in
-    merge_accepted (t v.st.next).value v.log.now v.out.now s t number result z p.new.log _ p.result (chains_dedup_mux (control_of v.select) v.a.now v.b.now) e refl
-    (p.ensures.log_after ∙ ap (λ (u : Trace Value). run u (lent v.st v.log.now)) a)
-    (λ o. p.ensures.out_after ∙ results_are _ v.out.now 0 _ o ∙ ap (λ (u : Trace Value). sets v.out.now 0 (u v.st.next).value) a)
+    let e0 = unnamed (add_dedup_mux_of (control_of v.select) (limited v.a.now) (limited v.b.now)) 0 _ _ p.ensures.log_after in
+    let n = run_name (add_dedup_mux_of (control_of v.select) (limited v.a.now) (limited v.b.now)) _ _ p.ensures.log_after in
+    let w = merge_accepted (t v.st.next).value v.log.now v.out.now s t number result z p.new.log.words.now _ p.new.log.state (chains_dedup_mux (control_of v.select) v.a.now v.b.now) e refl
+    (e0 ∙ ap (λ (u : Trace Value). run u (lent v.st v.log.now)) a)
+    (λ o. p.ensures.out_after ∙ results_are _ v.out.now 0 _ o ∙ ap (λ (u : Trace Value). sets v.out.now 0 (u v.st.next).value) a) in
+    search rules

@@ -13,8 +13,8 @@ loop-i-init c =
     let v = c.args in
     (refl, refl, refl, refl, refl, going_starts v.s.now v.a.now v.b.now v.nets.now (lent v.st v.log.now))
 
-pub mux_run-state-requires : goal.mux_run-state-requires
-mux_run-state-requires c =
+pub mux_run_in-state-requires : goal.mux_run_in-state-requires
+mux_run_in-state-requires c =
     let h = c in
     let k = h in
     let v = k.args in
@@ -45,7 +45,7 @@ loop-i-preserved c =
     let r = c.run_end-e in
     let t : h.loop-i.i < length v.s.now = c.loop-i-test.true in
     let w = k.requires.0 in
-    let p = c.mux_run-state in
+    let p = c.mux_run_in-state in
     let e = r.result in
     let i = h.loop-i.i in
     let q : e - i ≡ run_at (drop i v.s.now) = omega (arith, r.ensures.value) in
