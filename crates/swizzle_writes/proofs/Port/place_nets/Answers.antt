@@ -1,13 +1,13 @@
--- `swizzle_writes::place_nets` meets its contract.
+-- `swizzle_writes::Port::place_nets` meets its contract.
 use mathlib.Core.Path.{◌≡◌}
 use Prim.Native.Nat.{ℕ, ◌+◌, ◌-◌}
 use native.Mathlib.Omega.{arith}
 use mathlib.Core.List.{List, ◌++◌}
 use lib.ListN.{length, take, drop}
-use Rattle.log_entries.specs.View.{lent}
+use Rattle.log_entries.specs.View.{lent_of}
 use borrow.Rule.Slice.PartMut.{same_len_mid}
 use Rattle.swizzle_writes.proofs.Steps.{data_back, mask_back, nets_gave}
-use Rattle.swizzle_writes.proofs.place_nets.Goals as goal
+use Rattle.swizzle_writes.proofs.Port.place_nets.Goals as goal
 
 pub overflow_add-mid : goal.overflow_add-mid
 overflow_add-mid c = omega (arith, c.requires)
@@ -51,6 +51,6 @@ returns c =
     let en : n ≡ v.size = omega arith in
     let ek : k ≡ v.size = omega arith in
     let r1 : List ℕ = take v.from v.to.now ++ (d.new.to ++ drop n (drop v.from v.to.now)) in
-    let e1 = data_back v.p v.entries.now v.bits.now v.from v.size n v.to.now d.new.to en c.requires d.auto.to d.ensures in
+    let e1 = data_back v.self.wide v.self.entries.now v.self.bits.now v.from v.size n v.to.now d.new.to en c.requires d.auto.to d.ensures in
     let l1 : length r1 ≡ length v.to.now = same_len_mid v.from n v.to.now d.new.to d.auto.to in
-    nets_gave v.p v.mux.now v.entries.now v.bits.now v.mask.now v.from v.size k v.to.now r1 _ w.new.to (lent v.st v.log.now) (lent w.result w.new.log) ek e1 (record { ran = w.ensures.log_after; value = w.ensures.to_after }) (mask_back (v.from + v.size) v.size k r1 w.new.to ek (omega (arith, c.requires, l1)) w.auto.to)
+    nets_gave v.self.wide v.self.mux.now v.self.entries.now v.self.bits.now v.self.mask.now v.from v.size k v.to.now r1 _ w.new.to (lent_of v.log.now) (lent_of w.new.log) ek e1 (record { ran = w.ensures.log_after; value = w.ensures.to_after }) (mask_back (v.from + v.size) v.size k r1 w.new.to ek (omega (arith, c.requires, l1)) w.auto.to)
