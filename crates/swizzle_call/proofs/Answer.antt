@@ -10,24 +10,22 @@ use lib.Seq.{sets}
 use Rattle.lists.specs.Choice.{leaves}
 use Rattle.lists.proofs.Choice.{leaves_refused, leaves_accepted}
 use Rattle.rules.specs.Cell.{Mem, Plan}
-use Rattle.rules.specs.Log as rules
 use Rattle.rules.specs.Log.{Trace, log_after, state_after}
 use Rattle.rules.specs.Ports.{Driving}
 use Rattle.rules.specs.Geometry.{Layout, layout_of}
-use Rattle.rules.specs.Image.{Laid}
 use Rattle.rules.specs.Patch.{laid_out}
-use Rattle.rules.specs.Record.{Sizes, sizes_of}
+use Rattle.rules.specs.Record.{sizes_of}
 use Rattle.rules.specs.Swizzle.{swizzle, swizzle_laid, swizzle_scratch, shared_nets, shared_trits}
 use Rattle.rules.specs.Refusals.{swizzle_refusal}
 use Rattle.rules.specs.Answers.{Answer, Refused, Accepted, answer_of, After, Logged, after, logged, SwizzleLent, rooms_of, swizzle_call}
 use Rattle.rules.specs.Answers as answers
 use Rattle.rules.proofs.Answers.{answer_refused, answer_accepted}
 use Rattle.log_entries.specs.declared.LogState.{LogState}
-use Rattle.log_entries.specs.View.{state_of, lent}
+use Rattle.log_entries.specs.View.{state_of}
 use Rattle.net_memory.specs.declared.Memory.{Memory}
 use Rattle.net_memory.specs.View.{memory_of}
 use Rattle.net_memory.specs.Given.{given_of}
-use Rattle.image_state.specs.View.{laid_of, sized_of}
+use Rattle.image_state.specs.View.{laid_of}
 use Rattle.swizzle_plan.specs.declared.MemorySwizzle.{MemorySwizzle}
 use Rattle.swizzle_plan.specs.Calls.{plan_of}
 use Rattle.swizzle_result.specs.View.{results_of}

@@ -1,35 +1,37 @@
 -- The three cases of a swizzle that no number refuses: width 0, depth 0, and rows.
 use mathlib.Core.Path.{◌≡◌, refl, sym, ap, ◌∙◌, subst}
 use mathlib.Core.Logic.{◌≢◌}
-use Prim.Native.Nat.{ℕ, suc, min}
+use Prim.Native.Nat.{ℕ, min}
 use native.Mathlib.Omega.{arith}
 use mathlib.Core.Bool.{Bool, true, false, ◌&&◌}
 use mathlib.Core.List.{List, [], ◌∷◌}
-use lib.ListN.{length, drop, replicate, length-replicate}
+use lib.ListN.{length, drop, length-replicate}
 use lib.Seq.{sets}
 use lib.Dec.{eqb}
 use borrow.Author.Tests.{eq-eqb, ne_eqb}
-use Rattle.lists.specs.Choice.{when◌then◌else◌, ◌or_else◌}
+use Rattle.lists.specs.Choice.{when◌then◌else◌}
 use Rattle.lists.proofs.Choice.{else_zero}
 use Rattle.rules.specs.Limits.{max_ports}
-use Rattle.rules.specs.Value.{Value, x_nets}
-use Rattle.rules.specs.Cell.{Mem, Given, Plan}
-use Rattle.rules.specs.Log.{Trace, ◌>>=◌, ◌>>◌, done, replace_value_of}
-use Rattle.rules.specs.Ports.{Driving, unmap_all}
-use Rattle.rules.specs.Geometry.{Layout, layout_of, full_mems, all_mems, full_depth_of, part_depth_of}
+use Rattle.rules.specs.Value.{Value}
+use Rattle.rules.specs.Cell.{Mem, Plan}
+use Rattle.rules.specs.Log.{Trace, ◌>>=◌, ◌>>◌, done}
+use Rattle.rules.specs.Ports.{Driving}
+use Rattle.rules.specs.Geometry.{Layout, layout_of}
 use Rattle.rules.specs.Image.{layout}
 use Rattle.rules.specs.Swizzle.{swizzle, swizzle_rows, swizzle_empty, shared_nets, shared_trits, swizzle_scratch}
 use Rattle.rules.specs.Conditions.{plan_too_large, bad_output_len, bad_value, short_ports}
 use Rattle.rules.specs.Refusals as rules
 use Rattle.rules.specs.Refusals.{driving_number, whole_plan, swizzle_plan_number, swizzle_number, swizzle_refusal}
+use Rattle.std.specs.Borrow.{GName}
 use Rattle.log_entries.specs.declared.LogState.{LogState}
+use Rattle.log_entries.specs.declared.Log.{Log}
 use Rattle.log_entries.specs.Emission.{Lent, run}
-use Rattle.log_entries.specs.View.{state_of, lent}
-use Rattle.log_entries.proofs.Emission.{run-done}
+use Rattle.log_entries.specs.View.{state_of, lent, lent_of}
+use Rattle.log_entries.proofs.Emission.{run-done, named, unnamed}
 use Rattle.net_memory.specs.declared.Memory.{Memory}
 use Rattle.net_memory.specs.View.{memory_of, writes_of, reads_of}
 use Rattle.net_memory.specs.Given.{given_of}
-use Rattle.net_check.proofs.Accept.{Valid, valid}
+use Rattle.net_check.proofs.Accept.{valid}
 use Rattle.port_unmap_all.proofs.Rules.{all_ready}
 use Rattle.port_empty.specs.Empty.{emptied_if}
 use Rattle.port_empty.proofs.Empty.{rules_run}
@@ -43,13 +45,13 @@ use Rattle.swizzle_result.specs.Held.{HeldWrite, HeldRead, Holds}
 use Rattle.swizzle_reads.specs.declared.Reads.{Reads}
 use Rattle.swizzle_reads.specs.Going.{Going, going_of, in_ports, has_rows, reads_if, most_need, AllKept}
 use Rattle.swizzle_reads.proofs.Layouts.{good_has}
-use Rattle.swizzle_rows.specs.Rows.{no_read_of, start_memory, start_going, none_yet_of, RowsBy, RowsRan}
+use Rattle.swizzle_rows.specs.Rows.{no_read_of, no_memories, start_going, RowsBy, RowsRan}
 use Rattle.swizzle_ready.proofs.Tests.{rows_trace}
 use Rattle.swizzle_ready.proofs.Planned.{layout_planned}
 use Rattle.swizzle_ready.proofs.Scratch.{scratch_is}
 use Rattle.swizzle_ready.proofs.Joined as joined
 use Rattle.swizzle_ready.proofs.Joined.{RowsDone, Begun, rows_done}
-use Rattle.swizzle_call.specs.Acted.{Passed, Acted, PortsHeld}
+use Rattle.swizzle_call.specs.Acted.{NoneYet, Acted, PortsHeld}
 
 -- what is lent, by its lengths
 abbrev pub rooms_of : ℕ → List ℕ → List ℕ → List ℕ → rules.SwizzleRooms
@@ -60,23 +62,32 @@ none_of : (l : List ℕ) → length l ≡ 0 → l ≡ []
 none_of [] e = refl
 none_of (a ∷ l) e = absurd (omega (arith, e))
 
-abbrev empty_memory : WideMemory
-empty_memory = (none_yet_of (record { used = 0; next = 0 })).memory
-
-results_none : (nets trits image : List ℕ) → results_of empty_memory nets trits image ≡ []
+results_none : (nets trits image : List ℕ) → results_of no_memories nets trits image ≡ []
 unfolding results_of
 results_none nets trits image = refl
 
-pub none_acted : (m : Mem) (q : Layout) (t : Trace (List Driving)) (l : Lent) → (t l.state.next).value ≡ [] → (st : LogState) (log to kinds : List ℕ) → lent st log ≡ run t l
-    → Acted m q t l to kinds (going_of (none_yet_of st) log to kinds)
-none_acted m q t l v st log to kinds e = record {
-  log_is = e;
-  nets_are = sym (ap (λ (ds : List Driving). sets to 0 (shared_nets m ds)) v ∙ ap (sets to 0) (none_of (shared_nets m []) (no_nets_lem m)));
-  trits_are = sym (ap (λ (ds : List Driving). sets kinds 0 (shared_trits m ds)) v ∙ ap (sets kinds 0) (none_of (shared_trits m []) (no_trits_lem m)));
-  nets_end = sym (ap (λ (ds : List Driving). length (shared_nets m ds)) v ∙ no_nets_lem m);
-  trits_end = sym (ap (λ (ds : List Driving). length (shared_trits m ds)) v ∙ no_trits_lem m);
-  results_are = results_none _ _ _ ∙ sym v;
-}
+module _ (m : Mem) (q : Layout) (t : Trace (List Driving)) where
+  pub none_acted : (l : Lent) → (t l.state.next).value ≡ [] → (made : Reads) → NoneYet made → (log : Log) → lent_of log ≡ run t l → Acted m q t l made.nets.now made.trits.now (going_of log made)
+  none_acted l v made y log e = record {
+    log_is = e;
+    nets_are = sym (ap (λ (ds : List Driving). sets made.nets.now 0 (shared_nets m ds)) v ∙ ap (sets made.nets.now 0) (none_of (shared_nets m []) (no_nets_lem m)));
+    trits_are = sym (ap (λ (ds : List Driving). sets made.trits.now 0 (shared_trits m ds)) v ∙ ap (sets made.trits.now 0) (none_of (shared_trits m []) (no_trits_lem m)));
+    nets_end = y.nets_start ∙ sym (ap (λ (ds : List Driving). length (shared_nets m ds)) v ∙ no_nets_lem m);
+    trits_end = y.trits_start ∙ sym (ap (λ (ds : List Driving). length (shared_trits m ds)) v ∙ no_trits_lem m);
+    results_are = ap (λ (g : WideMemory). results_of g (shared_nets m (t l.state.next).value) (shared_trits m (t l.state.next).value) (layout q m.init)) y.memory_is ∙ results_none _ _ _ ∙ sym v;
+  }
+
+  -- the same of a log and a state apart
+  pub unnamed_acted : (st : LogState) (log : List ℕ) (name : GName) (to kinds : List ℕ) (g : Going) → Acted m q t (named name (lent st log)) to kinds g
+      → Acted m q t (lent st log) to kinds (record { lent = named 0 g.lent; nets = g.nets; trits = g.trits; nets_at_of = g.nets_at_of; trits_at_of = g.trits_at_of; memory = g.memory })
+  unnamed_acted st log name to kinds g a = record {
+    log_is = unnamed t 0 (named name (lent st log)) g.lent a.log_is;
+    nets_are = a.nets_are;
+    trits_are = a.trits_are;
+    nets_end = a.nets_end;
+    trits_end = a.trits_end;
+    results_are = a.results_are;
+  }
 
 -- ---- width 0
 pub flat_trace : (m : Mem) (output : Value) (p : Plan) → m.width ≡ 0 → swizzle m output p ≡ done []
@@ -87,12 +98,12 @@ done_none : (n : ℕ) → (done {A = List Driving} [] n).value ≡ []
 unfolding done
 done_none n = refl
 
-pub flat_acted : (m : Mem) (output : Value) (p : Plan) (q : Layout) → m.width ≡ 0 → (st : LogState) (log to kinds : List ℕ)
-    → Acted m q (swizzle m output p) (lent st log) to kinds (going_of (none_yet_of st) log to kinds)
-flat_acted m output p q w st log to kinds =
+pub flat_acted : (m : Mem) (output : Value) (p : Plan) (q : Layout) → m.width ≡ 0 → (made : Reads) → NoneYet made → (log : Log)
+    → Acted m q (swizzle m output p) (lent_of log) made.nets.now made.trits.now (going_of log made)
+flat_acted m output p q w made y log =
     let e = flat_trace m output p w in
-    none_acted m q (swizzle m output p) (lent st log) (ap (λ (t : Trace (List Driving)). (t st.next).value) e ∙ done_none st.next) st log to kinds
-    (sym (ap (λ (t : Trace (List Driving)). run t (lent st log)) e ∙ run-done [] (lent st log)))
+    none_acted m q (swizzle m output p) (lent_of log) (ap (λ (t : Trace (List Driving)). (t log.state.next).value) e ∙ done_none log.state.next) made y log
+    (sym (ap (λ (t : Trace (List Driving)). run t (lent_of log)) e ∙ run-done [] (lent_of log)))
 
 -- ---- depth 0
 pub empty_trace : (m : Mem) (output : Value) (p : Plan) → m.width ≢ 0 → m.depth ≡ 0 → swizzle m output p ≡ swizzle_empty m output
@@ -134,13 +145,15 @@ module _ (r : rules.SwizzleRooms) (room : ℕ) (st : LogState) (m : Memory) (net
   pub long : M.depth ≡ 0 → short_ports M ≡ false
   long d = sym (ap (λ (b : Bool). b && short_ports M) (eq-eqb M.depth 0 d)) ∙ not_14 _ short
 
-  pub empty_acted : (q : Layout) → M.width ≢ 0 → M.depth ≡ 0 → (st' : LogState) (log log' to kinds : List ℕ) → lent st' log' ≡ run (emptied_if M output) (lent st log)
-      → Acted M q (swizzle M output p) (lent st log) to kinds (going_of (none_yet_of st') log' to kinds)
-  empty_acted q w d st' log log' to kinds e =
+  pub empty_acted : (q : Layout) → M.width ≢ 0 → M.depth ≡ 0 → (made : Reads) → NoneYet made → (log : List ℕ) (name : GName) (after : Log) → lent after.state after.words.now ≡ run (emptied_if M output) (lent st log)
+      → after.words.ghost_name ≡ name → Acted M q (swizzle M output p) (named name (lent st log)) made.nets.now made.trits.now (going_of after made)
+  empty_acted q w d made y log name after e f =
       let t = empty_trace M output p w d in
       let h = long d in
-      none_acted M q (swizzle M output p) (lent st log) (ap (λ (u : Trace (List Driving)). (u st.next).value) t ∙ empty_value M output st.next) st' log' to kinds
-      (e ∙ rules_run M (all_ready (plan_too_large p) st.next m nets trits output driving h) output outputs (lent st log) ∙ ap (λ (u : Trace (List Driving)). run u (lent st log)) (sym t))
+      let l = lent st log in
+      none_acted M q (swizzle M output p) (named name l) (ap (λ (u : Trace (List Driving)). (u st.next).value) t ∙ empty_value M output st.next) made y after
+      (ap (λ (n : GName). named n (lent after.state after.words.now)) f ∙ unnamed (swizzle M output p) name l (lent after.state after.words.now)
+      (e ∙ rules_run M (all_ready (plan_too_large p) st.next m nets trits output driving h) output outputs l ∙ ap (λ (u : Trace (List Driving)). run u l) (sym t)))
 
 -- ---- rows
 pub same_layout : (m : Memory) (nets trits : List ℕ) (s : MemorySwizzle) (es ws rs : List ℕ) → layout_by (params_by m s) es ≡ layout_of (memory_of m nets trits) (plan_of s es ws rs)
@@ -167,8 +180,8 @@ module _ (r : rules.SwizzleRooms) (room : ℕ) (st : LogState) (m : Memory) (net
   unfolding memory_of
   reads_count = sym rl
 
-  module _ (log to kinds : List ℕ) (en : length to ≡ r.nets) (et : length kinds ≡ r.trits) (scratch : ℕ) (es : scratch ≡ r.scratch) (after : Going)
-      (b : RowsBy q m nets trits p.write_wide p.read_wide_of output scratch (lent st log) to kinds after) where
+  module _ (log to kinds : List ℕ) (name : GName) (en : length to ≡ r.nets) (et : length kinds ≡ r.trits) (scratch : ℕ) (es : scratch ≡ r.scratch) (after : Going)
+      (b : RowsBy q m nets trits p.write_wide p.read_wide_of output scratch (named name (lent st log)) to kinds after) where
     begun : Begun N q b.filled.ports (start_going q m b.mid b.filled kinds).memory
     begun = record {
       sized = record { mems_are = refl; full_are = refl; full_depth = refl; part_depth = refl; unit_is = refl };
@@ -178,27 +191,27 @@ module _ (r : rules.SwizzleRooms) (room : ℕ) (st : LogState) (m : Memory) (net
       reads_8 = length-replicate max_ports no_read_of;
     }
 
-    done_rows : RowsDone N output p (lent st log) to kinds (reads_if q r.scratch (in_ports m nets trits) p.read_wide_of output (start_going q m b.mid b.filled kinds))
-    done_rows = rows_done r room (state_of st) m nets trits output p z w d log to kinds en et b.mid b.filled b.gave (start_going q m b.mid b.filled kinds).memory begun
+    done_rows : RowsDone N output p (named name (lent st log)) to kinds (reads_if q r.scratch (in_ports m nets trits) p.read_wide_of output (start_going q m b.mid b.filled kinds))
+    done_rows = rows_done r room (state_of st) m nets trits output p z w d log to kinds name en et b.mid b.filled b.gave (start_going q m b.mid b.filled kinds).memory begun
 
     after_is : after ≡ reads_if q r.scratch (in_ports m nets trits) p.read_wide_of output (start_going q m b.mid b.filled kinds)
     after_is = b.reads_are ∙ ap (λ (k : ℕ). reads_if q k (in_ports m nets trits) p.read_wide_of output (start_going q m b.mid b.filled kinds)) es
 
-    acted : Acted N q (swizzle_rows N output p) (lent st log) to kinds after
-    acted = from_rows N output p (lent st log) to kinds after (subst (RowsDone N output p (lent st log) to kinds) (sym after_is) done_rows)
+    acted : Acted N q (swizzle_rows N output p) (named name (lent st log)) to kinds after
+    acted = from_rows N output p (named name (lent st log)) to kinds after (subst (RowsDone N output p (named name (lent st log)) to kinds) (sym after_is) done_rows)
 
-    pub rows_acted : Acted N q (swizzle N output p) (lent st log) to kinds after
-    rows_acted = subst (λ (t : Trace (List Driving)). Acted N q t (lent st log) to kinds after) (sym (rows_trace r room (state_of st) (given_of m nets trits) output p z w d)) acted
+    pub rows_acted : Acted N q (swizzle N output p) (named name (lent st log)) to kinds after
+    rows_acted = subst (λ (t : Trace (List Driving)). Acted N q t (named name (lent st log)) to kinds after) (sym (rows_trace r room (state_of st) (given_of m nets trits) output p z w d)) acted
 
     -- the ports that the struct stands for
     abbrev first : WideMemory
     first = (start_going q m b.mid b.filled kinds).memory
 
     abbrev hw : List (HeldWrite q)
-    hw = joined.hw r room (state_of st) m nets trits output p z w d log to kinds en et b.mid b.filled b.gave first begun
+    hw = joined.hw r room (state_of st) m nets trits output p z w d log to kinds name en et b.mid b.filled b.gave first begun
 
     abbrev hr : List (HeldRead q)
-    hr = joined.hr r room (state_of st) m nets trits output p z w d log to kinds en et b.mid b.filled b.gave first begun
+    hr = joined.hr r room (state_of st) m nets trits output p z w d log to kinds name en et b.mid b.filled b.gave first begun
 
     abbrev Held : WideMemory → List Driving → Type 0
     Held g ds = Holds g q hw hr (shared_nets N ds) (shared_trits N ds)
@@ -206,15 +219,15 @@ module _ (r : rules.SwizzleRooms) (room : ℕ) (st : LogState) (m : Memory) (net
     held_rows : Held after.memory (swizzle_rows N output p st.next).value
     held_rows =
         subst (λ (g : WideMemory). Held g (swizzle_rows N output p st.next).value)
-        (sym (ap (λ (x : Going). x.memory) after_is ∙ joined.memory-held r room (state_of st) m nets trits output p z w d log to kinds en et b.mid b.filled b.gave first begun))
-        (joined.rows_hold r room (state_of st) m nets trits output p z w d log to kinds en et b.mid b.filled b.gave first begun)
+        (sym (ap (λ (x : Going). x.memory) after_is ∙ joined.memory-held r room (state_of st) m nets trits output p z w d log to kinds name en et b.mid b.filled b.gave first begun))
+        (joined.rows_hold r room (state_of st) m nets trits output p z w d log to kinds name en et b.mid b.filled b.gave first begun)
 
     pub rows_ports : PortsHeld N output p st.next after.memory
     rows_ports = record {
       writes = hw;
       reads = hr;
-      writes_are = joined.ports_held r room (state_of st) m nets trits output p z w d log to kinds en et b.mid b.filled b.gave first begun;
-      reads_are = joined.reads_held r room (state_of st) m nets trits output p z w d log to kinds en et b.mid b.filled b.gave first begun;
+      writes_are = joined.ports_held r room (state_of st) m nets trits output p z w d log to kinds name en et b.mid b.filled b.gave first begun;
+      reads_are = joined.reads_held r room (state_of st) m nets trits output p z w d log to kinds name en et b.mid b.filled b.gave first begun;
       holds = subst (λ (t : Trace (List Driving)). Held after.memory (t st.next).value) (sym (rows_trace r room (state_of st) (given_of m nets trits) output p z w d)) held_rows;
     }
 
@@ -223,23 +236,21 @@ module _ (r : rules.SwizzleRooms) (room : ℕ) (st : LogState) (m : Memory) (net
       let lp = layout_planned r room (state_of st) (given_of m nets trits) output p z w d in
       good_has q lp.layout_good lp.width_some
 
-  pub ran_acted : (log to kinds : List ℕ) → length to ≡ r.nets → length kinds ≡ r.trits → (scratch : ℕ) → scratch ≡ r.scratch → (after : Going) (x : Layout) → x ≡ q
-      → RowsRan x m nets trits p.write_wide p.read_wide_of output scratch st log to kinds after → Acted N q (swizzle N output p) (lent st log) to kinds after
-  ran_acted log to kinds en et scratch es after x e b =
-      rows_acted log to kinds en et scratch es after
-      ((subst (λ (y : Layout). RowsRan y m nets trits p.write_wide p.read_wide_of output scratch st log to kinds after) e b).by_rows has_rows_lem)
+  module _ (log to kinds : List ℕ) (name : GName) (en : length to ≡ r.nets) (et : length kinds ≡ r.trits) (scratch : ℕ) (es : scratch ≡ r.scratch) (n k : ℕ) (g : WideMemory) (after : Going) (x : Layout) (e : x ≡ q) where
+    abbrev before : Going
+    before = record { lent = named name (lent st log); nets = to; trits = kinds; nets_at_of = n; trits_at_of = k; memory = g }
 
-  pub ran_ports : (log to kinds : List ℕ) → length to ≡ r.nets → length kinds ≡ r.trits → (scratch : ℕ) → scratch ≡ r.scratch → (after : Going) (x : Layout) → x ≡ q
-      → RowsRan x m nets trits p.write_wide p.read_wide_of output scratch st log to kinds after → PortsHeld N output p st.next after.memory
-  ran_ports log to kinds en et scratch es after x e b =
-      rows_ports log to kinds en et scratch es after
-      ((subst (λ (y : Layout). RowsRan y m nets trits p.write_wide p.read_wide_of output scratch st log to kinds after) e b).by_rows has_rows_lem)
+    pub ran_acted : RowsRan x m nets trits p.write_wide p.read_wide_of output scratch before after → Acted N q (swizzle N output p) (named name (lent st log)) to kinds after
+    ran_acted b =
+        rows_acted log to kinds name en et scratch es after
+        ((subst (λ (y : Layout). RowsRan y m nets trits p.write_wide p.read_wide_of output scratch before after) e b).by_rows has_rows_lem)
+
+    pub ran_ports : RowsRan x m nets trits p.write_wide p.read_wide_of output scratch before after → PortsHeld N output p st.next after.memory
+    ran_ports b =
+        rows_ports log to kinds name en et scratch es after
+        ((subst (λ (y : Layout). RowsRan y m nets trits p.write_wide p.read_wide_of output scratch before after) e b).by_rows has_rows_lem)
 
   pub scratch_kept : (x : Layout) → x ≡ q → (before after : List ℕ) → AllKept x (in_ports m nets trits) p.read_wide_of before after → drop (swizzle_scratch N p) after ≡ drop (swizzle_scratch N p) before
   scratch_kept x e before after f =
       f (swizzle_scratch N p)
       (omega (arith, ap (λ (y : Layout). most_need y (in_ports m nets trits) p.read_wide_of) e, scratch_is r room (state_of st) m nets trits output p z w d))
-
--- what is said of a struct is said of one that equals it
-pub by_struct : (m : Mem) (q : Layout) (t : Trace (List Driving)) (l : Lent) (to kinds log : List ℕ) (x y : Reads) → x ≡ y → Acted m q t l to kinds (going_of y log to kinds) → Acted m q t l to kinds (going_of x log to kinds)
-by_struct m q t l to kinds log x y e a = subst (λ (v : Reads). Acted m q t l to kinds (going_of v log to kinds)) (sym e) a

@@ -1,20 +1,20 @@
 -- The image, the state for patches and the record's sizes of a swizzle that no number refuses.
-use mathlib.Core.Path.{◌≡◌, refl, sym, ap, ◌∙◌}
+use mathlib.Core.Path.{◌≡◌, refl, ap, ◌∙◌}
 use Prim.Native.Nat.{ℕ, ◌*◌}
-use mathlib.Core.Bool.{Bool, false, not, ◌||◌}
+use mathlib.Core.Bool.{false, not}
 use mathlib.Core.Option.{some}
 use mathlib.Core.List.{List}
 use lib.ListN.{length}
 use lib.Dec.{eqb}
-use Rattle.lists.specs.Choice.{when◌then◌else◌, ◌or_else◌}
-use Rattle.lists.specs.Lists.{part, any}
+use Rattle.lists.specs.Choice.{when◌then◌else◌}
+use Rattle.lists.specs.Lists.{part}
 use Rattle.lists.proofs.Choice.{else_zero, or_false, leaves_accepted}
 use Rattle.rules.specs.Cell.{Mem, Plan}
 use Rattle.rules.specs.Geometry.{Layout, layout_of}
 use Rattle.rules.specs.Image.{image_size}
 use Rattle.rules.specs.Patch.{laid_out}
 use Rattle.rules.specs.Record.{sizes_of}
-use Rattle.rules.specs.Conditions.{plan_too_large, bad_shape, bad_nets, bad_trits, bad_output_len, bad_value, bad_layout}
+use Rattle.rules.specs.Conditions.{plan_too_large, bad_shape, bad_nets, bad_trits, bad_output_len, bad_value}
 use Rattle.rules.specs.Refusals as rules
 use Rattle.rules.specs.Refusals.{lent_refusal, image_refusal, driving_number, swizzle_number, swizzle_refusal}
 use Rattle.rules.specs.Answers.{Accepted, sizes_call}

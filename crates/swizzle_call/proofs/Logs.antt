@@ -5,11 +5,9 @@ use Prim.Native.Nat.{ℕ, ◌<◌}
 use native.Mathlib.Nat.{eq-zero-or-pos}
 use native.Mathlib.Omega.{arith}
 use mathlib.Core.List.{List, []}
-use Rattle.lists.specs.Choice.{◌or_else◌}
 use Rattle.lists.proofs.Choice.{else_zero}
 use Rattle.rules.specs.Cell.{Mem, Plan}
-use Rattle.rules.specs.Log.{Trace, log_after, state_after, start_net}
-use Rattle.rules.specs.Ports.{Driving}
+use Rattle.rules.specs.Log.{log_after, state_after, start_net}
 use Rattle.rules.specs.Geometry.{layout_of}
 use Rattle.rules.specs.Swizzle.{swizzle, swizzle_scratch}
 use Rattle.rules.specs.Conditions.{plan_too_large}
@@ -20,7 +18,7 @@ use Rattle.rules.proofs.Chain.{chains_done}
 use Rattle.log_entries.specs.declared.LogState.{LogState}
 use Rattle.log_entries.specs.Emission.{Lent, run}
 use Rattle.log_entries.specs.View.{state_of, lent}
-use Rattle.log_entries.proofs.Emission.{ran, accepted_run}
+use Rattle.log_entries.proofs.Emission.{accepted_run}
 use Rattle.net_memory.specs.declared.Memory.{Memory}
 use Rattle.net_memory.specs.View.{memory_of}
 use Rattle.net_memory.specs.Given.{given_of}

@@ -19,12 +19,20 @@ use Rattle.swizzle_plan.specs.Calls.{plan_of}
 use Rattle.swizzle_result.specs.declared.WideMemory.{WideMemory}
 use Rattle.swizzle_result.specs.View.{results_of}
 use Rattle.swizzle_result.specs.Held.{HeldWrite, HeldRead, Holds}
+use Rattle.swizzle_reads.specs.declared.Reads.{Reads}
 use Rattle.swizzle_reads.specs.Going.{Going}
+use Rattle.swizzle_rows.specs.Rows.{no_memories}
 
 -- no number refuses it, with these rooms and an image room of some length
 pub record Passed (m : Memory) (nets trits output : List ℕ) (s : MemorySwizzle) (es ws rs : List ℕ) (st : LogState) (log to kinds scratch : List ℕ) : Type 0 where
   pub image : ℕ
   pub zero : swizzle_refusal (record { image = image; nets = length to; trits = length kinds; scratch = length scratch }) (length log) (state_of st) (given_of m nets trits) output (plan_of s es ws rs) ≡ 0
+
+-- no part of the rooms is used yet, and there are no memories
+pub record NoneYet (r : Reads) : Type 0 where
+  pub nets_start : r.nets_at ≡ 0
+  pub trits_start : r.trits_at ≡ 0
+  pub memory_is : r.memory ≡ no_memories
 
 -- the log, the rooms and how much of them is used, and the memories that the struct and the rooms hold
 pub record Acted (m : Mem) (q : Layout) (t : Trace (List Driving)) (l : Lent) (to kinds : List ℕ) (g : Going) : Type 0 where

@@ -1,4 +1,5 @@
 -- The definitions that the contracts of swizzle_call cite.
 pub mod Acted
+pub mod Made
 pub mod Whole
 pub mod Answer

@@ -19,14 +19,13 @@ use Rattle.image_state.specs.View.{laid_of, unset_laid, sized_of}
 use Rattle.swizzle_plan.specs.declared.MemorySwizzle.{MemorySwizzle}
 use Rattle.swizzle_plan.specs.Calls.{plan_of}
 use Rattle.swizzle_result.specs.View.{results_of}
-use Rattle.swizzle_reads.specs.Going.{going_of}
-use Rattle.swizzle_rows.specs.Rows.{none_yet_of}
 use Rattle.swizzle_call.specs.declared.Swizzled.{Swizzled}
 use Rattle.swizzle_call.specs.Acted.{Acted, HoldsPorts}
+use Rattle.swizzle_call.specs.Made.{made_of, none_yet_of}
 
 -- refused: every lent word as it was, no memories, and no state for patches
 pub record Unchanged (st : LogState) (log image to kinds scratch : List ℕ) (x : Swizzled) (log' image' to' kinds' scratch' : List ℕ) : Type 0 where
-  pub made_is : going_of x.made log' to' kinds' ≡ going_of (none_yet_of st) log to kinds
+  pub made_is : made_of x.made log' to' kinds' ≡ made_of (none_yet_of st) log to kinds
   pub image_is : image' ≡ image
   pub scratch_is : scratch' ≡ scratch
   pub laid_is : x.laid ≡ unset_laid
@@ -34,7 +33,7 @@ pub record Unchanged (st : LogState) (log image to kinds scratch : List ℕ) (x 
 
 -- accepted, for this memory and plan
 pub record Changed (m : Mem) (output : List ℕ) (p : Plan) (st : LogState) (log image to kinds scratch : List ℕ) (x : Swizzled) (log' image' to' kinds' scratch' : List ℕ) : Type 0 where
-  pub acted : Acted m (layout_of m p) (swizzle m output p) (lent st log) to kinds (going_of x.made log' to' kinds')
+  pub acted : Acted m (layout_of m p) (swizzle m output p) (lent st log) to kinds (made_of x.made log' to' kinds')
   pub log_is : log' ≡ log_after log (state_of st) (swizzle m output p st.next)
   pub state_is : state_of x.made.state ≡ state_after (state_of st) (swizzle m output p st.next)
   pub image_is : image' ≡ laid_out (layout_of m p) m.init image

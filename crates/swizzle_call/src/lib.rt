@@ -3,33 +3,90 @@
 
 ghost use Rattle.std.specs.Prelude.{◌≡◌, drop};
 ghost use Rattle.rules.specs.Answers.{swizzle_call};
-ghost use Rattle.log_entries.specs.View.{state_of, lent};
+ghost use Rattle.log_entries.specs.View.{state_of, lent, lent_of};
 ghost use Rattle.net_memory.specs.Given.{given_of};
 ghost use Rattle.rules.specs.Geometry.{layout_of};
 ghost use Rattle.rules.specs.Swizzle.{swizzle, swizzle_scratch};
 ghost use Rattle.net_memory.specs.View.{memory_of};
 ghost use Rattle.swizzle_plan.specs.Calls.{plan_of};
-ghost use Rattle.swizzle_reads.specs.Going.{going_of};
+ghost use Rattle.swizzle_reads.specs.Going.{going_of, SameRooms};
 ghost use Rattle.lists.specs.Lists.{part};
 ghost use Rattle.rules.specs.Beside.Shape.{handed_on};
 ghost use Rattle.rules.specs.Beside.Layouts.{fill_call};
 ghost use Rattle.image_geometry.specs.View.{layout_by};
 ghost use Rattle.image_state.specs.View.{laid_of};
-ghost use Rattle.swizzle_call.specs.Acted.{Passed, Acted, HoldsPorts};
+ghost use Rattle.swizzle_call.specs.Acted.{Passed, NoneYet, Acted, HoldsPorts};
+ghost use Rattle.swizzle_call.specs.Made.{made_of, none_yet_of};
 ghost use Rattle.swizzle_call.specs.Whole.{Swizzles};
 ghost use Rattle.swizzle_call.specs.Answer.{swizzled_of};
 
-use image_geometry::Params;
+use image_geometry::{Layout, Params};
 use image_state::{Laid, Sized};
-use log_entries::LogState;
+use log_entries::{Log, LogState};
 use net_memory::Memory;
 use swizzle_counts::SwizzleRooms;
 use swizzle_plan::MemorySwizzle;
 use swizzle_reads::Reads;
+use swizzle_result::WideMemory;
+
+// What a swizzle makes: the log's state, the struct of the memories, and how many nets and trits of the lent rooms are theirs.
+#[derive(Clone, Copy)]
+pub struct Made {
+    pub state: LogState,
+    pub memory: WideMemory,
+    pub nets_at: usize,
+    pub trits_at: usize,
+}
+
+// No memories, and the log's state as it is.
+fn none_yet(state: LogState) -> Made
+    ensures { result ≡ none_yet_of state }
+{
+    let memory = swizzle_rows::no_memories();
+    Made {
+        state,
+        memory,
+        nets_at: 0,
+        trits_at: 0,
+    }
+}
 
 // The log, the rooms for nets and trits, and the struct of the memories, of a swizzle that no number refuses. Scratch is open where the pieces
 // of a read port stood.
 fn act<'a>(
+    log: &mut Log,
+    made: &mut Reads,
+    scratch: &mut [u32],
+    m: Memory,
+    nets: &'a [u32],
+    trits: &[u8],
+    output: &[u32],
+    s: MemorySwizzle,
+    entries: &'a [u32],
+    writes: &[u32],
+    reads: &[u32],
+)
+    requires passed { Passed m nets.now trits.now output.now s entries.now writes.now reads.now log.old.state log.old.words.now made.old.nets.now made.old.trits.now scratch.old }
+    requires none_yet { NoneYet made.old }
+    ensures acted { Acted (memory_of m nets.now trits.now) (layout_of (memory_of m nets.now trits.now) (plan_of s entries.now writes.now reads.now)) (swizzle (memory_of m nets.now trits.now) output.now (plan_of s entries.now writes.now reads.now)) (lent_of log.old) made.old.nets.now made.old.trits.now (going_of log.new made.new) }
+    ensures scratch_unchanged { drop (swizzle_scratch (memory_of m nets.now trits.now) (plan_of s entries.now writes.now reads.now)) scratch.new ≡ drop (swizzle_scratch (memory_of m nets.now trits.now) (plan_of s entries.now writes.now reads.now)) scratch.old }
+    ensures holds_ports { HoldsPorts (memory_of m nets.now trits.now) output.now (plan_of s entries.now writes.now reads.now) log.old.state.next made.new.memory }
+    ensures same_rooms { SameRooms made.old made.new }
+{
+    if m.width == 0 {
+        return;
+    }
+    if m.depth == 0 {
+        log.state = port_empty::emit_empty(log.words, log.state, m, nets, trits, output);
+        return;
+    }
+    let params = swizzle_plan::params_of(m, s);
+    let q = Layout { params, entries };
+    swizzle_rows::emit_rows(log, made, scratch, q, m, nets, trits, writes, reads, output);
+}
+
+// The same of a log and its state apart, with rooms of which no part is used yet.
+fn make<'a>(
     log: &mut [u32],
     st: LogState,
     nets_to: &mut [u32],
@@ -43,31 +100,41 @@ fn act<'a>(
     entries: &'a [u32],
     writes: &[u32],
     reads: &[u32],
-) -> Reads
+) -> Made
     requires { Passed m nets.now trits.now output.now s entries.now writes.now reads.now st log.old nets_to.old trits_to.old scratch.old }
-    ensures acted { Acted (memory_of m nets.now trits.now) (layout_of (memory_of m nets.now trits.now) (plan_of s entries.now writes.now reads.now)) (swizzle (memory_of m nets.now trits.now) output.now (plan_of s entries.now writes.now reads.now)) (lent st log.old) nets_to.old trits_to.old (going_of result log.new nets_to.new trits_to.new) }
+    ensures acted { Acted (memory_of m nets.now trits.now) (layout_of (memory_of m nets.now trits.now) (plan_of s entries.now writes.now reads.now)) (swizzle (memory_of m nets.now trits.now) output.now (plan_of s entries.now writes.now reads.now)) (lent st log.old) nets_to.old trits_to.old (made_of result log.new nets_to.new trits_to.new) }
     ensures scratch_unchanged { drop (swizzle_scratch (memory_of m nets.now trits.now) (plan_of s entries.now writes.now reads.now)) scratch.new ≡ drop (swizzle_scratch (memory_of m nets.now trits.now) (plan_of s entries.now writes.now reads.now)) scratch.old }
     ensures holds_ports { HoldsPorts (memory_of m nets.now trits.now) output.now (plan_of s entries.now writes.now reads.now) st.next result.memory }
 {
-    if m.width == 0 {
-        return swizzle_rows::none_yet(st);
+    let mut log = Log {
+        words: log,
+        state: st,
+    };
+    let mut made = Reads {
+        nets: nets_to,
+        nets_at: 0,
+        trits: trits_to,
+        trits_at: 0,
+        memory: swizzle_rows::no_memories(),
+    };
+    act(
+        &mut log, &mut made, scratch, m, nets, trits, output, s, entries, writes, reads,
+    );
+    let memory = made.memory;
+    Made {
+        state: log.state,
+        memory,
+        nets_at: made.nets_at,
+        trits_at: made.trits_at,
     }
-    if m.depth == 0 {
-        let state = port_empty::emit_empty(log, st, m, nets, trits, output);
-        return swizzle_rows::none_yet(state);
-    }
-    let p = swizzle_plan::params_of(m, s);
-    swizzle_rows::emit_rows(
-        log, st, nets_to, trits_to, scratch, p, m, nets, trits, entries, writes, reads, output,
-    )
 }
 
-// What a swizzle gives beside the log and the lent arrays: the number that refuses it or 0, the log's state with the struct of the memories, the
-// state that patches go by, and the record's sizes.
+// What a swizzle gives beside the log and the lent arrays: the number that refuses it or 0, what it makes, the state that patches go by, and the
+// record's sizes.
 #[derive(Clone, Copy)]
 pub struct Swizzled {
     pub refusal: u32,
-    pub made: Reads,
+    pub made: Made,
     pub laid: Laid,
     pub sizes: Sized,
 }
@@ -76,13 +143,13 @@ pub struct Swizzled {
 fn lay(image: &mut [u8], m: Memory, trits: &[u8], p: Params, entries: &[u32]) -> Laid
     ensures { (laid_of result ≡ handed_on (layout_by p entries.now)) × (image.new ≡ (fill_call (handed_on (layout_by p entries.now)) (part 0 m.init_len trits.now) image.old).out) }
 {
-    let laid = Laid::laid_out(image_geometry::Layout { params: p, entries });
+    let laid = Laid::laid_out(Layout { params: p, entries });
     let n = net_memory::init_size(m);
     let number = laid.fill(image, lists::part(trits, 0, n));
     laid
 }
 
-// A memory swizzled by a plan. Refused: the log, the arrays and the state are as they were. Accepted: the rest of the image, of the nets, of the
+// A memory swizzled by a plan. A call takes its log and the log's state apart, as C hands them. Refused: the log, the arrays and the state are as they were. Accepted: the rest of the image, of the nets, of the
 // trits and of the scratch past its need are as they were.
 pub fn swizzle<'a>(
     log: &mut [u32],
@@ -123,7 +190,7 @@ pub fn swizzle<'a>(
         reads,
     );
     if n != 0 {
-        let made = swizzle_rows::none_yet(st);
+        let made = none_yet(st);
         let laid = Laid::unset();
         let sizes = Sized::Refused(n);
         return Swizzled {
@@ -133,7 +200,7 @@ pub fn swizzle<'a>(
             sizes,
         };
     }
-    let made = act(
+    let made = make(
         log, st, nets_to, trits_to, scratch, m, nets, trits, output, s, entries, writes, reads,
     );
     let p = swizzle_plan::params_of(m, s);

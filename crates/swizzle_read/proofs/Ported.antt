@@ -2,19 +2,19 @@
 use mathlib.Core.Path.{◌≡◌, refl, sym, ap, ◌∙◌, subst}
 use Prim.Native.Nat.{ℕ, ◌+◌, ◌-◌, ◌*◌, ◌^◌, ◌<◌, ◌≤◌}
 use native.Mathlib.Omega.{arith}
-use mathlib.Core.Bool.{Bool, true, false}
+use mathlib.Core.Bool.{Bool, true}
 use mathlib.Core.List.{List}
 use borrow.Author.Tests.{le-leb}
 use lib.ListN.{length}
 use Rattle.rules.specs.Limits.{None, X, addr_bits}
 use Rattle.rules.specs.Value.{Value, Control}
 use Rattle.rules.specs.Cell.{ReadPort}
-use Rattle.rules.specs.Geometry.{Layout, Spot, walk, row_len_of, columns}
+use Rattle.rules.specs.Geometry.{Layout, walk, row_len_of, columns}
 use Rattle.rules.specs.Swizzle.{Split, clocked_addr, spot_by, split_addr, split_by, piece_start}
 use Rattle.swizzle_laws.proofs.Loading.{Names}
 use Rattle.swizzle_laws.proofs.Places.{Splittable, row_bits, piece_walk, piece_within}
 use Rattle.swizzle_pieces.specs.declared.Pieces.{Pieces}
-use Rattle.swizzle_pieces.specs.Steps.{start_of, size_of, held}
+use Rattle.swizzle_pieces.specs.Steps.{size_of, held}
 use Rattle.swizzle_pieces.proofs.Loaded.{held-room}
 use Rattle.swizzle_read.specs.Port.{addr_by}
 use Rattle.swizzle_read.proofs.Meant.{Meant}

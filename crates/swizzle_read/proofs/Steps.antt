@@ -1,27 +1,26 @@
 -- The steps of a read port, one after the other.
 use mathlib.Core.Path.{◌≡◌, refl, sym, ap, ◌∙◌}
-use Prim.Native.Nat.{ℕ, zero, suc, ◌+◌, ◌-◌, ◌*◌, ◌<◌, ◌≤◌}
+use Prim.Native.Nat.{ℕ, zero, suc, ◌-◌, ◌*◌, ◌<◌, ◌≤◌}
 use native.Mathlib.Omega.{arith}
-use mathlib.Core.Bool.{Bool, true, false, ◌&&◌}
+use mathlib.Core.Bool.{Bool, true, false}
 use mathlib.Core.List.{List, [], ◌∷◌, ◌++◌}
-use lib.ListN.{length, take, replicate, length-replicate}
-use lib.Seq.{sets, length-sets}
-use borrow.Author.Tests.{lt-ltb, le-leb, lt-leb, ltb-true, leb-true}
+use lib.ListN.{length, take, replicate}
+use lib.Seq.{sets}
+use borrow.Author.Tests.{lt-ltb, le-leb, ltb-true, leb-true}
 use lib.Dec.{leb, ltb}
-use native.Mathlib.Nat.{mul-le-mul, mul-le-mul_right, one-mul}
+use native.Mathlib.Nat.{mul-le-mul_right, one-mul}
 use Rattle.lists.proofs.Choice.{and_true}
-use Rattle.lists.specs.Choice.{when◌then◌else◌}
 use Rattle.lists.specs.Lists.{up_from}
 use Rattle.lists.proofs.Stores.{take_stored}
 use Rattle.lists.proofs.UpFrom.{length_up}
 use Rattle.rules.specs.Limits.{trit_x}
 use Rattle.rules.specs.Logic.{undef}
 use Rattle.rules.specs.Value.{Value, Control}
-use Rattle.rules.specs.Cell.{FlipFlop, Controls, new_flip_flop, with_enable, plain_controls}
+use Rattle.rules.specs.Cell.{FlipFlop, Controls, new_flip_flop, with_enable}
 use Rattle.rules.specs.Log.{Trace, ◌>>=◌, done, add_void_of, add_dff_of, replace_value_of}
 use Rattle.rules.specs.Beside.Chain.{Chains}
-use Rattle.rules.specs.Swizzle.{add_voids, mux_tree}
-use Rattle.rules.proofs.Chain.{chains_done, chains_bind, chains_void, chains_dff, chains_replace, chains_if}
+use Rattle.rules.specs.Swizzle.{add_voids}
+use Rattle.rules.proofs.Chain.{chains_done, chains_void, chains_dff, chains_if}
 use Rattle.rules.proofs.Entries.{value_dff, next_dff}
 use Rattle.log_entries.specs.Emission.{Lent, is_over, run, emit}
 use Rattle.log_entries.proofs.Emission.{run-done, run_then, run_same, run_next}
@@ -43,10 +42,11 @@ module _ (width : ℕ) (l l1 : Lent) (e : l1 ≡ run (add_void_of width) l) wher
       ∙ run_then l l1 (run (add_voids k width >>= λ vs. done (v ++ vs)) l1) (add_void_of width) (λ u. (add_voids k width >>= λ vs. done (u ++ vs))) v (chains_void width) e (λ o. refl) refl
       ∙ ap (λ (t : Trace Value). run t l) (sym (voids_more k width))
 
-  pub voids_turn : (left : ℕ) (whole : Lent) → 0 < left → run (add_voids left width) l ≡ whole → run (add_voids (left - 1) width) l1 ≡ whole
-  voids_turn left whole h f =
-      let q : left ≡ suc (left - 1) = omega arith in
-      voids_suc (left - 1) ∙ ap (λ (k : ℕ). run (add_voids k width) l) (sym q) ∙ f
+  pub voids_turn : (left n : ℕ) (whole : Lent) → left ≡ suc n → run (add_voids left width) l ≡ whole → run (add_voids n width) l1 ≡ whole
+  voids_turn left n whole q f = voids_suc n ∙ ap (λ (k : ℕ). run (add_voids k width) l) (sym q) ∙ f
+
+pub voids_start : (width left count : ℕ) (l : Lent) → left ≡ count → run (add_voids left width) l ≡ run (add_voids count width) l
+voids_start width left count l e = ap (λ (k : ℕ). run (add_voids k width) l) e
 
 pub voids_end : (width left : ℕ) (l whole : Lent) → left ≤ 0 → run (add_voids left width) l ≡ whole → l ≡ whole
 voids_end width left l whole h f =
@@ -169,66 +169,31 @@ module _ (n : Pieces) (voids : ℕ) (b : Bool) (clock enable : Control) (mux : V
 
 -- ---- any numbers
 module _ (n : Pieces) (voids : ℕ) (b : Bool) (clock enable : Control) (mux : Value) (es : List ℕ) (output : Value) (w : ℕ) (scratch : List ℕ) where
-  can_short : mux_room < length mux → can_read n mux w scratch ≡ false
-  unfolding can_read
-  can_short h = rw (lt-leb (length mux) mux_room h)
-
-  can_not : length mux ≤ mux_room → (ltb 0 n.count && leb (n.count * w) (length scratch)) ≡ false → can_read n mux w scratch ≡ false
-  unfolding can_read
-  can_not h e = rw (le-leb (length mux) mux_room h) e
-
-  can_all : length mux ≤ mux_room → (ltb 0 n.count && leb (n.count * w) (length scratch)) ≡ true → can_read n mux w scratch ≡ true
-  unfolding can_read
-  can_all h e = rw (le-leb (length mux) mux_room h) e
-
-  nothing_read : (l : Lent) → can_read n mux w scratch ≡ false → l ≡ run (read_of n voids b clock enable mux es output w scratch) l
+  pub nothing_read : (l : Lent) → can_read n mux w scratch ≡ false → l ≡ run (read_of n voids b clock enable mux es output w scratch) l
   unfolding read_of run done emit
   nothing_read l e = rw e
 
-  nothing_loaded : (next : ℕ) → can_read n mux w scratch ≡ false → scratch ≡ scratch_of n mux es w scratch next
+  pub nothing_loaded : (next : ℕ) → can_read n mux w scratch ≡ false → scratch ≡ scratch_of n mux es w scratch next
   unfolding scratch_of
   nothing_loaded next e = rw e
 
-  pub read_long : (l : Lent) → mux_room < length mux → l ≡ run (read_of n voids b clock enable mux es output w scratch) l
-  read_long l h = nothing_read l (can_short h)
-
-  pub load_long : (next : ℕ) → mux_room < length mux → scratch ≡ scratch_of n mux es w scratch next
-  load_long next h = nothing_loaded next (can_short h)
-
-  pub read_short : (l : Lent) → length mux ≤ mux_room → (ltb 0 n.count && leb (n.count * w) (length scratch)) ≡ false → l ≡ run (read_of n voids b clock enable mux es output w scratch) l
-  read_short l h e = nothing_read l (can_not h e)
-
-  pub load_short : (next : ℕ) → length mux ≤ mux_room → (ltb 0 n.count && leb (n.count * w) (length scratch)) ≡ false → scratch ≡ scratch_of n mux es w scratch next
-  load_short next h e = nothing_loaded next (can_not h e)
-
-  pub read_all : (l l' : Lent) → length mux ≤ mux_room → (ltb 0 n.count && leb (n.count * w) (length scratch)) ≡ true
+  pub read_all : (l l' : Lent) → can_read n mux w scratch ≡ true
       → l' ≡ run (read_trace (with_first n l.state.next) voids b clock enable mux es output w scratch) l → l' ≡ run (read_of n voids b clock enable mux es output w scratch) l
   unfolding read_of run
-  read_all l l' h e f = rw (can_all h e) f
+  read_all l l' e f = rw e f
 
-  pub load_all : (next : ℕ) → length mux ≤ mux_room → (ltb 0 n.count && leb (n.count * w) (length scratch)) ≡ true → load_of (with_first n next) es scratch ≡ scratch_of n mux es w scratch next
+  pub load_all : (next : ℕ) → can_read n mux w scratch ≡ true → load_of (with_first n next) es scratch ≡ scratch_of n mux es w scratch next
   unfolding scratch_of
-  load_all next h e = rw (can_all h e)
+  load_all next e = rw e
 
-  pub ready_all : (next : ℕ) → length mux ≤ mux_room → (ltb 0 n.count && leb (n.count * w) (length scratch)) ≡ true → Ready (with_first n next) mux w scratch
-  ready_all next h e =
-      let x = and_true (ltb 0 n.count) _ e in
+  pub ready_all : (next : ℕ) → can_read n mux w scratch ≡ true → Ready (with_first n next) mux w scratch
+  unfolding can_read
+  ready_all next e =
+      let y = and_true (leb (length mux) mux_room) _ e in
+      let x = and_true (ltb 0 n.count) _ y.1 in
       let c = ltb-true 0 n.count x.0 in
       let d = leb-true (n.count * w) (length scratch) x.1 in
-      record { short = h; some = c; holds = d; whole = least n.count c d }
+      record { short = leb-true (length mux) mux_room y.0; some = c; holds = d; whole = least n.count c d }
     where
       least : (k : ℕ) → 0 < k → k * w ≤ length scratch → w ≤ length scratch
       least k c d = omega (arith, mul-le-mul_right {m = 1} {n = k} w c, one-mul w)
-
-pub pieces_none : (count w room : ℕ) → count ≡ 0 → false ≡ (ltb 0 count && leb (count * w) room)
-pieces_none count w room e = rw e
-
-pub pieces_some : (count w room x : ℕ) → (count ≡ 0 → ⊥) → x ≡ count * w → leb x room ≡ (ltb 0 count && leb (count * w) room)
-pieces_some count w room x h e = rw (e, lt-ltb 0 count (positive count h))
-  where
-    positive : (k : ℕ) → (k ≡ 0 → ⊥) → 0 < k
-    positive zero h = absurd (h refl)
-    positive (suc k) h = omega arith
-
-pub product_fits : (a b : ℕ) → a ≤ 4294967295 → b ≤ 4294967295 → a * b < 18446744073709551616
-product_fits a b h g = omega (arith, mul-le-mul {n₁ = a} {m₁ = b} {n₂ = 4294967295} {m₂ = 4294967295} h g)

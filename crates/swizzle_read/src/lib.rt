@@ -1,7 +1,7 @@
 // One read port of a swizzle: its voids, the flip-flop of its mux address, its pieces, their tree and the replace.
 #![tactic(auto)]
 
-ghost use Rattle.std.specs.Prelude.{◌≡◌, ◌+◌, ◌*◌, ◌<◌, ◌≤◌, [], length, drop, leb, ltb, ◌&&◌};
+ghost use Rattle.std.specs.Prelude.{◌≡◌, ◌+◌, ◌*◌, ◌<◌, ◌≤◌, [], length, drop};
 ghost use Rattle.rules.specs.Logic.{undef};
 ghost use Rattle.rules.specs.Log.{add_dff_of};
 ghost use Rattle.rules.specs.Swizzle.{add_voids};
@@ -9,11 +9,12 @@ ghost use Rattle.rules.specs.Cell.{new_flip_flop, with_enable};
 ghost use Rattle.net_value.specs.View.{control_of};
 ghost use Rattle.net_flip_flop.specs.View.{controls_of};
 ghost use Rattle.log_entries.specs.Emission.{run};
-ghost use Rattle.log_entries.specs.View.{lent};
-ghost use Rattle.swizzle_read.specs.Port.{mux_room, addr_by, Addressed, read_trace, Ready, read_of, scratch_of};
+ghost use Rattle.log_entries.specs.View.{lent_of};
+ghost use Rattle.swizzle_read.specs.Port.{mux_room, addr_by, Addressed, Ready, can_read, scratch_of};
+ghost use Rattle.swizzle_read.specs.View.{trace_of, port_trace};
 ghost use Rattle.swizzle_pieces.specs.Steps.{load_of};
 
-use log_entries::LogState;
+use log_entries::Log;
 use net_flip_flop::{Controls, FlipFlop};
 use net_value::{ControlNet, Net};
 use swizzle_pieces::Pieces;
@@ -22,156 +23,123 @@ use swizzle_pieces::Pieces;
 const MUX_ROOM: usize = 64;
 
 // So many voids of so many nets.
-pub fn emit_voids(log: &mut [u32], st: LogState, count: u32, width: u32) -> LogState
-    ensures { lent result log.new ≡ run (add_voids count width) (lent st log.old) }
+pub fn emit_voids(log: &mut Log, count: u32, width: u32)
+    ensures { lent_of log.new ≡ run (add_voids count width) (lent_of log.old) }
 {
-    let mut state = st;
-    let mut left = count;
-    while 0 < left {
-        state = log_entries::emit_void(log, state, width);
-        left -= 1;
-    }
-    state
-}
-
-// The controls of the mux address's flip-flop: the port's clock and enable.
-fn addr_controls(clock: ControlNet, enable: ControlNet) -> Controls
-    ensures { controls_of result ≡ (with_enable (new_flip_flop [] (control_of clock)) (control_of enable)).controls }
-{
-    Controls {
-        clock,
-        clear: ControlNet::Pos(Net(0)),
-        reset: ControlNet::Pos(Net(0)),
-        enable,
-        reset_over_enable: true,
+    for _ in 0..count {
+        log.emit_void(width);
     }
 }
 
-// The flip-flop of the mux address, with X as its trits.
-fn addr_dff(
-    log: &mut [u32],
-    st: LogState,
-    clock: ControlNet,
-    enable: ControlNet,
-    mux: &[u32],
-    xs: &[u8],
-) -> LogState
-    requires { xs.now ≡ undef (length mux.now) }
-    ensures { lent result log.new ≡ run (add_dff_of (with_enable (new_flip_flop mux.now (control_of clock)) (control_of enable))) (lent st log.old) }
-{
-    log_entries::emit_dff(
-        log,
-        st,
-        FlipFlop {
-            controls: addr_controls(clock, enable),
+// Whether a port has a flip-flop, and its clock and enable.
+#[derive(Clone, Copy)]
+pub struct Clocking {
+    pub clocked: bool,
+    pub clock: ControlNet,
+    pub enable: ControlNet,
+}
+
+impl Clocking {
+    // The controls of the mux address's flip-flop: the port's clock and enable.
+    #[tactic(auto, unfolding(rules::specs::Cell::new_flip_flop, rules::specs::Cell::with_enable, rules::specs::Cell::plain_controls))]
+    fn controls(self) -> Controls
+        ensures { controls_of result ≡ (with_enable (new_flip_flop [] (control_of self.clock)) (control_of self.enable)).controls }
+    {
+        Controls {
+            clock: self.clock,
+            clear: ControlNet::Pos(Net(0)),
+            reset: ControlNet::Pos(Net(0)),
+            enable: self.enable,
+            reset_over_enable: true,
+        }
+    }
+
+    // The flip-flop of the mux address, with X as its trits.
+    fn addr_dff(self, log: &mut Log, mux: &[u32], xs: &[u8])
+        requires { xs.now ≡ undef (length mux.now) }
+        ensures { lent_of log.new ≡ run (add_dff_of (with_enable (new_flip_flop mux.now (control_of self.clock)) (control_of self.enable))) (lent_of log.old) }
+    {
+        log.emit_dff(FlipFlop {
+            controls: self.controls(),
             bits: mux,
             clear: xs,
             reset: xs,
             init: xs,
-        },
-    )
+        });
+    }
+
+    // The mux address, whose nets go to the front of `room`; it passes a flip-flop where the port is clocked, even when it is empty.
+    fn mux_addr(self, log: &mut Log, mux: &[u32], room: &mut [u32])
+        requires { length mux.now ≤ mux_room }
+        ensures { Addressed (addr_by self.clocked (control_of self.clock) (control_of self.enable) mux.now) room.old room.new (lent_of log.old) (lent_of log.new) }
+    {
+        if !self.clocked {
+            lists::copy(room, 0, mux);
+            return;
+        }
+        let first = log.state.next;
+        let xs = [rules::TRIT_X; MUX_ROOM];
+        self.addr_dff(log, mux, &xs[..mux.len()]);
+        if log.state.is_over() {
+            return;
+        }
+        lists::store_run(room, 0, first, log.state.next);
+    }
 }
 
-// The mux address, whose nets go to the front of `room`; it passes a flip-flop where the port is clocked, even when it is empty.
-fn mux_addr(
-    log: &mut [u32],
-    st: LogState,
-    clocked: bool,
-    clock: ControlNet,
-    enable: ControlNet,
-    mux: &[u32],
-    room: &mut [u32],
-) -> LogState
-    requires { length mux.now ≤ mux_room }
-    ensures { Addressed (addr_by clocked (control_of clock) (control_of enable) mux.now) room.old room.new (lent st log.old) (lent result log.new) }
-{
-    if !clocked {
-        lists::copy(room, 0, mux);
-        return st;
-    }
-    let xs = [rules::TRIT_X; MUX_ROOM];
-    let m = mux.len();
-    let after = addr_dff(log, st, clock, enable, mux, &xs[..m]);
-    if after.is_over() {
-        return after;
-    }
-    lists::store_run(room, 0, st.next, after.next);
-    after
+// A read port: its pieces, of so many nets each, its voids, its mux address, and the entries and outputs of the call.
+#[derive(Clone, Copy)]
+pub struct ReadPort<'a> {
+    pub pieces: Pieces,
+    pub width: u32,
+    pub voids: u32,
+    pub clocking: Clocking,
+    pub mux: &'a [u32],
+    pub entries: &'a [u32],
+    pub output: &'a [u32],
 }
 
-// The whole port. The scratch is left open where its pieces stood.
-fn emit_read_in(
-    log: &mut [u32],
-    st: LogState,
-    n: Pieces,
-    voids: u32,
-    clocked: bool,
-    clock: ControlNet,
-    enable: ControlNet,
-    mux: &[u32],
-    entries: &[u32],
-    output: &[u32],
-    width: u32,
-    scratch: &mut [u32],
-) -> LogState
-    requires { Ready n mux.now width scratch.old }
-    ensures log_after { lent result log.new ≡ run (read_trace n voids clocked (control_of clock) (control_of enable) mux.now entries.now output.now width scratch.old) (lent st log.old) }
-    ensures scratch_after { drop (n.count * width) scratch.new ≡ drop (n.count * width) (load_of n entries.now scratch.old) }
-{
-    let mut bits = [0u32; MUX_ROOM];
-    let voided = emit_voids(log, st, voids, n.columns);
-    let addressed = mux_addr(log, voided, clocked, clock, enable, mux, &mut bits);
-    n.load(scratch, entries);
-    let m = mux.len();
-    let muxed = swizzle_tree::emit_tree(log, addressed, scratch, &bits[..m], n.count, width);
-    let w = width as usize;
-    log_entries::emit_replace(log, muxed, output, &scratch[..w])
-}
+impl ReadPort<'_> {
+    // Whether there is room for the mux address, and the scratch holds the pieces.
+    #[tactic(auto, unfolding(crate::specs::Port::can_read))]
+    fn can_read(self, scratch: &[u32]) -> bool
+        ensures { result ≡ can_read self.entry.pieces self.entry.mux.now self.entry.width scratch.now }
+    {
+        let n = self.pieces;
+        self.mux.len() <= MUX_ROOM
+            && n.count != 0
+            && n.count as usize * self.width as usize <= scratch.len()
+    }
 
-// Whether there are pieces, and a scratch of this length holds them.
-fn holds_pieces(count: u32, width: u32, room: usize) -> bool
-    ensures { result ≡ (ltb 0 count && leb (count * width) room) }
-{
-    if count == 0 {
-        return false;
+    // The whole port, whose columns have their first net. The scratch is left open where its pieces stood.
+    fn emit_from(self, log: &mut Log, scratch: &mut [u32])
+        requires { Ready self.pieces self.mux.now self.width scratch.old }
+        ensures log_after { lent_of log.new ≡ run (trace_of self.entry scratch.old) (lent_of log.old) }
+        ensures scratch_after { drop (self.entry.pieces.count * self.entry.width) scratch.new ≡ drop (self.entry.pieces.count * self.entry.width) (load_of self.entry.pieces self.entry.entries.now scratch.old) }
+    {
+        let mut bits = [0u32; MUX_ROOM];
+        emit_voids(log, self.voids, self.pieces.columns);
+        self.clocking.mux_addr(log, self.mux, &mut bits);
+        self.pieces.load(scratch, self.entries);
+        let bits = &bits[..self.mux.len()];
+        swizzle_tree::emit_tree(log, scratch, bits, self.pieces.count, self.width);
+        log.emit_replace(self.output, &scratch[..self.width as usize]);
     }
-    lists::usize_of_u32(count) * lists::usize_of_u32(width) <= room
-}
 
-// One read port, whose voids get the log's next free nets. Nothing is done where the mux address has more nets than there is room for, or the scratch does not
-// hold the pieces. What the pieces leave in the scratch is open; what lies past them is as loading left it.
-pub fn emit_read(
-    log: &mut [u32],
-    st: LogState,
-    scratch: &mut [u32],
-    n: Pieces,
-    voids: u32,
-    clocked: bool,
-    clock: ControlNet,
-    enable: ControlNet,
-    mux: &[u32],
-    entries: &[u32],
-    output: &[u32],
-    width: u32,
-) -> LogState
-    ensures log_after { lent result log.new ≡ run (read_of n voids clocked (control_of clock) (control_of enable) mux.now entries.now output.now width scratch.old) (lent st log.old) }
-    ensures scratch_after { drop (n.count * width) scratch.new ≡ drop (n.count * width) (scratch_of n mux.now entries.now width scratch.old st.next) }
-{
-    if MUX_ROOM < mux.len() {
-        return st;
+    // The whole port, whose voids get the log's next free nets. Nothing is done where the mux address has more nets than there is room for, or the
+    // scratch does not hold the pieces. What the pieces leave in the scratch is open; what lies past them is as loading left it.
+    pub fn emit(self, log: &mut Log, scratch: &mut [u32])
+        ensures log_after { lent_of log.new ≡ run (port_trace self.entry scratch.old) (lent_of log.old) }
+        ensures scratch_after { drop (self.entry.pieces.count * self.entry.width) scratch.new ≡ drop (self.entry.pieces.count * self.entry.width) (scratch_of self.entry.pieces self.entry.mux.now self.entry.entries.now self.entry.width scratch.old log.old.state.next) }
+    {
+        if !self.can_read(scratch) {
+            return;
+        }
+        let pieces = Pieces {
+            first: log.state.next,
+            ..self.pieces
+        };
+        let port = ReadPort { pieces, ..self };
+        port.emit_from(log, scratch);
     }
-    if !holds_pieces(n.count, width, scratch.len()) {
-        return st;
-    }
-    let m = Pieces {
-        first: st.next,
-        width: n.width,
-        columns: n.columns,
-        mask: n.mask,
-        rows: n.rows,
-        count: n.count,
-    };
-    emit_read_in(
-        log, st, m, voids, clocked, clock, enable, mux, entries, output, width, scratch,
-    )
 }

@@ -1,30 +1,16 @@
 -- A part of a room that comes back with other elements, and the three kinds of trits.
-use mathlib.Core.Path.{◌≡◌, refl, sym, ap, ◌∙◌}
-use Prim.Native.Nat.{ℕ, ◌+◌, ◌-◌, ◌≤◌, ◌<◌}
+use mathlib.Core.Path.{◌≡◌, sym, ap, ◌∙◌}
+use Prim.Native.Nat.{ℕ, ◌+◌, ◌≤◌}
 use native.Mathlib.Omega.{arith}
-use mathlib.Core.Bool.{Bool, true, false, not}
+use mathlib.Core.Bool.{true, false}
 use mathlib.Core.List.{List, ◌++◌, append_assoc}
 use lib.ListN.{length, take, drop}
 use lib.Seq.{sets, sets-eq, drop-drop}
 use lib.Dec.{leb}
-use borrow.Author.Tests.{le-leb, lt-leb, leb-true, not-false}
-use Rattle.lists.specs.Choice.{when◌then◌else◌}
-use Rattle.lists.proofs.Choice.{cases_le}
 use Rattle.lists.proofs.Parts.{length_part}
 use Rattle.swizzle_columns.specs.declared.WidePort.{WidePort}
 use Rattle.swizzle_columns.specs.Wide.{trits_of}
 use Rattle.swizzle_read_trits.specs.Trits.{put_trits, three_trits}
-
-pub holds_by : (room at need : ℕ) → at ≤ room → leb need (room - at) ≡ leb (at + need) room
-holds_by room at need h =
-    cases_le need (room - at) (λ g. le-leb need (room - at) g ∙ sym (le-leb (at + need) room (omega arith))) (λ g. lt-leb need (room - at) g ∙ sym (lt-leb (at + need) room (omega arith)))
-
-pub holds_not : (room at need : ℕ) → room < at → false ≡ leb (at + need) room
-holds_not room at need h = sym (lt-leb (at + need) room (omega arith))
-
--- what the test says
-pub holds_says : (b : Bool) (at need room : ℕ) → b ≡ leb (at + need) room → not b ≡ false → at + need ≤ room
-holds_says b at need room e h = leb-true (at + need) room (sym e ∙ not-false b h)
 
 module _ (p : WidePort) (es v : List ℕ) (at size : ℕ) (room : List ℕ) where
   pub put_by : (ys : List ℕ) (k : ℕ) → k ≡ size → at + size ≤ length room → ys ≡ trits_of p es v (take k (drop at room)) → length ys ≡ length (take k (drop at room))

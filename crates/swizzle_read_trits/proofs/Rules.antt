@@ -1,7 +1,7 @@
 -- A clocked read port's trits in lent room are those of the rules, in the order of the memories.
 use mathlib.Core.Path.{◌≡◌, refl, sym, ap, ◌∙◌, subst}
 use Prim.Native.Nat.{ℕ, ◌+◌, ◌*◌, ◌^◌, ◌≤◌}
-use native.Mathlib.Nat.{mul_left_comm, add_assoc}
+use native.Mathlib.Nat.{mul_left_comm}
 use native.Mathlib.Omega.{arith}
 use mathlib.Core.List.{List, ◌++◌, append_assoc}
 use mathlib.Core.Bool.{true}
@@ -13,14 +13,14 @@ use Rattle.lists.specs.Lists.{part}
 use Rattle.lists.proofs.Store.{sets_append}
 use Rattle.lists.proofs.Parts.{length_part}
 use Rattle.rules.specs.Value.{Value}
-use Rattle.rules.specs.Geometry.{Layout, all_mems, columns}
+use Rattle.rules.specs.Geometry.{Layout, all_mems}
 use Rattle.rules.specs.Swizzle.{Split, split_addr, split_by, const_columns}
 use Rattle.swizzle_laws.specs.Order.{ordered}
 use Rattle.swizzle_laws.proofs.Places.{Splittable}
 use Rattle.swizzle_laws.proofs.Parts.{length_ordered}
 use Rattle.swizzle_laws.proofs.Whole.{const_whole}
 use Rattle.swizzle_columns.specs.declared.WidePort.{WidePort}
-use Rattle.swizzle_columns.specs.Wide.{PortFits, trits_of}
+use Rattle.swizzle_columns.specs.Wide.{PortFits}
 use Rattle.swizzle_columns.proofs.Meaning.{Means, trits_rules}
 use Rattle.swizzle_read_trits.specs.Trits.{put_trits, three_trits}
 

@@ -10,10 +10,7 @@ use swizzle_columns::WidePort;
 pub fn holds(room: usize, at: usize, need: usize) -> bool
     ensures { result ≡ leb (at + need) room }
 {
-    if room < at {
-        return false;
-    }
-    need <= room - at
+    at <= room && need <= room - at
 }
 
 // The trits of one kind, from `at` on.
@@ -25,24 +22,25 @@ fn put_trits(to: &mut [u8], at: usize, size: usize, p: WidePort, entries: &[u32]
     swizzle_columns::trit_columns(&mut to[at..end], p, entries, v);
 }
 
-// Clear, reset and init, from `at` on, each of `size` trits. Nothing is stored where the room does not hold them.
-pub fn three_trits(
-    to: &mut [u8],
-    at: usize,
-    size: u32,
-    p: WidePort,
-    entries: &[u32],
-    clear: &[u8],
-    reset: &[u8],
-    init: &[u8],
-)
-    ensures { to.new ≡ three_trits p entries.now clear.now reset.now init.now at size to.old }
-{
-    let n = lists::usize_of_u32(size);
-    if !holds(to.len(), at, n + (n + n)) {
-        return;
+// The trits that a clear, a reset and the start give.
+#[derive(Clone, Copy)]
+pub struct Trits<'a> {
+    pub clear: &'a [u8],
+    pub reset: &'a [u8],
+    pub init: &'a [u8],
+}
+
+impl Trits<'_> {
+    // Clear, reset and init, from `at` on, each of `size` trits. Nothing is stored where the room does not hold them.
+    pub fn put(self, to: &mut [u8], at: usize, size: u32, p: WidePort, entries: &[u32])
+        ensures { to.new ≡ three_trits p entries.now self.entry.clear.now self.entry.reset.now self.entry.init.now at size to.old }
+    {
+        let n = size as usize;
+        if !holds(to.len(), at, n + (n + n)) {
+            return;
+        }
+        put_trits(to, at, n, p, entries, self.clear);
+        put_trits(to, at + n, n, p, entries, self.reset);
+        put_trits(to, at + (n + n), n, p, entries, self.init);
     }
-    put_trits(to, at, n, p, entries, clear);
-    put_trits(to, at + n, n, p, entries, reset);
-    put_trits(to, at + (n + n), n, p, entries, init);
 }

@@ -1,14 +1,12 @@
 -- The code's test of a port is that of the definitions, and what follows from it.
 use mathlib.Core.Path.{◌≡◌, refl, sym, ap, ◌∙◌, subst}
-use Prim.Native.Nat.{ℕ, ◌+◌, ◌-◌, ◌*◌, ◌^◌, ◌<◌, ◌≤◌}
+use Prim.Native.Nat.{ℕ, ◌+◌, ◌*◌, ◌^◌, ◌<◌, ◌≤◌}
 use native.Mathlib.Omega.{arith}
 use mathlib.Core.Bool.{Bool, true, false, ◌&&◌}
-use mathlib.Core.Option.{Option, none, some}
-use mathlib.Core.List.{List, []}
+use mathlib.Core.List.{List}
 use lib.ListN.{length, take, drop}
 use lib.Dec.{leb, ltb}
 use borrow.Author.Tests.{ltb-true, leb-true}
-use Rattle.lists.specs.Choice.{when◌then◌else◌}
 use Rattle.lists.specs.Lists.{part}
 use Rattle.lists.proofs.Choice.{and_true}
 use Rattle.lists.proofs.Stores.{take_stored}
@@ -19,7 +17,6 @@ use Rattle.rules.specs.Cell.{wide_log2}
 use Rattle.rules.specs.Geometry.{Layout, columns}
 use Rattle.rules.specs.Swizzle as swizzle
 use Rattle.rules.specs.Swizzle.{split_addr, split_by, clocked_addr}
-use Rattle.log_entries.specs.Emission.{Lent}
 use Rattle.net_value.specs.View.{control_of}
 use Rattle.std.specs.Prelude as flips
 use Rattle.net_memory.specs.FlipFlop.{MemoryReadFlipFlop}
@@ -28,13 +25,13 @@ use Rattle.net_memory.specs.View.{read_by, flip_flop_by}
 use Rattle.image_geometry.specs.declared.Params.{Params}
 use Rattle.image_geometry.specs.View.{layout_by}
 use Rattle.swizzle_split.specs.declared.Split.{Split}
-use Rattle.swizzle_split.specs.Steps.{Fits, can_split, Gives, Refuses, Answers}
+use Rattle.swizzle_split.specs.Steps.{can_split, Gives, Refuses, Answers}
 use Rattle.swizzle_split.proofs.Limits.{can_fits}
 use Rattle.swizzle_read.specs.Port.{addr_by, scratch_of}
 use Rattle.swizzle_reads.specs.declared.Sizes.{Sizes}
-use Rattle.swizzle_reads.specs.declared.Clocking.{Clocking}
-use Rattle.swizzle_reads.specs.Going.{Going, in_port, old_of, split_of, trits_if, port_done, pieces_fit, rooms_fit, port_fits, port_if, ScratchKept}
-use Rattle.swizzle_reads.specs.Able.{Rows, Measures, Same}
+use Rattle.swizzle_read.specs.declared.Clocking.{Clocking}
+use Rattle.swizzle_reads.specs.Going.{Going, in_port, split_of, trits_if, port_done, pieces_fit, rooms_fit, port_fits, port_if, ScratchKept}
+use Rattle.swizzle_reads.specs.Able.{Measures, Same}
 use Rattle.swizzle_reads.specs.Raw.{numbers_of, size_by, piece_by, need_by, port_raw, raw_fits, Splitting}
 use Rattle.swizzle_reads.proofs.Lengths.{addr_low, mux_low}
 use Rattle.swizzle_reads.proofs.Ported.{size_is, piece_is, raw_done, raw_kept}

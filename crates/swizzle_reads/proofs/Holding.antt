@@ -1,20 +1,17 @@
 -- The read ports of the rules are held by their structs, their addresses and their trits.
 use mathlib.Core.Path.{◌≡◌, refl, sym, ap, ◌∙◌}
-use Prim.Native.Nat.{ℕ, zero, suc, ◌+◌, ◌*◌, ◌^◌}
+use Prim.Native.Nat.{ℕ, suc, ◌+◌, ◌^◌}
 use native.Mathlib.Omega.{arith}
-use mathlib.Core.Option.{Option, none, some}
 use mathlib.Core.List.{List, [], ◌∷◌, ◌++◌, map}
-use lib.ListN.{length, take, drop}
-use Rattle.lists.specs.Lists.{part, pairs, up_from, concat_map}
+use lib.ListN.{take, drop}
+use Rattle.lists.specs.Lists.{part, concat_map}
 use Rattle.lists.specs.Views.{views}
 use Rattle.rules.specs.Value.{Value}
-use Rattle.rules.specs.Cell.{ReadPort, ReadFlipFlop, Mem}
-use Rattle.rules.specs.Log.{Trace, ◌>>=◌, ◌>>◌, done}
+use Rattle.rules.specs.Cell.{ReadPort, Mem}
+use Rattle.rules.specs.Log.{◌>>=◌, ◌>>◌, done}
 use Rattle.rules.specs.Geometry.{Layout, columns}
 use Rattle.rules.specs.Swizzle.{Split, WideRead, wide_flip_flop, add_voids, swizzle_read, swizzle_reads}
-use Rattle.rules.specs.Beside.Counts.{Count, read_count_of}
-use Rattle.rules.proofs.Traces.{bind_value}
-use Rattle.log_entries.specs.Emission.{Lent}
+use Rattle.rules.specs.Beside.Counts.{read_count_of}
 use Rattle.std.specs.Prelude as flips
 use Rattle.net_memory.specs.FlipFlop.{MemoryReadFlipFlop}
 use Rattle.net_memory.specs.declared.MemoryReadPort.{MemoryReadPort}
@@ -22,7 +19,7 @@ use Rattle.net_memory.specs.View.{addr_size, trit_size, flip_flop_by}
 use Rattle.swizzle_laws.proofs.ReadsCounts.{read_split_of}
 use Rattle.swizzle_laws.proofs.Whole.{voids_up}
 use Rattle.swizzle_result.specs.declared.WideReadPort.{WideReadPort}
-use Rattle.swizzle_result.specs.Held.{HeldRead, HeldFlipFlop, clock_trits, read_trits, read_nets}
+use Rattle.swizzle_result.specs.Held.{HeldRead, read_trits, read_nets}
 use Rattle.swizzle_result.proofs.Holding.{SameFlipFlop, holding_clock}
 use Rattle.swizzle_reads.specs.Going.{Going, InPort, in_port, wide_of, port_trits, port_done}
 use Rattle.swizzle_reads.specs.Planned.{addrs_of, trits_of, LayoutPlanned}

@@ -1,8 +1,8 @@
 -- The limits of a layout that an accepted swizzle has, with rows to a memory.
 use mathlib.Core.Path.{◌≡◌, refl, sym, ◌∙◌, subst}
 use Prim.Native.Nat.{ℕ, ◌<◌, ◌≤◌}
-use mathlib.Core.Bool.{true, false, not, ◌&&◌}
-use lib.ListN.{length, get_or}
+use mathlib.Core.Bool.{true, false}
+use lib.ListN.{length}
 use lib.Dec.{eqb, ltb}
 use borrow.Author.Tests.{eqb-false, ltb-false}
 use Rattle.lists.proofs.Choice.{or_false}

@@ -1,14 +1,14 @@
 -- The parts of a split address have at most as many nets as a row number has bits, and a split has few pieces.
-use mathlib.Core.Path.{◌≡◌, refl, sym, ap, ◌∙◌}
+use mathlib.Core.Path.{◌≡◌, refl, ap, ◌∙◌}
 use Prim.Native.Nat.{ℕ, ◌+◌, ◌-◌, ◌*◌, ◌^◌, ◌≤◌}
 use native.Mathlib.Nat.{pow-le-pow_right, mul_left_comm}
 use native.Mathlib.Omega.{arith}
 use mathlib.Core.Bool.{Bool, true, false}
-use mathlib.Core.List.{List, [], ◌∷◌, ◌++◌}
+use mathlib.Core.List.{List, [], ◌∷◌}
 use lib.ListN.{length, replicate, length-append, length-replicate}
 use Rattle.lists.specs.Choice.{when◌then◌else◌}
 use Rattle.rules.specs.Limits.{addr_bits}
-use Rattle.rules.specs.Numbers.{top_bits, bits_for}
+use Rattle.rules.specs.Numbers.{bits_for}
 use Rattle.rules.specs.Value.{Value, zext}
 use mathlib.Core.Option.{Option, none, some}
 use Rattle.rules.specs.Cell.{ReadFlipFlop}

@@ -1,6 +1,6 @@
 -- The loop over the read ports, in tail form: what is left gives the whole.
 use mathlib.Core.Path.{◌≡◌, refl, sym, ap, ◌∙◌, subst}
-use Prim.Native.Nat.{ℕ, zero, suc, ◌+◌, ◌*◌, ◌<◌, ◌≤◌, min, max}
+use Prim.Native.Nat.{ℕ, zero, suc, ◌+◌, ◌<◌, ◌≤◌, min, max}
 use native.Mathlib.Nat.{add-zero}
 use native.Mathlib.Numerals.{add-one}
 use native.Mathlib.Omega.{arith}
@@ -8,14 +8,12 @@ use mathlib.Core.List.{List, [], ◌∷◌}
 use lib.ListN.{length, take, drop, get_or, drop_of_length-le}
 use lib.Seq.{drop-cons, drop-drop, get_or-drop}
 use Rattle.lists.specs.Lists.{part}
-use Rattle.lists.specs.Views.{views}
 use Rattle.lists.proofs.Views.{length_views}
 use Rattle.rules.specs.Limits.{max_ports}
 use Rattle.rules.specs.Value.{Value}
 use Rattle.rules.specs.Cell.{ReadPort, read_at_of}
 use Rattle.rules.specs.Geometry.{Layout}
 use Rattle.net_memory.specs.declared.Memory.{Memory}
-use Rattle.net_memory.specs.declared.MemoryReadPort.{MemoryReadPort}
 use Rattle.net_memory.specs.View.{no_read_port, addr_size, trit_size, read_ports_of, reads_start, read_port, read_nets, read_trits, memory_of}
 use Rattle.net_memory.proofs.Ports.{part_at, read_of_view, reads_at}
 use Rattle.swizzle_reads.specs.Going.{Going, InPort, in_port, in_ports, port_of, port_if, ports_from, need_of, most_need, ScratchKept, AllKept}

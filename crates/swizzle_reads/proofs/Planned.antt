@@ -13,11 +13,11 @@ use Rattle.rules.specs.Limits.{max_ports}
 use Rattle.rules.specs.Value.{Value}
 use Rattle.rules.specs.Cell as rules
 use Rattle.rules.specs.Geometry.{Layout}
-use Rattle.rules.specs.Swizzle.{WideRead, swizzle_reads}
+use Rattle.rules.specs.Swizzle.{swizzle_reads}
 use Rattle.log_entries.specs.Emission.{run}
 use Rattle.net_memory.specs.declared.Memory.{Memory}
 use Rattle.net_memory.specs.declared.MemoryReadPort.{MemoryReadPort}
-use Rattle.net_memory.specs.View.{memory_of, reads_of, read_ports_of, addr_size, trit_size, read_by, reads_start}
+use Rattle.net_memory.specs.View.{memory_of, read_ports_of, addr_size, trit_size, read_by, reads_start}
 use Rattle.swizzle_result.specs.declared.WideReadPort.{WideReadPort}
 use Rattle.swizzle_result.specs.declared.WideMemory.{WideMemory}
 use Rattle.swizzle_result.specs.View as result

@@ -1,19 +1,14 @@
 -- What the code leaves of a read port within the limits is what the rules give.
-use mathlib.Core.Path.{◌≡◌, refl, sym, ap, ◌∙◌, subst}
-use Prim.Native.Nat.{ℕ, ◌+◌, ◌-◌, ◌*◌, ◌^◌, ◌<◌, ◌≤◌}
+use mathlib.Core.Path.{◌≡◌, refl, sym, ap, ◌∙◌}
+use Prim.Native.Nat.{ℕ, ◌+◌, ◌*◌, ◌^◌, ◌<◌, ◌≤◌}
 use native.Mathlib.Omega.{arith}
-use mathlib.Core.Bool.{Bool, true, false, ◌&&◌}
-use mathlib.Core.Option.{Option, none, some}
-use mathlib.Core.List.{List, [], ◌++◌}
+use mathlib.Core.Bool.{true}
+use mathlib.Core.List.{List}
 use lib.ListN.{length, drop}
 use lib.Seq.{sets}
-use lib.Dec.{leb, ltb}
 use borrow.Author.Tests.{le-leb, lt-ltb}
-use Rattle.lists.specs.Choice.{when◌then◌else◌}
-use Rattle.lists.specs.Lists.{part}
-use Rattle.rules.specs.Limits.{X, None, addr_bits}
-use Rattle.rules.specs.Value.{Value, Control}
-use Rattle.rules.specs.Cell as rules
+use Rattle.rules.specs.Limits.{X, addr_bits}
+use Rattle.rules.specs.Value.{Value}
 use Rattle.rules.specs.Geometry.{Layout, all_mems, columns}
 use Rattle.rules.specs.Swizzle as swizzle
 use Rattle.rules.specs.Swizzle.{split_addr, split_by, clocked_addr, wide_flip_flop, swizzle_read}
@@ -28,22 +23,20 @@ use Rattle.image_geometry.specs.View.{layout_by}
 use Rattle.swizzle_laws.proofs.Places.{Splittable}
 use Rattle.swizzle_pieces.specs.declared.Pieces.{Pieces}
 use Rattle.swizzle_split.specs.declared.Split.{Split}
-use Rattle.swizzle_split.specs.Steps.{Fits}
 use Rattle.swizzle_columns.proofs.Fits.{bounded}
-use Rattle.swizzle_read.specs.Port.{mux_room, addr_by, read_of, scratch_of, can_read, with_first}
+use Rattle.swizzle_read.specs.Port.{mux_room, addr_by, scratch_of, can_read, with_first}
 use Rattle.swizzle_read.proofs.Meant.{Meant, read_rules, scratch_kept}
 use Rattle.swizzle_read.proofs.Ported.{Ports, port_meant}
 use Rattle.swizzle_result.specs.Held.{clock_trits}
 use Rattle.swizzle_columns.specs.Wide.{PortFits}
 use Rattle.swizzle_columns.proofs.Meaning.{Means}
-use Rattle.swizzle_read_trits.specs.Trits.{three_trits}
 use Rattle.swizzle_read_trits.proofs.Rules.{three_rules, three_length}
 use Rattle.swizzle_reads.specs.declared.Sizes.{Sizes}
-use Rattle.swizzle_reads.specs.declared.Clocking.{Clocking}
-use Rattle.swizzle_reads.specs.Going.{Going, with_read_port, wide_of, port_trits, in_port, port_done}
-use Rattle.swizzle_reads.specs.Able.{Rows, Measures, Same}
+use Rattle.swizzle_read.specs.declared.Clocking.{Clocking}
+use Rattle.swizzle_reads.specs.Going.{Going, with_read_port, wide_of, in_port, port_done}
+use Rattle.swizzle_reads.specs.Able.{Measures, Same}
 use Rattle.swizzle_reads.specs.Raw.{numbers_of, wide_by_of, size_by, piece_by, read_by', trits_by, need_by, port_by, port_raw}
-use Rattle.swizzle_reads.proofs.Lengths.{addr_low, mux_low, pieces_few, old_few, new_few}
+use Rattle.swizzle_reads.proofs.Lengths.{mux_low, pieces_few, old_few, new_few}
 
 can_all : (n : Pieces) (mux : Value) (w : ℕ) (scratch : List ℕ) → length mux ≤ addr_bits → 0 < n.count → n.count * w ≤ length scratch → can_read n mux w scratch ≡ true
 unfolding can_read

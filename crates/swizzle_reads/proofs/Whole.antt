@@ -1,39 +1,32 @@
 -- Under the plan's facts all read ports are those of the rules: what they log, their addresses and trits in the lent rooms, and their structs.
-use mathlib.Core.Path.{◌≡◌, refl, sym, ap, ◌∙◌, subst}
-use Prim.Native.Nat.{ℕ, zero, suc, ◌+◌, ◌-◌, ◌*◌, ◌^◌, ◌<◌, ◌≤◌}
+use mathlib.Core.Path.{◌≡◌, refl, sym, ap, ◌∙◌}
+use Prim.Native.Nat.{ℕ, suc, ◌+◌, ◌-◌, ◌*◌, ◌^◌, ◌<◌, ◌≤◌}
 use native.Mathlib.Nat.{add-zero, add_assoc, mul-le-mul}
 use native.Mathlib.Omega.{arith}
 use lib.Pow.{pow_pos}
-use mathlib.Core.Bool.{Bool, true, false, ◌&&◌}
-use mathlib.Core.Option.{Option, none, some}
-use mathlib.Core.List.{List, [], ◌∷◌, ◌++◌, map}
-use lib.ListN.{length, take, drop, get_or, set, length-append, length-drop}
+use mathlib.Core.Bool.{true}
+use mathlib.Core.List.{List, [], ◌∷◌, map}
+use lib.ListN.{length, take, drop, length-append, length-drop}
 use lib.Seq.{sets, length-sets, length-take-le}
-use lib.Dec.{leb, ltb}
 use borrow.Author.Tests.{le-leb, lt-ltb}
-use Rattle.lists.specs.Choice.{when◌then◌else◌}
-use Rattle.lists.specs.Lists.{pairs, concat_map, sum_by}
 use Rattle.lists.proofs.Store.{sets_append}
-use Rattle.rules.specs.Limits.{X, addr_bits, max_wide, max_words}
+use Rattle.rules.specs.Limits.{X, addr_bits, max_wide}
 use Rattle.rules.specs.Value.{Value}
-use Rattle.rules.specs.Cell.{ReadPort, ReadFlipFlop, Mem, wide_log2, read_wide_log2}
-use Rattle.rules.specs.Log.{Trace, ◌>>=◌, done, LogState, added, state_after}
+use Rattle.rules.specs.Cell.{ReadPort, Mem, wide_log2, read_wide_log2}
+use Rattle.rules.specs.Log.{Trace, ◌>>=◌, done, LogState, state_after}
 use Rattle.rules.specs.Geometry.{Layout, all_chunks, columns}
-use Rattle.rules.specs.Swizzle.{Split, Role, count_doubles, split_by, split_addr, wide_flip_flop, WideRead, swizzle_read, swizzle_reads}
-use Rattle.rules.specs.Beside.Counts.{Count, plus, times_count, void_count, clocked_count, mux_count_of, replace_count, sum_counts, read_count_of}
+use Rattle.rules.specs.Swizzle.{Split, split_by, split_addr, WideRead, swizzle_read, swizzle_reads}
+use Rattle.rules.specs.Beside.Counts.{plus, times_count, void_count, sum_counts, read_count_of}
 use Rattle.rules.proofs.Counted.{Counted}
 use Rattle.log_entries.specs.Emission.{Lent, run}
 use Rattle.log_entries.proofs.Emission.{ran, run_fits, run_then, run_same, run-done}
 use Rattle.swizzle_laws.proofs.ReadCounts.{Readable, counted_read, split_enough}
-use Rattle.swizzle_laws.proofs.ReadsCounts.{read_split_of, reads_count_of, port_count}
-use Rattle.swizzle_laws.proofs.Whole.{const_whole}
-use Rattle.swizzle_laws.proofs.Parts.{length_ordered}
+use Rattle.swizzle_laws.proofs.ReadsCounts.{read_split_of, reads_count_of}
 use Rattle.swizzle_split.specs.Steps.{Fits, can_split}
 use Rattle.swizzle_result.specs.declared.WideReadPort.{WideReadPort}
 use Rattle.swizzle_result.specs.declared.WideMemory.{WideMemory}
-use Rattle.swizzle_reads.specs.Going.{Going, InPort, with_read_port, wide_of, port_trits, old_of, split_of, trits_if, port_done, pieces_fit, rooms_fit, port_fits, port_if, ports_from}
-use Rattle.swizzle_reads.specs.Able.{Rows}
-use Rattle.swizzle_reads.specs.Planned.{no_port, addrs_of, trits_of, PortPlanned, LayoutPlanned, ReadPlanned}
+use Rattle.swizzle_reads.specs.Going.{Going, InPort, wide_of, port_trits, old_of, split_of, trits_if, port_done, pieces_fit, rooms_fit, port_fits, port_if, ports_from}
+use Rattle.swizzle_reads.specs.Planned.{addrs_of, trits_of, PortPlanned, LayoutPlanned, ReadPlanned}
 use Rattle.swizzle_reads.proofs.Lengths.{pieces_few, trits_length}
 use Rattle.swizzle_reads.proofs.Layouts.{rows_are}
 

@@ -1,6 +1,6 @@
 -- What the parts of a read port ask.
-use Rattle.std.specs.Prelude.{◌≡◌, ℕ, ◌+◌, ◌-◌, ◌*◌, ◌^◌, ◌<◌, ◌≤◌, List, length, get_or}
-use Rattle.rules.specs.Limits.{X, addr_bits, max_width, max_hard, max_row, max_columns, None}
+use Rattle.std.specs.Prelude.{◌≡◌, ℕ, ◌-◌, ◌^◌, ◌<◌, ◌≤◌, length, get_or}
+use Rattle.rules.specs.Limits.{addr_bits, max_width, max_hard, max_row, max_columns, None}
 use Rattle.rules.specs.Value.{Value}
 use Rattle.rules.specs.Geometry.{Layout, all_mems, columns}
 use Rattle.rules.specs.Swizzle.{split_addr}

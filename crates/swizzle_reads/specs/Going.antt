@@ -1,5 +1,5 @@
 -- What the read ports of a swizzle leave, one after the other: the log, the nets and trits in lent room, and the struct of the memories.
-use Rattle.std.specs.Prelude.{◌≡◌, ℕ, suc, ◌+◌, ◌*◌, ◌^◌, ◌≤◌, max, Bool, true, false, not, ◌&&◌, List, [], ◌∷◌, ◌++◌, length, take, drop, get_or, set, eqb, leb, ltb}
+use Rattle.std.specs.Prelude.{◌≡◌, ℕ, suc, ◌+◌, ◌*◌, ◌^◌, ◌≤◌, max, Bool, not, ◌&&◌, List, [], ◌∷◌, length, take, drop, get_or, set, eqb, leb, ltb}
 use Rattle.std.proofs.Math.Option.{Option, none, some}
 use Rattle.std.proofs.lemmas.List.Edits.{sets}
 use Rattle.lists.specs.Choice.{when◌then◌else◌}
@@ -13,7 +13,8 @@ use Rattle.rules.specs.Geometry.{Layout, columns}
 use Rattle.rules.specs.Swizzle as swizzle
 use Rattle.rules.specs.Swizzle.{split_addr, wide_flip_flop, swizzle_read}
 use Rattle.log_entries.specs.Emission.{Lent, run}
-use Rattle.log_entries.specs.View.{lent}
+use Rattle.log_entries.specs.declared.Log.{Log}
+use Rattle.log_entries.specs.View.{lent_of}
 use Rattle.net_memory.specs.declared.MemoryReadPort.{MemoryReadPort}
 use Rattle.net_memory.specs.declared.Memory.{Memory}
 use Rattle.net_memory.specs.View.{addr_size, trit_size, read_by, read_ports_of, reads_start, read_port, read_nets, read_trits}
@@ -32,9 +33,13 @@ pub record Going : Type 0 where
   pub trits_at_of : ℕ
   pub memory : WideMemory
 
--- the machine's numbers with the lent arrays
-abbrev pub going_of : Reads → List ℕ → List ℕ → List ℕ → Going
-going_of g log nets trits = record { lent = lent g.state log; nets = nets; trits = trits; nets_at_of = g.nets_at; trits_at_of = g.trits_at; memory = g.memory }
+-- what a log and the machine's rooms hold
+abbrev pub going_of : Log → Reads → Going
+going_of log g = record { lent = lent_of log; nets = g.nets.now; trits = g.trits.now; nets_at_of = g.nets_at; trits_at_of = g.trits_at; memory = g.memory }
+
+-- the rooms are the same lent ones
+abbrev pub SameRooms : Reads → Reads → Type 0
+SameRooms before after = (after.nets.ghost_name ≡ before.nets.ghost_name) × (after.trits.ghost_name ≡ before.trits.ghost_name)
 
 -- a struct with read port i exchanged
 abbrev pub with_read_port : WideMemory → ℕ → WideReadPort → WideMemory

@@ -1,5 +1,5 @@
 -- What the read ports of a swizzle ask of a memory, its plan and the lent rooms; a plan with number 0 and rooms that are not refused have it.
-use Rattle.std.specs.Prelude.{◌≡◌, ℕ, ◌+◌, ◌-◌, ◌*◌, ◌^◌, ◌<◌, ◌≤◌, false, List, [], ◌∷◌, length, take, drop, get_or, eqb}
+use Rattle.std.specs.Prelude.{◌≡◌, ℕ, ◌+◌, ◌-◌, ◌*◌, ◌^◌, ◌<◌, ◌≤◌, false, List, [], length, get_or, eqb}
 use Rattle.std.proofs.Math.Option.{none}
 use Rattle.lists.specs.Lists.{pairs, concat_map, sum_by}
 use Rattle.rules.specs.Limits.{X, addr_bits, max_wide, max_columns, max_words}
@@ -9,8 +9,7 @@ use Rattle.rules.specs.Cell.{ReadPort, Mem, read_wide_log2}
 use Rattle.rules.specs.Log.{LogState}
 use Rattle.rules.specs.Conditions.{bad_layout}
 use Rattle.rules.specs.Geometry.{Layout, all_chunks, soft, columns}
-use Rattle.rules.specs.Swizzle.{Split, split_addr}
-use Rattle.rules.specs.Beside.Counts.{Count, sum_counts, read_count_of}
+use Rattle.rules.specs.Swizzle.{split_addr}
 use Rattle.swizzle_laws.proofs.ReadsCounts.{read_split_of, reads_count_of}
 use Rattle.swizzle_reads.specs.Going.{port_trits}
 

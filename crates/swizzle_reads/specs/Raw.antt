@@ -1,12 +1,11 @@
 -- What the code leaves of a read port, by the machine's numbers.
-use Rattle.std.specs.Prelude.{◌≡◌, ℕ, ◌+◌, ◌*◌, ◌^◌, ◌<◌, ◌≤◌, Bool, ◌&&◌, List, length}
+use Rattle.std.specs.Prelude.{ℕ, ◌+◌, ◌*◌, ◌^◌, ◌<◌, ◌≤◌, Bool, ◌&&◌, List, length}
 use Rattle.rules.specs.Limits.{max_ports, max_wide, max_width, max_columns}
 use Rattle.std.proofs.lemmas.List.Edits.{sets}
 use Rattle.lists.specs.Lists.{part}
 use Rattle.rules.specs.Value.{Value}
 use Rattle.log_entries.specs.Emission.{Lent, run}
 use Rattle.net_value.specs.View.{control_of}
-use Rattle.net_flip_flop.specs.declared.Controls.{Controls}
 use Rattle.net_memory.specs.FlipFlop.{MemoryReadFlipFlop}
 use Rattle.std.specs.Prelude.{None, Some}
 use Rattle.net_memory.specs.declared.MemoryReadPort.{MemoryReadPort}
@@ -18,7 +17,7 @@ use Rattle.swizzle_result.specs.declared.WideReadPort.{WideReadPort}
 use Rattle.swizzle_columns.specs.declared.WidePort.{WidePort}
 use Rattle.swizzle_read_trits.specs.Trits.{three_trits}
 use Rattle.swizzle_reads.specs.declared.Sizes.{Sizes}
-use Rattle.swizzle_reads.specs.declared.Clocking.{Clocking}
+use Rattle.swizzle_read.specs.declared.Clocking.{Clocking}
 use Rattle.swizzle_reads.specs.Going.{Going, with_read_port, pieces_fit, rooms_fit}
 
 -- a port's numbers for its pieces, and for its columns

@@ -13,20 +13,17 @@ use Rattle.lists.proofs.Parts.{same_front, same_middle}
 use Rattle.lists.proofs.Views.{views_front}
 use Rattle.lists.proofs.Concat.{length_concat}
 use Rattle.lists.proofs.Stores.{take_stored}
-use Rattle.rules.specs.Cell.{WritePort, ReadFlipFlop, ReadPort}
-use Rattle.rules.specs.Geometry.{Layout, all_mems}
+use Rattle.rules.specs.Cell.{ReadFlipFlop}
+use Rattle.rules.specs.Geometry.{Layout}
 use Rattle.rules.specs.Swizzle.{Split}
 use Rattle.net_memory.specs.FlipFlop.{MemoryReadFlipFlop}
 use Rattle.std.specs.Prelude.{None, Some}
 use Rattle.swizzle_laws.specs.Order.{ordered}
 use Rattle.swizzle_laws.proofs.Parts.{length_ordered}
-use Rattle.swizzle_result.specs.declared.WideWritePort.{WideWritePort}
-use Rattle.swizzle_result.specs.declared.WideReadPort.{WideReadPort}
 use Rattle.swizzle_result.specs.Held.{Sized, Columns, HeldWrite, write_nets, HeldFlipFlop, HeldRead, clock_trits, read_trits, read_nets, Holds}
-use Rattle.rules.specs.Ports.{Driving}
 use Rattle.rules.specs.Image.{rows_before}
 use Rattle.swizzle_result.specs.declared.WideMemory.{WideMemory}
-use Rattle.swizzle_result.specs.View.{own, whole, trits_if, write_ports_of, read_ports_of, write_size, addr_size, trit_size, no_trits, write_by, read_by, reads_start, start_by, result_of, results_of, nets_total, trits_total}
+use Rattle.swizzle_result.specs.View.{whole, trits_if, write_ports_of, read_ports_of, write_size, addr_size, trit_size, no_trits, write_by, read_by, reads_start, start_by, result_of, results_of, nets_total, trits_total}
 
 -- a part of a front
 part_same : (a k T : ℕ) (l l' : List ℕ) → a + k ≤ T → take T l' ≡ take T l → part a k l' ≡ part a k l

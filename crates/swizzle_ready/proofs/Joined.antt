@@ -5,9 +5,10 @@ use Prim.Native.Nat.{ℕ, ◌+◌, ◌-◌, ◌≤◌, min}
 use native.Mathlib.Nat.{zero-add}
 use native.Mathlib.Omega.{arith}
 use mathlib.Core.Bool.{false}
-use mathlib.Core.List.{List, [], ◌++◌, map}
+use mathlib.Core.List.{List, ◌++◌, map}
 use lib.ListN.{length, take, replicate, length-append, length-map, length-replicate}
 use lib.Seq.{sets, length-sets, take_all}
+use Rattle.std.specs.Borrow.{GName}
 use Rattle.lists.specs.Lists.{up_from, concat_map}
 use Rattle.lists.proofs.Stores.{take_stored}
 use Rattle.rules.specs.Limits.{max_ports}
@@ -83,7 +84,7 @@ module _ (m : Mem) (q : Layout) (mem : Memory) (ns to : List ℕ) (xs : List Wid
   filled_ports = refl
 
 module _ (r : SwizzleRooms) (room : ℕ) (s : LogState) (mem : Memory) (nets trits : List ℕ) (output : Value) (p : Plan) (e : swizzle_refusal r room s (given_of mem nets trits) output p ≡ 0)
-    (w : (memory_of mem nets trits).width ≢ 0) (d : (memory_of mem nets trits).depth ≢ 0) (log to kinds : List ℕ) (nets_room : length to ≡ r.nets) (trits-room : length kinds ≡ r.trits) where
+    (w : (memory_of mem nets trits).width ≢ 0) (d : (memory_of mem nets trits).depth ≢ 0) (log to kinds : List ℕ) (name : GName) (nets_room : length to ≡ r.nets) (trits-room : length kinds ≡ r.trits) where
   abbrev M : Mem
   M = memory_of mem nets trits
 
@@ -94,7 +95,7 @@ module _ (r : SwizzleRooms) (room : ℕ) (s : LogState) (mem : Memory) (nets tri
   q = layout_of M p
 
   abbrev l : Lent
-  l = record { log = log; state = s; name = 0 }
+  l = record { log = log; state = s; name = name }
 
   abbrev tw : Trace (List WideWrite)
   tw = swizzle_writes M q M.writes p.write_wide
@@ -135,7 +136,7 @@ module _ (r : SwizzleRooms) (room : ℕ) (s : LogState) (mem : Memory) (nets tri
     pub writes_value : v ≡ filled_with M q mem.write_ports 0 M.writes p.write_wide (none_filled to) (tw s.next).value
     writes_value =
         (writes_planned M q mem.write_ports p.write_wide to planned l l1 v given-all).1
-        (ap (λ (x : Lent). is_over x.state) writes_ran ∙ writes_held r room s g0 output p e w d log)
+        (ap (λ (x : Lent). is_over x.state) writes_ran ∙ writes_held r room s g0 output p e w d log name)
 
     room_is : v.room ≡ sets to 0 (concat_map (wide_nets q) (tw s.next).value)
     room_is = ap (λ (x : Filled). x.room) writes_value ∙ filled-room M q mem p.write_wide to (tw s.next).value
@@ -150,7 +151,7 @@ module _ (r : SwizzleRooms) (room : ℕ) (s : LogState) (mem : Memory) (nets tri
     room_size = ap length room_is ∙ length-sets to 0 (concat_map (wide_nets q) (tw s.next).value) ∙ nets_room
 
     pub reads_next : l1.state.next ≡ (tw s.next).next
-    reads_next = ap (λ (x : Lent). x.state.next) writes_ran ∙ reads_start_lem r room s g0 output p e w d log
+    reads_next = ap (λ (x : Lent). x.state.next) writes_ran ∙ reads_start_lem r room s g0 output p e w d log name
 
     -- the read ports go on from there
     module _ (wide : WideMemory) (begun : Begun M q v.ports wide) where
@@ -163,8 +164,8 @@ module _ (r : SwizzleRooms) (room : ℕ) (s : LogState) (mem : Memory) (nets tri
       pub reads_plan : ReadPlanned M q M.reads p.read_wide_of output r.scratch l1.state (length v.room - v.at) (length kinds - 0)
       reads_plan =
           read_planned r room s g0 output p e w d l1.state (length v.room - v.at) (length kinds - 0)
-          (ap (λ (x : Lent). x.state.next) writes_ran ∙ writes_next r room s g0 output p e w d log)
-          (ap (λ (x : Lent). x.state.used) writes_ran ∙ writes_used r room s g0 output p e w d log)
+          (ap (λ (x : Lent). x.state.next) writes_ran ∙ writes_next r room s g0 output p e w d log name)
+          (ap (λ (x : Lent). x.state.used) writes_ran ∙ writes_used r room s g0 output p e w d log name)
           (omega (arith, at_is, room_size)) (omega (arith, trits-room))
 
       abbrev pub after : Going
@@ -257,7 +258,7 @@ module _ (r : SwizzleRooms) (room : ℕ) (s : LogState) (mem : Memory) (nets tri
       pub rows_done : RowsDone M output p l to kinds after
       rows_done = record {
         log_is = log-all;
-        not_over = ap (λ (x : Lent). is_over x.state) log-all ∙ rows_held r room s g0 output p e w d log;
+        not_over = ap (λ (x : Lent). is_over x.state) log-all ∙ rows_held r room s g0 output p e w d log name;
         nets_are = nets_all;
         trits_are = done.trits_are ∙ ap (sets kinds 0) (sym (shares.trits_shared M output p lf ew er s.next));
         nets_end = nets_last;

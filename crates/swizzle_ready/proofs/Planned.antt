@@ -20,7 +20,7 @@ use Rattle.rules.proofs.Accepts.{layout_good}
 use Rattle.log_entries.proofs.Rooms.{Fits, room_fits}
 use Rattle.swizzle_laws.proofs.ReadsCounts.{reads_count_of}
 use Rattle.swizzle_laws.proofs.WritesCounts.{writes_count_of}
-use Rattle.swizzle_facts.specs.Passed.{LayoutPassed, PortPassed, SplitPassed, WritePassed, ReadPassed, EachPair}
+use Rattle.swizzle_facts.specs.Passed.{LayoutPassed, WritePassed, ReadPassed, EachPair}
 use Rattle.swizzle_facts.proofs.Layouts.{layout_passed}
 use Rattle.swizzle_facts.proofs.Splits.{split_passed}
 use Rattle.swizzle_facts.proofs.Ports.{writes_passed, reads_passed, reads_long, output_len_lem, read_passed}

@@ -6,6 +6,7 @@ use native.Mathlib.Omega.{arith}
 use mathlib.Core.Bool.{false}
 use mathlib.Core.List.{List, map}
 use lib.ListN.{length}
+use Rattle.std.specs.Borrow.{GName}
 use Rattle.lists.specs.Lists.{up_from}
 use Rattle.rules.specs.Limits.{X, max_words}
 use Rattle.rules.specs.Value.{Value}
@@ -20,7 +21,7 @@ use Rattle.rules.proofs.Counted.{Counted}
 use Rattle.rules.proofs.Traces.{next_after, start_same}
 use Rattle.log_entries.specs.Emission.{Lent, is_over, run}
 use Rattle.log_entries.proofs.Rooms.{Fits}
-use Rattle.log_entries.proofs.Emission.{not_over, ran, run_fits, run_then, run_same, accepted_held}
+use Rattle.log_entries.proofs.Emission.{run_named, not_over, ran, run_fits, run_then, run_same, accepted_held}
 use Rattle.swizzle_laws.proofs.ReadsCounts.{reads_count_of, counted_reads}
 use Rattle.swizzle_laws.proofs.WritesCounts.{writes_count_of, counted_writes, counted_rows}
 use Rattle.swizzle_facts.proofs.Counting.{reads_readable}
@@ -83,9 +84,9 @@ module _ (r : SwizzleRooms) (room : ℕ) (s : LogState) (g : Given) (output : Va
   pub start_is : start_net s ≡ s.next
   start_is = start_same s fits.low (omega (arith, fits.high))
 
-  module _ (log : List ℕ) where
+  module _ (log : List ℕ) (name : GName) where
     abbrev l : Lent
-    l = record { log = log; state = s; name = 0 }
+    l = record { log = log; state = s; name = name }
 
     abbrev writes : Counted (swizzle_writes m q m.writes p.write_wide) (writes_count_of m q m.writes p.write_wide).words (writes_count_of m q m.writes p.write_wide).nets
     writes = counted_writes m q m.writes p.write_wide
@@ -113,6 +114,7 @@ module _ (r : SwizzleRooms) (room : ℕ) (s : LogState) (g : Given) (output : Va
     -- the whole
     pub rows_held : is_over (run (swizzle_rows m output p) l).state ≡ false
     rows_held =
-        accepted_held (swizzle_rows m output p) room s log
+        ap (λ (x : Lent). is_over x.state) (run_named (swizzle_rows m output p) name (record { log = log; state = s; name = 0 }))
+        ∙ accepted_held (swizzle_rows m output p) room s log
         (counted_rows m output p _ _ (counted_reads m q m.reads p.read_wide_of output (reads_readable s.next g output p (number_0 r room s g output p e w d) w d))).chain
         (taken r room s g output p e w d).log

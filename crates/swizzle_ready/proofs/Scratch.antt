@@ -14,7 +14,7 @@ use Rattle.rules.specs.Refusals.{SwizzleRooms, swizzle_refusal}
 use Rattle.net_memory.specs.declared.Memory.{Memory}
 use Rattle.net_memory.specs.View.{memory_of}
 use Rattle.net_memory.specs.Given.{given_of}
-use Rattle.swizzle_facts.specs.Passed.{PortPassed, ReadPassed, EachPair}
+use Rattle.swizzle_facts.specs.Passed.{ReadPassed, EachPair}
 use Rattle.swizzle_reads.specs.Going.{InPort, in_ports, need_of, most_need}
 use Rattle.swizzle_reads.proofs.Whole.{ports_of}
 use Rattle.swizzle_reads.proofs.Planned.{ports_are}

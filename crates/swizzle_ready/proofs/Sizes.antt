@@ -10,7 +10,7 @@ use Rattle.rules.specs.Numbers.{largest}
 use Rattle.rules.specs.Cell.{WritePort, ReadFlipFlop, ReadPort, Mem, write_wide_log2, read_wide_log2}
 use Rattle.rules.specs.Geometry.{Layout, columns}
 use Rattle.swizzle_laws.proofs.ReadsCounts.{read_split_of}
-use Rattle.swizzle_facts.specs.Passed.{LayoutPassed, PortPassed, SplitPassed, WritePassed, ReadPassed, EachPair}
+use Rattle.swizzle_facts.specs.Passed.{LayoutPassed, SplitPassed, WritePassed, ReadPassed, EachPair}
 use Rattle.swizzle_facts.proofs.Splits.{split_passed}
 use Rattle.swizzle_counts.specs.Rooms.{wide_of, write_room, read_room, trits_by, trit_room}
 use Rattle.swizzle_writes.specs.Planned.{port_nets, total_nets}

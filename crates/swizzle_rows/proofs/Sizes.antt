@@ -1,22 +1,20 @@
 -- The sizes that the test of a layout gives, and which layouts have rows.
 use mathlib.Core.Path.{◌≡◌, refl, sym, ap, ◌∙◌, subst}
 use mathlib.Core.Bool.{Bool, true, false}
-use mathlib.Core.Option.{Option, none, some}
+use mathlib.Core.Option.{none}
 use mathlib.Core.List.{List}
 use native.Mathlib.Omega.{arith}
 use Prim.Native.Nat.{ℕ, min}
 use lib.ListN.{take}
-use lib.Dec.{eqb}
 use borrow.Author.Tests.{eq-eqb, ne_eqb}
 use Rattle.lists.specs.Choice.{when◌then◌else◌}
 use Rattle.rules.specs.Limits.{max_ports}
 use Rattle.rules.specs.Value.{Value}
 use Rattle.rules.specs.Conditions.{bad_layout}
-use Rattle.rules.specs.Geometry.{Layout, full_mems, all_mems, full_depth_of, part_depth_of}
+use Rattle.rules.specs.Geometry.{Layout}
 use Rattle.rules.specs.Beside.Shape as sizes
 use Rattle.rules.specs.Beside.Shape.{shape_of, laid_shape}
 use Rattle.rules.proofs.GoodLayouts.{none_told}
-use Rattle.log_entries.specs.declared.LogState.{LogState}
 use Rattle.log_entries.specs.Emission.{Lent}
 use Rattle.net_memory.specs.declared.Memory.{Memory}
 use Rattle.net_memory.specs.View.{memory_of}
@@ -25,10 +23,9 @@ use Rattle.swizzle_result.specs.declared.WideMemory.{WideMemory}
 use Rattle.swizzle_writes.specs.Placed.{Filled, none_filled, placed_from}
 use Rattle.image_geometry.specs.declared.Shape.{Shape}
 use Rattle.image_geometry.specs.View.{shape_by}
-use Rattle.swizzle_reads.specs.declared.Reads.{Reads}
-use Rattle.swizzle_reads.specs.Going.{Going, going_of, in_ports, has_rows, reads_if}
+use Rattle.swizzle_reads.specs.Going.{Going, in_ports, has_rows, reads_if}
 use Rattle.swizzle_reads.proofs.Layouts.{good_has, bad_has, none_has}
-use Rattle.swizzle_rows.specs.Rows.{start_memory, none_yet_of, Measured, start_going, RowsBy, RowsRan}
+use Rattle.swizzle_rows.specs.Rows.{start_memory, Measured, start_going, RowsBy, RowsRan}
 
 pub measured : (q : Layout) (s : Shape) → shape_by s ≡ shape_of q → Measured q s
 unfolding shape_of
@@ -44,26 +41,23 @@ not_both b e f =
     let z : ◌≡◌ {A = ℕ} 1 0 = ap (λ (t : Bool). when t then 1 else 0) (sym e ∙ f) in
     omega (arith, z)
 
-module _ (q : Layout) (m : Memory) (nets trits ws rs : List ℕ) (output : Value) (scratch : ℕ) (st : LogState) (log to kinds : List ℕ) (after : Going) where
-  none_ran : has_rows q ≡ false → after ≡ going_of (none_yet_of st) log to kinds → RowsRan q m nets trits ws rs output scratch st log to kinds after
-  none_ran f e = record { by_rows = λ t. absurd (not_both (has_rows q) t f); else_none = λ z. e }
+module _ (q : Layout) (m : Memory) (nets trits ws rs : List ℕ) (output : Value) (scratch : ℕ) (before : Going) where
+  none_ran : has_rows q ≡ false → RowsRan q m nets trits ws rs output scratch before before
+  none_ran f = record { by_rows = λ t. absurd (not_both (has_rows q) t f); else_none = λ z. refl }
 
-  pub refused_ran : none ≡ laid_shape q → after ≡ going_of (none_yet_of st) log to kinds → RowsRan q m nets trits ws rs output scratch st log to kinds after
-  refused_ran n e = none_ran (bad_has q (none_told q n)) e
+  pub refused_ran : none ≡ laid_shape q → RowsRan q m nets trits ws rs output scratch before before
+  refused_ran n = none_ran (bad_has q (none_told q n))
 
-  pub narrow_ran : bad_layout q ≡ false → q.width ≡ 0 → after ≡ going_of (none_yet_of st) log to kinds → RowsRan q m nets trits ws rs output scratch st log to kinds after
-  narrow_ran b w e = none_ran (none_has q b (eq-eqb q.width 0 w)) e
+  pub narrow_ran : bad_layout q ≡ false → q.width ≡ 0 → RowsRan q m nets trits ws rs output scratch before before
+  narrow_ran b w = none_ran (none_has q b (eq-eqb q.width 0 w))
 
-  pub rows_ran : bad_layout q ≡ false → (q.width ≡ 0 → ⊥) → RowsBy q m nets trits ws rs output scratch (going_of (none_yet_of st) log to kinds).lent to kinds after
-      → RowsRan q m nets trits ws rs output scratch st log to kinds after
-  rows_ran b w r = record { by_rows = λ t. r; else_none = λ z. absurd (not_both (has_rows q) (good_has q b (ne_eqb q.width 0 w)) z) }
+  pub rows_ran : (after : Going) → bad_layout q ≡ false → (q.width ≡ 0 → ⊥) → RowsBy q m nets trits ws rs output scratch before.lent before.nets before.trits after
+      → RowsRan q m nets trits ws rs output scratch before after
+  rows_ran after b w r = record { by_rows = λ t. r; else_none = λ z. absurd (not_both (has_rows q) (good_has q b (ne_eqb q.width 0 w)) z) }
 
 -- ---- from the code's start to that of the layout
 abbrev pub going_with : Lent → Filled → List ℕ → WideMemory → Going
 going_with l f kinds mem = record { lent = l; nets = f.room; trits = kinds; nets_at_of = f.at; trits_at_of = 0; memory = mem }
-
-abbrev pub reads_with : LogState → WideMemory → Reads
-reads_with st mem = record { state = st; memory = mem; nets_at = 0; trits_at = 0 }
 
 module _ (q : Layout) (m : Memory) (s : Shape) (z : Measured q s) (l : Lent) (f : Filled) (kinds : List ℕ) where
   pub start_is : (mem : WideMemory) → mem ≡ start_memory s.full_mems s.all_mems s.full_depth s.part_depth q.unit m.write_count m.read_count f.ports

@@ -3,7 +3,6 @@ use Rattle.std.specs.Prelude.{◌≡◌, ℕ, min, true, false, List, take, repl
 use Rattle.rules.specs.Limits.{max_ports}
 use Rattle.rules.specs.Value.{Value}
 use Rattle.rules.specs.Geometry.{Layout, full_mems, all_mems, full_depth_of, part_depth_of}
-use Rattle.log_entries.specs.declared.LogState.{LogState}
 use Rattle.log_entries.specs.Emission.{Lent}
 use Rattle.std.specs.Prelude.{None}
 use Rattle.net_memory.specs.declared.Memory.{Memory}
@@ -14,8 +13,7 @@ use Rattle.swizzle_result.specs.declared.WideWritePort.{WideWritePort}
 use Rattle.swizzle_result.specs.declared.WideReadPort.{WideReadPort}
 use Rattle.swizzle_result.specs.declared.WideMemory.{WideMemory}
 use Rattle.swizzle_writes.specs.Placed.{Filled, no_port, none_filled, placed_from}
-use Rattle.swizzle_reads.specs.declared.Reads.{Reads}
-use Rattle.swizzle_reads.specs.Going.{Going, going_of, in_ports, has_rows, reads_if}
+use Rattle.swizzle_reads.specs.Going.{Going, in_ports, has_rows, reads_if}
 
 -- no read port yet
 abbrev pub no_read_of : WideReadPort
@@ -36,8 +34,8 @@ start_memory full mems deep part unit writes reads ports = record {
 }
 
 -- no memories
-abbrev pub none_yet_of : LogState → Reads
-none_yet_of st = record { state = st; memory = start_memory 0 0 0 0 0 0 0 (replicate max_ports no_port); nets_at = 0; trits_at = 0 }
+abbrev pub no_memories : WideMemory
+no_memories = start_memory 0 0 0 0 0 0 0 (replicate max_ports no_port)
 
 -- the machine's sizes are those of the layout
 pub record Measured (q : Layout) (s : Shape) : Type 0 where
@@ -65,6 +63,6 @@ pub record RowsBy (q : Layout) (m : Memory) (nets trits ws rs : List ℕ) (outpu
   pub reads_are : after ≡ reads_if q scratch (in_ports m nets trits) rs output (start_going q m mid filled kinds)
 
 -- of a layout that an accepted swizzle has; else nothing
-pub record RowsRan (q : Layout) (m : Memory) (nets trits ws rs : List ℕ) (output : Value) (scratch : ℕ) (st : LogState) (log to kinds : List ℕ) (after : Going) : Type 0 where
-  pub by_rows : has_rows q ≡ true → RowsBy q m nets trits ws rs output scratch (going_of (none_yet_of st) log to kinds).lent to kinds after
-  pub else_none : has_rows q ≡ false → after ≡ going_of (none_yet_of st) log to kinds
+pub record RowsRan (q : Layout) (m : Memory) (nets trits ws rs : List ℕ) (output : Value) (scratch : ℕ) (before after : Going) : Type 0 where
+  pub by_rows : has_rows q ≡ true → RowsBy q m nets trits ws rs output scratch before.lent before.nets before.trits after
+  pub else_none : has_rows q ≡ false → after ≡ before

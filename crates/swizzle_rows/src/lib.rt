@@ -3,14 +3,14 @@
 #![tactic(auto)]
 
 ghost use Rattle.std.specs.Prelude.{◌≡◌, length};
-ghost use Rattle.log_entries.specs.View.{lent};
-ghost use Rattle.image_geometry.specs.View.{layout_by};
+ghost use Rattle.log_entries.specs.View.{lent_of};
+ghost use Rattle.image_geometry.specs.View.{layout_of};
 ghost use Rattle.image_state.specs.Counts.{Counted};
-ghost use Rattle.swizzle_reads.specs.Going.{going_of, in_ports, AllKept};
-ghost use Rattle.swizzle_rows.specs.Rows.{start_memory, none_yet_of, Measured, RowsBy, RowsRan};
+ghost use Rattle.swizzle_reads.specs.Going.{going_of, SameRooms, in_ports, AllKept};
+ghost use Rattle.swizzle_rows.specs.Rows.{start_memory, no_memories, Measured, RowsBy, RowsRan};
 
-use image_geometry::{Params, Shape};
-use log_entries::LogState;
+use image_geometry::{Layout, Shape};
+use log_entries::Log;
 use net_memory::Memory;
 use net_value::{ControlNet, Net};
 use swizzle_reads::Reads;
@@ -50,9 +50,9 @@ fn start_memory(
     }
 }
 
-// No memories, and the log's state as it is.
-pub fn none_yet(st: LogState) -> Reads
-    ensures { result ≡ none_yet_of st }
+// No memories.
+pub fn no_memories() -> WideMemory
+    ensures { result ≡ no_memories }
 {
     let none = WideWritePort {
         addr_len: 0,
@@ -69,80 +69,62 @@ pub fn none_yet(st: LogState) -> Reads
         trits: 0,
         image_size: 0,
     };
-    let memory = start_memory(s, 0, 0, 0, write_ports);
-    Reads {
-        state: st,
-        memory,
-        nets_at: 0,
-        trits_at: 0,
-    }
+    start_memory(s, 0, 0, 0, write_ports)
 }
 
 // The ports of a layout with these sizes.
 fn rows_by<'a>(
-    log: &mut [u32],
-    st: LogState,
-    nets_to: &mut [u32],
-    trits_to: &mut [u8],
+    log: &mut Log,
+    made: &mut Reads,
     scratch: &mut [u32],
     s: Shape,
-    p: Params,
+    q: Layout<'a>,
     m: Memory,
     nets: &'a [u32],
     trits: &[u8],
-    entries: &'a [u32],
     writes: &[u32],
     reads: &[u32],
     output: &[u32],
-) -> Reads
-    requires { Counted s × Measured (layout_by p entries.now) s }
-    ensures rows_by { RowsBy (layout_by p entries.now) m nets.now trits.now writes.now reads.now output.now (length scratch.old) (lent st log.old) nets_to.old trits_to.old (going_of result log.new nets_to.new trits_to.new) }
-    ensures all_kept { AllKept (layout_by p entries.now) (in_ports m nets.now trits.now) reads.now scratch.old scratch.new }
+)
+    requires { Counted s × Measured (layout_of q) s }
+    ensures rows_by { RowsBy (layout_of q.entry) m nets.now trits.now writes.now reads.now output.now (length scratch.old) (lent_of log.old) made.old.nets.now made.old.trits.now (going_of log.new made.new) }
+    ensures all_kept { AllKept (layout_of q.entry) (in_ports m nets.now trits.now) reads.now scratch.old scratch.new }
+    ensures same_rooms { SameRooms made.old made.new }
 {
     let mems = s.all_mems as u32;
-    let w = swizzle_writes::swizzle_writes(log, st, nets_to, m, nets, p, mems, entries, writes);
-    let state = w.state;
+    let w = swizzle_writes::swizzle_writes(log, made.nets, m, nets, q, mems, writes);
     let ports = w.ports;
-    let memory = start_memory(s, p.unit, m.write_count, m.read_count, ports);
-    let start = Reads {
-        state,
-        memory,
-        nets_at: w.used,
-        trits_at: 0,
-    };
-    swizzle_reads::emit_reads(
-        log, nets_to, trits_to, scratch, start, p, m, nets, trits, entries, reads, output,
-    )
+    let unit = q.params.unit;
+    made.memory = start_memory(s, unit, m.write_count, m.read_count, ports);
+    made.nets_at = w.used;
+    made.trits_at = 0;
+    made.emit(log, scratch, q, m, nets, trits, reads, output);
 }
 
 // The write ports and the read ports of a swizzle, with the struct of the memories; nothing where the layout is none of an accepted swizzle.
 // Scratch is open where the pieces of a read port stood.
 pub fn emit_rows<'a>(
-    log: &mut [u32],
-    st: LogState,
-    nets_to: &mut [u32],
-    trits_to: &mut [u8],
+    log: &mut Log,
+    made: &mut Reads,
     scratch: &mut [u32],
-    p: Params,
+    q: Layout<'a>,
     m: Memory,
     nets: &'a [u32],
     trits: &[u8],
-    entries: &'a [u32],
     writes: &[u32],
     reads: &[u32],
     output: &[u32],
-) -> Reads
-    ensures rows_ran { RowsRan (layout_by p entries.now) m nets.now trits.now writes.now reads.now output.now (length scratch.old) st log.old nets_to.old trits_to.old (going_of result log.new nets_to.new trits_to.new) }
-    ensures all_kept { AllKept (layout_by p entries.now) (in_ports m nets.now trits.now) reads.now scratch.old scratch.new }
+)
+    ensures rows_ran { RowsRan (layout_of q.entry) m nets.now trits.now writes.now reads.now output.now (length scratch.old) (going_of log.old made.old) (going_of log.new made.new) }
+    ensures all_kept { AllKept (layout_of q.entry) (in_ports m nets.now trits.now) reads.now scratch.old scratch.new }
+    ensures same_rooms { SameRooms made.old made.new }
 {
-    let layout = image_geometry::Layout { params: p, entries };
-    let Some(s) = image_check::check_layout(layout) else {
-        return none_yet(st);
+    let Some(s) = image_check::check_layout(q) else {
+        return;
     };
-    if p.width == 0 {
-        return none_yet(st);
+    if q.params.width != 0 {
+        rows_by(
+            log, made, scratch, s, q, m, nets, trits, writes, reads, output,
+        );
     }
-    rows_by(
-        log, st, nets_to, trits_to, scratch, s, p, m, nets, trits, entries, writes, reads, output,
-    )
 }

@@ -1,26 +1,26 @@
 -- One level of the tree in lent scratch: what is left from a place on gives the whole.
 use mathlib.Core.Path.{◌≡◌, refl, sym, ap, ◌∙◌}
-use Prim.Native.Nat.{ℕ, zero, suc, ◌+◌, ◌-◌, ◌*◌, ◌/◌, ◌<◌, ◌≤◌}
-use native.Mathlib.Nat.{zero-mul, one-mul, suc-mul, zero-add}
+use Prim.Native.Nat.{ℕ, suc, ◌+◌, ◌-◌, ◌*◌, ◌<◌, ◌≤◌}
+use native.Mathlib.Nat.{one-mul, suc-mul}
 use native.Mathlib.Omega.{arith}
 use mathlib.Core.Bool.{Bool, true, false}
-use mathlib.Core.List.{List, [], ◌∷◌, ◌++◌, append-nil}
+use mathlib.Core.List.{List, [], ◌∷◌, append-nil}
 use lib.ListN.{length, take, drop, length-drop}
-use lib.Seq.{sets, sets-eq, length-sets, drop-drop, length-take-le}
+use lib.Seq.{sets, length-sets, drop-drop}
 use Rattle.lists.specs.Lists.{part, up_from}
 use Rattle.lists.proofs.Store.{sets_append, drop_sets}
 use Rattle.lists.proofs.Parts.{same_back, length_part}
 use Rattle.lists.proofs.UpFrom.{length_up}
 use Rattle.rules.specs.Value.{Value, Pos}
-use Rattle.rules.specs.Log.{Trace, ◌>>=◌, done, add_mux_of}
-use Rattle.rules.specs.Swizzle.{pair_up, mux_tree}
+use Rattle.rules.specs.Log.{Trace, done, add_mux_of}
+use Rattle.rules.specs.Swizzle.{pair_up}
 use Rattle.rules.proofs.Chain.{chains_mux}
 use Rattle.rules.proofs.Entries.{value_mux, next_mux}
 use Rattle.log_entries.specs.Emission.{Lent, is_over, run}
 use Rattle.log_entries.proofs.Emission.{run-done, run_then, run_same, run_next, run-held}
-use Rattle.swizzle_laws.specs.Cuts.{cut, joined, Sized}
-use Rattle.swizzle_laws.proofs.Cutting.{length_cut, sized_cut, length_joined, cut-joined, cut_two, cut_one, cut_none, joined_cons}
-use Rattle.swizzle_laws.proofs.Pairs.{rest, pair_more, pair_value, pair_none, pair_one, chains_pair_up, length_pairs, sized_pairs}
+use Rattle.swizzle_laws.specs.Cuts.{cut, joined}
+use Rattle.swizzle_laws.proofs.Cutting.{length_cut, sized_cut, length_joined, cut_two, joined_cons}
+use Rattle.swizzle_laws.proofs.Pairs.{rest, pair_more, pair_value}
 use Rattle.swizzle_tree.specs.Scratch.{results, pairs_in, Paired}
 
 pub results_none : (over : Bool) (out : List ℕ) (to : ℕ) (v : Value) → over ≡ true → out ≡ results over out to v
@@ -79,8 +79,8 @@ pub record Going (bit w count : ℕ) (p₀ p : Value) (l₀ l : Lent) (left from
   pub value : is_over (run (pair_up bit (cut w left (drop from p₀))) l).state ≡ false
       → sets p to (joined (pair_up bit (cut w left (drop from p₀)) l.state.next).value) ≡ sets p₀ 0 (joined (pairs_in bit w count p₀ l₀.state.next).value)
 
-pub going_starts : (bit w count : ℕ) (p : Value) (l : Lent) → Going bit w count p p l l count 0 0
-going_starts bit w count p l = record { place = omega arith; twice = refl; unread = refl; whole = refl; value = λ o. refl }
+pub going_starts : (bit w count left : ℕ) (p : Value) (l : Lent) → left ≡ count → Going bit w count p p l l left 0 0
+going_starts bit w count left p l e = rw e (record { place = omega arith; twice = refl; unread = refl; whole = refl; value = λ o. refl })
 
 cut_at : (w n from : ℕ) (p : Value) → cut w (suc (suc n)) (drop from p) ≡ part from w p ∷ part (from + w) w p ∷ cut w n (drop (from + (w + w)) p)
 cut_at w n from p = cut_two w n (drop from p) ∙ rw (drop-drop w from p, drop-drop (w + w) from p)
@@ -219,10 +219,12 @@ module _ (bit w count : ℕ) (p₀ p : Value) (l₀ l : Lent) (left from to : �
       let e : left ≡ suc (suc (left - 2)) = omega arith in
       omega (arith, g.place, ap (λ (k : ℕ). k * w) e, suc-mul (suc (left - 2)) w, suc-mul (left - 2) w)
 
-  pub turn_down : (p' : Value) (l1 : Lent) → 1 < left → length p ≡ length p₀ → count * w ≤ length p₀
+  pub turn_down : (p' : Value) (l1 : Lent) (n : ℕ) → left ≡ suc (suc n) → length p ≡ length p₀ → count * w ≤ length p₀
       → l1 ≡ run (add_mux_of (Pos bit) (part (from + w) w p) (part from w p)) l
       → p' ≡ results (is_over l1.state) p to (up_from l.state.next w)
-      → Going bit w count p₀ p' l₀ l1 (left - 2) (from + (w + w)) (to + w)
-  turn_down p' l1 h sized fits e1 en =
-      let e : left ≡ suc (suc (left - 2)) = omega arith in
-      turn bit w count p₀ p p' l₀ l l1 (left - 2) from to (rw e at g) sized fits e1 en
+      → Going bit w count p₀ p' l₀ l1 n (from + (w + w)) (to + w)
+  turn_down p' l1 n e sized fits e1 en = turn bit w count p₀ p p' l₀ l l1 n from to (rw e at g) sized fits e1 en
+
+  -- as many are left as an odd count has alone
+  pub going_last : (n : ℕ) → left ≡ n → Going bit w count p₀ p l₀ l n from to
+  going_last n e = rw e at g

@@ -1,18 +1,18 @@
 -- The whole tree in lent scratch: one level, and then the tree over what it leaves.
 use mathlib.Core.Path.{◌≡◌, refl, sym, ap, ◌∙◌}
 use Prim.Native.Nat.{ℕ, zero, suc, ◌+◌, ◌-◌, ◌*◌, ◌/◌, ◌<◌, ◌≤◌}
-use native.Mathlib.Nat.{zero-add, mul-le-mul, mul-le-mul_right}
+use native.Mathlib.Nat.{mul-le-mul, mul-le-mul_right}
 use native.Mathlib.Omega.{arith}
 use mathlib.Core.Bool.{Bool, true, false, ◌&&◌}
-use lib.Dec.{leb, ltb}
+use lib.Dec.{ltb}
 use borrow.Author.Tests.{lt-ltb, le-leb, lt-leb}
 use mathlib.Core.List.{List, [], ◌∷◌, ◌++◌}
 use lib.ListN.{length, take, drop, get_or, length-drop}
 use lib.Seq.{sets, sets-eq, take_all}
 use Rattle.lists.proofs.Parts.{same_back}
 use Rattle.rules.specs.Value.{Value}
-use Rattle.rules.specs.Log.{Trace, ◌>>=◌, done}
-use Rattle.rules.specs.Swizzle.{pair_up, mux_tree}
+use Rattle.rules.specs.Log.{Trace, done}
+use Rattle.rules.specs.Swizzle.{mux_tree}
 use Rattle.log_entries.specs.Emission.{Lent, is_over, run}
 use Rattle.log_entries.proofs.Emission.{run-done, run_then, run_next, run-held}
 use Rattle.swizzle_laws.specs.Cuts.{cut, joined, Sized}

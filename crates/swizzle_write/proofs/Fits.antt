@@ -2,13 +2,11 @@
 use mathlib.Core.Path.{◌≡◌, refl, sym, ap, ◌∙◌}
 use Prim.Native.Nat.{ℕ, ◌*◌, ◌≤◌}
 use native.Mathlib.Omega.{arith}
-use mathlib.Core.Bool.{Bool, true, false}
+use mathlib.Core.Bool.{true, false}
 use mathlib.Core.List.{List}
 use lib.ListN.{length, replicate}
 use lib.Seq.{length-sets}
-use lib.Dec.{leb}
 use borrow.Author.Tests.{le-leb, leb-true}
-use Rattle.lists.specs.Choice.{when◌then◌else◌}
 use Rattle.lists.proofs.Choice.{and_true}
 use Rattle.lists.specs.Lists.{up_from}
 use Rattle.rules.specs.Limits.{X, max_merge}
@@ -22,18 +20,6 @@ use Rattle.swizzle_columns.proofs.Fits.{bounded, fits_say, fits_tested, mask_can
 use Rattle.swizzle_write.specs.Wide.{mux_room, can_write, Writes, port_masks, masks_of}
 
 module _ (p : WidePort) (len short size : ℕ) where
-  pub can_sizes : sizes_fit p size ≡ false → false ≡ can_write p len short size
-  unfolding can_write
-  can_sizes e = rw e
-
-  pub can_rows : sizes_fit p size ≡ true → rows_fit p len ≡ false → false ≡ can_write p len short size
-  unfolding can_write
-  can_rows e f = rw (e, f)
-
-  pub can_are : sizes_fit p size ≡ true → rows_fit p len ≡ true → leb short mux_room ≡ can_write p len short size
-  unfolding can_write
-  can_are e f = rw (e, f)
-
   pub can_say : can_write p len short size ≡ true → Writes p len short size
   unfolding can_write
   can_say e =

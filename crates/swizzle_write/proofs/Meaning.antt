@@ -1,13 +1,12 @@
 -- A port with the numbers of a split is the write port of the rules: the same entries, and its data and mask in the order of the memories.
 use mathlib.Core.Path.{◌≡◌, refl, sym, ap, ◌∙◌}
-use Prim.Native.Nat.{ℕ, ◌+◌, ◌*◌, ◌^◌, ◌<◌, ◌≤◌}
-use native.Mathlib.Omega.{arith}
+use Prim.Native.Nat.{ℕ, ◌*◌, ◌^◌, ◌≤◌}
 use mathlib.Core.List.{List}
 use lib.ListN.{length}
 use Rattle.rules.specs.Value.{Value}
 use Rattle.rules.specs.Cell.{WritePort}
 use Rattle.rules.specs.Log.{Trace}
-use Rattle.rules.specs.Geometry.{Layout, row_len_of, all_mems, columns}
+use Rattle.rules.specs.Geometry.{Layout}
 use Rattle.rules.specs.Swizzle.{Split, split_addr, swizzle_write}
 use Rattle.log_entries.specs.Emission.{Lent, run}
 use Rattle.swizzle_laws.specs.Order.{ordered}

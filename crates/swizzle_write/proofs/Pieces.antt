@@ -1,15 +1,14 @@
 -- A piece: the comparison, and the mux of the kept mask nets.
 use mathlib.Core.Path.{◌≡◌, refl, sym, ap, ◌∙◌}
 use mathlib.Core.Bool.{Bool, true, false}
-use Prim.Native.Nat.{ℕ, ◌+◌, ◌≤◌, ◌<◌}
+use Prim.Native.Nat.{ℕ, ◌+◌, ◌<◌}
 use native.Mathlib.Omega.{arith}
 use mathlib.Core.List.{List, [], ◌∷◌}
-use lib.ListN.{length, take, replicate, length-replicate}
+use lib.ListN.{length, replicate, length-replicate}
 use lib.Seq.{sets}
 use Rattle.lists.specs.Choice.{when◌then◌else◌}
 use Rattle.lists.specs.Lists.{pairs}
 use Rattle.lists.specs.Distinct.{kept, places}
-use Rattle.lists.proofs.Stores.{take_stored}
 use Rattle.lists.proofs.Pairs.{length_pairs}
 use Rattle.lists.proofs.Distinct.{length_places}
 use Rattle.rules.specs.Value.{Value, from_uint, Pos}

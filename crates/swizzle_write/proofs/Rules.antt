@@ -2,15 +2,15 @@
 use mathlib.Core.Path.{◌≡◌, refl, sym, ap, ◌∙◌}
 use Prim.Native.Nat.{ℕ, zero, suc, ◌+◌, ◌*◌, ◌^◌, ◌<◌}
 use native.Mathlib.Omega.{arith}
-use mathlib.Core.List.{List, [], ◌∷◌, map}
-use lib.ListN.{length, replicate}
+use mathlib.Core.List.{List}
+use lib.ListN.{replicate}
 use Rattle.lists.specs.Lists.{up_from}
 use Rattle.rules.specs.Limits.{X}
 use Rattle.rules.specs.Value.{Value}
 use Rattle.rules.specs.Cell.{WritePort}
-use Rattle.rules.specs.Log.{Made, Entry, Trace, ◌>>=◌, done}
+use Rattle.rules.specs.Log.{Made, Trace, ◌>>=◌, done}
 use Rattle.rules.specs.Geometry.{Layout, row_len_of, all_mems, columns}
-use Rattle.rules.specs.Swizzle.{Split, piece_start, old_rows, sources, arrange, repeating, blank, mask_pieces, store_each, WideWrite, swizzle_write}
+use Rattle.rules.specs.Swizzle.{Split, piece_start, sources, arrange, repeating, blank, mask_pieces, store_each, swizzle_write}
 use Rattle.log_entries.specs.Emission.{Lent, emit, run}
 use Rattle.log_entries.proofs.Emission.{run_same}
 use Rattle.swizzle_laws.specs.Order.{ordered}

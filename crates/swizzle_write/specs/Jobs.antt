@@ -1,9 +1,9 @@
 -- What the functions over pieces ask.
-use Rattle.std.specs.Prelude.{◌≡◌, ℕ, ◌*◌, ◌<◌, ◌≤◌, List, length, replicate}
+use Rattle.std.specs.Prelude.{◌≡◌, ℕ, ◌*◌, ◌≤◌, List, length, replicate}
 use Rattle.lists.specs.Lists.{pairs}
 use Rattle.lists.specs.Distinct.{kept, places}
 use Rattle.rules.specs.Limits.{max_merge}
-use Rattle.rules.specs.Merge.{Key2, same2}
+use Rattle.rules.specs.Merge.{same2}
 use Rattle.merge_keys.specs.Keys.{firsts, seconds}
 use Rattle.swizzle_columns.specs.declared.WidePort.{WidePort}
 use Rattle.swizzle_columns.specs.Wide.{PortFits}
@@ -23,15 +23,12 @@ pub record Job (p : WidePort) (len : ℕ) (mux mask kx ky at : List ℕ) (nl pl 
   pub number_len : nl ≡ length mux
   pub piece_len : pl ≡ length mask
 
--- a row of the mask, as many zeros, scratch for the merge, and arrays of the right lengths
-pub record Rooms (p : WidePort) (len : ℕ) (mux mask zeros : List ℕ) (xl yl al nl pl tl : ℕ) : Type 0 where
+-- a row of the mask, as many zeros, and arrays of the right lengths
+pub record Rooms (p : WidePort) (len : ℕ) (mux mask zeros : List ℕ) (nl pl tl : ℕ) : Type 0 where
   pub port : PortFits p len tl
   pub enough : length mask ≡ p.olds * len
   pub few : length mask ≤ max_merge
   pub zeros_are : zeros ≡ replicate (length mask) 0
-  pub in_kx : max_merge ≤ xl
-  pub in_ky : max_merge ≤ yl
-  pub in_at : max_merge ≤ al
   pub number_len : nl ≡ length mux
   pub piece_len : pl ≡ length mask
 

@@ -2,274 +2,208 @@
 // memory after memory.
 #![tactic(auto)]
 
-ghost use Rattle.std.specs.Prelude.{◌≡◌, false, ◌<◌, ◌≤◌, length};
+ghost use Rattle.std.specs.Prelude.{◌≡◌, false, ◌<◌, length};
 ghost use Rattle.std.proofs.lemmas.List.Edits.{sets};
-ghost use Rattle.lists.specs.Lists.{up_from};
 ghost use Rattle.rules.specs.Value.{from_uint};
 ghost use Rattle.log_entries.specs.Emission.{is_over, run};
-ghost use Rattle.log_entries.specs.View.{state_of, lent};
-ghost use Rattle.swizzle_laws.specs.Stores.{spill_at, piece_by, spill_masks};
+ghost use Rattle.log_entries.specs.View.{state_of, lent_of};
+ghost use Rattle.swizzle_laws.specs.Stores.{spill_at, piece_by};
 ghost use Rattle.swizzle_columns.specs.Wide.{port_starts};
 ghost use Rattle.swizzle_write.specs.Jobs.{Kept, Job, Rooms, Row};
+ghost use Rattle.swizzle_write.specs.View.{masks_by};
 ghost use Rattle.swizzle_write.specs.Wide.{can_write, Writes, port_masks, masks_of};
 
-use log_entries::LogState;
+use log_entries::Log;
+use merge_mux::emit::{self, Keys};
 use net_value::{ControlNet, Net};
 use swizzle_columns::WidePort;
 
 // The nets of a mux address that a port has room for.
 const MUX_ROOM: usize = 64;
 
+// A port with the nets of its mux address, and a row of its mask, with so many entries to a row of the layout.
+#[derive(Clone, Copy)]
+struct Masked<'a> {
+    port: WidePort,
+    len: usize,
+    mux: &'a [u32],
+    row: &'a [u32],
+}
+
+// What a merge of the row with zeros keeps, and the place of each net.
+#[derive(Clone, Copy)]
+struct KeptNets<'a> {
+    x: &'a [u32],
+    y: &'a [u32],
+    at: &'a [u32],
+}
+
 // The low bits of a number as constant nets.
 fn number_bits(out: &mut [u32], x: usize)
     ensures { out.new ≡ from_uint (length out.old) x }
 {
     let mut left = x;
-    let mut i: usize = 0;
-    while i < out.len() {
-        out[i] = (left % 2) as u32;
-        left = left / 2;
-        i += 1;
+    for bit in out.iter_mut() {
+        *bit = (left % 2) as u32;
+        left /= 2;
     }
 }
 
-// Piece x: the comparison of the mux address with its number and, unless that is empty, the mux of the kept mask nets. Its mask goes to `piece`.
-fn emit_piece(
-    log: &mut [u32],
-    st: LogState,
-    mux: &[u32],
-    number: &[u32],
-    kx: &[u32],
-    ky: &[u32],
-    at: &[u32],
-    mask: &[u32],
-    piece: &mut [u32],
-    x: usize,
-) -> LogState
-    requires { Kept mask.now kx.now ky.now at.now × (number.now ≡ from_uint (length mux.now) x) }
-    ensures log_after { lent result log.new ≡ run (piece_by mux.now mask.now x) (lent st log.old) }
-    ensures piece_after { is_over (state_of result) ≡ false → piece.new ≡ sets piece.old 0 (piece_by mux.now mask.now x st.next).value }
-{
-    let after = log_entries::emit_eq(log, st, mux, number);
-    if mux.len() == 0 {
-        lists::copy(piece, 0, mask);
-        return after;
+impl Masked<'_> {
+    // Piece x: the comparison of the mux address with its number and, unless that is empty, the mux of the kept mask nets. Its mask goes to `piece`.
+    fn emit_piece(
+        self,
+        log: &mut Log,
+        kept: KeptNets,
+        number: &mut [u32],
+        piece: &mut [u32],
+        x: usize,
+    )
+        requires { Kept self.row.now kept.x.now kept.y.now kept.at.now × (length number.old ≡ length self.mux.now) }
+        ensures log_after { lent_of log.new ≡ run (piece_by self.entry.mux.now self.entry.row.now x) (lent_of log.old) }
+        ensures piece_after { is_over (state_of log.new.state) ≡ false → piece.new ≡ sets piece.old 0 (piece_by self.entry.mux.now self.entry.row.now x log.old.state.next).value }
+    {
+        number_bits(number, x);
+        let select = ControlNet::Pos(Net(log.state.next));
+        log.emit_eq(self.mux, number);
+        if self.mux.len() == 0 {
+            lists::copy(piece, 0, self.row);
+            return;
+        }
+        emit::emit_kept_mux(log, piece, 0, select, kept.x, kept.y, kept.at);
     }
-    merge_mux::emit::emit_kept_mux_with(
-        log,
-        after,
-        piece,
-        0,
-        ControlNet::Pos(Net(st.next)),
-        kx,
-        ky,
-        at,
+
+    // Piece x, emitted and stored.
+    fn write_piece(
+        self,
+        log: &mut Log,
+        kept: KeptNets,
+        number: &mut [u32],
+        piece: &mut [u32],
+        to: &mut [u32],
+        x: usize,
     )
-}
-
-// Piece x of a port with so many entries to a row, emitted and stored.
-fn one_piece(
-    log: &mut [u32],
-    st: LogState,
-    p: WidePort,
-    len: usize,
-    mux: &[u32],
-    mask: &[u32],
-    kx: &[u32],
-    ky: &[u32],
-    at: &[u32],
-    number: &mut [u32],
-    piece: &mut [u32],
-    to: &mut [u32],
-    x: usize,
-) -> LogState
-    requires job { Job p len mux.now mask.now kx.now ky.now at.now (length number.old) (length piece.old) (length to.old) }
-    requires x_lt_pieces { x < p.pieces }
-    ensures log_after { lent result log.new ≡ run (piece_by mux.now mask.now x) (lent st log.old) }
-    ensures piece_after { is_over (state_of result) ≡ false → piece.new ≡ (piece_by mux.now mask.now x st.next).value }
-    ensures to_after { to.new ≡ spill_at p.mems p.rows p.unit len (port_starts p len x) piece.new to.old }
-{
-    number_bits(number, x);
-    let after = emit_piece(log, st, mux, number, kx, ky, at, mask, piece, x);
-    swizzle_columns::store_nets(to, p, len, piece, x);
-    after
-}
-
-// The pieces in turn.
-fn write_pieces(
-    log: &mut [u32],
-    st: LogState,
-    p: WidePort,
-    len: usize,
-    pieces: usize,
-    mux: &[u32],
-    mask: &[u32],
-    kx: &[u32],
-    ky: &[u32],
-    at: &[u32],
-    number: &mut [u32],
-    piece: &mut [u32],
-    to: &mut [u32],
-) -> LogState
-    requires job { Job p len mux.now mask.now kx.now ky.now at.now (length number.old) (length piece.old) (length to.old) }
-    requires pieces_le_pieces { pieces ≤ p.pieces }
-    ensures log_after { lent result log.new ≡ run (spill_masks p.mems p.rows p.unit len (port_starts p len) mux.now mask.now (up_from 0 pieces) to.old) (lent st log.old) }
-    ensures to_after { is_over (state_of result) ≡ false → to.new ≡ (spill_masks p.mems p.rows p.unit len (port_starts p len) mux.now mask.now (up_from 0 pieces) to.old st.next).value }
-{
-    let mut state = st;
-    let mut x: usize = 0;
-    while x < pieces {
-        state = one_piece(
-            log, state, p, len, mux, mask, kx, ky, at, number, piece, to, x,
-        );
-        x += 1;
+        requires job { Job self.port self.len self.mux.now self.row.now kept.x.now kept.y.now kept.at.now (length number.old) (length piece.old) (length to.old) }
+        requires x_lt_pieces { x < self.port.pieces }
+        ensures log_after { lent_of log.new ≡ run (piece_by self.entry.mux.now self.entry.row.now x) (lent_of log.old) }
+        ensures piece_after { is_over (state_of log.new.state) ≡ false → piece.new ≡ (piece_by self.entry.mux.now self.entry.row.now x log.old.state.next).value }
+        ensures to_after { to.new ≡ spill_at self.entry.port.mems self.entry.port.rows self.entry.port.unit self.entry.len (port_starts self.entry.port self.entry.len x) piece.new to.old }
+    {
+        self.emit_piece(log, kept, number, piece, x);
+        swizzle_columns::store_nets(to, self.port, self.len, piece, x);
     }
-    state
-}
 
-// The same from a row of the mask alone: its nets are merged once, in lent scratch.
-fn write_merged(
-    log: &mut [u32],
-    st: LogState,
-    p: WidePort,
-    len: usize,
-    pieces: usize,
-    mux: &[u32],
-    mask: &[u32],
-    zeros: &[u32],
-    kx: &mut [u32],
-    ky: &mut [u32],
-    at: &mut [u32],
-    number: &mut [u32],
-    piece: &mut [u32],
-    to: &mut [u32],
-) -> LogState
-    requires rooms { Rooms p len mux.now mask.now zeros.now (length kx.old) (length ky.old) (length at.old) (length number.old) (length piece.old) (length to.old) }
-    requires pieces_le_pieces { pieces ≤ p.pieces }
-    ensures log_after { lent result log.new ≡ run (spill_masks p.mems p.rows p.unit len (port_starts p len) mux.now mask.now (up_from 0 pieces) to.old) (lent st log.old) }
-    ensures to_after { is_over (state_of result) ≡ false → to.new ≡ (spill_masks p.mems p.rows p.unit len (port_starts p len) mux.now mask.now (up_from 0 pieces) to.old st.next).value }
-{
-    let n = mask.len();
-    let k = merge_keys::merge(kx, ky, at, mask, zeros);
-    write_pieces(
-        log,
-        st,
-        p,
-        len,
-        pieces,
-        mux,
-        mask,
-        &kx[..k],
-        &ky[..k],
-        &at[..n],
-        number,
-        piece,
-        to,
+    // The pieces in turn.
+    fn write_pieces(
+        self,
+        log: &mut Log,
+        kept: KeptNets,
+        number: &mut [u32],
+        piece: &mut [u32],
+        to: &mut [u32],
     )
-}
+        requires { Job self.port self.len self.mux.now self.row.now kept.x.now kept.y.now kept.at.now (length number.old) (length piece.old) (length to.old) }
+        ensures log_after { lent_of log.new ≡ run (masks_by self.entry to.old) (lent_of log.old) }
+        ensures to_after { is_over (state_of log.new.state) ≡ false → to.new ≡ (masks_by self.entry to.old log.old.state.next).value }
+    {
+        for x in 0..self.port.pieces as usize {
+            self.write_piece(log, kept, number, piece, to, x);
+        }
+    }
 
-// The same with scratch of its own.
-fn write_row(
-    log: &mut [u32],
-    st: LogState,
-    p: WidePort,
-    len: usize,
-    pieces: usize,
-    mux: &[u32],
-    mask: &[u32],
-    to: &mut [u32],
-) -> LogState
-    requires row { Row p len (length mux.now) (length mask.now) (length to.old) }
-    requires pieces_le_pieces { pieces ≤ p.pieces }
-    ensures log_after { lent result log.new ≡ run (spill_masks p.mems p.rows p.unit len (port_starts p len) mux.now mask.now (up_from 0 pieces) to.old) (lent st log.old) }
-    ensures to_after { is_over (state_of result) ≡ false → to.new ≡ (spill_masks p.mems p.rows p.unit len (port_starts p len) mux.now mask.now (up_from 0 pieces) to.old st.next).value }
-{
-    let n = mask.len();
-    let m = mux.len();
-    let zeros = [0u32; rules::MAX_MERGE];
-    let mut kx = [0u32; rules::MAX_MERGE];
-    let mut ky = [0u32; rules::MAX_MERGE];
-    let mut at = [0u32; rules::MAX_MERGE];
-    let mut piece = [0u32; rules::MAX_MERGE];
-    let mut number = [0u32; 64];
-    write_merged(
-        log,
-        st,
-        p,
-        len,
-        pieces,
-        mux,
-        mask,
-        &zeros[..n],
-        &mut kx,
-        &mut ky,
-        &mut at,
-        &mut number[..m],
-        &mut piece[..n],
-        to,
+    // The same from the row alone: its nets are merged once, in lent scratch.
+    fn write_merged(
+        self,
+        log: &mut Log,
+        zeros: &[u32],
+        keys: &mut Keys,
+        number: &mut [u32],
+        piece: &mut [u32],
+        to: &mut [u32],
     )
+        requires { Rooms self.port self.len self.mux.now self.row.now zeros.now (length number.old) (length piece.old) (length to.old) }
+        ensures log_after { lent_of log.new ≡ run (masks_by self.entry to.old) (lent_of log.old) }
+        ensures to_after { is_over (state_of log.new.state) ≡ false → to.new ≡ (masks_by self.entry to.old log.old.state.next).value }
+    {
+        let n = self.row.len();
+        let k = keys.merge(self.row, zeros);
+        let kept = KeptNets {
+            x: &keys.x[..k],
+            y: &keys.y[..k],
+            at: &keys.at[..n],
+        };
+        self.write_pieces(log, kept, number, piece, to);
+    }
+
+    // The same with scratch of its own.
+    fn write(self, log: &mut Log, to: &mut [u32])
+        requires { Row self.port self.len (length self.mux.now) (length self.row.now) (length to.old) }
+        ensures log_after { lent_of log.new ≡ run (masks_by self.entry to.old) (lent_of log.old) }
+        ensures to_after { is_over (state_of log.new.state) ≡ false → to.new ≡ (masks_by self.entry to.old log.old.state.next).value }
+    {
+        let zeros = [0; rules::MAX_MERGE];
+        let mut keys = Keys {
+            x: [0; rules::MAX_MERGE],
+            y: [0; rules::MAX_MERGE],
+            at: [0; rules::MAX_MERGE],
+        };
+        let mut number = [0; MUX_ROOM];
+        let mut piece = [0; rules::MAX_MERGE];
+        let n = self.row.len();
+        let number = &mut number[..self.mux.len()];
+        self.write_merged(log, &zeros[..n], &mut keys, number, &mut piece[..n], to);
+    }
 }
 
 // Whether a write port is within the limits, its mux address not long, and its room as large as all its columns.
+#[tactic(auto, unfolding(crate::specs::Wide::can_write))]
 fn can_write(p: WidePort, len: usize, short: usize, size: usize) -> bool
     ensures { result ≡ can_write p len short size }
 {
-    if !swizzle_columns::sizes_fit(p, size) {
-        return false;
-    }
-    if !swizzle_columns::rows_fit(p, len) {
-        return false;
-    }
-    short <= MUX_ROOM
+    swizzle_columns::sizes_fit(p, size) && swizzle_columns::rows_fit(p, len) && short <= MUX_ROOM
 }
 
-// The same from the mask of a port within the limits: its row, a blank room, then the pieces.
+// The masks of a port within the limits: its row, a blank room, then the pieces.
 fn masks_in(
-    log: &mut [u32],
-    st: LogState,
+    log: &mut Log,
     to: &mut [u32],
-    p: WidePort,
+    port: WidePort,
     mux: &[u32],
     entries: &[u32],
     mask: &[u32],
-) -> LogState
-    requires { Writes p (length entries.now) (length mux.now) (length to.old) }
-    ensures log_after { lent result log.new ≡ run (port_masks p mux.now entries.now mask.now (length to.old)) (lent st log.old) }
-    ensures to_after { is_over (state_of result) ≡ false → to.new ≡ (port_masks p mux.now entries.now mask.now (length to.old) st.next).value }
+)
+    requires { Writes port (length entries.now) (length mux.now) (length to.old) }
+    ensures log_after { lent_of log.new ≡ run (port_masks port mux.now entries.now mask.now (length to.old)) (lent_of log.old) }
+    ensures to_after { is_over (state_of log.new.state) ≡ false → to.new ≡ (port_masks port mux.now entries.now mask.now (length to.old) log.old.state.next).value }
 {
     let len = entries.len();
-    let n = lists::usize_of_u32(p.olds) * len;
-    let mut row = [0u32; rules::MAX_MERGE];
-    swizzle_columns::mask_row(&mut row, p, entries, mask);
+    let n = port.olds as usize * len;
+    let mut row = [0; rules::MAX_MERGE];
+    swizzle_columns::mask_row(&mut row, port, entries, mask);
     lists::fill(to, 0, to.len(), 0);
-    write_row(
-        log,
-        st,
-        p,
+    let masked = Masked {
+        port,
         len,
-        lists::usize_of_u32(p.pieces),
         mux,
-        &row[..n],
-        to,
-    )
+        row: &row[..n],
+    };
+    masked.write(log, to);
 }
 
 // The masks of a write port: logs its comparisons and merging muxes, and stores its mask in the order of the memories. Nothing is done where the
 // port passes the limits or the room is not as large as its columns. After an overflow the room is left open.
 pub fn write_masks(
-    log: &mut [u32],
-    st: LogState,
+    log: &mut Log,
     to: &mut [u32],
     p: WidePort,
     mux: &[u32],
     entries: &[u32],
     mask: &[u32],
-) -> LogState
-    ensures log_after { lent result log.new ≡ run (masks_of p mux.now entries.now mask.now to.old) (lent st log.old) }
-    ensures to_after { is_over (state_of result) ≡ false → to.new ≡ (masks_of p mux.now entries.now mask.now to.old st.next).value }
+)
+    ensures log_after { lent_of log.new ≡ run (masks_of p mux.now entries.now mask.now to.old) (lent_of log.old) }
+    ensures to_after { is_over (state_of log.new.state) ≡ false → to.new ≡ (masks_of p mux.now entries.now mask.now to.old log.old.state.next).value }
 {
-    if !can_write(p, entries.len(), mux.len(), to.len()) {
-        return st;
+    if can_write(p, entries.len(), mux.len(), to.len()) {
+        masks_in(log, to, p, mux, entries, mask);
     }
-    masks_in(log, st, to, p, mux, entries, mask)
 }

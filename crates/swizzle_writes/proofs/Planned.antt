@@ -3,13 +3,11 @@ use mathlib.Core.Path.{◌≡◌, refl, sym, ap, ◌∙◌, subst}
 use Prim.Native.Nat.{ℕ, zero, suc, ◌+◌, ◌-◌, ◌*◌, ◌^◌, ◌<◌, ◌≤◌}
 use native.Mathlib.Nat.{mul_left_comm, mul-pos}
 use native.Mathlib.Omega.{arith}
-use mathlib.Core.Bool.{Bool, true, false}
-use mathlib.Core.List.{List, [], ◌∷◌, ◌++◌, append_assoc}
-use lib.ListN.{length, take, drop, length-append, length-take, length-drop}
+use mathlib.Core.Bool.{true}
+use mathlib.Core.List.{List, ◌++◌, append_assoc}
+use lib.ListN.{length, drop, length-append, length-take, length-drop}
 use lib.Seq.{sets, length-sets}
-use lib.Dec.{leb}
 use borrow.Author.Tests.{le-leb}
-use Rattle.lists.specs.Choice.{when◌then◌else◌}
 use Rattle.lists.specs.Lists.{part}
 use Rattle.lists.proofs.Store.{sets_append, sets_at}
 use Rattle.rules.specs.Limits.{addr_bits, max_wide, max_columns}
@@ -18,7 +16,7 @@ use Rattle.rules.specs.Value.{Value}
 use Rattle.rules.specs.Cell.{WritePort}
 use Rattle.rules.specs.Log.{Trace, ◌>>=◌, done}
 use Rattle.rules.specs.Geometry.{Layout, row_len_of, all_mems, all_chunks, soft, columns}
-use Rattle.rules.specs.Swizzle.{Split, split_addr, split_by, swizzle_write, WideWrite}
+use Rattle.rules.specs.Swizzle.{Split, split_addr, split_by, swizzle_write}
 use Rattle.rules.proofs.Traces.{bind_value}
 use Rattle.log_entries.specs.Emission.{Lent, run}
 use Rattle.log_entries.proofs.Emission.{run_same}
@@ -160,7 +158,7 @@ module _ (q : Layout) (old new : ℕ) (w : WritePort) (lp : LayoutPlanned q) (pp
     whole r = record { room = r; next = from + (size + size); addr_len_of = length s.addr }
 
     has_room : roomy p (length s.addr) at (length room) ≡ true
-    has_room = roomy_fits p (length s.addr) at (length room) (addr_short q old new w.addr can_split_lem) (all_mems q * q.unit) refl port_fits_lem.columns_max size refl enough
+    has_room = roomy_fits p (length s.addr) at (length room) (addr_short q old new w.addr can_split_lem) port_fits_lem.columns_max enough
 
     placed_is : placed_if q (all_mems q) old new w.addr w.bits w.mask at room ≡ (nets_of p s.mux_addr q.entries w.bits w.mask from size r0 >>= λ r. done (whole r))
     unfolding placed_if placed

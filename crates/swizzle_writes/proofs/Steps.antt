@@ -1,25 +1,25 @@
 -- A write port by its steps, and the loop over the ports.
 use mathlib.Core.Path.{◌≡◌, refl, sym, ap, ◌∙◌, subst}
-use Prim.Native.Nat.{ℕ, suc, ◌+◌, ◌-◌, ◌*◌, ◌<◌, ◌≤◌, min}
+use Prim.Native.Nat.{ℕ, suc, ◌+◌, ◌*◌, ◌<◌, ◌≤◌, min}
 use native.Mathlib.Numerals.{add-one}
 use native.Mathlib.Omega.{arith}
-use mathlib.Core.Bool.{Bool, true, false}
+use mathlib.Core.Bool.{true, false}
 use mathlib.Core.List.{List, [], ◌∷◌, ◌++◌}
-use lib.ListN.{length, take, drop, get_or, set, drop_of_length-le, length-take, length-drop}
+use lib.ListN.{length, take, drop, get_or, drop_of_length-le, length-take, length-drop}
 use lib.Seq.{sets, drop-cons, get_or-take}
 use lib.Dec.{leb}
-use borrow.Author.Tests.{le-leb, lt-leb}
-use Rattle.lists.specs.Choice.{when◌then◌else◌}
+use borrow.Author.Tests.{le-leb, leb-true}
+use Rattle.lists.proofs.Choice.{and_true}
 use Rattle.lists.specs.Lists.{part}
 use Rattle.rules.specs.Limits.{max_columns}
 use Rattle.rules.specs.Value.{Value}
 use Rattle.rules.specs.Cell.{WritePort, Mem, wide_log2, write_wide_log2, write_at}
 use Rattle.rules.specs.Geometry.{Layout}
-use Rattle.rules.specs.Log.{Trace, ◌>>=◌, done}
+use Rattle.rules.specs.Log.{◌>>=◌, done}
 use Rattle.rules.specs.Swizzle.{split_addr}
 use Rattle.rules.specs.Beside.Chain.{Chains}
 use Rattle.rules.proofs.Chain.{chains_bind, chains_done, chains_if}
-use Rattle.log_entries.specs.Emission.{Lent, is_over, run}
+use Rattle.log_entries.specs.Emission.{Lent}
 use Rattle.port_transparency.specs.Gave.{Gave}
 use Rattle.port_transparency.proofs.Gave.{gave_done, gave_bind, gave_same}
 use Rattle.net_memory.specs.declared.MemoryWritePort.{MemoryWritePort}
@@ -92,23 +92,17 @@ nets_gave p mux es bits mask from size n room r1 r2 k l l1 en e g f =
 
 -- ---- a port with its address and mux address
 module _ (p : WidePort) (len at room : ℕ) where
-  pub roomy_long : addr_room < len → roomy p len at room ≡ false
+  pub roomy_fits : len ≤ addr_room → p.mems * p.unit ≤ max_columns → at + len + (size_of p + size_of p) ≤ room → roomy p len at room ≡ true
   unfolding roomy
-  roomy_long h = rw (lt-leb len addr_room h)
+  roomy_fits a b c = rw (le-leb len addr_room a, le-leb (p.mems * p.unit) max_columns b, le-leb (at + len + (size_of p + size_of p)) room c)
 
-  module _ (short : len ≤ addr_room) (c : ℕ) (e : c ≡ p.mems * p.unit) where
-    pub roomy_wide : max_columns < c → roomy p len at room ≡ false
-    unfolding roomy
-    roomy_wide h = rw (le-leb len addr_room short, lt-leb (p.mems * p.unit) max_columns (omega arith))
-
-    module _ (wide : c ≤ max_columns) (s : ℕ) (f : s ≡ size_of p) where
-      pub roomy_full : room < at + len + (s + s) → roomy p len at room ≡ false
-      unfolding roomy
-      roomy_full h = rw (le-leb len addr_room short, le-leb (p.mems * p.unit) max_columns (omega arith), lt-leb (at + len + (size_of p + size_of p)) room (omega arith))
-
-      pub roomy_fits : at + len + (s + s) ≤ room → roomy p len at room ≡ true
-      unfolding roomy
-      roomy_fits h = rw (le-leb len addr_room short, le-leb (p.mems * p.unit) max_columns (omega arith), le-leb (at + len + (size_of p + size_of p)) room (omega arith))
+  -- what the test says
+  pub roomy_says : roomy p len at room ≡ true → (len ≤ addr_room) × (p.mems * p.unit ≤ max_columns) × (at + len + (size_of p + size_of p) ≤ room)
+  unfolding roomy
+  roomy_says e =
+      let a = and_true (leb len addr_room) _ e in
+      let b = and_true (leb (p.mems * p.unit) max_columns) _ a.1 in
+      (leb-true _ _ a.0, leb-true _ _ b.0, leb-true _ _ b.1)
 
 module _ (p : WidePort) (hw mux es bits mask : List ℕ) (at : ℕ) (room : List ℕ) (l : Lent) where
   pub placed_not : roomy p (length hw) at (length room) ≡ false → Gave (placed p hw mux es bits mask at room) l l (record { room = room; next = at; addr_len_of = 0 })

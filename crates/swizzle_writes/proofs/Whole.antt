@@ -1,11 +1,11 @@
 -- All write ports of a plan whose number is 0: the machine's trace is the rules', and the room holds the ports' nets one after the other.
-use mathlib.Core.Path.{◌≡◌, refl, sym, ap, ◌∙◌, subst}
-use Prim.Native.Nat.{ℕ, zero, suc, ◌+◌, ◌-◌, ◌*◌, ◌^◌, ◌<◌, ◌≤◌, min}
-use native.Mathlib.Nat.{add-zero, add_assoc, mul_left_comm}
+use mathlib.Core.Path.{◌≡◌, refl, sym, ap, ◌∙◌}
+use Prim.Native.Nat.{ℕ, suc, ◌+◌, ◌*◌, ◌^◌, ◌<◌, ◌≤◌, min}
+use native.Mathlib.Nat.{add-zero, mul_left_comm}
 use native.Mathlib.Omega.{arith}
-use mathlib.Core.Bool.{Bool, true, false}
+use mathlib.Core.Bool.{false}
 use mathlib.Core.List.{List, [], ◌∷◌, ◌++◌}
-use lib.ListN.{length, take, drop, get_or, set, length-append}
+use lib.ListN.{length, drop, get_or, set, length-append}
 use lib.Seq.{sets, length-sets, get_or-drop, drop-drop}
 use native.Mathlib.Numerals.{add-one}
 use Rattle.lists.specs.Lists.{concat_map}
@@ -16,7 +16,6 @@ use Rattle.rules.specs.Cell.{WritePort, Mem, write_at, write_wide_log2}
 use Rattle.rules.specs.Log.{Trace, ◌>>=◌, done}
 use Rattle.rules.specs.Geometry.{Layout, all_mems, columns}
 use Rattle.rules.specs.Swizzle.{Split, split_addr, swizzle_write, swizzle_writes, WideWrite}
-use Rattle.rules.specs.Beside.Chain.{Chains}
 use Rattle.rules.proofs.Traces.{bind_value}
 use Rattle.log_entries.specs.Emission.{Lent, is_over, run}
 use Rattle.log_entries.proofs.Emission.{run-done, run_then, run_same, run_next, run-held}
@@ -32,9 +31,9 @@ use Rattle.swizzle_laws.specs.Order.{ordered}
 use Rattle.swizzle_laws.proofs.Parts.{length_ordered}
 use Rattle.swizzle_laws.proofs.Whole.{mask_whole}
 use Rattle.swizzle_laws.proofs.WriteCounts.{counted_write}
-use Rattle.swizzle_writes.specs.Placed.{size_of, wide_by_of, rows_of, Placed, placed_if, placed_at, Filled, port_by, filled_by, placed_from, none_filled}
+use Rattle.swizzle_writes.specs.Placed.{size_of, wide_by_of, Placed, placed_if, placed_at, Filled, port_by, filled_by, placed_from, none_filled}
 use Rattle.swizzle_writes.specs.Planned.{LayoutPlanned, PortPlanned, port_nets, total_nets, PortsPlanned, WritePlanned, wide_nets, ports_by, filled_with}
-use Rattle.swizzle_writes.proofs.Planned.{rows_are, new_is, columns_are, done_value, bits_size, nets_at_of, planned_run, planned_value}
+use Rattle.swizzle_writes.proofs.Planned.{rows_are, new_is, columns_are, done_value, bits_size, planned_run, planned_value}
 use Rattle.swizzle_writes.proofs.Steps.{chains_placed_at}
 
 -- ---- the next write port

@@ -6,7 +6,7 @@ use Rattle.lists.specs.Choice.{when◌then◌else◌}
 use Rattle.lists.specs.Lists.{part}
 use Rattle.rules.specs.Limits.{addr_bits, max_columns, max_ports}
 use Rattle.rules.specs.Value.{Value}
-use Rattle.rules.specs.Cell.{WritePort, Mem, write_at, write_wide_log2}
+use Rattle.rules.specs.Cell.{Mem, write_at, write_wide_log2}
 use Rattle.rules.specs.Log.{Trace, ◌>>=◌, done}
 use Rattle.rules.specs.Geometry.{Layout}
 use Rattle.rules.specs.Swizzle.{split_addr}

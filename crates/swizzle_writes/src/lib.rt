@@ -3,33 +3,31 @@
 #![tactic(auto)]
 
 ghost use Rattle.std.specs.Prelude.{◌≡◌, List, ℕ, ◌+◌, ◌<◌, ◌≤◌, min, length, take, replicate};
-ghost use Rattle.log_entries.specs.View.{lent};
+ghost use Rattle.log_entries.specs.View.{lent_of};
 ghost use Rattle.net_memory.specs.View.{memory_of};
 ghost use Rattle.rules.specs.Limits.{max_ports};
-ghost use Rattle.image_geometry.specs.View.{layout_by};
+ghost use Rattle.image_geometry.specs.View.{layout_of};
 ghost use Rattle.port_transparency.specs.Gave.{Gave};
-ghost use Rattle.swizzle_writes.specs.Placed.{rows_of, wide_by_of, nets_of, placed, placed_if, placed_at, placed_from, none_filled};
+ghost use Rattle.swizzle_writes.specs.Placed.{rows_of, nets_of, roomy, placed, placed_if, placed_at, placed_from, none_filled};
 
-use image_geometry::Params;
-use log_entries::LogState;
+use image_geometry::{Layout, Params};
+use log_entries::Log;
 use net_memory::Memory;
 use net_value::{ControlNet, Net};
 use swizzle_columns::WidePort;
 use swizzle_result::WideWritePort;
 use swizzle_split::Split;
 
-// The state after all write ports, how many nets they take, and the ports of the result.
+// How many nets all write ports take, and the ports of the result.
 #[derive(Clone, Copy)]
 pub struct Written {
-    pub state: LogState,
     pub used: usize,
     pub ports: [WideWritePort; rules::MAX_PORTS],
 }
 
-// The state after a port, where the next one starts, and the length of its address.
+// Where the next port starts after a port, and the length of its address.
 #[derive(Clone, Copy)]
 struct Placing {
-    state: LogState,
     next: usize,
     addr_len: u32,
 }
@@ -41,98 +39,85 @@ const ADDR_ROOM: usize = 64;
 fn rows_of(k: u32) -> u32
     ensures { result ≡ rows_of k }
 {
-    if k == 0 {
-        return 1;
+    match k {
+        0 => 1,
+        1 => 2,
+        2 => 4,
+        3 => 8,
+        _ => 16,
     }
-    if k == 1 {
-        return 2;
-    }
-    if k == 2 {
-        return 4;
-    }
-    if k == 3 {
-        return 8;
-    }
-    16
 }
 
-// Data and mask of a port from a place on, each of so many nets.
-fn place_nets(
-    log: &mut [u32],
-    st: LogState,
-    to: &mut [u32],
-    from: usize,
-    size: usize,
-    p: WidePort,
-    mux: &[u32],
-    entries: &[u32],
-    bits: &[u32],
-    mask: &[u32],
-) -> LogState
-    requires { from + (size + size) ≤ length to.old }
-    ensures { Gave (nets_of p mux.now entries.now bits.now mask.now from size to.old) (lent st log.old) (lent result log.new) to.new }
+// Whether so many nets hold a port from a place on, whose address has so many, with its data and its mask.
+#[tactic(auto, unfolding(crate::specs::Placed::roomy))]
+fn is_roomy(p: WidePort, len: usize, at: usize, room: usize) -> bool
+    ensures { result ≡ roomy p len at room }
 {
-    let mid = from + size;
-    let end = mid + size;
-    swizzle_columns::data_columns(&mut to[from..mid], p, entries, bits);
-    swizzle_write::write_masks(log, st, &mut to[mid..end], p, mux, entries, mask)
+    let columns = p.mems as usize * p.unit as usize;
+    if ADDR_ROOM < len || (rules::MAX_COLUMNS as usize) < columns || room < at {
+        return false;
+    }
+    let size = p.rows as usize * columns;
+    len + (size + size) <= room - at
 }
 
-// A port from a place on, with its address and its mux address: nothing where it has no room.
-fn place_in(
-    log: &mut [u32],
-    st: LogState,
-    to: &mut [u32],
-    at: usize,
-    p: WidePort,
-    hw: &[u32],
-    mux: &[u32],
-    entries: &[u32],
-    bits: &[u32],
-    mask: &[u32],
-) -> Placing
-    ensures { Gave (placed p hw.now mux.now entries.now bits.now mask.now at to.old) (lent st log.old) (lent result.state log.new) (record { room = to.new; next = result.next; addr_len_of = result.addr_len }) }
-{
-    let none = Placing {
-        state: st,
-        next: at,
-        addr_len: 0,
-    };
-    if ADDR_ROOM < hw.len() {
-        return none;
+// A write port among the memories: the two parts of its address, the layout's entries, its data and its mask.
+#[derive(Clone, Copy)]
+struct Port<'a> {
+    wide: WidePort,
+    hw: &'a [u32],
+    mux: &'a [u32],
+    entries: &'a [u32],
+    bits: &'a [u32],
+    mask: &'a [u32],
+}
+
+impl Port<'_> {
+    // Data and mask from a place on, each of so many nets.
+    fn place_nets(self, log: &mut Log, to: &mut [u32], from: usize, size: usize)
+        requires { from + (size + size) ≤ length to.old }
+        ensures { Gave (nets_of self.entry.wide self.entry.mux.now self.entry.entries.now self.entry.bits.now self.entry.mask.now from size to.old) (lent_of log.old) (lent_of log.new) to.new }
+    {
+        let p = self.wide;
+        let mid = from + size;
+        let end = mid + size;
+        swizzle_columns::data_columns(&mut to[from..mid], p, self.entries, self.bits);
+        swizzle_write::write_masks(log, &mut to[mid..end], p, self.mux, self.entries, self.mask);
     }
-    let columns = lists::usize_of_u32(p.mems) * lists::usize_of_u32(p.unit);
-    if lists::usize_of_u64(rules::MAX_COLUMNS) < columns {
-        return none;
-    }
-    let size = lists::usize_of_u32(p.rows) * columns;
-    if to.len() < at {
-        return none;
-    }
-    let from = at + hw.len();
-    let next = from + (size + size);
-    if to.len() < next {
-        return none;
-    }
-    lists::copy(to, at, hw);
-    let state = place_nets(log, st, to, from, size, p, mux, entries, bits, mask);
-    Placing {
-        state,
-        next,
-        addr_len: hw.len() as u32,
+
+    // The whole port from a place on: nothing where it has no room.
+    fn place(self, log: &mut Log, to: &mut [u32], at: usize) -> Placing
+        ensures { Gave (placed self.entry.wide self.entry.hw.now self.entry.mux.now self.entry.entries.now self.entry.bits.now self.entry.mask.now at to.old) (lent_of log.old) (lent_of log.new) (record { room = to.new; next = result.next; addr_len_of = result.addr_len }) }
+    {
+        let p = self.wide;
+        let len = self.hw.len();
+        if !is_roomy(p, len, at, to.len()) {
+            return Placing {
+                next: at,
+                addr_len: 0,
+            };
+        }
+        let size = p.rows as usize * (p.mems as usize * p.unit as usize);
+        let from = at + len;
+        lists::copy(to, at, self.hw);
+        self.place_nets(log, to, from, size);
+        Placing {
+            next: from + (size + size),
+            addr_len: len as u32,
+        }
     }
 }
 
 // The numbers of a port among so many memories.
-fn wide_port(q: Params, mems: u32, s: Split) -> WidePort
-    ensures { result ≡ record { mems = mems; unit = q.unit; rows = rows_of s.new; olds = rows_of s.old; width = q.width; chunks = s.mask; pieces = s.pieces } }
+fn wide_port(p: Params, mems: u32, s: Split) -> WidePort
+    ensures { result ≡ record { mems = mems; unit = p.unit; rows = rows_of s.new; olds = rows_of s.old; width = p.width; chunks = s.mask; pieces = s.pieces } }
 {
     WidePort {
         mems,
-        unit: q.unit,
+        unit: p.unit,
         rows: rows_of(s.new),
         olds: rows_of(s.old),
-        width: q.width,
+        width: p.width,
         chunks: s.mask,
         pieces: s.pieces,
     }
@@ -140,86 +125,72 @@ fn wide_port(q: Params, mems: u32, s: Split) -> WidePort
 
 // A port with an old and a new wide log from a place on: nothing where it cannot be split, or has no room.
 fn place_port(
-    log: &mut [u32],
-    st: LogState,
+    log: &mut Log,
     to: &mut [u32],
     at: usize,
-    q: Params,
+    q: Layout,
     mems: u32,
     old: u32,
     new: u32,
-    entries: &[u32],
     addr: &[u32],
     bits: &[u32],
     mask: &[u32],
 ) -> Placing
-    ensures { Gave (placed_if (layout_by q entries.now) mems old new addr.now bits.now mask.now at to.old) (lent st log.old) (lent result.state log.new) (record { room = to.new; next = result.next; addr_len_of = result.addr_len }) }
+    ensures { Gave (placed_if (layout_of q.entry) mems old new addr.now bits.now mask.now at to.old) (lent_of log.old) (lent_of log.new) (record { room = to.new; next = result.next; addr_len_of = result.addr_len }) }
 {
     let mut hw = [0u32; ADDR_ROOM];
     let mut mux = [0u32; ADDR_ROOM];
-    let Some(s) = swizzle_split::split_addr(&mut hw, &mut mux, q, old, new, addr)
-    else {
+    let split = swizzle_split::split_addr(&mut hw, &mut mux, q.params, old, new, addr);
+    let Some(s) = split else {
         return Placing {
-            state: st,
             next: at,
             addr_len: 0,
         };
     };
-    let n = lists::usize_of_u32(s.hw_len);
-    let k = lists::usize_of_u32(s.mux_len);
-    place_in(
-        log,
-        st,
-        to,
-        at,
-        wide_port(q, mems, s),
-        lists::part(&hw, 0, n),
-        lists::part(&mux, 0, k),
-        entries,
+    let port = Port {
+        wide: wide_port(q.params, mems, s),
+        hw: lists::part(&hw, 0, s.hw_len as usize),
+        mux: lists::part(&mux, 0, s.mux_len as usize),
+        entries: q.entries,
         bits,
         mask,
-    )
+    };
+    port.place(log, to, at)
 }
 
 // Write port j of a memory.
 fn place_at<'a>(
-    log: &mut [u32],
-    st: LogState,
+    log: &mut Log,
     to: &mut [u32],
     at: usize,
     m: Memory,
     nets: &'a [u32],
-    q: Params,
+    q: Layout<'a>,
     mems: u32,
-    entries: &'a [u32],
     j: usize,
     new: u32,
 ) -> Placing
-    ensures { (trits : List ℕ) → Gave (placed_at (memory_of m nets.now trits) (layout_by q entries.now) mems j new at to.old) (lent st log.old) (lent result.state log.new) (record { room = to.new; next = result.next; addr_len_of = result.addr_len }) }
+    ensures { (trits : List ℕ) → Gave (placed_at (memory_of m nets.now trits) (layout_of q.entry) mems j new at to.old) (lent_of log.old) (lent_of log.new) (record { room = to.new; next = result.next; addr_len_of = result.addr_len }) }
 {
     let addr = port_overlay::write_addr(m, nets, j);
     let bits = port_overlay::write_data(m, nets, j);
     let mask = net_memory::write_mask(m, nets, j);
     let old = net_memory::wide::wide_log(m.width, bits.len());
-    place_port(
-        log, st, to, at, q, mems, old, new, entries, addr, bits, mask,
-    )
+    place_port(log, to, at, q, mems, old, new, addr, bits, mask)
 }
 
 // The write ports of a memory with these new wide logs, one after the other: the requests in the log, the nets from the front of `to` on, and the
 // ports of the result. A port that cannot be split, or has no room, leaves nothing. After an overflow the nets are left open.
 pub fn swizzle_writes<'a>(
-    log: &mut [u32],
-    st: LogState,
+    log: &mut Log,
     to: &mut [u32],
     m: Memory,
     nets: &'a [u32],
-    q: Params,
+    q: Layout<'a>,
     mems: u32,
-    entries: &'a [u32],
     wide: &[u32],
 ) -> Written
-    ensures { (trits : List ℕ) → Gave (placed_from (memory_of m nets.now trits) (layout_by q entries.now) mems m.write_ports 0 (take (min max_ports m.write_count) wide.now) (none_filled to.old)) (lent st log.old) (lent result.state log.new) (record { room = to.new; at = result.used; ports = result.ports }) }
+    ensures { (trits : List ℕ) → Gave (placed_from (memory_of m nets.now trits) (layout_of q.entry) mems m.write_ports 0 (take (min max_ports m.write_count) wide.now) (none_filled to.old)) (lent_of log.old) (lent_of log.new) (record { room = to.new; at = result.used; ports = result.ports }) }
 {
     let count = net_memory::ports_used(m.write_count).min(wide.len());
     let none = WideWritePort {
@@ -227,12 +198,10 @@ pub fn swizzle_writes<'a>(
         wide: 0,
         clock: ControlNet::Pos(Net(0)),
     };
-    let mut state = st;
-    let mut at: usize = 0;
+    let mut used = 0;
     let mut ports = [none; rules::MAX_PORTS];
-    let mut j: usize = 0;
-    while j < count {
-        let p = place_at(log, state, to, at, m, nets, q, mems, entries, j, wide[j]);
+    for j in 0..count {
+        let p = place_at(log, to, used, m, nets, q, mems, j, wide[j]);
         let old = m.write_ports[j];
         let clock = old.clock;
         ports[j] = WideWritePort {
@@ -240,13 +209,7 @@ pub fn swizzle_writes<'a>(
             wide: wide[j],
             clock,
         };
-        state = p.state;
-        at = p.next;
-        j += 1;
+        used = p.next;
     }
-    Written {
-        state,
-        used: at,
-        ports,
-    }
+    Written { used, ports }
 }

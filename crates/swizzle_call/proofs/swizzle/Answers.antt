@@ -6,8 +6,8 @@ use Rattle.log_entries.specs.View.{lent}
 use Rattle.image_geometry.specs.declared.Params.{Params}
 use Rattle.image_geometry.specs.View.{layout_by}
 use Rattle.swizzle_plan.specs.Calls.{plan_of}
-use Rattle.swizzle_reads.specs.declared.Reads.{Reads}
-use Rattle.swizzle_reads.specs.Going.{going_of}
+use Rattle.swizzle_call.specs.declared.Made.{Made}
+use Rattle.swizzle_call.specs.Made.{made_of}
 use Rattle.swizzle_call.proofs.Cases.{rooms_of, same_layout}
 use Rattle.swizzle_call.proofs.Fronts.{results_read}
 use Rattle.swizzle_call.proofs.Answer.{promises}
@@ -21,7 +21,7 @@ returns-then-n-ne0 c =
     let whole = promises (record {
       number = c.swizzle_refusal-n.ensures;
       refused = λ h. record {
-        made_is = ap (λ (y : Reads). going_of y v.log.now v.nets_to.now v.trits_to.now) c.none_yet-made.ensures;
+        made_is = ap (λ (y : Made). made_of y v.log.now v.nets_to.now v.trits_to.now) c.none_yet-made.ensures;
         image_is = refl;
         scratch_is = refl;
         laid_is = c.unset-laid.ensures.value;
@@ -31,8 +31,8 @@ returns-then-n-ne0 c =
     }) in
     record { scratch_after = whole.0; swizzles = whole.1 }
 
-pub act-made-requires : goal.act-made-requires
-act-made-requires c =
+pub make-made-requires : goal.make-made-requires
+make-made-requires c =
     let v = c.args in
     record { image = length v.image.now; zero = (sym c.swizzle_refusal-n.ensures ∙ c.if-n-ne0.false) }
 
@@ -40,7 +40,7 @@ pub returns : goal.returns
 returns c =
     let v = c.args in
     let z = (sym c.swizzle_refusal-n.ensures ∙ c.if-n-ne0.false) in
-    let a = c.act-made in
+    let a = c.make-made in
     let l = c.lay-laid in
     let p = c.params_of-p in
     let x = layout_by p.result v.entries.now in
@@ -56,7 +56,7 @@ returns c =
         log_is = after.0;
         state_is = after.1;
         image_is = laid-image;
-        results-held = results_read (rooms_of (length v.image.now) v.nets_to.now v.trits_to.now v.scratch.now) (length v.log.now) v.st v.m v.nets.now v.trits.now v.output.now (plan_of v.s v.entries.now v.writes.now v.reads.now) z v.log.now v.nets_to.now v.trits_to.now v.image.now l.new.image (going_of a.result a.new.log a.new.nets_to a.new.trits_to) refl refl a.ensures.acted laid-image;
+        results-held = results_read (rooms_of (length v.image.now) v.nets_to.now v.trits_to.now v.scratch.now) (length v.log.now) v.st v.m v.nets.now v.trits.now v.output.now (plan_of v.s v.entries.now v.writes.now v.reads.now) z v.log.now v.nets_to.now v.trits_to.now v.image.now l.new.image (made_of a.result a.new.log a.new.nets_to a.new.trits_to) refl refl a.ensures.acted laid-image;
         ports_held = a.ensures.holds_ports;
         scratch_kept = a.ensures.scratch_unchanged;
         laid_is = told;

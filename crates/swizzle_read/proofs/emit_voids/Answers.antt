@@ -1,25 +1,16 @@
 -- `swizzle_read::emit_voids` meets its contract.
-use Rattle.log_entries.specs.View.{lent}
-use Rattle.swizzle_read.proofs.Steps.{voids_turn, voids_end}
-use mathlib.Core.Path.{refl, ◌∙◌}
 use Prim.Native.Nat.{◌-◌}
+use native.Mathlib.Omega.{arith}
+use Rattle.log_entries.specs.View.{lent_of}
+use Rattle.swizzle_read.proofs.Steps.{voids_start, voids_turn, voids_end}
 use Rattle.swizzle_read.proofs.emit_voids.Goals as goal
 
-pub loop-left-init : goal.loop-left-init
-loop-left-init c = (refl, refl)
+pub loop-init : goal.loop-init
+loop-init c = voids_start c.args.width _ c.args.count (lent_of c.args.log.now) (omega arith)
 
-pub loop-left-preserved : goal.loop-left-preserved
-loop-left-preserved c =
-    let h = c in
-    let v = h.args in
-    let r = c.emit_void-state in
-    (r.auto.log ∙ h.loop-left.invariant.0, voids_turn v.width (lent h.loop-left.state h.loop-left.log) (lent r.result r.new.log) r.ensures h.loop-left.left _ c.loop-left-test.true h.loop-left.invariant.1)
-
-pub shape_of-log : goal.shape_of-log
-shape_of-log c = c.loop-left.invariant.0
+pub loop-preserved : goal.loop-preserved
+loop-preserved c =
+    voids_turn c.args.width (lent_of c.loop.log) (lent_of c.emit_void.new.self) c.emit_void.ensures (c.args.count - c.loop.counter) _ _ (omega arith) c.loop.invariant
 
 pub returns : goal.returns
-returns c =
-    let h = c in
-    let v = h.args in
-    voids_end v.width h.loop-left.left (lent h.loop-left.state h.loop-left.log) _ c.loop-left-test.false h.loop-left.invariant.1
+returns c = voids_end c.args.width _ (lent_of c.loop.log) _ (omega arith) c.loop.invariant

@@ -1,40 +1,35 @@
 -- `swizzle_rows::emit_rows` meets its contract.
-use mathlib.Core.Path.{refl, sym, ap, ◌∙◌}
+use mathlib.Core.Path.{sym, ap, ◌∙◌}
 use lib.ListN.{length}
 use Rattle.rules.proofs.GoodLayouts.{some_told}
-use Rattle.image_geometry.specs.View.{layout_by, shape_by}
+use Rattle.image_geometry.specs.View.{layout_of, shape_by}
 use Rattle.image_check.specs.View.{checked_of}
 use Rattle.image_state.proofs.Counting.{counted}
-use Rattle.swizzle_reads.specs.declared.Reads.{Reads}
 use Rattle.swizzle_reads.specs.Going.{going_of}
 use Rattle.swizzle_rows.proofs.Sizes.{measured, refused_ran, narrow_ran, rows_ran}
 use Rattle.swizzle_rows.proofs.emit_rows.Goals as goal
 
-pub returns-in_default : goal.returns-in_default
-returns-in_default c =
+pub returns-in_default-clause-rows_ran : goal.returns-in_default-clause-rows_ran
+returns-in_default-clause-rows_ran c =
     let v = c.args in
-    let r = c.none_yet in
-    record { rows_ran = refused_ran (layout_by v.p v.entries.now) v.m v.nets.now v.trits.now v.writes.now v.reads.now v.output.now (length v.scratch.now) v.st v.log.now v.nets_to.now v.trits_to.now (going_of r.result v.log.now v.nets_to.now v.trits_to.now) (sym (ap checked_of c.in_default.is) ∙ c.check_layout.ensures) (ap (λ (x : Reads). going_of x v.log.now v.nets_to.now v.trits_to.now) r.ensures); all_kept = λ k h. refl }
-
-pub returns-then-p-eq0 : goal.returns-then-p-eq0
-returns-then-p-eq0 c =
-    let v = c.args in
-    let r = c.none_yet-then-p-eq0 in
-    let s = c.in-Some.s in
-    let t = some_told (layout_by v.p v.entries.now) (shape_by s) (sym (ap checked_of c.in-Some.is) ∙ c.check_layout.ensures) in
-    record { rows_ran = narrow_ran (layout_by v.p v.entries.now) v.m v.nets.now v.trits.now v.writes.now v.reads.now v.output.now (length v.scratch.now) v.st v.log.now v.nets_to.now v.trits_to.now (going_of r.result v.log.now v.nets_to.now v.trits_to.now) t.0 c.if-p-eq0.true (ap (λ (x : Reads). going_of x v.log.now v.nets_to.now v.trits_to.now) r.ensures); all_kept = λ k h. refl }
+    refused_ran (layout_of v.q) v.m v.nets.now v.trits.now v.writes.now v.reads.now v.output.now (length v.scratch.now) (going_of v.log.now v.made.now) (sym (ap checked_of c.in_default.is) ∙ c.check_layout.ensures)
 
 pub rows_by-requires : goal.rows_by-requires
 rows_by-requires c =
-    let v = c.args in
+    let q = layout_of c.args.q in
     let s = c.in-Some.s in
-    let t = some_told (layout_by v.p v.entries.now) (shape_by s) (sym (ap checked_of c.in-Some.is) ∙ c.check_layout.ensures) in
-    (counted (layout_by v.p v.entries.now) s t.1 t.0, measured (layout_by v.p v.entries.now) s t.1)
+    let t = some_told q (shape_by s) (sym (ap checked_of c.in-Some.is) ∙ c.check_layout.ensures) in
+    (counted q s t.1 t.0, measured q s t.1)
 
-pub returns : goal.returns
-returns c =
+pub returns-then-q-ne0-clause-rows_ran : goal.returns-then-q-ne0-clause-rows_ran
+returns-then-q-ne0-clause-rows_ran c =
     let v = c.args in
-    let s = c.in-Some.s in
-    let t = some_told (layout_by v.p v.entries.now) (shape_by s) (sym (ap checked_of c.in-Some.is) ∙ c.check_layout.ensures) in
+    let t = some_told (layout_of v.q) (shape_by c.in-Some.s) (sym (ap checked_of c.in-Some.is) ∙ c.check_layout.ensures) in
     let r = c.rows_by in
-    record { rows_ran = rows_ran (layout_by v.p v.entries.now) v.m v.nets.now v.trits.now v.writes.now v.reads.now v.output.now (length v.scratch.now) v.st v.log.now v.nets_to.now v.trits_to.now (going_of r.result r.new.log r.new.nets_to r.new.trits_to) t.0 c.if-p-eq0.false r.ensures.rows_by; all_kept = r.ensures.all_kept }
+    rows_ran (layout_of v.q) v.m v.nets.now v.trits.now v.writes.now v.reads.now v.output.now (length v.scratch.now) (going_of v.log.now v.made.now) (going_of r.new.log r.new.made) t.0 c.if-q-ne0.true r.ensures.rows_by
+
+pub returns-else-q-ne0-clause-rows_ran : goal.returns-else-q-ne0-clause-rows_ran
+returns-else-q-ne0-clause-rows_ran c =
+    let v = c.args in
+    let t = some_told (layout_of v.q) (shape_by c.in-Some.s) (sym (ap checked_of c.in-Some.is) ∙ c.check_layout.ensures) in
+    narrow_ran (layout_of v.q) v.m v.nets.now v.trits.now v.writes.now v.reads.now v.output.now (length v.scratch.now) (going_of v.log.now v.made.now) t.0 c.if-q-ne0.false

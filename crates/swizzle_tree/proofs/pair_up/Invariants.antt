@@ -1,13 +1,8 @@
 -- The invariants of `swizzle_tree::pair_up`.
-use Rattle.log_entries.specs.View.{lent}
+use Prim.Native.Nat.{◌-◌, ◌+◌}
+use Rattle.log_entries.specs.View.{lent_of}
 use Rattle.swizzle_tree.proofs.Pairing.{Going}
-use mathlib.Core.Path.{◌≡◌}
-use Prim.Native.Nat.{◌-◌}
-use lib.ListN.{length}
 use Rattle.swizzle_tree.proofs.pair_up.Given as goal
 
-abbrev pub invariant-loop-left : goal.invariant-loop-left
-invariant-loop-left l = (length l.log ≡ length l.initial.log) × (length l.pieces ≡ length l.initial.pieces) × Going l.bit l.width l.count l.initial.pieces l.pieces (lent l.initial.state l.initial.log) (lent l.state l.log) l.left l.from l.to
-
-abbrev pub decreases-loop-left : goal.decreases-loop-left
-decreases-loop-left l = l.left
+abbrev pub invariant-loop : goal.invariant-loop
+invariant-loop l = Going l.bit l.width l.count l.initial.pieces l.pieces (lent_of l.initial.log) (lent_of l.log) (l.count - (l.counter + l.counter)) l.from l.to

@@ -5,8 +5,8 @@ use native.Mathlib.Omega.{arith}
 use mathlib.Core.List.{List}
 use lib.ListN.{replicate}
 use Rattle.lists.proofs.Stores.{take_stored}
-use Rattle.log_entries.specs.View.{lent}
-use Rattle.image_geometry.specs.View.{layout_by}
+use Rattle.log_entries.specs.View.{lent_of}
+use Rattle.image_geometry.specs.View.{layout_of}
 use Rattle.rules.specs.Swizzle.{split_addr}
 use Rattle.swizzle_writes.proofs.Short.{addr_short, mux_short}
 use Rattle.swizzle_writes.proofs.Steps.{refused_by_lem, accepted_by, port_not, port_gave, wide_by}
@@ -15,17 +15,17 @@ use Rattle.swizzle_writes.proofs.place_port.Goals as goal
 pub returns-in_default : goal.returns-in_default
 returns-in_default c =
     let v = c.args in
-    let q = layout_by v.q v.entries.now in
-    port_not q v.mems v.old v.new v.addr.now v.bits.now v.mask.now v.at v.to.now (lent v.st v.log.now) (refused_by_lem q v.old v.new v.addr.now _ _ _ _ _ (c.split_addr.ensures v.entries.now) c.in_default.is)
+    let q = layout_of v.q in
+    port_not q v.mems v.old v.new v.addr.now v.bits.now v.mask.now v.at v.to.now (lent_of v.log.now) (refused_by_lem q v.old v.new v.addr.now _ _ _ _ _ (c.split_addr-split.ensures v.q.entries.now) c.in_default.is)
 
 pub returns : goal.returns
 returns c =
     let v = c.args in
-    let q = layout_by v.q v.entries.now in
+    let q = layout_of v.q in
     let z : List ℕ = replicate 64 0 in
-    let x = c.split_addr in
-    let g = accepted_by q v.old v.new v.addr.now z x.new.hw z x.new.mux x.result (x.ensures v.entries.now) c.in-Some.s c.in-Some.is in
+    let x = c.split_addr-split in
+    let g = accepted_by q v.old v.new v.addr.now z x.new.hw z x.new.mux x.result (x.ensures v.q.entries.now) c.in-Some.s c.in-Some.is in
     let t = split_addr q v.old v.new v.addr.now in
-    let a = take_stored z x.new.hw t.addr _ g.splits.hw_is (c.usize_of_u32-n.ensures.0 ∙ g.splits.hw_len) (omega (arith, c.usize_of_u32-n.ensures.0, g.splits.hw_len, addr_short q v.old v.new v.addr.now g.can)) in
-    let b = take_stored z x.new.mux t.mux_addr _ g.splits.mux_is (c.usize_of_u32-k.ensures.0 ∙ g.splits.mux_len) (omega (arith, c.usize_of_u32-k.ensures.0, g.splits.mux_len, mux_short q v.old v.new v.addr.now g.can)) in
-    port_gave q v.mems v.old v.new v.addr.now v.bits.now v.mask.now v.at v.to.now (lent v.st v.log.now) _ _ _ _ _ g.can (wide_by q v.mems v.old v.new v.addr.now z x.new.hw z x.new.mux c.in-Some.s _ g.splits c.wide_port.ensures) (c.part.ensures.part ∙ a) (c.part-2.ensures.part ∙ b) c.place_in.ensures
+    let a = take_stored z x.new.hw t.addr _ g.splits.hw_is (g.splits.hw_len) (omega (arith, g.splits.hw_len, addr_short q v.old v.new v.addr.now g.can)) in
+    let b = take_stored z x.new.mux t.mux_addr _ g.splits.mux_is (g.splits.mux_len) (omega (arith, g.splits.mux_len, mux_short q v.old v.new v.addr.now g.can)) in
+    port_gave q v.mems v.old v.new v.addr.now v.bits.now v.mask.now v.at v.to.now (lent_of v.log.now) _ _ _ _ _ g.can (wide_by q v.mems v.old v.new v.addr.now z x.new.hw z x.new.mux c.in-Some.s _ g.splits c.wide_port.ensures) (c.part.ensures.part ∙ a) (c.part-2.ensures.part ∙ b) c.place.ensures
