@@ -7,10 +7,9 @@ ghost use Rattle.rules.specs.Answers.{wide_log2_call, output_len_call, output_sl
 ghost use Rattle.net_memory.specs.Given.{given_of};
 ghost use Rattle.rules.specs.Refusal.{answer_by};
 ghost use Rattle.port_outputs.specs.View.{slice_of};
-ghost use Rattle.port_extract.specs.Extract.{extracted_of};
 ghost use Rattle.c_net.specs.View.{flag_result, value_result, count_struct};
 ghost use Rattle.c_memory.specs.View.{given_memory, memory_struct, zero_memory};
-ghost use Rattle.c_memory.specs.Calls.{slice_result, extracted_struct, given_extracted, NewMemory};
+ghost use Rattle.c_memory.specs.Calls.{slice_result, extracted_struct, extracted_of, NewMemory};
 
 use c_net::{Control, Count};
 use port_outputs::OutputSlice;
@@ -148,20 +147,14 @@ fn slice_result(a: Result<OutputSlice, Refusal>) -> Slice
 }
 
 // The memory is all 0 where the extraction is refused.
-fn extracted_struct(e: port_extract::Extracted) -> Extracted
-    ensures { result ≡ extracted_struct e }
+fn extracted_struct(a: Result<net_memory::Memory, Refusal>) -> Extracted
+    ensures { result ≡ extracted_struct a }
 {
-    if e.refusal != 0 {
-        return Extracted {
-            number: e.refusal,
-            memory: zero_memory(),
-        };
-    }
-    let m = e.memory;
-    Extracted {
-        number: 0,
-        memory: memory_struct(m),
-    }
+    let (number, memory) = match a {
+        Ok(m) => (0, memory_struct(m)),
+        Err(refusal) => (refusal.number(), zero_memory()),
+    };
+    Extracted { number, memory }
 }
 
 pub fn tablegoose_wide_log2(width: u32, size: usize) -> c_net::Result
@@ -210,7 +203,7 @@ pub fn tablegoose_extract_read_ports(
     list: &[u32],
     output: &[u32],
 ) -> Extracted
-    ensures room_output_after { extracted_of (given_extracted result) room_nets.new room_trits.new room_output.new ≡ extract_read_ports_call room_nets.old room_trits.old room_output.old (given_of (given_memory m) nets.now trits.now) list.now output.now }
+    ensures room_output_after { extracted_of result room_nets.new room_trits.new room_output.new ≡ extract_read_ports_call room_nets.old room_trits.old room_output.old (given_of (given_memory m) nets.now trits.now) list.now output.now }
     ensures new_memory { NewMemory m nets.now trits.now list.now output.now result }
 {
     extracted_struct(port_extract::extract_read_ports(

@@ -210,7 +210,7 @@ pub fn emulate_read_before_write(
     ensures log_after { driven_of result nets.new trits.now [] log.new ≡ emulate_call (rooms_of nets.old trits.now) log.old (state_of st) (given_of m nets.old trits.now) }
     ensures emulated { Emulated m st nets.old nets.new result }
 {
-    let n = port_relations::input_number(m, nets, trits, st.next);
+    let n = rules::number_of(port_relations::input_refusal(m, nets, trits, st.next));
     if n != 0 {
         return Driven {
             refusal: n,

@@ -1,7 +1,6 @@
 -- The answer of `extract_read_ports` on a machine's memory, as the rules have it, and what the code stores.
-use Rattle.std.specs.Prelude.{◌≡◌, ℕ, ◌<◌, ◌≤◌, min, List, [], ◌++◌, map, length, get_or, take}
+use Rattle.std.specs.Prelude.{◌≡◌, ℕ, ◌<◌, ◌≤◌, min, List, [], ◌++◌, map, length, get_or, take, Result, Ok, Err, ⊤}
 use Rattle.std.proofs.lemmas.List.Edits.{sets}
-use Rattle.lists.specs.Choice.{leaves}
 use Rattle.lists.specs.Lists.{part, concat_map}
 use Rattle.rules.specs.Limits.{max_ports}
 use Rattle.rules.specs.Cell.{output_len, flat_nets, flat_trits}
@@ -12,16 +11,17 @@ use Rattle.std.specs.Prelude.{None, Some}
 use Rattle.net_memory.specs.declared.MemoryReadPort.{MemoryReadPort}
 use Rattle.net_memory.specs.declared.Memory.{Memory}
 use Rattle.net_memory.specs.View.{no_read_port, read_ports_of, reads_start, memory_of, read_nets, read_trits, nets_total, trits_total}
-use Rattle.port_extract.specs.declared.Extracted.{Extracted}
+use Rattle.rules.specs.declared.numbers.Refusal.{Refusal}
+use Rattle.rules.specs.Refusal.{answer_by}
 
 -- the memory and the outputs that a struct and the rooms hold
 abbrev pub driving_of : Memory → List ℕ → List ℕ → List ℕ → Driving
 driving_of m nets trits output = record { memory = memory_of m nets trits; output = take (output_len (memory_of m nets trits)) output }
 
 -- the answer, and the rooms after the call
-abbrev pub extracted_of : Extracted → List ℕ → List ℕ → List ℕ → rules.Extracted
+abbrev pub extracted_of : Result Memory Refusal → List ℕ → List ℕ → List ℕ → rules.Extracted
 extracted_of r nets trits output = record {
-  answer = rules.answer_of r.refusal (driving_of r.memory nets trits output);
+  answer = answer_by (λ m. driving_of m nets trits output) r;
   nets = nets;
   trits = trits;
   output = output;
@@ -95,11 +95,16 @@ extraction_of m nets trits list output = extract_read_ports (memory_of m nets tr
 abbrev pub new_output : Memory → List ℕ → List ℕ → List ℕ → List ℕ → List ℕ
 new_output m nets trits list output = (extraction_of m nets trits list output).output
 
--- the struct after the call, and how many places of the rooms its nets and trits take
-pub record NewStruct (m : Memory) (nets trits list output : List ℕ) (r : Extracted) : Type 0 where
-  pub struct_is : r.memory ≡ leaves r.refusal m (with_ports m list)
-  pub nets_long : r.refusal ≡ 0 → nets_total r.memory ≡ length (flat_nets (extraction_of m nets trits list output).memory)
-  pub trits_long : r.refusal ≡ 0 → trits_total r.memory ≡ length (flat_trits (extraction_of m nets trits list output).memory)
+-- the struct w of a memory with the listed ports, and how many places of the rooms its nets and trits take
+pub record WithPorts (m : Memory) (nets trits list output : List ℕ) (w : Memory) : Type 0 where
+  pub struct_is : w ≡ with_ports m list
+  pub nets_long : nets_total w ≡ length (flat_nets (extraction_of m nets trits list output).memory)
+  pub trits_long : trits_total w ≡ length (flat_trits (extraction_of m nets trits list output).memory)
+
+-- the struct of an accepted call is so
+abbrev pub NewStruct : Memory → List ℕ → List ℕ → List ℕ → List ℕ → Result Memory Refusal → Type 0
+NewStruct m nets trits list output (Ok w) = WithPorts m nets trits list output w
+NewStruct m nets trits list output (Err e) = ⊤
 
 -- a list of ports that there are
 pub record ListedPorts (m : Memory) (list : List ℕ) : Type 0 where

@@ -6,6 +6,7 @@ ghost use Rattle.std.proofs.lemmas.List.Edits.{sets};
 ghost use Rattle.lists.specs.Lists.{concat_map};
 ghost use Rattle.rules.specs.Limits.{max_ports};
 ghost use Rattle.rules.specs.Cell.{output_slice};
+ghost use Rattle.rules.specs.Refusal.{number_of};
 ghost use Rattle.rules.specs.Refusals.{no_rooms, extract_read_ports_refusal};
 ghost use Rattle.rules.specs.Answers.{extract_read_ports_call};
 ghost use Rattle.net_memory.specs.View.{memory_of, read_nets};
@@ -13,13 +14,7 @@ ghost use Rattle.net_memory.specs.Given.{given_of};
 ghost use Rattle.port_extract.specs.Extract.{extracted_of, kept_port, kept_trits, with_ports, new_nets, new_trits, extraction_of, new_output, NewStruct, ListedPorts, Ready};
 
 use net_memory::{Memory, MemoryReadPort};
-
-// The number that refuses an extraction, or 0, and the memory after it.
-#[derive(Clone, Copy)]
-pub struct Extracted {
-    pub refusal: u32,
-    pub memory: Memory,
-}
+use rules::Refusal;
 
 // Port i's part of the outputs.
 fn output_part(m: Memory, output: &[u32], i: usize) -> &[u32]
@@ -55,12 +50,10 @@ fn put_addrs(room: &mut [u32], start: usize, m: Memory, nets: &[u32], list: &[u3
     ensures room_after { room.new ≡ sets room.old start (concat_map (read_nets m nets.now) list.now) }
 {
     let mut at = start;
-    let mut j = 0;
-    while j < list.len() {
-        let addr = net_memory::read_nets(m, nets, lists::usize_of_u32(list[j]));
+    for j in 0..list.len() {
+        let addr = net_memory::read_nets(m, nets, list[j] as usize);
         lists::copy(room, at, addr);
         at += addr.len();
-        j += 1;
     }
     at
 }
@@ -72,12 +65,10 @@ fn put_values(room: &mut [u8], start: usize, m: Memory, trits: &[u8], list: &[u3
     ensures room_after { room.new ≡ sets room.old start (concat_map (kept_trits m trits.now) list.now) }
 {
     let mut at = start;
-    let mut j = 0;
-    while j < list.len() {
-        let values = clocked_trits(m, trits, lists::usize_of_u32(list[j]));
+    for j in 0..list.len() {
+        let values = clocked_trits(m, trits, list[j] as usize);
         lists::copy(room, at, values);
         at += values.len();
-        j += 1;
     }
     at
 }
@@ -89,13 +80,11 @@ fn put_outputs(room: &mut [u32], m: Memory, output: &[u32], list: &[u32]) -> usi
     ensures by_index_2 { (nets trits : List ℕ) → room.new ≡ sets room.old 0 (new_output m nets trits list.now output.now) }
 {
     let mut at: usize = 0;
-    let mut j = 0;
-    while j < list.len() {
-        let k = lists::usize_of_u32(list[j]);
+    for j in 0..list.len() {
+        let k = list[j] as usize;
         let bits = output_part(m, output, k);
         lists::copy(room, at, bits);
         at += bits.len();
-        j += 1;
     }
     at
 }
@@ -126,17 +115,13 @@ fn put_trits(room: &mut [u8], m: Memory, trits: &[u8], list: &[u32]) -> usize
 fn kept_port(p: MemoryReadPort) -> MemoryReadPort
     ensures { result ≡ kept_port p }
 {
-    let f = p.flip_flop;
     let mut q = p;
-    match f {
-        None => {
-            q.clear_len = 0;
-            q.reset_len = 0;
-            q.init_len = 0;
-            q
-        }
-        Some(_) => q,
+    if p.flip_flop.is_none() {
+        q.clear_len = 0;
+        q.reset_len = 0;
+        q.init_len = 0;
     }
+    q
 }
 
 // The struct with the listed ports.
@@ -146,13 +131,11 @@ fn pick_ports(m: Memory, list: &[u32]) -> Memory
 {
     let mut out = m;
     out.read_count = list.len() as u32;
-    let mut j = 0;
-    while j < list.len() {
-        let k = lists::usize_of_u32(list[j]);
+    for j in 0..list.len() {
+        let k = list[j] as usize;
         let p = m.read_ports[k];
         let q = kept_port(p);
         out.read_ports[j] = q;
-        j += 1;
     }
     out
 }
@@ -182,7 +165,8 @@ fn rooms_bad(
     c < put_outputs(&mut words, m, output, list)
 }
 
-// The number that refuses an extraction with rooms of these lengths, or 0.
+// 1 to 4, 15 and 20 of an extraction with rooms of these lengths.
+#[tactic(auto, using(rules::proofs::Answers::else_err), unfolding(rules::specs::Refusals::extract_read_ports_refusal, rules::specs::Conditions::long_list))]
 fn extract_refusal(
     m: Memory,
     nets: &[u32],
@@ -192,28 +176,18 @@ fn extract_refusal(
     a: usize,
     b: usize,
     c: usize,
-) -> u32
-    ensures { result ≡ extract_read_ports_refusal (record { nets = a; trits = b; output = c }) (given_of m nets.entry.now trits.now) list.now output.now }
+) -> Result<(), Refusal>
+    ensures { number_of result ≡ extract_read_ports_refusal (record { nets = a; trits = b; output = c }) (given_of m nets.entry.now trits.now) list.now output.now }
 {
     let long = rules::MAX_PORTS < list.len();
-    let n = rules::number_of(port_outputs::driving_refusal(
-        m,
-        nets,
-        trits,
-        output,
-        rules::MAX_NETS,
-        long,
-    ));
-    if n != 0 {
-        return n;
-    }
+    port_outputs::driving_refusal(m, nets, trits, output, rules::MAX_NETS, long)?;
     if port_outputs::port_missing(m, list) {
-        return 15;
+        return Err(Refusal::OutOfRange);
     }
     if rooms_bad(m, nets, trits, list, output, a, b, c) {
-        return 20;
+        return Err(Refusal::NoRoom);
     }
-    0
+    Ok(())
 }
 
 // The memory with the listed read ports only, its nets, trits and outputs in the rooms; a port may be named twice.
@@ -226,11 +200,11 @@ pub fn extract_read_ports(
     trits: &[u8],
     list: &[u32],
     output: &[u32],
-) -> Extracted
+) -> Result<Memory, Refusal>
     ensures room_output_after { extracted_of result room_nets.new room_trits.new room_output.new ≡ extract_read_ports_call room_nets.old room_trits.old room_output.old (given_of m nets.now trits.now) list.now output.now }
     ensures new_struct { NewStruct m nets.now trits.now list.now output.now result }
 {
-    let n = extract_refusal(
+    extract_refusal(
         m,
         nets,
         trits,
@@ -239,18 +213,9 @@ pub fn extract_read_ports(
         room_nets.len(),
         room_trits.len(),
         room_output.len(),
-    );
-    if n != 0 {
-        return Extracted {
-            refusal: n,
-            memory: m,
-        };
-    }
+    )?;
     put_nets(room_nets, m, nets, list);
     put_trits(room_trits, m, trits, list);
     put_outputs(room_output, m, output, list);
-    Extracted {
-        refusal: 0,
-        memory: pick_ports(m, list),
-    }
+    Ok(pick_ports(m, list))
 }

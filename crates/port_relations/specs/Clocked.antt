@@ -1,8 +1,9 @@
--- The flip-flops of the read ports as the code looks at them: one port after the other.
-use Rattle.std.specs.Prelude.{ℕ, Bool, ◌&&◌, not, List, drop, get_or, eqb}
-use Rattle.lists.specs.Lists.{part}
+-- What the code asks of the structs of read ports, and their flip-flops as the rules have them.
+use Rattle.std.specs.Prelude.{ℕ, Bool, false, ◌&&◌, not, List, [], ◌∷◌, drop, get_or, eqb}
+use Rattle.lists.specs.Choice.{when◌then◌else◌}
+use Rattle.lists.specs.Lists.{any, part}
 use Rattle.rules.specs.Value.{Control, same_control}
-use Rattle.rules.specs.Cell.{ReadFlipFlop, flip_flops, Undefined}
+use Rattle.rules.specs.Cell.{ReadFlipFlop, flip_flops, Undefined, ReadBeforeWrite, Transparent}
 use Rattle.net_value.specs.declared.ControlNet.{ControlNet}
 use Rattle.net_value.specs.declared.ControlNet.TheVariants.{Pos}
 use Rattle.net_value.specs.View.{control_of}
@@ -25,12 +26,21 @@ other_clock k f = not (same_control f.controls.clock k)
 abbrev pub port_differs : Control → MemoryReadPort → Bool
 port_differs k p = clocked p.flip_flop && not (same_control (control_of (clock_of p.flip_flop)) k)
 
+-- two clocked ports of these have different clocks
+abbrev pub clocks_differ_of : List MemoryReadPort → Bool
+clocks_differ_of [] = false
+clocks_differ_of (p ∷ ps) = when clocked p.flip_flop then any (port_differs (control_of (clock_of p.flip_flop))) ps else clocks_differ_of ps
+
 -- a flip-flop with this relation to write port j
 abbrev pub has_relation : ℕ → ℕ → ReadFlipFlop → Bool
 has_relation code j f = eqb (get_or f.relations j Undefined) code
 
 abbrev pub port_relates : ℕ → ℕ → MemoryReadPort → Bool
 port_relates code j p = clocked p.flip_flop && eqb (get_or (part 0 p.relations_len p.relations) j Undefined) code
+
+-- both ReadBeforeWrite and Transparent relate these ports to write port j
+abbrev pub mixed_ports : List MemoryReadPort → ℕ → Bool
+mixed_ports ps j = any (port_relates ReadBeforeWrite j) ps && any (port_relates Transparent j) ps
 
 -- the flip-flops of the read ports from port i on
 abbrev pub flip_flops_from : Memory → List ℕ → List ℕ → ℕ → List ReadFlipFlop

@@ -3,16 +3,14 @@ use mathlib.Core.Path.{◌≡◌, refl, sym, ap, ◌∙◌}
 use Prim.Native.Nat.{ℕ, zero, suc, ◌+◌, ◌≤◌, min}
 use native.Mathlib.Omega.{arith}
 use native.Mathlib.Numerals.{add-one}
-use mathlib.Core.Bool.{Bool, true, false}
+use mathlib.Core.Bool.{Bool}
 use mathlib.Core.List.{List, [], ◌∷◌}
 use lib.ListN.{length, get_or, set}
-use lib.Seq.{set-get_or}
 use Rattle.lists.proofs.Choice.{cases_le}
 use Rattle.net_memory.specs.declared.MemoryWritePort.{MemoryWritePort}
 use Rattle.net_memory.specs.declared.MemoryReadPort.{MemoryReadPort}
 use Rattle.net_memory.specs.declared.Memory.{Memory}
 use Rattle.net_memory.specs.View.{no_write_port, no_read_port, write_port, read_port, with_write_port, with_read_port}
-use Rattle.net_memory.proofs.Changes.{with_write_same}
 use Rattle.port_settle.specs.Settled.{turned_port, undefined_if, first_changed, with_relations, relations_by, settled_by, with_ports, turning, settling}
 
 module _ {A : Type 0} (f : ℕ → A → A) (d : A) where
@@ -60,16 +58,3 @@ module _ (is : ℕ → Bool) where
 
   pub relations_all : (p : MemoryReadPort) (n : ℕ) → length p.relations ≡ 8 → n ≡ min p.relations_len 8 → relations_by is n p ≡ settled_by is p
   relations_all p n h e = ap (with_relations p) (change_most (λ i. undefined_if (is i)) 0 p.relations n p.relations_len (let z : n ≡ min p.relations_len (length p.relations) = omega arith in z))
-
--- ---- by the test
-pub turn_not : (out : Memory) (j : ℕ) (b : Bool) → b ≡ false → out ≡ with_write_port out j (turned_port b (write_port out j))
-turn_not out j b e = sym (ap (λ (t : Bool). with_write_port out j (turned_port t (write_port out j))) e ∙ with_write_same out j)
-
-pub turn_yes : (out r : Memory) (q : MemoryWritePort) (j : ℕ) (b : Bool) → b ≡ true → q ≡ turned_port true (write_port out j) → r ≡ with_write_port out j q → r ≡ with_write_port out j (turned_port b (write_port out j))
-turn_yes out r q j b e eq er = er ∙ ap (with_write_port out j) (eq ∙ ap (λ (t : Bool). turned_port t (write_port out j)) (sym e))
-
-pub relation_not : (p : MemoryReadPort) (j : ℕ) (b : Bool) → b ≡ false → p ≡ with_relations p (set p.relations j (undefined_if b (get_or p.relations j 0)))
-relation_not p j b e = sym (ap (λ (t : Bool). with_relations p (set p.relations j (undefined_if t (get_or p.relations j 0)))) e ∙ ap (with_relations p) (set-get_or p.relations j 0))
-
-pub relation_yes : (p r : MemoryReadPort) (j : ℕ) (b : Bool) → b ≡ true → r ≡ with_relations p (set p.relations j 0) → r ≡ with_relations p (set p.relations j (undefined_if b (get_or p.relations j 0)))
-relation_yes p r j b e q = q ∙ ap (λ (t : Bool). with_relations p (set p.relations j (undefined_if t (get_or p.relations j 0)))) (sym e)

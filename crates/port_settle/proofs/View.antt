@@ -1,5 +1,5 @@
 -- The view of a settled memory.
-use mathlib.Core.Path.{◌≡◌, refl, sym, ap, ◌∙◌}
+use mathlib.Core.Path.{◌≡◌, refl, ap, ◌∙◌}
 use Prim.Native.Nat.{ℕ, zero, suc, ◌+◌, min}
 use mathlib.Core.Bool.{Bool, true, false}
 use mathlib.Core.Option.{some}
@@ -12,8 +12,6 @@ use Rattle.rules.specs.Limits.{max_ports}
 use Rattle.rules.specs.Value.{Control, Pos, Neg, inverse}
 use Rattle.rules.specs.Cell.{Mem, Undefined, is_read_before_write}
 use Rattle.rules.specs.Ports.{relates_to, settled, settled_flip_flop, settled_port}
-use Rattle.net_value.specs.declared.ControlNet.{ControlNet}
-use Rattle.net_value.specs.declared.ControlNet.TheVariants as machine
 use Rattle.net_value.specs.View.{control_of}
 use Rattle.net_flip_flop.specs.View.{controls_of}
 use Rattle.net_memory.specs.FlipFlop.{MemoryReadFlipFlop}
@@ -23,20 +21,12 @@ use Rattle.net_memory.specs.declared.MemoryReadPort.{MemoryReadPort}
 use Rattle.net_memory.specs.declared.Memory.{Memory}
 use Rattle.net_memory.specs.View.{write_size, addr_size, trit_size, no_trits, write_by, read_by, flip_flop_by, read_ports_of, reads_start, writes_of, memory_of}
 use Rattle.port_relations.proofs.Clocks.{before_is}
-use Rattle.port_settle.specs.Settled.{is_read, turned_by, turned_from, turned_mem, settled_mem, net_of, other_edge_of, turned_port, undefined_if, first_changed, settled_by, turning, settling}
+use Rattle.port_settle.specs.Settled.{is_read, turned_by, turned_from, turned_mem, settled_mem, net_of, turned_port, undefined_if, first_changed, settled_by, turning, settling}
 
 -- ---- a control to the machine's and back
 net_view : (c : Control) → control_of (net_of c) ≡ c
 net_view (Pos n) = refl
 net_view (Neg n) = refl
-
-view_net : (c : ControlNet) → net_of (control_of c) ≡ c
-view_net (machine.Pos n) = refl
-view_net (machine.Neg n) = refl
-
--- the port as the code makes it
-pub other_edge : (p : MemoryWritePort) (c : ControlNet) → control_of c ≡ inverse (control_of p.clock) → record { addr_len = p.addr_len; data_len = p.data_len; mask_len = p.mask_len; clock = c } ≡ other_edge_of p
-other_edge p c e = ap (λ (x : ControlNet). record { addr_len = p.addr_len; data_len = p.data_len; mask_len = p.mask_len; clock = x }) (sym (view_net c) ∙ ap net_of e)
 
 -- ---- the write ports
 turned_size : (b : Bool) (p : MemoryWritePort) → write_size (turned_port b p) ≡ write_size p

@@ -2,11 +2,10 @@
 // to them are Undefined.
 #![tactic(auto)]
 
-ghost use Rattle.std.specs.Prelude.{◌≡◌, List, ℕ, ◌<◌, min, get_or, set};
+ghost use Rattle.std.specs.Prelude.{◌≡◌, List, ℕ, min};
 ghost use Rattle.rules.specs.Limits.{max_ports};
-ghost use Rattle.rules.specs.Cell.{Undefined};
-ghost use Rattle.net_memory.specs.View.{memory_of, write_port, with_write_port};
-ghost use Rattle.port_settle.specs.Settled.{is_read, turned_mem, settled_mem, other_edge_of, turned_port, undefined_if, with_relations, settled_by, turning, settling};
+ghost use Rattle.net_memory.specs.View.{memory_of};
+ghost use Rattle.port_settle.specs.Settled.{is_read, turned_mem, settled_mem, other_edge_of, turned_port, undefined_if, settled_by, turning, settling};
 
 use net_memory::{Memory, MemoryReadPort, MemoryWritePort};
 
@@ -14,29 +13,20 @@ use net_memory::{Memory, MemoryReadPort, MemoryWritePort};
 fn other_edge(p: MemoryWritePort) -> MemoryWritePort
     ensures { result ≡ other_edge_of p }
 {
-    let old = p.clock;
-    let clock = net_value::inverse(old);
     MemoryWritePort {
-        addr_len: p.addr_len,
-        data_len: p.data_len,
-        mask_len: p.mask_len,
-        clock,
+        clock: net_value::inverse(p.clock),
+        ..p
     }
 }
 
-// Write port j of `out`, turned where a read port of `m` reads before it writes.
-fn turn_port(m: Memory, out: Memory, j: usize) -> Memory
-    requires { j < max_ports }
-    ensures { (x y : List ℕ) → result ≡ with_write_port out j (turned_port (is_read m x y j) (write_port out j)) }
+// Write port j, turned where a read port of `m` reads before it writes.
+fn turn_port(m: Memory, p: MemoryWritePort, j: usize) -> MemoryWritePort
+    ensures { (x y : List ℕ) → result ≡ turned_port (is_read m x y j) p }
 {
-    if !port_relations::relates_to(m, j, port_relations::READ_BEFORE_WRITE) {
-        return out;
+    if port_relations::relates_to(m, j, port_relations::READ_BEFORE_WRITE) {
+        return other_edge(p);
     }
-    let p = out.write_ports[j];
-    let q = other_edge(p);
-    let mut next = out;
-    next.write_ports[j] = q;
-    next
+    p
 }
 
 // The memory whose write ports stand at the other edge of their clock where a read port reads before they write.
@@ -44,39 +34,30 @@ pub fn turn_clocks(m: Memory) -> Memory
     ensures by_index { (nets nets' trits : List ℕ) → memory_of result nets' trits ≡ turned_mem (is_read m nets trits) (memory_of m nets' trits) }
     ensures by_index_2 { (x y : List ℕ) → result ≡ turning (is_read m x y) (min max_ports m.write_count) m }
 {
-    let count = net_memory::ports_used(m.write_count);
     let mut out = m;
-    let mut j = 0;
-    while j < count {
-        out = turn_port(m, out, j);
-        j += 1;
+    for j in 0..net_memory::ports_used(m.write_count) {
+        out.write_ports[j] = turn_port(m, out.write_ports[j], j);
     }
     out
 }
 
-// The relation of a port to write port j: Undefined where that one is delayed.
-fn settle_at(m: Memory, p: MemoryReadPort, j: usize) -> MemoryReadPort
-    requires { j < max_ports }
-    ensures { (x y : List ℕ) → result ≡ with_relations p (set p.relations j (undefined_if (is_read m x y j) (get_or p.relations j Undefined))) }
+// A relation to write port j: Undefined where that one is delayed.
+fn settle_relation(m: Memory, relation: u8, j: usize) -> u8
+    ensures { (x y : List ℕ) → result ≡ undefined_if (is_read m x y j) relation }
 {
-    if !port_relations::relates_to(m, j, port_relations::READ_BEFORE_WRITE) {
-        return p;
+    if port_relations::relates_to(m, j, port_relations::READ_BEFORE_WRITE) {
+        return port_relations::UNDEFINED;
     }
-    let mut q = p;
-    q.relations[j] = port_relations::UNDEFINED;
-    q
+    relation
 }
 
 // All relations that the port names.
 fn settle_port(m: Memory, p: MemoryReadPort) -> MemoryReadPort
     ensures { (x y : List ℕ) → result ≡ settled_by (is_read m x y) p }
 {
-    let count = lists::usize_of_u32(p.relations_len).min(rules::MAX_PORTS);
     let mut out = p;
-    let mut j = 0;
-    while j < count {
-        out = settle_at(m, out, j);
-        j += 1;
+    for j in 0..net_memory::ports_used(p.relations_len) {
+        out.relations[j] = settle_relation(m, out.relations[j], j);
     }
     out
 }
@@ -86,14 +67,9 @@ pub fn settle_relations(m: Memory, from: Memory) -> Memory
     ensures by_index { (nets nets' trits : List ℕ) → memory_of result nets' trits ≡ settled_mem (memory_of m nets trits) (memory_of from nets' trits) }
     ensures by_index_2 { (x y : List ℕ) → result ≡ settling (is_read m x y) (min max_ports from.read_count) from }
 {
-    let count = net_memory::ports_used(from.read_count);
     let mut out = from;
-    let mut i = 0;
-    while i < count {
-        let p = out.read_ports[i];
-        let q = settle_port(m, p);
-        out.read_ports[i] = q;
-        i += 1;
+    for i in 0..net_memory::ports_used(from.read_count) {
+        out.read_ports[i] = settle_port(m, out.read_ports[i]);
     }
     out
 }

@@ -4,7 +4,7 @@ use Prim.Native.Nat.{ℕ, ◌+◌, ◌<◌, ◌≤◌, min}
 use native.Mathlib.Nat.{le_refl}
 use native.Mathlib.Omega.{arith}
 use mathlib.Core.Bool.{Bool, false}
-use mathlib.Core.Option.{none, some}
+use mathlib.Core.Option.{some}
 use mathlib.Core.List.{List}
 use lib.ListN.{length, take, replicate, length-replicate, replicate-append-replicate, get_or-eq_default}
 use lib.Seq.{sets, take-take, get_or-take, set_out, length-sets}
@@ -26,7 +26,7 @@ use Rattle.net_memory.specs.declared.Memory.{Memory}
 use Rattle.net_memory.specs.View.{no_read_port, memory_of, read_port, read_ports_of, read_by, clocked_by, read_trits, read_start, trit_start, addr_size, trit_size, trits_total}
 use Rattle.net_memory.proofs.Ports.{read_of_view, reads_at, trits_at}
 use Rattle.net_memory.proofs.Changes.{with_read, read_changed}
-use Rattle.port_unreset.specs.Struct.{unreset_controls, kept_relations, unreset_port, unreset, blanked}
+use Rattle.port_unreset.specs.Struct.{unreset_controls, unreset_port, unreset, blanked}
 use Rattle.port_unreset.proofs.Plain.{kept-part}
 
 -- ---- where a port's trits start, and that they are there

@@ -17,42 +17,26 @@ use net_value::{ControlNet, Net};
 pub fn wanted_relations(rels: &[u8], incl: bool) -> &[u8]
     ensures { result.now ≡ (when incl then rels.now else []) }
 {
-    if incl {
-        return rels;
-    }
-    &rels[..0]
+    if incl { rels } else { &[] }
 }
 
 // Some relation is Transparent.
+#[tactic(auto, using(crate::proofs::Plain::any_is))]
 fn any_transparent(rels: &[u8]) -> bool
     ensures { result ≡ not (is_empty (transparent_from 0 rels.now)) }
 {
-    let mut j = 0;
-    while j < rels.len() {
-        if rels[j] == 2 {
-            return true;
-        }
-        j += 1;
-    }
-    false
+    rels.contains(&2)
 }
 
 // There is nothing to unmap: no init, no reset, no clear, and no relation that is to go.
+#[tactic(auto, using(crate::proofs::Plain::plain_is, crate::proofs::Plain::wanted_is))]
 fn is_plain(c: Controls, init: &[u8], rels: &[u8], incl: bool) -> bool
     ensures { (clear reset : List ℕ) → result ≡ is_plain incl (record { controls = controls_of c; clear_value = clear; reset_value = reset; init_value = init.now; relations = rels.now }) }
 {
-    let reset = c.reset;
-    let clear = c.clear;
-    if !net_logic::is_undef(init) {
-        return false;
-    }
-    if !net_value::is_always(reset, false) {
-        return false;
-    }
-    if !net_value::is_always(clear, false) {
-        return false;
-    }
-    !any_transparent(wanted_relations(rels, incl))
+    net_logic::is_undef(init)
+        && net_value::is_always(c.reset, false)
+        && net_value::is_always(c.clear, false)
+        && !any_transparent(wanted_relations(rels, incl))
 }
 
 // There is nothing to unmap of port i, whose struct and controls these are.
@@ -73,6 +57,7 @@ pub fn port_plain(
 }
 
 // A relation's code without Transparent.
+#[tactic(auto, unfolding(rules::specs::Ports::no_transparent, rules::specs::Cell::is_transparent))]
 fn kept_relation(x: u8) -> u8
     ensures { result ≡ no_transparent x }
 {
@@ -83,42 +68,26 @@ fn kept_relation(x: u8) -> u8
 fn kept_relations(relations: [u8; rules::MAX_PORTS], incl: bool) -> [u8; rules::MAX_PORTS]
     ensures { result ≡ kept_relations incl relations }
 {
-    if !incl {
-        return relations;
+    if incl {
+        relations.map(kept_relation)
+    } else {
+        relations
     }
-    let mut out = relations;
-    let mut j = 0;
-    while j < rules::MAX_PORTS {
-        out[j] = kept_relation(out[j]);
-        j += 1;
-    }
-    out
 }
 
 // A port without clear and reset, and without Transparent relations where these are to go.
 fn unreset_port(p: MemoryReadPort, c: Controls, incl: bool) -> MemoryReadPort
     ensures { result ≡ unreset_port p c incl }
 {
-    let old = p.relations;
-    let relations = kept_relations(old, incl);
-    let clock = c.clock;
-    let enable = c.enable;
     let controls = Controls {
-        clock,
         clear: ControlNet::Pos(Net(0)),
         reset: ControlNet::Pos(Net(0)),
-        enable,
-        reset_over_enable: c.reset_over_enable,
+        ..c
     };
     MemoryReadPort {
-        addr_len: p.addr_len,
-        data_len: p.data_len,
-        clear_len: p.clear_len,
-        reset_len: p.reset_len,
-        init_len: p.init_len,
-        relations_len: p.relations_len,
-        relations,
+        relations: kept_relations(p.relations, incl),
         flip_flop: Some(controls),
+        ..p
     }
 }
 
@@ -126,13 +95,10 @@ fn unreset_port(p: MemoryReadPort, c: Controls, incl: bool) -> MemoryReadPort
 pub fn unreset(m: Memory, i: usize, c: Controls, incl: bool) -> Memory
     ensures { result ≡ unreset m i c incl }
 {
-    if rules::MAX_PORTS <= i {
-        return m;
-    }
-    let p = m.read_ports[i];
-    let q = unreset_port(p, c, incl);
     let mut out = m;
-    out.read_ports[i] = q;
+    if i < rules::MAX_PORTS {
+        out.read_ports[i] = unreset_port(m.read_ports[i], c, incl);
+    }
     out
 }
 
@@ -155,9 +121,9 @@ pub fn blank(trits: &mut [u8], m: Memory, i: usize)
     }
     let p = m.read_ports[i];
     let start = trit_start(m, i);
-    let clear = lists::usize_of_u32(p.clear_len);
-    let reset = lists::usize_of_u32(p.reset_len);
-    let init = lists::usize_of_u32(p.init_len);
+    let clear = p.clear_len as usize;
+    let reset = p.reset_len as usize;
+    let init = p.init_len as usize;
     lists::fill(trits, start, clear, rules::TRIT_X);
     lists::fill(trits, start + clear, reset, rules::TRIT_X);
     lists::fill(trits, start + clear + reset, init, rules::TRIT_X);

@@ -3,10 +3,9 @@ ghost use Rattle.std.specs.Prelude.{◌≡◌};
 ghost use Rattle.rules.specs.Refusals.{mem_refusal};
 ghost use Rattle.rules.specs.Answers.{wide_log2_call, output_len_call, output_slice_call, can_lower_fallback_call, extract_read_ports_call};
 ghost use Rattle.net_memory.specs.Given.{given_of};
-ghost use Rattle.port_extract.specs.Extract.{extracted_of};
 ghost use Rattle.c_net.specs.View.{flag_result, value_result, count_struct};
 ghost use Rattle.c_memory.specs.View.{given_memory};
-ghost use Rattle.c_memory.specs.Calls.{slice_result, given_extracted, NewMemory};
+ghost use Rattle.c_memory.specs.Calls.{slice_result, extracted_of, NewMemory};
 
 use c_memory::{Extracted, Memory, Slice};
 use c_net::Count;
@@ -66,7 +65,7 @@ pub extern "C" fn tablegoose_extract_read_ports(
     list: &[u32],
     output: &[u32],
 ) -> Extracted
-    ensures room_output_after { extracted_of (given_extracted result) room_nets.new room_trits.new room_output.new ≡ extract_read_ports_call room_nets.old room_trits.old room_output.old (given_of (given_memory m) nets.now trits.now) list.now output.now }
+    ensures room_output_after { extracted_of result room_nets.new room_trits.new room_output.new ≡ extract_read_ports_call room_nets.old room_trits.old room_output.old (given_of (given_memory m) nets.now trits.now) list.now output.now }
     ensures new_memory { NewMemory m nets.now trits.now list.now output.now result }
 {
     c_memory::tablegoose_extract_read_ports(

@@ -2,7 +2,7 @@
 use crate::case::{Case, NETS, OUTS, TRITS};
 use crate::{case, room, same};
 use net_memory::Memory;
-use port_extract::Extracted;
+use rules::Refusal;
 use try_kit::paint::{paint, paint_words};
 use try_kit::tally::{Tally, add};
 
@@ -26,7 +26,7 @@ fn call(
     room_nets: &mut [u32],
     room_trits: &mut [u8],
     room_outs: &mut [u32],
-) -> Extracted {
+) -> Result<Memory, Refusal> {
     let nets = case::nets_of(c);
     let trits = case::trits_of(c);
     let outs = case::outs_of(c);
@@ -72,8 +72,11 @@ pub(crate) fn extracted(
         &mut room_trits,
         &mut room_outs,
     );
-    let m = r.memory;
-    let t = add(t, r.refusal == number);
+    let (refusal, m) = match r {
+        Ok(m) => (0, m),
+        Err(e) => (e.number(), c.m),
+    };
+    let t = add(t, refusal == number);
     let t = add(t, same::same_memory(m, after));
     let t = add(t, room::words_parts(&room_nets, room::FIRST_NET, nets));
     let t = add(t, room::trits_parts(&room_trits, trits));

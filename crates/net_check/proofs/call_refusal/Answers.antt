@@ -1,6 +1,5 @@
 -- `net_check::call_refusal` meets its contract.
 use mathlib.Core.Path.{sym, ◌∙◌}
-use Prim.Native.Nat.{◌-◌}
 use Rattle.net_check.proofs.Sizes.{by_one, by_large, by_two, by_lens, by_four, by_parts}
 use Rattle.net_check.proofs.call_refusal.Goals as goal
 

@@ -1,6 +1,5 @@
 -- `net_check::flip_flop_nets_bad` meets its contract.
 use mathlib.Core.Path.{sym, ap, ◌∙◌}
-use Prim.Native.Nat.{◌-◌}
 use mathlib.Core.Bool.{not}
 use Rattle.rules.specs.Conditions.{bad_trits, bad_flip_flop_nets}
 use Rattle.net_check.proofs.Tests.{found, passed}

@@ -1,10 +1,8 @@
 -- `net_check::init_refusal` meets its contract.
 use mathlib.Core.Path.{ap, ◌∙◌}
-use Prim.Native.Nat.{◌-◌}
 use mathlib.Core.Bool.{false, not}
 use lib.ListN.{length}
 use lib.Dec.{eqb}
-use Rattle.lists.specs.Lists.{part}
 use Rattle.rules.specs.Conditions.{bad_trits}
 use Rattle.rules.specs.Logic.{are_trits}
 use Rattle.rules.specs.Refusals.{number_by_of}

@@ -1,6 +1,6 @@
 -- `net_check::parts_refusal` meets its contract.
 use mathlib.Core.Path.{◌∙◌}
-use Prim.Native.Nat.{ℕ, ◌-◌}
+use Prim.Native.Nat.{ℕ}
 use mathlib.Core.List.{List}
 use Rattle.lists.specs.Choice.{least}
 use Rattle.net_memory.specs.View.{memory_of}

@@ -1,6 +1,5 @@
 -- `net_check::read_nets_bad` meets its contract.
 use mathlib.Core.Path.{sym, ap, ◌∙◌}
-use Prim.Native.Nat.{◌-◌}
 use mathlib.Core.Bool.{not}
 use Rattle.lists.specs.Lists.{any}
 use Rattle.rules.specs.Cell.{held}

@@ -1,6 +1,5 @@
 -- `net_check::read_refusal` meets its contract.
 use mathlib.Core.Path.{sym, ◌∙◌}
-use Prim.Native.Nat.{◌-◌}
 use Rattle.rules.specs.Cell.{read_wide_log2, wide_log2}
 use Rattle.rules.specs.Conditions.{indivisible}
 use Rattle.rules.specs.Refusals.{number_by_of}

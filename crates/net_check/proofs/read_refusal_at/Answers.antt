@@ -1,6 +1,5 @@
 -- `net_check::read_refusal_at` meets its contract.
 use mathlib.Core.Path.{sym, ◌∙◌}
-use Prim.Native.Nat.{◌-◌}
 use Rattle.lists.specs.Lists.{part}
 use Rattle.net_memory.proofs.Sized.{writes_length}
 use Rattle.net_check.proofs.Ports.{read_is}

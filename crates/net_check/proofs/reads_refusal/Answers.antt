@@ -1,6 +1,5 @@
 -- `net_check::reads_refusal` meets its contract.
 use mathlib.Core.Path.{refl, ap, ◌∙◌}
-use Prim.Native.Nat.{◌-◌}
 use native.Mathlib.Omega.{arith}
 use Rattle.lists.specs.Choice.{least}
 use Rattle.net_memory.specs.View.{reads_of, memory_of, trit_size, addr_size, no_read_port}

@@ -1,6 +1,6 @@
 -- The invariants of `net_check::reads_refusal`.
 use mathlib.Core.Path.{◌≡◌}
-use Prim.Native.Nat.{◌+◌, ◌-◌, ◌*◌, ◌≤◌}
+use Prim.Native.Nat.{◌+◌, ◌*◌, ◌≤◌}
 use lib.ListN.{take, drop}
 use Rattle.lists.specs.Choice.{least}
 use Rattle.lists.specs.Lists.{sum_by, least_by}

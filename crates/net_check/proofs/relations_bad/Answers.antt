@@ -1,8 +1,6 @@
 -- `net_check::relations_bad` meets its contract.
 use mathlib.Core.Path.{sym, ap, ◌∙◌}
-use Prim.Native.Nat.{◌-◌}
 use mathlib.Core.Bool.{not}
-use Rattle.lists.specs.Lists.{part}
 use Rattle.net_check.proofs.Tests.{relations_trits}
 use Rattle.rules.specs.Logic.{are_trits}
 use Rattle.net_check.proofs.relations_bad.Goals as goal

@@ -1,10 +1,9 @@
 -- `net_check::too_large` meets its contract.
 use mathlib.Core.Path.{refl, sym, ◌∙◌}
-use Prim.Native.Nat.{◌-◌}
 use native.Mathlib.Omega.{arith}
 use lib.Dec.{ltb}
-use borrow.Author.Tests.{lt-ltb, le-ltb}
-use Rattle.net_check.proofs.Tests.{found, passed}
+use borrow.Author.Tests.{le-ltb}
+use Rattle.net_check.proofs.Tests.{passed}
 use Rattle.net_memory.proofs.Sized.{writes_length, reads_length}
 use Rattle.net_check.proofs.Sizes.{large_by}
 use Rattle.net_check.proofs.too_large.Goals as goal

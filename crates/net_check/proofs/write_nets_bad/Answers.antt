@@ -1,6 +1,5 @@
 -- `net_check::write_nets_bad` meets its contract.
 use mathlib.Core.Path.{sym, ap, ◌∙◌}
-use Prim.Native.Nat.{◌-◌}
 use mathlib.Core.Bool.{not}
 use Rattle.rules.specs.Conditions.{bad_write_nets, bad_value, bad_control}
 use Rattle.rules.specs.Value.{good_value}

@@ -1,6 +1,5 @@
 -- `net_check::write_refusal` meets its contract.
 use mathlib.Core.Path.{sym, ◌∙◌}
-use Prim.Native.Nat.{◌-◌}
 use lib.ListN.{length}
 use Rattle.rules.specs.Cell.{write_wide_log2, wide_log2}
 use Rattle.rules.specs.Conditions.{indivisible}

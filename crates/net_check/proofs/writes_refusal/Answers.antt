@@ -1,6 +1,6 @@
 -- `net_check::writes_refusal` meets its contract.
 use mathlib.Core.Path.{refl, ap, ◌∙◌}
-use Prim.Native.Nat.{◌-◌, ◌<◌, min}
+use Prim.Native.Nat.{◌<◌, min}
 use native.Mathlib.Omega.{arith}
 use Rattle.lists.specs.Choice.{least}
 use Rattle.lists.specs.Lists.{part}

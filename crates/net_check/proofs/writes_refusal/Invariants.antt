@@ -1,6 +1,6 @@
 -- The invariants of `net_check::writes_refusal`.
 use mathlib.Core.Path.{◌≡◌}
-use Prim.Native.Nat.{ℕ, ◌-◌, ◌*◌, ◌≤◌}
+use Prim.Native.Nat.{ℕ, ◌*◌, ◌≤◌}
 use mathlib.Core.List.{List}
 use lib.ListN.{take, drop}
 use Rattle.lists.specs.Choice.{least}

@@ -12,12 +12,12 @@ returns-then-n-ne0 c =
     let m = v.m in
     let x = v.nets.now in
     let y = v.trits.now in
-    let n = c.input_number-n.result in
-    let e = refused_input m x y (length v.log.now) (state_of v.st) n c.input_number-n.ensures c.if-n-ne0.true in
+    let n = c.number_of-n.result in
+    let e = refused_input m x y (length v.log.now) (state_of v.st) n (c.number_of-n.ensures ∙ c.input_refusal.ensures) c.if-n-ne0.true in
     record { log_after = call_refused m x y v.log.now v.st n e c.if-n-ne0.true; emulated = all-kept m v.st x n c.if-n-ne0.true }
 
 pub emulate_passed-requires : goal.emulate_passed-requires
-emulate_passed-requires c = sym c.input_number-n.ensures ∙ c.if-n-ne0.false
+emulate_passed-requires c = sym (c.number_of-n.ensures ∙ c.input_refusal.ensures) ∙ c.if-n-ne0.false
 
 pub returns : goal.returns
 returns c = record { log_after = c.emulate_passed.ensures.log_after; emulated = c.emulate_passed.ensures.emulated }

@@ -1,6 +1,5 @@
 -- `port_extract::clocked_trits` meets its contract.
 use mathlib.Core.Path.{◌∙◌}
-use Prim.Native.Nat.{◌-◌}
 use native.Mathlib.Omega.{arith}
 use Rattle.std.specs.Prelude.{None, Some}
 use Rattle.port_extract.proofs.View.{kept_none, kept_by}

@@ -1,6 +1,6 @@
 -- The invariants of `port_extract::put_outputs`.
 use mathlib.Core.Path.{◌≡◌}
-use Prim.Native.Nat.{ℕ, ◌-◌, ◌*◌, ◌≤◌}
+use Prim.Native.Nat.{ℕ, ◌*◌, ◌≤◌}
 use mathlib.Core.List.{List}
 use lib.ListN.{length, take}
 use lib.Seq.{sets}
@@ -10,7 +10,4 @@ use Rattle.net_memory.specs.View.{memory_of}
 use Rattle.port_extract.proofs.put_outputs.Given as goal
 
 abbrev pub invariant-loop-j : goal.invariant-loop-j
-invariant-loop-j l = (l.j ≤ length l.list) × ((n t : List ℕ) → l.at ≡ length (concat_map (λ i. output_slice (memory_of l.m n t) i l.output) (take l.j l.list))) × ((n t : List ℕ) → l.room ≡ sets l.initial.room 0 (concat_map (λ i. output_slice (memory_of l.m n t) i l.output) (take l.j l.list))) × (l.at ≤ l.j * 0x100000000)
-
-abbrev pub decreases-loop-j : goal.decreases-loop-j
-decreases-loop-j l = length l.list - l.j
+invariant-loop-j l = ((n t : List ℕ) → l.at ≡ length (concat_map (λ i. output_slice (memory_of l.m n t) i l.output) (take l.j l.list))) × ((n t : List ℕ) → l.room ≡ sets l.initial.room 0 (concat_map (λ i. output_slice (memory_of l.m n t) i l.output) (take l.j l.list))) × (l.at ≤ l.j * 0x100000000)

@@ -1,6 +1,6 @@
 -- `port_extract::put_trits` meets its contract.
 use mathlib.Core.Path.{ap, ◌∙◌}
-use Prim.Native.Nat.{ℕ, ◌-◌}
+use Prim.Native.Nat.{ℕ}
 use Rattle.lists.specs.Lists.{part}
 use Rattle.port_extract.proofs.Stored.{joined, joined_length}
 use Rattle.port_extract.proofs.put_trits.Goals as goal

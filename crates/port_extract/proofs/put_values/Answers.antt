@@ -1,6 +1,6 @@
 -- `port_extract::put_values` meets its contract.
 use mathlib.Core.Path.{◌≡◌, refl, ap, ◌∙◌}
-use Prim.Native.Nat.{ℕ, ◌+◌, ◌-◌, ◌<◌}
+use Prim.Native.Nat.{ℕ, ◌+◌, ◌<◌}
 use native.Mathlib.Omega.{arith}
 use mathlib.Core.List.{List}
 use lib.ListN.{length, take, get_or, length-append}
@@ -11,7 +11,7 @@ use Rattle.port_extract.specs.Extract.{kept_trits}
 use Rattle.port_extract.proofs.put_values.Goals as goal
 
 pub loop-j-init : goal.loop-j-init
-loop-j-init c = (omega arith, omega arith, refl, omega arith)
+loop-j-init c = (omega arith, refl, omega arith)
 
 pub loop-j-preserved : goal.loop-j-preserved
 loop-j-preserved c =
@@ -20,17 +20,17 @@ loop-j-preserved c =
     let f : ℕ → List ℕ = kept_trits v.m v.trits.now in
     let l : List ℕ = v.list.now in
     let i : h.loop-j.j < length l = omega arith in
-    let e = c.clocked_trits-values.ensures.0 ∙ ap f c.usize_of_u32.ensures.0 in
+    let e = c.clocked_trits-values.ensures.0 in
     let n = concat_more f l h.loop-j.j 0 i in
-    let s = c.copy.ensures ∙ (λ k. sets (h.loop-j.invariant.2 k) h.loop-j.at (e k)) ∙ concat_stored f v.room.now v.start h.loop-j.at l h.loop-j.j 0 i h.loop-j.invariant.1 in
-    (omega arith, omega (arith, ap length n, length-append (concat_map f (take h.loop-j.j l)) (f (get_or l h.loop-j.j 0)), ap length e, h.loop-j.invariant.1), s, omega (arith, c.clocked_trits-values.ensures.1, h.loop-j.invariant.3))
+    let s = c.copy.ensures ∙ (λ k. sets (h.loop-j.invariant.1 k) h.loop-j.at (e k)) ∙ concat_stored f v.room.now v.start h.loop-j.at l h.loop-j.j 0 i h.loop-j.invariant.0 in
+    (omega (arith, ap length n, length-append (concat_map f (take h.loop-j.j l)) (f (get_or l h.loop-j.j 0)), ap length e, h.loop-j.invariant.0), s, omega (arith, c.clocked_trits-values.ensures.1, h.loop-j.invariant.2))
 
 pub shape_of-room : goal.shape_of-room
-shape_of-room c = ap length c.loop-j.invariant.2 ∙ simp length-sets
+shape_of-room c = ap length c.loop-j.invariant.1 ∙ simp length-sets
 
 pub returns : goal.returns
 returns c =
     let h = c in
     let v = c.args in
     let e : take h.loop-j.j v.list.now ≡ v.list.now = take_all h.loop-j.j v.list.now (omega arith) in
-    record { value = h.loop-j.invariant.1 ∙ (λ k. v.start + length (concat_map (kept_trits v.m v.trits.now) (e k))); room_after = h.loop-j.invariant.2 ∙ (λ k. sets v.room.now v.start (concat_map (kept_trits v.m v.trits.now) (e k))) }
+    record { value = h.loop-j.invariant.0 ∙ (λ k. v.start + length (concat_map (kept_trits v.m v.trits.now) (e k))); room_after = h.loop-j.invariant.1 ∙ (λ k. sets v.room.now v.start (concat_map (kept_trits v.m v.trits.now) (e k))) }

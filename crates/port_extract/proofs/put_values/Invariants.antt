@@ -1,6 +1,6 @@
 -- The invariants of `port_extract::put_values`.
 use mathlib.Core.Path.{◌≡◌}
-use Prim.Native.Nat.{◌+◌, ◌-◌, ◌*◌, ◌≤◌}
+use Prim.Native.Nat.{◌+◌, ◌*◌, ◌≤◌}
 use lib.ListN.{length, take}
 use lib.Seq.{sets}
 use Rattle.lists.specs.Lists.{concat_map}
@@ -8,7 +8,4 @@ use Rattle.port_extract.specs.Extract.{kept_trits}
 use Rattle.port_extract.proofs.put_values.Given as goal
 
 abbrev pub invariant-loop-j : goal.invariant-loop-j
-invariant-loop-j l = (l.j ≤ length l.list) × (l.at ≡ l.start + length (concat_map (kept_trits l.m l.trits) (take l.j l.list))) × (l.room ≡ sets l.initial.room l.start (concat_map (kept_trits l.m l.trits) (take l.j l.list))) × (l.at ≤ l.start + l.j * 0x300000000)
-
-abbrev pub decreases-loop-j : goal.decreases-loop-j
-decreases-loop-j l = length l.list - l.j
+invariant-loop-j l = (l.at ≡ l.start + length (concat_map (kept_trits l.m l.trits) (take l.j l.list))) × (l.room ≡ sets l.initial.room l.start (concat_map (kept_trits l.m l.trits) (take l.j l.list))) × (l.at ≤ l.start + l.j * 0x300000000)

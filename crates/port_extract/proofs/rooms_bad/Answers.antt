@@ -1,5 +1,4 @@
 -- `port_extract::rooms_bad` meets its contract.
-use Prim.Native.Nat.{◌-◌}
 use Rattle.port_extract.proofs.Refused.{nets_short, trits_short, output_short}
 use Rattle.port_extract.proofs.rooms_bad.Goals as goal
 

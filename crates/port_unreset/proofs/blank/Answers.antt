@@ -13,4 +13,4 @@ returns-then-i-ge-MAX_PORTS c =
 pub returns : goal.returns
 returns c =
     let v = c.args in
-    three_blank v.m v.i (read_port v.m v.i) v.trits.now c.fill.new.to c.fill-2.new.to c.fill-3.new.to c.trit_start-start.result c.usize_of_u32-clear.result c.usize_of_u32-reset.result c.usize_of_u32-init.result refl c.trit_start-start.ensures.0 c.usize_of_u32-clear.ensures.0 c.usize_of_u32-reset.ensures.0 c.usize_of_u32-init.ensures.0 c.fill.ensures c.fill-2.ensures c.fill-3.ensures
+    three_blank v.m v.i (read_port v.m v.i) v.trits.now c.fill.new.to c.fill-2.new.to c.fill-3.new.to c.trit_start-start.result _ _ _ refl c.trit_start-start.ensures.0 refl refl refl c.fill.ensures c.fill-2.ensures c.fill-3.ensures

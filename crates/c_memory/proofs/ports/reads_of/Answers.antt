@@ -1,6 +1,6 @@
 -- `c_memory::ports::reads_of` meets its contract.
 use mathlib.Core.Path.{◌≡◌, refl, ◌∙◌}
-use Prim.Native.Nat.{◌-◌, ◌<◌}
+use Prim.Native.Nat.{◌<◌}
 use native.Mathlib.Omega.{arith}
 use lib.ListN.{length, length-set}
 use Rattle.c_memory.specs.View.{given_read}
