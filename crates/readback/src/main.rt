@@ -5,6 +5,7 @@
 use std::io;
 use table_read::Fault;
 use table_readback::Refused;
+use table_text::reason::Reason;
 
 // A header line of up to 4,096 bytes, the longest record and the longest table, and a byte more. An input that fills it may be longer, and is refused.
 const ROOM: usize = 1085453;
@@ -41,7 +42,8 @@ fn main(rt: HostRuntime) -> io::Result<()> {
     let mut out = text_room();
     let n = input_front::read_full(&mut rt.stdin(), &mut text)?;
     if n == ROOM {
-        return write_refused(&rt, Refused::Text(Fault { line: 1, reason: 8 }));
+        let reason = Reason::TextTooLong;
+        return write_refused(&rt, Refused::Text(Fault { line: 1, reason }));
     }
     match table_readback::read_back(&mut out, &text[..n]) {
         Ok(size) => rt.write_all(lists::part(&out, 0, size)),

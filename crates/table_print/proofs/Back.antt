@@ -13,7 +13,7 @@ use lib.Dec.{eqb, ltb}
 use borrow.Author.Tests.{lt-ltb, ne_eqb}
 use Rattle.lists.proofs.Choice.{cases_le}
 use Rattle.rules.specs.Limits.{trit_x}
-use Rattle.table_text.specs.declared.scan.Scan.{Scan}
+use Rattle.table_text.specs.Scan.{Scan}
 use Rattle.table_text.specs.Bytes.{bump, is_blank, is_end, trit_of}
 use Rattle.table_text.specs.Scan.{scan_as, word_end, ended, between, left_of, place_of, scan_trit, scan_word, scan_plain, scan_step_of, is_stored, scan_stored, scan_run}
 use Rattle.table_print.specs.Rows.{char_of, bits_text, rows_from}

@@ -28,7 +28,11 @@ use Rattle.image_geometry.specs.View.{layout_by}
 use Rattle.table_text.specs.Bytes.{max_text}
 use Rattle.table_text.specs.Head.{head_start, HeadEnd, head_run, head_read}
 use Rattle.table_text.specs.Scan.{ScanEnd, scan_start, scan_run, rows_read}
+use Rattle.table_text.specs.declared.reason.Reason.{Reason}
+use Rattle.table_text.specs.declared.scan.Kind.TheVariants.{Refused}
 use Rattle.table_text.specs.declared.scan.Scan.{Scan}
+use Rattle.table_text.specs.View.{reason_number, scan_of}
+use Rattle.table_text.proofs.Closed.{is_closed, text_closed, reason_not_0, gap_where_closed}
 use Rattle.table_read.specs.Table.{NoTable, IsTable, table_of, entries_read, layout_read, head_number, layout_table, head_table}
 use Rattle.table_read.specs.View.{params_read}
 
@@ -90,15 +94,21 @@ pub rows_short : (d w : ℕ) (rows text : List ℕ) (at : ℕ) → w ≤ max_wid
 unfolding rows_read
 rows_short d w rows text at g h = rw (le-ltb max_width w g, le-ltb max_text (length text) h)
 
--- ---- the rows
-module _ (q : Layout) (e : ScanEnd) (s : Scan) (rows : List ℕ) (h : e ≡ record { state = s; rows = rows }) where
-  pub table_refused : s.kind ≢ 0 → NoTable s.line s.kind ≡ table_of q e
-  unfolding table_of
-  table_refused n = rw (h, ne_eqb s.kind 0 n)
+-- ---- the rows: the machine behind the text's last line break refuses, or is between words
+module _ (q : Layout) (rows text : List ℕ) (at : ℕ) (s : Scan) (left : List ℕ) where
+  abbrev Scanned : Type 0
+  Scanned = scan_run q.depth q.width scan_start rows (drop at (text ++ (10 ∷ []))) ≡ record { state = scan_of s; rows = left }
 
-  pub table_given : s.kind ≡ 0 → IsTable (record { layout = q; rows = take (q.depth * q.width) rows }) ≡ table_of q e
+  pub rows_refused : (r : Reason) → Scanned → s.kind ≡ Refused r
+      → NoTable s.line (reason_number r) ≡ table_of q (scan_run q.depth q.width scan_start rows (drop at (text ++ (10 ∷ []))))
   unfolding table_of
-  table_given z = rw (h, eq-eqb s.kind 0 z)
+  rows_refused r h k = rw (h, k, reason_not_0 r)
+
+  pub rows_given : Scanned → ((r : Reason) → s.kind ≢ Refused r)
+      → IsTable (record { layout = q; rows = take (q.depth * q.width) left }) ≡ table_of q (scan_run q.depth q.width scan_start rows (drop at (text ++ (10 ∷ []))))
+  unfolding table_of
+  rows_given h n =
+      let k = sym (ap (λ (x : ScanEnd). is_closed x.state.kind) h) ∙ text_closed q.depth q.width rows text at in rw (h, gap_where_closed s.kind k n)
 
 -- ---- choices
 pub layout_refused : (q : Layout) (text : List ℕ) → bad_layout q ≡ true → layout_table q text ≡ NoTable 1 10

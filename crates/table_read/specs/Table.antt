@@ -6,8 +6,7 @@ use Rattle.rules.specs.Limits.{trit_x, max_bits}
 use Rattle.rules.specs.Geometry.{Layout}
 use Rattle.rules.specs.Conditions.{bad_layout}
 use Rattle.table_text.specs.Bytes.{max_text}
-use Rattle.table_text.specs.declared.head.Head.{Head}
-use Rattle.table_text.specs.Head.{head_start, HeadEnd, head_run}
+use Rattle.table_text.specs.Head.{Head, head_start, HeadEnd, head_run}
 use Rattle.table_text.specs.Scan.{scan_start, ScanEnd, scan_run}
 
 pub record Table : Type 0 where

@@ -3,6 +3,7 @@ use Rattle.std.specs.Prelude.{ℕ, ◌-◌, ◌*◌, List, take, get_or, Result,
 use Rattle.rules.specs.Geometry.{Layout}
 use Rattle.image_geometry.specs.declared.Params.{Params}
 use Rattle.image_geometry.specs.View.{layout_by}
+use Rattle.table_text.specs.View.{reason_number}
 use Rattle.table_read.specs.declared.Table.{Table}
 use Rattle.table_read.specs.declared.Fault.{Fault}
 use Rattle.table_read.specs.Table.{Parsed, NoTable, IsTable}
@@ -22,4 +23,4 @@ layout_in t = layout_by t.params (take t.entries.len t.entries.list)
 
 unfoldable pub parsed_of : Result Table Fault → Parsed
 parsed_of (Ok t) = IsTable (record { layout = layout_in t; rows = take (t.params.depth * t.params.width) t.rows })
-parsed_of (Err f) = NoTable f.line f.reason
+parsed_of (Err f) = NoTable f.line (reason_number f.reason)

@@ -7,13 +7,15 @@ ghost use Rattle.rules.specs.Limits.{max_width, max_row};
 ghost use Rattle.rules.specs.Conditions.{bad_layout};
 ghost use Rattle.image_geometry.specs.View.{layout_by, layout_of};
 ghost use Rattle.table_text.specs.Bytes.{max_text};
+ghost use Rattle.table_text.specs.View.{head_of};
 ghost use Rattle.table_read.specs.Table.{max_words, entries_read, layout_read, head_number, rows_table, layout_table, head_table, parse_table};
 ghost use Rattle.table_read.specs.View.{layout_in, params_read, parsed_of};
 
 use image_geometry::{Layout, Params};
 use std::fmt;
 use table_text::head::{Ended, Head};
-use table_text::scan;
+use table_text::reason::Reason;
+use table_text::{head, scan};
 
 // The words of a header: two numbers, up to MAX_ROW entries, three numbers.
 const MAX_WORDS: usize = 261;
@@ -36,25 +38,16 @@ pub struct Table {
     pub rows: [u8; MAX_TRITS],
 }
 
-// The line of a text that is refused, and the reason of docs/NUMBERS.md.
+// The line of a text that is refused, and the reason.
 #[derive(Clone, Copy, Debug, PartialEq, Eq)]
 pub struct Fault {
     pub line: u32,
-    pub reason: u32,
+    pub reason: Reason,
 }
 
 impl fmt::Display for Fault {
     fn fmt<W: fmt::Write>(&self, f: &mut fmt::Formatter<W>) -> fmt::Result {
-        let words = match self.reason {
-            8 => "text too long",
-            9 => "header",
-            10 => "layout",
-            11 => "character",
-            12 => "too few bits",
-            13 => "too many bits",
-            _ => "row past the depth",
-        };
-        write!(f, "line {}: {words}", self.line)
+        write!(f, "line {}: {}", self.line, self.reason)
     }
 }
 
@@ -99,9 +92,9 @@ fn word_at(words: &[u32], at: u32) -> u32
 // The header is not read whole, or has more words than fit.
 #[tactic(auto, unfolding(crate::specs::Table::head_number))]
 fn is_bad_head(head: Head) -> bool
-    ensures { (when result then 9 else 0) ≡ head_number head }
+    ensures { (when result then 9 else 0) ≡ head_number (head_of head) }
 {
-    head.kind != 3 || 261 < head.count
+    head.kind != head::Kind::Read || 261 < head.count
 }
 
 fn params_of(words: &[u32], count: u32) -> Params
@@ -151,17 +144,18 @@ fn rows_of(params: Params, entries: Entries, text: &[u8], at: usize) -> Result<T
 {
     let mut rows = [rules::TRIT_X; MAX_TRITS];
     let end = scan::read_rows(&mut rows, params.depth, params.width, text, at);
-    if end.kind != 0 {
-        return Err(Fault {
+    match end.kind {
+        scan::Kind::Refused(reason) => Err(Fault {
             line: end.line,
-            reason: end.kind,
-        });
+            reason,
+        }),
+        // Behind the line break at its end a text that is not refused is between words.
+        _ => Ok(Table {
+            params,
+            entries,
+            rows,
+        }),
     }
-    Ok(Table {
-        params,
-        entries,
-        rows,
-    })
 }
 
 fn layout_table(params: Params, entries: Entries, text: &[u8], at: usize) -> Result<Table, Fault>
@@ -171,7 +165,7 @@ fn layout_table(params: Params, entries: Entries, text: &[u8], at: usize) -> Res
     if is_bad_layout(params, entries) {
         return Err(Fault {
             line: 1,
-            reason: 10,
+            reason: Reason::BadLayout,
         });
     }
     rows_of(params, entries, text, at)
@@ -180,17 +174,20 @@ fn layout_table(params: Params, entries: Entries, text: &[u8], at: usize) -> Res
 // The table behind a header that is read.
 fn head_table(text: &[u8], words: &[u32], end: Ended) -> Result<Table, Fault>
     requires { (length text.now ≤ max_text) × (length words.now ≡ max_words) }
-    ensures { parsed_of result ≡ head_table (record { state = end.head; words = words.now; rest = drop end.at (text.now ++ (10 ∷ [])) }) }
+    ensures { parsed_of result ≡ head_table (record { state = head_of end.head; words = words.now; rest = drop end.at (text.now ++ (10 ∷ [])) }) }
 {
     if is_bad_head(end.head) {
-        return Err(Fault { line: 1, reason: 9 });
+        return Err(Fault {
+            line: 1,
+            reason: Reason::BadHeader,
+        });
     }
     let count = end.head.count;
     let params = params_of(words, count);
     if rules::MAX_WIDTH < params.width {
         return Err(Fault {
             line: 1,
-            reason: 10,
+            reason: Reason::BadLayout,
         });
     }
     let entries = entries_of(words, count, params.width);
@@ -202,7 +199,10 @@ pub fn read_table(text: &[u8]) -> Result<Table, Fault>
     ensures { parsed_of result ≡ parse_table text.now }
 {
     if table_text::bytes::MAX_TEXT < text.len() {
-        return Err(Fault { line: 1, reason: 8 });
+        return Err(Fault {
+            line: 1,
+            reason: Reason::TextTooLong,
+        });
     }
     let mut words = [0u32; MAX_WORDS];
     let end = table_text::head::read_head(&mut words, text);

@@ -12,7 +12,7 @@ use Rattle.lists.specs.Lists.{all}
 use Rattle.lists.proofs.Choice.{and_true}
 use Rattle.rules.specs.Geometry.{Layout}
 use Rattle.rules.specs.Limits.{None}
-use Rattle.table_text.specs.declared.head.Head.{Head}
+use Rattle.table_text.specs.Head.{Head}
 use Rattle.table_text.specs.Bytes.{max_text, bump, is_blank, is_digit_of, letter_of, next_letter}
 use Rattle.table_text.specs.Head.{head_as, head_start, head_bad, number_end, head_blank, head_comma, head_break, head_digit, head_entry, head_letter, head_word, head_step_of, head_stored, HeadEnd, head_run}
 use Rattle.table_read.specs.Table.{Parsed, NoTable, max_words, layout_read, head_number, layout_table, head_table, parse_table}

@@ -20,7 +20,7 @@ use Rattle.rules.specs.Conditions.{bad_layout}
 use Rattle.rules.specs.Patch.{laid_out}
 use Rattle.rules.specs.Answers.{Accepted, Listed}
 use Rattle.rules.proofs.GoodLayouts.{good_small}
-use Rattle.table_text.specs.declared.scan.Scan.{Scan}
+use Rattle.table_text.specs.Scan.{Scan}
 use Rattle.table_text.specs.Bytes.{max_text, trit_of}
 use Rattle.table_text.specs.Head.{head_start, HeadEnd, head_run}
 use Rattle.table_text.specs.Scan.{scan_start, scan_step_of, place_of, is_stored, scan_stored, scan_run}

@@ -5,6 +5,7 @@ use Rattle.rules.specs.Refusal.{number}
 use Rattle.rules.specs.Answers as rules
 use Rattle.rules.specs.Answers.{Listed}
 use Rattle.record_codec.specs.View.{view_written}
+use Rattle.table_text.specs.View.{reason_number}
 use Rattle.table_record.specs.declared.Refused.{Refused}
 use Rattle.table_record.specs.declared.Refused.TheVariants.{Text, Call}
 use Rattle.table_record.specs.Split as texts
@@ -15,7 +16,7 @@ listed_of r out = record { answer = view_written r; out = out }
 
 abbrev pub answer_as : Result ℕ Refused → Split
 answer_as (Ok n) = texts.IsSplit (rules.Accepted n)
-answer_as (Err (Text f)) = texts.BadText f.line f.reason
+answer_as (Err (Text f)) = texts.BadText f.line (reason_number f.reason)
 answer_as (Err (Call e)) = texts.IsSplit (rules.Refused (number e))
 
 abbrev pub split_as : Result ℕ Refused → List ℕ → SplitEnd

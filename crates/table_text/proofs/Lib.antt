@@ -1,2 +1,3 @@
 -- Laws of the machines that read a table's text.
 pub mod Runs
+pub mod Closed

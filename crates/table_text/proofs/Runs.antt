@@ -1,6 +1,5 @@
 -- The machines byte by byte: a store, a turn of either loop, and its end.
 use mathlib.Core.Path.{◌≡◌, refl, sym, ap, ◌∙◌}
-use mathlib.Core.Logic.{◌≢◌}
 use mathlib.Core.Bool.{Bool, true, false, ◌&&◌}
 use mathlib.Core.List.{List, [], ◌∷◌, ◌++◌}
 use Prim.Native.Nat.{ℕ, zero, suc, ◌+◌, ◌≤◌, ◌<◌}
@@ -9,11 +8,10 @@ use native.Mathlib.Omega.{arith}
 use lib.ListN.{length, drop, get_or, set, length-append, length-set, drop_of_length-le}
 use lib.Seq.{drop-cons}
 use lib.Dec.{eqb}
-use borrow.Author.Tests.{eq-eqb, ne_eqb}
 use Rattle.lists.specs.Choice.{when◌then◌else◌}
 use Rattle.table_text.specs.Bytes.{low_word, trit_of}
-use Rattle.table_text.specs.declared.head.Head.{Head}
-use Rattle.table_text.specs.declared.scan.Scan.{Scan}
+use Rattle.table_text.specs.Head.{Head}
+use Rattle.table_text.specs.Scan.{Scan}
 use Rattle.table_text.specs.Head.{head_step_of, is_stop, head_stored, head_run}
 use Rattle.table_text.specs.Scan.{scan_step_of, is_stored, place_of, scan_stored, scan_run}
 
@@ -76,19 +74,19 @@ module _ (depth width : ℕ) (s : Scan) (b : ℕ) (rows : List ℕ) where
   length_scan_stored = length_if (is_stored depth width s b) rows (place_of width s) (trit_of b)
 
 -- ---- turns
-head_step : (h : Head) (ws : List ℕ) (b : ℕ) (bs : List ℕ) → h.kind ≢ 3 → head_run h ws (b ∷ bs) ≡ head_run (head_step_of h b) (head_stored h b ws) bs
+head_step : (h : Head) (ws : List ℕ) (b : ℕ) (bs : List ℕ) → eqb h.kind 3 ≡ false → head_run h ws (b ∷ bs) ≡ head_run (head_step_of h b) (head_stored h b ws) bs
 unfolding head_run
-head_step h ws b bs n = rw (ne_eqb h.kind 3 n)
+head_step h ws b bs n = rw n
 
-pub head_turn : (h : Head) (ws text : List ℕ) (i b : ℕ) → i ≤ length text → b ≡ get_or text i 10 → h.kind ≢ 3
+pub head_turn : (h : Head) (ws text : List ℕ) (i b : ℕ) → i ≤ length text → b ≡ get_or text i 10 → eqb h.kind 3 ≡ false
     → head_run (head_step_of h b) (head_stored h b ws) (drop (i + 1) (text ++ (10 ∷ []))) ≡ head_run h ws (drop i (text ++ (10 ∷ [])))
 head_turn h ws text i b l e n =
     sym (head_step h ws b (drop (i + 1) (text ++ (10 ∷ []))) n) ∙ sym (ap (head_run h ws) (next_byte text i b l e))
 
-pub head_stop : (h : Head) (ws bs : List ℕ) → h.kind ≡ 3 → head_run h ws bs ≡ record { state = h; words = ws; rest = bs }
+pub head_stop : (h : Head) (ws bs : List ℕ) → eqb h.kind 3 ≡ true → head_run h ws bs ≡ record { state = h; words = ws; rest = bs }
 unfolding head_run
 head_stop h ws [] e = refl
-head_stop h ws (b ∷ bs) e = rw (eq-eqb h.kind 3 e)
+head_stop h ws (b ∷ bs) e = rw e
 
 pub head_end_lem : (h : Head) (ws text : List ℕ) (i : ℕ) → length text < i
     → head_run h ws (drop i (text ++ (10 ∷ []))) ≡ record { state = h; words = ws; rest = drop i (text ++ (10 ∷ [])) }

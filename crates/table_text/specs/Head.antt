@@ -3,8 +3,14 @@
 use Rattle.std.specs.Prelude.{ℕ, ◌-◌, Bool, ◌&&◌, List, [], ◌∷◌, ◌++◌, length, set, eqb, ltb, leb}
 use Rattle.lists.specs.Choice.{when◌then◌else◌}
 use Rattle.rules.specs.Limits.{None}
-use Rattle.table_text.specs.declared.head.Head.{Head}
 use Rattle.table_text.specs.Bytes.{max_text, bump, more, low_word, is_blank, is_digit_of, letter_of, next_letter}
+
+-- the machine that reads the line: a kind, the field in hand, the words stored, and the number in hand
+pub record Head : Type 0 where
+  pub kind : ℕ
+  pub field : ℕ
+  pub count : ℕ
+  pub value : ℕ
 
 -- kinds: 0 before a word, 1 in a number, 2 after `plain`, 3 the line is read, 4 in `plain`, 8 the text is too long, 9 refused
 abbrev pub head_as : ℕ → ℕ → ℕ → ℕ → Head

@@ -2,3 +2,4 @@
 pub mod Bytes
 pub mod Head
 pub mod Scan
+pub mod View

@@ -2,11 +2,17 @@
 use Rattle.std.specs.Prelude.{ℕ, ◌+◌, ◌-◌, ◌*◌, Bool, ◌&&◌, List, [], ◌∷◌, ◌++◌, length, drop, set, eqb, ltb, leb}
 use Rattle.lists.specs.Choice.{when◌then◌else◌}
 use Rattle.rules.specs.Limits.{max_width}
-use Rattle.table_text.specs.declared.scan.Scan.{Scan}
 use Rattle.table_text.specs.Bytes.{max_text, bump, more, low_word, is_end, trit_of, hex_of}
 
--- kinds: 0 between words, 1 in a word, 2 in a row number, 3 after one slash, 4 in a comment, 5 after `@`, and from 9 on refused.
--- `left` are the bits of the word that are still to come, and `value` is the row number
+-- the machine that reads the rows: a kind, the line and the row in hand, the bits of a word that are still to come, and a row number
+pub record Scan : Type 0 where
+  pub kind : ℕ
+  pub line : ℕ
+  pub row : ℕ
+  pub left : ℕ
+  pub value : ℕ
+
+-- kinds: 0 between words, 1 in a word, 2 in a row number, 3 after one slash, 4 in a comment, 5 after `@`, and from 8 on refused
 abbrev pub scan_as : ℕ → ℕ → ℕ → ℕ → ℕ → Scan
 scan_as kind line row left value = record { kind = kind; line = line; row = row; left = left; value = value }
 
@@ -84,7 +90,7 @@ module _ (depth width : ℕ) where
 
   unfoldable pub scan_step_of : Scan → ℕ → Scan
   scan_step_of s b =
-      when ltb 8 s.kind then s
+      when ltb 7 s.kind then s
       else when eqb s.kind 4 then scan_comment s b
       else when eqb s.kind 3 then scan_slash s b
       else scan_plain s b

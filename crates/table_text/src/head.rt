@@ -1,14 +1,32 @@
 // The header line of a table's text.
-ghost use Rattle.std.specs.Prelude.{◌≡◌, ◌&&◌, ◌∷◌, [], ◌++◌, ◌≤◌, drop, length};
+ghost use Rattle.std.specs.Prelude.{◌≡◌, ◌&&◌, ◌∷◌, [], ◌++◌, ◌≤◌, drop, eqb, length};
 ghost use Rattle.table_text.specs.Bytes.{max_text};
+ghost use Rattle.table_text.specs.View.{head_kind, head_of};
 ghost use Rattle.table_text.specs.Head.{head_as, head_start, head_bad, number_end, head_blank, head_comma, head_break, head_digit, head_entry, head_letter, head_word, head_step_of, is_stop, head_stored, head_run, head_read};
 
 use crate::bytes;
+use crate::reason::Reason;
 
-// The machine that reads the line: a kind, the field in hand, the words stored, and the number in hand.
+// What the machine waits for, or why it refuses the line.
+#[derive(Clone, Copy, Debug, PartialEq, Eq)]
+pub enum Kind {
+    // a word
+    Gap,
+    // the end of a number
+    Number,
+    // the end of the word `plain`
+    AfterPlain,
+    // nothing: the line is read
+    Read,
+    // a letter of `plain`
+    Plain,
+    Refused(Reason),
+}
+
+// The machine that reads the line: what it waits for, the field in hand, the words stored, and the number in hand.
 #[derive(Clone, Copy, Debug, PartialEq, Eq)]
 pub struct Head {
-    pub kind: u32,
+    pub kind: Kind,
     pub field: u32,
     pub count: u32,
     pub value: u64,
@@ -22,8 +40,8 @@ fn is_stop(b: u8) -> bool
 }
 
 impl Head {
-    fn new(kind: u32, field: u32, count: u32, value: u64) -> Head
-        ensures { result ≡ head_as kind field count value }
+    fn new(kind: Kind, field: u32, count: u32, value: u64) -> Head
+        ensures { head_of result ≡ head_as (head_kind kind) field count value }
     {
         Head {
             kind,
@@ -34,18 +52,21 @@ impl Head {
     }
 
     fn bad(self) -> Head
-        ensures { result ≡ head_bad self }
+        ensures { head_of result ≡ head_bad (head_of self) }
     {
-        Head::new(9, self.field, self.count, self.value)
+        Head {
+            kind: Kind::Refused(Reason::BadHeader),
+            ..self
+        }
     }
 
     // A number is at its end, and the next word is of that field.
     #[tactic(auto, unfolding(crate::specs::Head::number_end))]
     fn number_end(self, field: u32) -> Head
-        ensures { result ≡ number_end self field }
+        ensures { head_of result ≡ number_end (head_of self) field }
     {
         if self.value < 4294967296 {
-            Head::new(0, field, bytes::bumped(self.count), 0)
+            Head::new(Kind::Gap, field, bytes::bumped(self.count), 0)
         } else {
             self.bad()
         }
@@ -53,21 +74,21 @@ impl Head {
 
     #[tactic(auto, unfolding(crate::specs::Head::head_blank))]
     fn blank(self) -> Head
-        ensures { result ≡ head_blank self }
+        ensures { head_of result ≡ head_blank (head_of self) }
     {
         match self.kind {
-            0 => self,
-            1 => self.number_end(bytes::bumped(self.field)),
-            2 => Head::new(0, bytes::bumped(self.field), self.count, 0),
-            _ => self.bad(),
+            Kind::Gap => self,
+            Kind::Number => self.number_end(bytes::bumped(self.field)),
+            Kind::AfterPlain => Head::new(Kind::Gap, bytes::bumped(self.field), self.count, 0),
+            Kind::Read | Kind::Plain | Kind::Refused(_) => self.bad(),
         }
     }
 
     #[tactic(auto, unfolding(crate::specs::Head::head_comma))]
     fn comma(self) -> Head
-        ensures { result ≡ head_comma self }
+        ensures { head_of result ≡ head_comma (head_of self) }
     {
-        if self.kind == 1 && self.field == 2 {
+        if self.kind == Kind::Number && self.field == 2 {
             self.number_end(2)
         } else {
             self.bad()
@@ -76,11 +97,11 @@ impl Head {
 
     #[tactic(auto, unfolding(crate::specs::Head::head_break))]
     fn line_break(self) -> Head
-        ensures { result ≡ head_break self }
+        ensures { head_of result ≡ head_break (head_of self) }
     {
         let end = self.blank();
-        if end.kind == 0 && end.field == 6 {
-            Head::new(3, 6, end.count, 0)
+        if end.kind == Kind::Gap && end.field == 6 {
+            Head::new(Kind::Read, 6, end.count, 0)
         } else {
             self.bad()
         }
@@ -88,11 +109,11 @@ impl Head {
 
     #[tactic(auto, unfolding(crate::specs::Head::head_digit))]
     fn digit(self, b: u8) -> Head
-        ensures { result ≡ head_digit self b }
+        ensures { head_of result ≡ head_digit (head_of self) b }
     {
-        if self.kind <= 1 {
+        if self.kind == Kind::Gap || self.kind == Kind::Number {
             let value = bytes::more(10, self.value, b.saturating_sub(b'0'));
-            Head::new(1, self.field, self.count, value)
+            Head::new(Kind::Number, self.field, self.count, value)
         } else {
             self.bad()
         }
@@ -100,10 +121,10 @@ impl Head {
 
     // The first byte of an entry that names no bit, or of `plain`.
     #[tactic(auto, unfolding(crate::specs::Head::head_entry))]
-    fn entry(self, kind: u32, value: u64) -> Head
-        ensures { result ≡ head_entry self kind value }
+    fn entry(self, kind: Kind, value: u64) -> Head
+        ensures { head_of result ≡ head_entry (head_of self) (head_kind kind) value }
     {
-        if self.kind == 0 && self.field == 2 {
+        if self.kind == Kind::Gap && self.field == 2 {
             Head::new(kind, 2, self.count, value)
         } else {
             self.bad()
@@ -113,33 +134,39 @@ impl Head {
     // A further letter of `plain`.
     #[tactic(auto, unfolding(crate::specs::Head::head_letter))]
     fn letter(self, b: u8) -> Head
-        ensures { result ≡ head_letter self b }
+        ensures { head_of result ≡ head_letter (head_of self) b }
     {
-        if self.kind != 4 || b != bytes::letter_of(self.value) {
+        if self.kind != Kind::Plain || b != bytes::letter_of(self.value) {
             return self.bad();
         }
         if self.value == 4 {
-            Head::new(2, 2, self.count, 0)
+            Head::new(Kind::AfterPlain, 2, self.count, 0)
         } else {
-            Head::new(4, 2, self.count, bytes::next_letter(self.value))
+            Head::new(Kind::Plain, 2, self.count, bytes::next_letter(self.value))
         }
     }
 
     #[tactic(auto, unfolding(crate::specs::Head::head_word))]
     fn word(self, b: u8) -> Head
-        ensures { result ≡ head_word self b }
+        ensures { head_of result ≡ head_word (head_of self) b }
     {
         match b {
-            b'-' => self.entry(1, 4294967295),
-            b'p' => self.entry(4, 1),
+            b'-' => self.entry(Kind::Number, u32::MAX.into()),
+            b'p' => self.entry(Kind::Plain, 1),
             _ => self.letter(b),
         }
+    }
+
+    fn is_read(self) -> bool
+        ensures { result ≡ eqb (head_of self).kind 3 }
+    {
+        self.kind == Kind::Read
     }
 
     // One byte.
     #[tactic(auto, unfolding(crate::specs::Head::head_step_of))]
     fn step(self, b: u8) -> Head
-        ensures { result ≡ head_step_of self b }
+        ensures { head_of result ≡ head_step_of (head_of self) b }
     {
         if bytes::is_digit(b) {
             self.digit(b)
@@ -157,9 +184,9 @@ impl Head {
     // Stores a number that ends.
     #[tactic(auto, unfolding(crate::specs::Head::head_stored))]
     fn store(self, words: &mut [u32], b: u8)
-        ensures { words.new ≡ head_stored self b words.old }
+        ensures { words.new ≡ head_stored (head_of self) b words.old }
     {
-        if self.kind == 1 && is_stop(b) {
+        if self.kind == Kind::Number && is_stop(b) {
             lists::put(words, self.count as usize, bytes::low_word(self.value));
         }
     }
@@ -175,11 +202,11 @@ pub struct Ended {
 // Reads the line of a text that is not too long.
 fn read_line(words: &mut [u32], text: &[u8]) -> Ended
     requires { length text.now ≤ max_text }
-    ensures { head_run head_start words.old (text.now ++ (10 ∷ [])) ≡ record { state = result.head; words = words.new; rest = drop result.at (text.now ++ (10 ∷ [])) } }
+    ensures { head_run head_start words.old (text.now ++ (10 ∷ [])) ≡ record { state = head_of result.head; words = words.new; rest = drop result.at (text.now ++ (10 ∷ [])) } }
 {
-    let mut head = Head::new(0, 0, 0, 0);
+    let mut head = Head::new(Kind::Gap, 0, 0, 0);
     for at in 0..text.len() + 1 {
-        if head.kind == 3 {
+        if head.is_read() {
             return Ended { head, at };
         }
         let b = bytes::byte_at(text, at);
@@ -195,11 +222,11 @@ fn read_line(words: &mut [u32], text: &[u8]) -> Ended
 // Reads the line; the end of the text is a line break.
 #[tactic(auto, unfolding(crate::specs::Head::head_read))]
 pub fn read_head(words: &mut [u32], text: &[u8]) -> Ended
-    ensures { head_read words.old text.now ≡ record { state = result.head; words = words.new; rest = drop result.at (text.now ++ (10 ∷ [])) } }
+    ensures { head_read words.old text.now ≡ record { state = head_of result.head; words = words.new; rest = drop result.at (text.now ++ (10 ∷ [])) } }
 {
     if bytes::MAX_TEXT < text.len() {
         return Ended {
-            head: Head::new(8, 0, 0, 0),
+            head: Head::new(Kind::Refused(Reason::TextTooLong), 0, 0, 0),
             at: 0,
         };
     }

@@ -3,4 +3,5 @@
 
 pub mod bytes;
 pub mod head;
+pub mod reason;
 pub mod scan;

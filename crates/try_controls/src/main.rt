@@ -11,8 +11,8 @@ use std::io;
 use try_kit::borders::{next_at, room_at, state_number};
 use try_kit::numbered;
 use try_kit::numbered::Tally;
-use try_kit::paint::{paint_words, same};
-use try_kit::words::{both, minus, net_above, plus, word};
+use try_kit::paint::paint;
+use try_kit::words::{net_above, plus, word};
 
 // A control in plain numbers.
 #[derive(Clone, Copy)]
@@ -127,7 +127,7 @@ fn call_pos(log: &mut [u32], room: usize, next: u32, w: Wire) -> Result<PosNet, 
 
 // The log expected.
 fn want_pos(want: &mut [u32], n: u32, w: Wire, next: u32) {
-    paint_words(want);
+    paint(want);
     if n == 0 {
         put_not(want, 3, w, next);
     }
@@ -136,11 +136,10 @@ fn want_pos(want: &mut [u32], n: u32, w: Wire, next: u32) {
 fn try_pos(t: Tally, log: &mut [u32], want: &mut [u32], w: Wire, room: usize, next: u32) -> Tally {
     let n = pos_number(w, room, next);
     want_pos(want, n, w, next);
-    paint_words(log);
+    paint(log);
     let r = call_pos(log, room, next, w);
     let ok = net_answered(n, w, next, r);
-    let kept = same(log, want);
-    numbered::add(t, n, both(ok, kept))
+    numbered::add(t, n, ok && &*log == &*want)
 }
 
 fn pos_case(t: Tally, log: &mut [u32], want: &mut [u32], k: u32) -> Tally {
@@ -244,7 +243,7 @@ fn new_reset(c: Remap) -> Wire {
     let z = remap_size(reset, enable, c.over);
     Wire {
         neg: false,
-        net: net_above(c.next, minus(z.nets, 1)),
+        net: net_above(c.next, z.nets.saturating_sub(1)),
     }
 }
 
@@ -304,7 +303,7 @@ fn put_remap(want: &mut [u32], c: Remap) {
 
 // The log expected.
 fn want_remap(want: &mut [u32], n: u32, c: Remap) {
-    paint_words(want);
+    paint(want);
     if n == 0 {
         put_remap(want, c);
     }
@@ -313,11 +312,10 @@ fn want_remap(want: &mut [u32], n: u32, c: Remap) {
 fn try_remap(t: Tally, log: &mut [u32], want: &mut [u32], c: Remap) -> Tally {
     let n = remap_number(c);
     want_remap(want, n, c);
-    paint_words(log);
+    paint(log);
     let r = call_remap(log, c);
     let ok = remap_answered(n, c, r);
-    let kept = same(log, want);
-    numbered::add(t, n, both(ok, kept))
+    numbered::add(t, n, ok && &*log == &*want)
 }
 
 fn remap_cases(log: &mut [u32], want: &mut [u32]) -> Tally {
@@ -328,30 +326,12 @@ fn remap_cases(log: &mut [u32], want: &mut [u32]) -> Tally {
     t
 }
 
-fn count(rt: &impl Print, name: &str, n: u32) -> io::Result<()> {
-    print!(rt; "{name}{n}")
-}
-
-// The rest of a line, after a group's name: its counts.
-fn report(rt: &impl Print, t: Tally) -> io::Result<()> {
-    count(rt, " ", t.right)?;
-    count(rt, " of ", t.made)?;
-    count(rt, ": accepted ", t.accepted)?;
-    count(rt, ", 1: ", t.large)?;
-    count(rt, ", 2: ", t.unequal)?;
-    count(rt, ", 4: ", t.bad)?;
-    count(rt, ", 20: ", t.full)?;
-    count(rt, ", 21: ", t.netless)?;
-    rt.print("\n")
-}
-
 fn main(rt: HostRuntime) -> io::Result<()> {
     let mut log = [0u32; 48];
     let mut want = [0u32; 48];
-    let t = pos_cases(&mut log, &mut want);
-    rt.print("into_pos:")?;
-    report(&rt, t)?;
-    let u = remap_cases(&mut log, &mut want);
-    rt.print("remap_reset_over_enable:")?;
-    report(&rt, u)
+    println!(rt; "into_pos: {}", pos_cases(&mut log, &mut want))?;
+    println!(rt;
+        "remap_reset_over_enable: {}",
+        remap_cases(&mut log, &mut want)
+    )
 }

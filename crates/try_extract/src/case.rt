@@ -42,69 +42,55 @@ pub(crate) fn of(m: Memory) -> Case {
 }
 
 pub(crate) fn with_net(c: Case, at: usize, net: u32) -> Case {
-    let mut d = c;
-    d.net_at = at;
-    d.net = net;
-    d
+    Case {
+        net_at: at,
+        net,
+        ..c
+    }
 }
 
 pub(crate) fn with_trit(c: Case, at: usize, trit: u8) -> Case {
-    let mut d = c;
-    d.trit_at = at;
-    d.trit = trit;
-    d
+    Case {
+        trit_at: at,
+        trit,
+        ..c
+    }
 }
 
 pub(crate) fn with_out(c: Case, at: usize, out: u32) -> Case {
-    let mut d = c;
-    d.out_at = at;
-    d.out = out;
-    d
+    Case {
+        out_at: at,
+        out,
+        ..c
+    }
 }
 
 pub(crate) fn with_lens(c: Case, nets: usize, trits: usize, outs: usize) -> Case {
-    let mut d = c;
-    d.nets = nets;
-    d.trits = trits;
-    d.outs = outs;
-    d
-}
-
-fn put_net(room: &mut [u32; NETS], at: usize, net: u32) {
-    if at < NETS {
-        room[at] = net;
-    }
-}
-
-fn put_trit(room: &mut [u8; TRITS], at: usize, trit: u8) {
-    if at < TRITS {
-        room[at] = trit;
-    }
-}
-
-fn put_out(room: &mut [u32; OUTS], at: usize, out: u32) {
-    if at < OUTS {
-        room[at] = out;
+    Case {
+        nets,
+        trits,
+        outs,
+        ..c
     }
 }
 
 pub(crate) fn nets_of(c: Case) -> [u32; NETS] {
     let mut lent = [0u32; NETS];
-    room::count_words(&mut lent, room::FIRST_NET);
-    put_net(&mut lent, c.net_at, c.net);
+    room::fill(&mut lent, room::NET_WORDS);
+    lists::put(&mut lent, c.net_at, c.net);
     lent
 }
 
 pub(crate) fn trits_of(c: Case) -> [u8; TRITS] {
     let mut lent = [0u8; TRITS];
-    try_kit::paint::fill_trits(&mut lent);
-    put_trit(&mut lent, c.trit_at, c.trit);
+    room::fill(&mut lent, room::Trits);
+    lists::put(&mut lent, c.trit_at, c.trit);
     lent
 }
 
 pub(crate) fn outs_of(c: Case) -> [u32; OUTS] {
     let mut lent = [0u32; OUTS];
-    room::count_words(&mut lent, room::FIRST_OUT);
-    put_out(&mut lent, c.out_at, c.out);
+    room::fill(&mut lent, room::OUT_WORDS);
+    lists::put(&mut lent, c.out_at, c.out);
     lent
 }

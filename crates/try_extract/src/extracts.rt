@@ -3,7 +3,7 @@ use crate::case::{Case, NETS, OUTS, TRITS};
 use crate::{case, room, same};
 use net_memory::Memory;
 use rules::Refusal;
-use try_kit::paint::{paint, paint_words};
+use try_kit::paint::paint;
 use try_kit::tally::{Tally, add};
 
 // How many places of each room are lent.
@@ -61,9 +61,9 @@ pub(crate) fn extracted(
     let mut room_nets = [0u32; NETS];
     let mut room_trits = [0u8; TRITS];
     let mut room_outs = [0u32; OUTS];
-    paint_words(&mut room_nets);
+    paint(&mut room_nets);
     paint(&mut room_trits);
-    paint_words(&mut room_outs);
+    paint(&mut room_outs);
     let r = call(
         c,
         list,
@@ -78,9 +78,9 @@ pub(crate) fn extracted(
     };
     let t = add(t, refusal == number);
     let t = add(t, same::same_memory(m, after));
-    let t = add(t, room::words_parts(&room_nets, room::FIRST_NET, nets));
-    let t = add(t, room::trits_parts(&room_trits, trits));
-    add(t, room::words_parts(&room_outs, room::FIRST_OUT, outs))
+    let t = add(t, room::is_parts(&room_nets, room::NET_WORDS, nets));
+    let t = add(t, room::is_parts(&room_trits, room::Trits, trits));
+    add(t, room::is_parts(&room_outs, room::OUT_WORDS, outs))
 }
 
 // A refused call leaves the rooms and the memory as they are.

@@ -13,7 +13,7 @@ use try_kit::tally::Tally;
 
 // A line with a group's name and its counts.
 fn report(rt: &impl Print, name: &str, t: Tally) -> io::Result<()> {
-    println!(rt; "{name}: {} compared, {} wrong", t.made, t.failed)
+    println!(rt; "{name}: {t}")
 }
 
 fn main(rt: HostRuntime) -> io::Result<()> {

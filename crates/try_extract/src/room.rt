@@ -1,88 +1,70 @@
 // The contents of what is lent, and the comparison of every word of a room after a call.
-use try_kit::paint::{painted, painted_words};
+use try_kit::paint::{Pattern, painted};
 use try_kit::words::plus;
 
-// The first words of nets and of outputs.
-pub(crate) const FIRST_NET: u32 = 2;
-
-pub(crate) const FIRST_OUT: u32 = 5000;
-
-// Words count up from the first.
-fn word_by(first: u32, i: usize) -> u32 {
-    std::num::wrapping_add_u32(first, (i % 1000000) as u32)
+// What is lent of one kind: its element at each place.
+pub(crate) trait Lent<T: Pattern>: Copy {
+    fn at(self, i: usize) -> T;
 }
 
-// Trits are 0, 1, 2, 0 ..
-fn trit_by(i: usize) -> u8 {
-    (i % 3) as u8
+// Words that count up from the first.
+#[derive(Clone, Copy)]
+pub(crate) struct Words {
+    first: u32,
 }
 
-pub(crate) fn count_words(room: &mut [u32], first: u32) {
-    let mut i = 0;
-    while i < room.len() {
-        room[i] = word_by(first, i);
-        i += 1;
+pub(crate) const NET_WORDS: Words = Words { first: 2 };
+
+pub(crate) const OUT_WORDS: Words = Words { first: 5000 };
+
+impl Lent<u32> for Words {
+    fn at(self, i: usize) -> u32 {
+        std::num::wrapping_add_u32(self.first, (i % 1000000) as u32)
     }
 }
 
-// So many words from a place on count up from that of a place in the pattern.
-fn words_run(room: &[u32], at: usize, first: u32, from: usize, count: usize) -> bool {
-    let mut i = at;
-    let mut left = count;
-    while 0 < left {
-        if room.len() <= i {
-            return false;
-        }
-        if room[i] != word_by(first, plus(from, i - at)) {
-            return false;
-        }
-        i += 1;
-        left -= 1;
+// Trits 0, 1, 2, 0 ..
+#[derive(Clone, Copy)]
+pub(crate) struct Trits;
+
+impl Lent<u8> for Trits {
+    fn at(self, i: usize) -> u8 {
+        (i % 3) as u8
     }
-    true
 }
 
-fn trits_run(room: &[u8], at: usize, from: usize, count: usize) -> bool {
-    let mut i = at;
-    let mut left = count;
-    while 0 < left {
-        if room.len() <= i {
-            return false;
-        }
-        if room[i] != trit_by(plus(from, i - at)) {
-            return false;
-        }
-        i += 1;
-        left -= 1;
+pub(crate) fn fill<T: Pattern, L: Lent<T>>(room: &mut [T], lent: L) {
+    for i in 0..room.len() {
+        room[i] = lent.at(i);
     }
-    true
 }
 
-// The room holds parts of the pattern, each given by where it starts there and its length, and is painted after them.
-pub(crate) fn words_parts(room: &[u32], first: u32, parts: &[usize]) -> bool {
+// So many elements from a place on are what is lent from another place on.
+fn is_run<T: Pattern, L: Lent<T>>(
+    room: &[T],
+    at: usize,
+    lent: L,
+    from: usize,
+    count: usize,
+) -> bool {
+    let run = lists::part(room, at, count);
+    for (i, x) in run.iter().enumerate() {
+        if *x != lent.at(plus(from, i)) {
+            return false;
+        }
+    }
+    run.len() == count
+}
+
+// The room holds parts of what is lent, each given by where it starts there and its length, and is painted after them.
+pub(crate) fn is_parts<T: Pattern, L: Lent<T>>(room: &[T], lent: L, parts: &[usize]) -> bool {
     let mut at: usize = 0;
-    let mut i = 1;
-    while i < parts.len() {
-        let count = parts[i];
-        if !words_run(room, at, first, parts[i - 1], count) {
+    for k in 0..parts.len() / 2 {
+        let count = parts[2 * k + 1];
+        if !is_run(room, at, lent, parts[2 * k], count) {
             return false;
         }
         at = plus(at, count);
-        i += 2;
-    }
-    painted_words(room, at)
-}
-
-pub(crate) fn trits_parts(room: &[u8], parts: &[usize]) -> bool {
-    let mut at: usize = 0;
-    let mut i = 1;
-    while i < parts.len() {
-        let count = parts[i];
-        if !trits_run(room, at, parts[i - 1], count) {
-            return false;
-        }
-        at = plus(at, count);
-        i += 2;
     }
     painted(room, at)
 }

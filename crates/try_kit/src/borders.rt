@@ -2,14 +2,14 @@
 ghost use Rattle.std.specs.Prelude.{◌≡◌};
 ghost use Rattle.try_kit.specs.Borders.{length_at, room_at, next_at, state_number};
 
-use crate::words::{minus, net_above, plus, word};
+use crate::words::{plus, word};
 use rules::{FIRST_CELL, MAX_MERGE, MAX_NETS};
 
 pub fn length_at(k: u32) -> usize
     ensures { result ≡ length_at k }
 {
     let lengths = [0usize, 1, MAX_MERGE - 1, MAX_MERGE, MAX_MERGE + 1];
-    lengths[lists::usize_of_u32(k) % 5]
+    lengths[k as usize % 5]
 }
 
 // The room: all words, one word short, seven more, and less than is used.
@@ -17,8 +17,13 @@ pub fn room_at(k: u32, used: usize, words: usize) -> usize
     ensures { result ≡ room_at k used words }
 {
     let all = plus(used, words);
-    let rooms = [all, minus(all, 1), plus(all, 7), minus(used, 1)];
-    rooms[lists::usize_of_u32(k) % 4]
+    let rooms = [
+        all,
+        all.saturating_sub(1),
+        plus(all, 7),
+        used.saturating_sub(1),
+    ];
+    rooms[k as usize % 4]
 }
 
 // The next free net: the third ends at the limit, and the fourth is one net short of it.
@@ -27,7 +32,7 @@ pub fn next_at(k: u32, nets: usize) -> u32
 {
     let last = MAX_NETS - word(nets);
     let nexts = [2u32, 100, last, last + 1, 1, MAX_NETS];
-    nexts[lists::usize_of_u32(k) % 6]
+    nexts[k as usize % 6]
 }
 
 // 20 or 21 of a request whose log would end at `end`, and whose nets from `next` on would end at `last`; else 0.
@@ -37,10 +42,7 @@ pub fn state_number(room: usize, end: usize, next: u32, last: u32) -> u32
     if room < end {
         return 20;
     }
-    if next < FIRST_CELL {
-        return 21;
-    }
-    if MAX_NETS < last {
+    if next < FIRST_CELL || MAX_NETS < last {
         return 21;
     }
     0

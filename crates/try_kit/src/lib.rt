@@ -1,11 +1,13 @@
-// What the programs that try calls share: tallies, sums that ask nothing, patterned buffers, border sizes, and nets and memories to call with.
+// What the programs that try calls share: tallies, sums that ask nothing, patterned buffers, border sizes, requests and their cases, and nets and memories to call with.
 #![tactic(auto)]
 
 pub mod borders;
 pub mod nets;
 pub mod numbered;
 pub mod paint;
+pub mod requests;
 pub mod samples;
+pub mod say;
 pub mod spoilt;
 pub mod sums;
 pub mod tally;

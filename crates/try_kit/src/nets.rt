@@ -41,10 +41,8 @@ pub fn net_at(next: u32, i: usize, turn: usize) -> u32
 pub fn fill_nets(s: &mut [u32], next: u32, turn: usize)
     ensures { s.new ≡ nets_of next turn (length s.old) }
 {
-    let mut i = 0;
-    while i < s.len() {
+    for i in 0..s.len() {
         s[i] = net_at(next, i, turn);
-        i += 1;
     }
 }
 

@@ -3,6 +3,7 @@ ghost use Rattle.std.specs.Prelude.{◌≡◌};
 ghost use Rattle.try_kit.specs.Numbered.{no_case, one_case};
 
 use crate::tally::more;
+use std::fmt;
 
 // How many cases were made, how many were right, and how many expect 0, 1, 2, 4, 20 and 21.
 #[derive(Clone, Copy)]
@@ -15,6 +16,23 @@ pub struct Tally {
     pub bad: u32,
     pub full: u32,
     pub netless: u32,
+}
+
+// The rest of a line, after what was tried.
+impl fmt::Display for Tally {
+    fn fmt<W: fmt::Write>(&self, f: &mut fmt::Formatter<W>) -> fmt::Result {
+        write!(
+            f,
+            "{} of {}: accepted {}",
+            self.right, self.made, self.accepted
+        )?;
+        write!(
+            f,
+            ", 1: {}, 2: {}, 4: {}",
+            self.large, self.unequal, self.bad
+        )?;
+        write!(f, ", 20: {}, 21: {}", self.full, self.netless)
+    }
 }
 
 pub fn start() -> Tally

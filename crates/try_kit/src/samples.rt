@@ -108,7 +108,7 @@ pub fn with_write(m: Memory, i: usize, p: MemoryWritePort) -> Memory
     out
 }
 
-// With another read port i.
+// With another read port i. One function for both lists of ports would be no plainer.
 pub fn with_read(m: Memory, i: usize, p: MemoryReadPort) -> Memory
     ensures { result ≡ with_reads m (set m.read_ports i p) }
 {

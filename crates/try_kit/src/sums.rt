@@ -7,10 +7,8 @@ pub fn sum_of(bytes: &[u8]) -> u64
     ensures { result ≡ weighed 0 bytes.now }
 {
     let mut sum: u64 = 0;
-    let mut i = 0;
-    while i < bytes.len() {
-        sum = (sum * 257 + (bytes[i] as u64) + 1) % 4294967291;
-        i += 1;
+    for b in bytes {
+        sum = (sum * 257 + *b as u64 + 1) % 4294967291;
     }
     sum
 }

@@ -1,8 +1,9 @@
 // Counts of comparisons.
-ghost use Rattle.std.specs.Prelude.{◌≡◌, ◌+◌, min};
-ghost use Rattle.try_kit.specs.Tally.{most, more as more·of, none_made, one_more_of};
+ghost use Rattle.std.specs.Prelude.{◌≡◌};
+ghost use Rattle.try_kit.specs.Tally.{more as more·of, none_made, one_more_of};
 
 use crate::MOST;
+use std::fmt;
 
 // How many comparisons were made, and how many failed.
 #[derive(Clone, Copy)]
@@ -11,23 +12,18 @@ pub struct Tally {
     pub failed: u32,
 }
 
-fn one_more(n: u32) -> u32
-    ensures { result ≡ min (n + 1) most }
-{
-    if n < MOST {
-        return n + 1;
+// The rest of a line, after what was tried.
+impl fmt::Display for Tally {
+    fn fmt<W: fmt::Write>(&self, f: &mut fmt::Formatter<W>) -> fmt::Result {
+        write!(f, "{} compared, {} wrong", self.made, self.failed)
     }
-    MOST
 }
 
 // One more where a test holds.
 pub(crate) fn more(n: u32, test: bool) -> u32
     ensures { result ≡ more·of n test }
 {
-    if test {
-        return one_more(n);
-    }
-    n
+    if test { n.min(MOST - 1) + 1 } else { n }
 }
 
 pub fn start() -> Tally

@@ -1,14 +1,8 @@
-// Sums, differences and a cast that ask nothing.
-ghost use Rattle.std.specs.Prelude.{◌≡◌, ◌&&◌, ◌+◌, ◌-◌, min};
+// Sums and a cast that ask nothing: a chain of `saturating_add` and `min` would nest worse where the sums of a case stand.
+ghost use Rattle.std.specs.Prelude.{◌≡◌, ◌+◌, min};
 ghost use Rattle.try_kit.specs.Tally.{most, most_net};
 
 use crate::{MOST, MOST_NET};
-
-pub fn both(a: bool, b: bool) -> bool
-    ensures { result ≡ (a && b) }
-{
-    a && b
-}
 
 // A length as a word, a million at the most.
 pub fn word(n: usize) -> u32
@@ -24,22 +18,9 @@ pub fn plus(a: usize, b: usize) -> usize
     a.min(MOST as usize) + b.min(MOST as usize)
 }
 
-// A difference, 0 where there is none.
-pub fn minus(a: usize, b: usize) -> usize
-    ensures { result ≡ a - b }
-{
-    if a < b {
-        return 0;
-    }
-    a - b
-}
-
 // The net that lies n above another.
 pub fn net_above(net: u32, n: usize) -> u32
     ensures { result ≡ min net most_net + min n most }
 {
-    if MOST_NET < net {
-        return MOST_NET + word(n);
-    }
-    net + word(n)
+    net.min(MOST_NET) + word(n)
 }

@@ -1,6 +1,5 @@
 // Values: their tests and parts, and zext, whose lent room holds 201 to 204 before each call.
 use crate::consts::bool_number;
-use try_kit::paint::same;
 use try_kit::tally::{Tally, add};
 
 fn undef_case(t: Tally, v: &[u32], number: u32, undef: bool, good: bool) -> Tally {
@@ -27,7 +26,7 @@ pub(crate) fn undefs(t: Tally) -> Tally {
 // A part of 10 11 12 13 14.
 fn slice_case(t: Tally, start: usize, end: usize, want: &[u32]) -> Tally {
     let v = [10u32, 11, 12, 13, 14];
-    add(t, same(net_value::value_slice(&v, start, end), want))
+    add(t, net_value::value_slice(&v, start, end) == want)
 }
 
 pub(crate) fn slices(t: Tally) -> Tally {
@@ -44,16 +43,11 @@ pub(crate) fn slices(t: Tally) -> Tally {
     slice_case(t, 0, 18446744073709551615, &none)
 }
 
-// The whole room after a call.
-fn holds(room: &[u32; 4], want: &[u32]) -> bool {
-    same(room, want)
-}
-
 fn zext_case(t: Tally, v: &[u32], n: usize, number: u32, want: &[u32]) -> Tally {
     let mut room = [201u32, 202, 203, 204];
     let r = rules::number_of(net_value::zext(&mut room, v, n));
     let t = add(t, r == number);
-    add(t, holds(&room, want))
+    add(t, &room[..] == want)
 }
 
 pub(crate) fn zexts(t: Tally) -> Tally {
@@ -87,7 +81,7 @@ pub(crate) fn zexts_refused(t: Tally) -> Tally {
 fn store_case(t: Tally, v: &[u32], n: usize, want: &[u32]) -> Tally {
     let mut room = [201u32, 202, 203, 204];
     net_value::store_zext(&mut room, v, n);
-    add(t, holds(&room, want))
+    add(t, &room[..] == want)
 }
 
 // What lies past the room is not stored, and a value longer than n is stored whole.
@@ -126,7 +120,7 @@ fn select_case(t: Tally, kw: u32, kr: u32, number: u32, want: &[u32]) -> Tally {
     );
     add(
         t,
-        same(net_value::narrower_select(&waddr, &raddr, kw, kr), want),
+        net_value::narrower_select(&waddr, &raddr, kw, kr) == want,
     )
 }
 

@@ -1,114 +1,94 @@
-// What a request gave: its number or 0, the state after it, its first net and how many it made, and the words of its controls, 0 where it gives none.
-use crate::lent::Lent;
+// What a request gave.
 use log_entries::LogState;
 use log_lent::NewNets;
 use net_flip_flop::Controls;
-use net_value::{ControlNet, Net};
+use net_value::Net;
 use rules::Refusal;
-use try_kit::paint;
-use try_kit::words::both;
 
-#[derive(Clone, Copy)]
+// What a request made: its first net and how many nets, and the words of its controls, 0 where it gives none.
+#[derive(Clone, Copy, Debug, PartialEq, Eq)]
+pub(crate) struct Made {
+    first: u32,
+    count: usize,
+    controls: [u32; 9],
+}
+
+impl Made {
+    pub(crate) fn some(first: u32, count: usize) -> Made {
+        Made {
+            first,
+            count,
+            controls: [0u32; 9],
+        }
+    }
+
+    pub(crate) fn of_nets(new: NewNets) -> Made {
+        Made::some(new.first, new.width)
+    }
+
+    pub(crate) fn of_net(net: Net) -> Made {
+        Made::some(net.0, 1)
+    }
+
+    pub(crate) fn nothing(_: ()) -> Made {
+        Made::some(0, 0)
+    }
+
+    pub(crate) fn of_controls(c: Controls) -> Made {
+        Made {
+            first: 0,
+            count: 0,
+            controls: c.words(),
+        }
+    }
+}
+
+// A request's number or 0, the state after it, and what it made.
+#[derive(Clone, Copy, Debug, PartialEq, Eq)]
 pub(crate) struct Got {
     pub(crate) number: u32,
-    pub(crate) state: LogState,
-    pub(crate) first: u32,
-    pub(crate) count: usize,
-    pub(crate) controls: [u32; 9],
+    used: usize,
+    next: u32,
+    made: Made,
 }
 
-fn sign(c: ControlNet) -> u32 {
-    match c {
-        ControlNet::Pos(_) => 0,
-        ControlNet::Neg(_) => 1,
+impl Got {
+    fn new(number: u32, state: LogState, made: Made) -> Got {
+        Got {
+            number,
+            used: state.used,
+            next: state.next,
+            made,
+        }
     }
-}
 
-fn net(c: ControlNet) -> u32 {
-    match c {
-        ControlNet::Pos(n) => n.0,
-        ControlNet::Neg(n) => n.0,
+    pub(crate) fn refused(number: u32, state: LogState) -> Got {
+        Got::new(number, state, Made::nothing(()))
     }
-}
 
-// The four controls, each as whether it is Neg and its net, and whether the reset is over the enable.
-pub(crate) fn words_of(c: Controls) -> [u32; 9] {
-    let clock = c.clock;
-    let clear = c.clear;
-    let reset = c.reset;
-    let enable = c.enable;
-    [
-        sign(clock),
-        net(clock),
-        sign(clear),
-        net(clear),
-        sign(reset),
-        net(reset),
-        sign(enable),
-        net(enable),
-        u32::from(c.reset_over_enable),
-    ]
-}
-
-pub(crate) fn nets(number: u32, state: LogState, first: u32, count: usize) -> Got {
-    Got {
-        number,
-        state,
-        first,
-        count,
-        controls: [0u32; 9],
+    // On a lent state, which is this one afterwards.
+    pub(crate) fn lent(r: Result<Made, Refusal>, state: LogState) -> Got {
+        match r {
+            Err(e) => Got::refused(e.number(), state),
+            Ok(made) => Got::new(0, state, made),
+        }
     }
-}
 
-pub(crate) fn refused(number: u32, state: LogState) -> Got {
-    nets(number, state, 0, 0)
-}
-
-// A request by value that makes so many nets from the state st on.
-pub(crate) fn plain(r: Result<LogState, Refusal>, st: LogState, first: u32, count: usize) -> Got {
-    match r {
-        Err(e) => refused(e.number(), st),
-        Ok(s) => nets(0, s, first, count),
+    // By value, from the state `st` on, so many nets from `first` on.
+    pub(crate) fn plain(
+        r: Result<LogState, Refusal>,
+        st: LogState,
+        first: u32,
+        count: usize,
+    ) -> Got {
+        match r {
+            Err(e) => Got::refused(e.number(), st),
+            Ok(state) => Got::new(0, state, Made::some(first, count)),
+        }
     }
-}
 
-pub(crate) fn lent_nets(t: Lent<NewNets>) -> Got {
-    match t.answer {
-        Err(e) => refused(e.number(), t.state),
-        Ok(new) => nets(0, t.state, new.first, new.width),
+    // By value, with the state and what the request made side by side.
+    pub(crate) fn with(state: LogState, made: Made) -> Got {
+        Got::new(0, state, made)
     }
-}
-
-pub(crate) fn lent_net(t: Lent<Net>) -> Got {
-    match t.answer {
-        Err(e) => refused(e.number(), t.state),
-        Ok(net) => nets(0, t.state, net.0, 1),
-    }
-}
-
-pub(crate) fn lent_none(t: Lent<()>) -> Got {
-    match t.answer {
-        Err(e) => refused(e.number(), t.state),
-        Ok(()) => nets(0, t.state, 0, 0),
-    }
-}
-
-// ---- equal in every part
-
-fn same_state(a: LogState, b: LogState) -> bool {
-    both(a.used == b.used, a.next == b.next)
-}
-
-fn same_words(a: [u32; 9], b: [u32; 9]) -> bool {
-    paint::same(&a, &b)
-}
-
-pub(crate) fn same(a: Got, b: Got) -> bool {
-    a.number == b.number
-        && a.first == b.first
-        && a.count == b.count
-        && both(
-            same_state(a.state, b.state),
-            same_words(a.controls, b.controls),
-        )
 }

@@ -4,46 +4,64 @@
 use record_sizes::Sizes;
 use rules::Refusal;
 use std::io;
+use try_kit::paint::{fill_trits, paint, painted};
+use try_kit::say::{given, say_if};
+use try_kit::sums::sum_of;
 
-fn say(rt: &impl Print, text: &str) -> io::Result<()> {
-    rt.print(text)
-}
-
-fn say_if(rt: &impl Print, test: bool, yes: &str, no: &str) -> io::Result<()> {
-    if test { say(rt, yes) } else { say(rt, no) }
-}
-
-fn refused(rt: &impl Print, refusal: Refusal, kept: bool) -> io::Result<()> {
-    say(rt, "refused ")?;
-    rt.print(refusal.number())?;
-    say_if(rt, kept, " kept\n", " CHANGED\n")
+// The text that is wanted, or the sum of one that is too long to be written out here.
+#[derive(Clone, Copy)]
+enum Want<'a> {
+    Text(&'a [u8]),
+    Sum(u64),
 }
 
 // The text is the one that is wanted, to its end, and what lies past it is kept.
-fn told(rt: &impl Print, out: &[u8], n: usize, want: &[u8]) -> io::Result<()> {
+fn told(rt: &impl Print, out: &[u8], n: usize, want: Want<'_>) -> io::Result<()> {
     rt.print(n)?;
-    say_if(rt, n == want.len(), "", " OTHER LENGTH")?;
-    say_if(rt, try_kit::paint::starts(out, want), " same", " DIFFERENT")?;
-    say_if(rt, try_kit::paint::painted(out, n), " kept\n", " CHANGED\n")
+    let same = match want {
+        Want::Text(text) => {
+            say_if(rt, n == text.len(), "", " OTHER LENGTH")?;
+            out.starts_with(text)
+        }
+        Want::Sum(sum) => sum_of(lists::part(out, 0, n)) == sum,
+    };
+    say_if(rt, same, " same", " DIFFERENT")?;
+    say_if(rt, painted(out, n), " kept\n", " CHANGED\n")
 }
 
-// What a call was given to read is as it was.
-fn given(rt: &impl Print, before: u64, input: &[u8]) -> io::Result<()> {
-    if try_kit::sums::sum_of(input) != before {
-        say(rt, "INPUT CHANGED\n")?;
+// What a call on a painted room answered.
+fn answered(
+    rt: &impl Print,
+    out: &[u8],
+    answer: Result<usize, Refusal>,
+    want: Want<'_>,
+) -> io::Result<()> {
+    match answer {
+        Err(refusal) => {
+            print!(rt; "refused {}", refusal.number())?;
+            say_if(rt, painted(out, 0), " kept\n", " CHANGED\n")
+        }
+        Ok(n) => told(rt, out, n, want),
     }
-    Ok(())
+}
+
+fn list_as(
+    rt: &impl Print,
+    out: &mut [u8],
+    name: &str,
+    bytes: &[u8],
+    want: Want<'_>,
+) -> io::Result<()> {
+    let before = sum_of(bytes);
+    paint(out);
+    rt.print(name)?;
+    let answer = record_listing::list_record(out, bytes);
+    answered(rt, out, answer, want)?;
+    given(rt, before, bytes)
 }
 
 fn list(rt: &impl Print, out: &mut [u8], name: &str, bytes: &[u8], want: &[u8]) -> io::Result<()> {
-    let before = try_kit::sums::sum_of(bytes);
-    try_kit::paint::paint(out);
-    say(rt, name)?;
-    match record_listing::list_record(out, bytes) {
-        Err(refusal) => refused(rt, refusal, try_kit::paint::painted(out, 0))?,
-        Ok(n) => told(rt, out, n, want)?,
-    }
-    given(rt, before, bytes)
+    list_as(rt, out, name, bytes, Want::Text(want))
 }
 
 // An input of which only the first bytes are stored.
@@ -55,43 +73,12 @@ fn list_long(
     total: usize,
     want: &[u8],
 ) -> io::Result<()> {
-    let before = try_kit::sums::sum_of(first);
-    try_kit::paint::paint(out);
-    say(rt, name)?;
-    match record_listing::list_input(out, first, total) {
-        Err(refusal) => refused(rt, refusal, try_kit::paint::painted(out, 0))?,
-        Ok(n) => told(rt, out, n, want)?,
-    }
+    let before = sum_of(first);
+    paint(out);
+    rt.print(name)?;
+    let answer = record_listing::list_input(out, first, total);
+    answered(rt, out, answer, Want::Text(want))?;
     given(rt, before, first)
-}
-
-// A text that is too long to be written out here: its sum.
-fn list_sum(
-    rt: &impl Print,
-    out: &mut [u8],
-    name: &str,
-    bytes: &[u8],
-    want: u64,
-) -> io::Result<()> {
-    let before = try_kit::sums::sum_of(bytes);
-    try_kit::paint::paint(out);
-    say(rt, name)?;
-    match record_listing::list_record(out, bytes) {
-        Err(refusal) => refused(rt, refusal, try_kit::paint::painted(out, 0))?,
-        Ok(n) => told_sum(rt, out, n, want)?,
-    }
-    given(rt, before, bytes)
-}
-
-fn told_sum(rt: &impl Print, out: &[u8], n: usize, want: u64) -> io::Result<()> {
-    rt.print(n)?;
-    say_if(
-        rt,
-        try_kit::sums::sum_of(lists::part(out, 0, n)) == want,
-        " same",
-        " DIFFERENT",
-    )?;
-    say_if(rt, try_kit::paint::painted(out, n), " kept\n", " CHANGED\n")
 }
 
 fn list_cases(rt: &impl Print, out: &mut [u8]) -> io::Result<()> {
@@ -182,32 +169,28 @@ fn short_case(rt: &impl Print) -> io::Result<()> {
 const IMAGE_ROOM: usize = rules::MAX_IMAGE as usize;
 
 // One memory of the largest depth, and the most memories.
-fn deep_sizes() -> Sizes {
-    Sizes {
-        unit: 4,
-        full: 1,
-        full_depth: 32768,
-        partial: 0,
-        partial_depth: 0,
-    }
-}
+const DEEP: Sizes = Sizes {
+    unit: 4,
+    full: 1,
+    full_depth: 32768,
+    partial: 0,
+    partial_depth: 0,
+};
 
-fn many_sizes() -> Sizes {
-    Sizes {
-        unit: 1,
-        full: 32768,
-        full_depth: 4,
-        partial: 0,
-        partial_depth: 0,
-    }
-}
+const MANY: Sizes = Sizes {
+    unit: 1,
+    full: 32768,
+    full_depth: 4,
+    partial: 0,
+    partial_depth: 0,
+};
 
 // Lists the record of an image of the largest size.
 fn list_deep(rt: &impl Print, out: &mut [u8]) -> io::Result<()> {
     let mut image = image_room();
     let mut bytes = bytes_room();
-    try_kit::paint::fill_trits(&mut image);
-    let _ = record_codec::write_record(&mut bytes, deep_sizes(), &image);
+    fill_trits(&mut image);
+    let _ = record_codec::write_record(&mut bytes, DEEP, &image);
     list(
         rt,
         out,
@@ -225,9 +208,9 @@ const MOST_BYTES: usize = 545974;
 fn list_most(rt: &impl Print, out: &mut [u8], name: &str) -> io::Result<()> {
     let mut image = image_room();
     let mut bytes = bytes_room();
-    try_kit::paint::fill_trits(&mut image);
-    let _ = record_codec::write_record(&mut bytes, many_sizes(), &image);
-    list_sum(rt, out, name, &bytes, MOST_SUM)
+    fill_trits(&mut image);
+    let _ = record_codec::write_record(&mut bytes, MANY, &image);
+    list_as(rt, out, name, &bytes, Want::Sum(MOST_SUM))
 }
 
 fn image_room() -> [u8; IMAGE_ROOM] {

@@ -6,13 +6,13 @@ use port_outputs::OutputSlice;
 use rules::Refusal;
 
 // What is called: the test of a memory, output_len, can_lower_fallback, and read_port_output_slice.
-pub(crate) const REFUSAL: u32 = 0;
-
-pub(crate) const LEN: u32 = 1;
-
-pub(crate) const CAN_LOWER: u32 = 2;
-
-pub(crate) const SLICE: u32 = 3;
+#[derive(Clone, Copy, Debug, PartialEq, Eq)]
+pub(crate) enum Call {
+    Refusal,
+    Len,
+    CanLower,
+    Slice,
+}
 
 // The number that refuses, or 1000000 and the length.
 fn len_code(r: Result<usize, Refusal>) -> u64 {
@@ -40,21 +40,17 @@ fn can_code(r: Result<bool, Refusal>) -> u64 {
     }
 }
 
-fn answer(m: Memory, nets: &[u32], trits: &[u8], call: u32, port: usize) -> u64 {
-    if call == REFUSAL {
-        return rules::number_of(net_check::memory_refusal(m, nets, trits)) as u64;
+fn answer(m: Memory, nets: &[u32], trits: &[u8], call: Call, port: usize) -> u64 {
+    match call {
+        Call::Refusal => rules::number_of(net_check::memory_refusal(m, nets, trits)) as u64,
+        Call::Len => len_code(port_outputs::output_len(m, nets, trits)),
+        Call::CanLower => can_code(port_outputs::can_lower_fallback(m, nets, trits)),
+        Call::Slice => slice_code(port_outputs::read_port_output_slice(m, nets, trits, port)),
     }
-    if call == LEN {
-        return len_code(port_outputs::output_len(m, nets, trits));
-    }
-    if call == CAN_LOWER {
-        return can_code(port_outputs::can_lower_fallback(m, nets, trits));
-    }
-    slice_code(port_outputs::read_port_output_slice(m, nets, trits, port))
 }
 
 // A call over a case.
-pub(crate) fn look(c: Case, call: u32, port: usize) -> u64 {
+pub(crate) fn look(c: Case, call: Call, port: usize) -> u64 {
     let nets = case::nets_of(c);
     let trits = case::trits_of(c);
     let m = c.m;

@@ -32,40 +32,33 @@ pub(crate) fn of(m: Memory) -> Case {
 }
 
 pub(crate) fn with_net(c: Case, at: usize, net: u32) -> Case {
-    let mut d = c;
-    d.net_at = at;
-    d.net = net;
-    d
+    Case {
+        net_at: at,
+        net,
+        ..c
+    }
 }
 
 pub(crate) fn with_trit(c: Case, at: usize, trit: u8) -> Case {
-    let mut d = c;
-    d.trit_at = at;
-    d.trit = trit;
-    d
+    Case {
+        trit_at: at,
+        trit,
+        ..c
+    }
 }
 
 pub(crate) fn with_lens(c: Case, nets: usize, trits: usize) -> Case {
-    let mut d = c;
-    d.nets = nets;
-    d.trits = trits;
-    d
+    Case { nets, trits, ..c }
 }
 
 pub(crate) fn nets_of(c: Case) -> [u32; NETS] {
     let mut lent = [5u32; NETS];
-    let at = c.net_at;
-    if at < NETS {
-        lent[at] = c.net;
-    }
+    lists::put(&mut lent, c.net_at, c.net);
     lent
 }
 
 pub(crate) fn trits_of(c: Case) -> [u8; TRITS] {
     let mut lent = [1u8; TRITS];
-    let at = c.trit_at;
-    if at < TRITS {
-        lent[at] = c.trit;
-    }
+    lists::put(&mut lent, c.trit_at, c.trit);
     lent
 }

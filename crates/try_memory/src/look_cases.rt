@@ -1,5 +1,6 @@
 // output_len, read_port_output_slice and can_lower_fallback.
 use crate::calls;
+use crate::calls::Call;
 use crate::case::of;
 use net_memory::Memory;
 use net_value::ControlNet;
@@ -9,18 +10,18 @@ use try_kit::samples::{
 use try_kit::tally::{Tally, add};
 
 fn length_is(t: Tally, m: Memory, len: u64) -> Tally {
-    add(t, calls::look(of(m), calls::LEN, 0) == 1000000 + len % 1000)
+    add(t, calls::look(of(m), Call::Len, 0) == 1000000 + len % 1000)
 }
 
 fn slice_is(t: Tally, m: Memory, port: usize, start: u64, size: u64) -> Tally {
     add(
         t,
-        calls::look(of(m), calls::SLICE, port) == 1000000 + 1000 * (start % 1000) + size % 1000,
+        calls::look(of(m), Call::Slice, port) == 1000000 + 1000 * (start % 1000) + size % 1000,
     )
 }
 
 fn no_slice(t: Tally, m: Memory, port: usize, number: u64) -> Tally {
-    add(t, calls::look(of(m), calls::SLICE, port) == number)
+    add(t, calls::look(of(m), Call::Slice, port) == number)
 }
 
 // Eight read ports with four data bits.
@@ -65,11 +66,11 @@ fn clocked(writes: u32, at: usize, clock: ControlNet) -> Memory {
 }
 
 fn yes(t: Tally, m: Memory) -> Tally {
-    add(t, calls::look(of(m), calls::CAN_LOWER, 0) == 1000001)
+    add(t, calls::look(of(m), Call::CanLower, 0) == 1000001)
 }
 
 fn no(t: Tally, m: Memory) -> Tally {
-    add(t, calls::look(of(m), calls::CAN_LOWER, 0) == 1000000)
+    add(t, calls::look(of(m), Call::CanLower, 0) == 1000000)
 }
 
 // One clock is one net with one sign; ports that are not in use do not count.

@@ -1,5 +1,6 @@
 // Memories that the numbers 1 to 4 refuse, and their neighbours that none does.
 use crate::calls;
+use crate::calls::Call;
 use crate::case::{Case, of, with_lens, with_net, with_trit};
 use net_flip_flop::Controls;
 use net_memory::Memory;
@@ -12,14 +13,14 @@ use try_kit::tally::{Tally, add};
 
 // Every call is refused by the number, also for a port that is not there; or none is.
 fn numbered(t: Tally, c: Case, n: u64) -> Tally {
-    let t = add(t, calls::look(c, calls::REFUSAL, 0) == n);
+    let t = add(t, calls::look(c, Call::Refusal, 0) == n);
     if n == 0 {
-        let t = add(t, 1000000 <= calls::look(c, calls::LEN, 0));
-        return add(t, 1000000 <= calls::look(c, calls::CAN_LOWER, 0));
+        let t = add(t, 1000000 <= calls::look(c, Call::Len, 0));
+        return add(t, 1000000 <= calls::look(c, Call::CanLower, 0));
     }
-    let t = add(t, calls::look(c, calls::LEN, 0) == n);
-    let t = add(t, calls::look(c, calls::CAN_LOWER, 0) == n);
-    add(t, calls::look(c, calls::SLICE, 99) == n)
+    let t = add(t, calls::look(c, Call::Len, 0) == n);
+    let t = add(t, calls::look(c, Call::CanLower, 0) == n);
+    add(t, calls::look(c, Call::Slice, 99) == n)
 }
 
 fn bare(t: Tally, depth: u32, width: u32, init: u32, n: u64) -> Tally {
@@ -171,10 +172,8 @@ pub(crate) fn arrays(t: Tally) -> Tally {
 // A net at each of the 24 places of the first memory.
 fn each_net(t: Tally, net: u32, n: u64) -> Tally {
     let mut u = t;
-    let mut i: usize = 0;
-    while i < 24 {
+    for i in 0..24 {
         u = numbered(u, with_net(of(base()), i, net), n);
-        i += 1;
     }
     u
 }
@@ -205,10 +204,8 @@ fn trit_number(code: u8, i: usize) -> u64 {
 // A code at each of the 49 places of the first memory.
 fn each_trit(t: Tally, code: u8) -> Tally {
     let mut u = t;
-    let mut i: usize = 0;
-    while i < 49 {
+    for i in 0..49 {
         u = numbered(u, with_trit(of(base()), i, code), trit_number(code, i));
-        i += 1;
     }
     u
 }

@@ -10,9 +10,9 @@ use try_kit::borders::{length_at, room_at, state_number};
 use try_kit::nets::{fill_nets, net_at, spoil};
 use try_kit::numbered;
 use try_kit::numbered::Tally;
-use try_kit::paint::{paint_words, same};
+use try_kit::paint::paint;
 use try_kit::spoilt::{CONTROL, FIRST, NOTHING, SECOND, of_what, select_in};
-use try_kit::words::{both, minus, net_above, plus, word};
+use try_kit::words::{net_above, plus, word};
 
 // The nets and the words that a buffer has room for.
 const NETS: usize = 4100;
@@ -22,10 +22,7 @@ const LOG_WORDS: usize = 16640;
 const CASES: u32 = 450;
 
 fn word_at(s: &[u32], i: usize) -> u32 {
-    if i < s.len() {
-        return s[i];
-    }
-    0
+    if i < s.len() { s[i] } else { 0 }
 }
 
 // The place of a pair among the kept ones, or their number.
@@ -121,10 +118,7 @@ fn expect_run(
 
 // Whether a run of equal neighbours starts at i.
 fn starts_run(s: &[u32], i: usize) -> bool {
-    if i == 0 {
-        return true;
-    }
-    word_at(s, i) != word_at(s, minus(i, 1))
+    i == 0 || word_at(s, i) != word_at(s, i.saturating_sub(1))
 }
 
 // The end of the run of equal neighbours that starts at i.
@@ -200,18 +194,11 @@ fn case_at(bitwise: bool, k: u32) -> Case {
     Case {
         bitwise,
         n,
-        m: longer(n, variant == 5),
+        m: if variant == 5 { plus(n, 1) } else { n },
         neg: k % 2 == 1,
         bad: if variant == 5 { NOTHING } else { variant },
         next: next_at(k / 5 % 5),
     }
-}
-
-fn longer(n: usize, test: bool) -> usize {
-    if test {
-        return plus(n, 1);
-    }
-    n
 }
 
 // 1, 2 and 4 of a case.
@@ -225,34 +212,17 @@ fn input_number(c: Case) -> u32 {
     if select_bad(c) {
         return 4;
     }
-    if 0 < c.n {
-        if spoilt(c.bad) {
-            return 4;
-        }
-    }
-    0
+    if 0 < c.n && spoilt(c.bad) { 4 } else { 0 }
 }
 
 // The select of a merging mux is bad: it is no control, or Neg of net 2, which is no net yet.
 fn select_bad(c: Case) -> bool {
-    if c.bitwise {
-        return false;
-    }
-    if c.bad == CONTROL {
-        return true;
-    }
-    if c.neg {
-        return c.next <= FIRST_CELL;
-    }
-    false
+    !c.bitwise && (c.bad == CONTROL || c.neg && c.next <= FIRST_CELL)
 }
 
 // A value is spoilt; the select of a bitwise mux is one.
 fn spoilt(bad: u32) -> bool {
-    if bad == NOTHING {
-        return false;
-    }
-    bad < ROOM
+    bad != NOTHING && bad < ROOM
 }
 
 // The number that a case expects, where an accepted call would end in the state given.
@@ -294,15 +264,15 @@ fn paint_and_expect(
     b: &[u32],
     nets: &mut [u32],
 ) -> LogState {
-    paint_words(want);
-    paint_words(nets);
+    paint(want);
+    paint(nets);
     expect(c, want, s, a, b, nets)
 }
 
 // The room for results: all nets that a buffer has, or one less than the merge makes.
 fn out_room(c: Case) -> usize {
     if c.bad == ROOM {
-        return minus(c.n, 1);
+        return c.n.saturating_sub(1);
     }
     NETS
 }
@@ -360,12 +330,8 @@ fn call_in(
 fn answered(n: u32, wanted: LogState, r: Result<LogState, Refusal>) -> bool {
     match r {
         Err(e) => e.number() == n,
-        Ok(state) => n == 0 && same_state(state, wanted),
+        Ok(state) => n == 0 && state.used == wanted.used && state.next == wanted.next,
     }
-}
-
-fn same_state(a: LogState, b: LogState) -> bool {
-    a.used == b.used && a.next == b.next
 }
 
 // The call and its comparison: every word of the log and of the result nets.
@@ -382,13 +348,10 @@ fn compare(
 ) -> bool {
     let mut log = [0u32; LOG_WORDS];
     let mut out = [0u32; NETS];
-    paint_words(&mut log);
-    paint_words(&mut out);
+    paint(&mut log);
+    paint(&mut out);
     let r = call_in(c, room, &mut log, s, a, b, &mut out);
-    if !answered(n, wanted, r) {
-        return false;
-    }
-    both(same(&log, want), same(&out, nets))
+    answered(n, wanted, r) && &log[..] == want && &out[..] == nets
 }
 
 // A refused call leaves all as it was.
@@ -396,8 +359,8 @@ fn unset(n: u32, want: &mut [u32], nets: &mut [u32]) {
     if n == 0 {
         return;
     }
-    paint_words(want);
-    paint_words(nets);
+    paint(want);
+    paint(nets);
 }
 
 // A case: the words and nets expected are set first.
@@ -454,32 +417,7 @@ fn cases(bitwise: bool) -> Tally {
     t
 }
 
-fn count(rt: &impl Print, name: &str, n: u32) -> io::Result<()> {
-    print!(rt; "{name}{n}")
-}
-
-// The rest of a line, after a group's name: its counts.
-fn report(rt: &impl Print, t: Tally) -> io::Result<()> {
-    count(rt, " ", t.right)?;
-    count(rt, " of ", t.made)?;
-    count(rt, ": accepted ", t.accepted)?;
-    report_numbers(rt, t)?;
-    rt.print("\n")
-}
-
-fn report_numbers(rt: &impl Print, t: Tally) -> io::Result<()> {
-    count(rt, ", 1: ", t.large)?;
-    count(rt, ", 2: ", t.unequal)?;
-    count(rt, ", 4: ", t.bad)?;
-    count(rt, ", 20: ", t.full)?;
-    count(rt, ", 21: ", t.netless)
-}
-
 fn main(rt: HostRuntime) -> io::Result<()> {
-    let t = cases(false);
-    rt.print("add_dedup_mux:")?;
-    report(&rt, t)?;
-    let u = cases(true);
-    rt.print("add_bitwise_mux:")?;
-    report(&rt, u)
+    println!(rt; "add_dedup_mux: {}", cases(false))?;
+    println!(rt; "add_bitwise_mux: {}", cases(true))
 }

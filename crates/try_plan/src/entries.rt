@@ -1,17 +1,16 @@
 // make_data_swizzle: a painted room, of which the first words are lent.
 use net_memory::Memory;
 use swizzle_entries::DataSwizzle;
-use try_kit::paint::{paint_words, painted_words, starts_words};
+use try_kit::paint::{paint, painted};
 use try_kit::tally::{Tally, add};
-use try_kit::words::both;
 
 const ROOM: usize = 300;
 
 // A number that refuses, or 0 and how many entries there are.
 fn answer_is(r: DataSwizzle, number: u32, count: usize) -> bool {
     match r {
-        DataSwizzle::Refused(n) => { if number == 0 { false } else { n == number } }
-        DataSwizzle::Accepted(k) => { if number == 0 { k == count } else { false } }
+        DataSwizzle::Refused(n) => number != 0 && n == number,
+        DataSwizzle::Accepted(k) => number == 0 && k == count,
     }
 }
 
@@ -40,10 +39,8 @@ pub(crate) fn made(
     want: &[u32],
 ) -> Tally {
     let mut out = [0u32; ROOM];
-    paint_words(&mut out);
+    paint(&mut out);
     let r = call(m, nets, trits, sizes, &mut out, lent);
     let t = add(t, answer_is(r, number, want.len()));
-    let first = starts_words(&out, want);
-    let rest = painted_words(&out, want.len());
-    add(t, both(first, rest))
+    add(t, out.starts_with(want) && painted(&out, want.len()))
 }

@@ -195,10 +195,8 @@ fn spread_at(i: usize, step: usize) -> u32 {
 }
 
 fn spread(want: &mut [u32], step: usize) {
-    let mut i = 0;
-    while i < want.len() {
+    for i in 0..want.len() {
         want[i] = spread_at(i, step);
-        i += 1;
     }
 }
 

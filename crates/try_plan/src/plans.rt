@@ -2,7 +2,7 @@
 use net_memory::Memory;
 use swizzle_plan::MemorySwizzle;
 use swizzle_sizes::MuxBits;
-use try_kit::paint::{paint_words, painted_words, same};
+use try_kit::paint::{paint, painted};
 use try_kit::tally::{Tally, add};
 use try_kit::words::plus;
 
@@ -90,19 +90,8 @@ fn call_in(
 
 // So many words from a place on are one word.
 fn all_are(room: &[u32], at: usize, count: usize, word: u32) -> bool {
-    let mut i = at;
-    let mut left = count;
-    while 0 < left {
-        if room.len() <= i {
-            return false;
-        }
-        if room[i] != word {
-            return false;
-        }
-        i += 1;
-        left -= 1;
-    }
-    true
+    let run = lists::part(room, at, count);
+    run.len() == count && run.iter().all(|x| *x == word)
 }
 
 // swizzle_depths with so many words of a painted room.
@@ -117,16 +106,12 @@ pub(crate) fn depths(
     want: Wanted,
 ) -> Tally {
     let mut out = [0u32; ROOM];
-    paint_words(&mut out);
+    paint(&mut out);
     let n = call_in(m, s, entries, writes, reads, &mut out, lent);
     let t = add(t, n == want.number);
     let t = add(t, all_are(&out, 0, want.full, want.deep));
     let t = add(t, all_are(&out, want.full, want.rest, want.shallow));
-    add(t, painted_words(&out, plus(want.full, want.rest)))
-}
-
-fn same_eight(a: [u32; 8], b: [u32; 8]) -> bool {
-    same(&a, &b)
+    add(t, painted(&out, plus(want.full, want.rest)))
 }
 
 fn mux_call(
@@ -165,11 +150,9 @@ pub(crate) fn mux(
     want_reads: [u32; 8],
 ) -> Tally {
     let r = mux_call(m, list, s, entries, writes, reads);
-    let a = r.writes;
-    let b = r.reads;
     let t = add(t, r.refusal == number);
-    let t = add(t, same_eight(a, want_writes));
-    add(t, same_eight(b, want_reads))
+    let t = add(t, r.writes == want_writes);
+    add(t, r.reads == want_reads)
 }
 
 // A refused call's words are 0.

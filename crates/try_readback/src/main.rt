@@ -9,7 +9,7 @@ fn write_fault(rt: &impl Print, fault: Fault) -> io::Result<()> {
     rt.print("line ")?;
     rt.print(fault.line)?;
     rt.print(" reason ")?;
-    rt.print(fault.reason)?;
+    rt.print(fault.reason.number())?;
     rt.print("\n")
 }
 

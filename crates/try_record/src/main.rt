@@ -7,15 +7,14 @@ use record_reader::FirstTrits;
 use record_sizes::Sizes;
 use rules::Refusal;
 use std::io;
+use try_kit::paint::{fill_trits, paint, painted};
+use try_kit::say::{given, say_if};
+use try_kit::sums::sum_of;
 
 // ---- answers
 
 fn say(rt: &impl Print, text: &str) -> io::Result<()> {
     rt.print(text)
-}
-
-fn say_if(rt: &impl Print, test: bool, yes: &str, no: &str) -> io::Result<()> {
-    if test { say(rt, yes) } else { say(rt, no) }
 }
 
 fn refused(rt: &impl Print, refusal: Refusal, kept: bool) -> io::Result<()> {
@@ -41,27 +40,14 @@ fn write(
     image: &[u8],
     want: &[u8],
 ) -> io::Result<()> {
-    let before = try_kit::sums::sum_of(image);
+    let before = sum_of(image);
     say(rt, name)?;
-    try_kit::paint::paint(out);
+    paint(out);
     match record_codec::write_record(out, s, image) {
-        Err(refusal) => refused(rt, refusal, try_kit::paint::painted(out, 0))?,
-        Ok(n) => done(
-            rt,
-            n,
-            try_kit::paint::starts(out, want),
-            try_kit::paint::painted(out, n),
-        )?,
+        Err(refusal) => refused(rt, refusal, painted(out, 0))?,
+        Ok(n) => done(rt, n, out.starts_with(want), painted(out, n))?,
     }
     given(rt, before, image)
-}
-
-// What a call was given to read is as it was.
-fn given(rt: &impl Print, before: u64, input: &[u8]) -> io::Result<()> {
-    if try_kit::sums::sum_of(input) != before {
-        say(rt, "INPUT CHANGED\n")?;
-    }
-    Ok(())
 }
 
 fn read(
@@ -72,11 +58,11 @@ fn read(
     s: Sizes,
     want: &[u8],
 ) -> io::Result<()> {
-    let before = try_kit::sums::sum_of(bytes);
+    let before = sum_of(bytes);
     say(rt, name)?;
-    try_kit::paint::paint(image);
+    paint(image);
     match record_codec::read_record(image, bytes) {
-        Err(refusal) => refused(rt, refusal, try_kit::paint::painted(image, 0))?,
+        Err(refusal) => refused(rt, refusal, painted(image, 0))?,
         Ok(z) => read_done(rt, z == s, image, want)?,
     }
     given(rt, before, bytes)
@@ -87,8 +73,8 @@ fn read_done(rt: &impl Print, same: bool, image: &[u8], want: &[u8]) -> io::Resu
         done(
             rt,
             want.len(),
-            try_kit::paint::starts(image, want),
-            try_kit::paint::painted(image, want.len()),
+            image.starts_with(want),
+            painted(image, want.len()),
         )
     } else {
         say(rt, " OTHER SIZES\n")
@@ -96,7 +82,7 @@ fn read_done(rt: &impl Print, same: bool, image: &[u8], want: &[u8]) -> io::Resu
 }
 
 fn head(rt: &impl Print, name: &str, first: &[u8], total: usize, s: Sizes) -> io::Result<()> {
-    let before = try_kit::sums::sum_of(first);
+    let before = sum_of(first);
     say(rt, name)?;
     match record_codec::record_header(first, total) {
         Err(refusal) => refused(rt, refusal, true)?,
@@ -106,7 +92,7 @@ fn head(rt: &impl Print, name: &str, first: &[u8], total: usize, s: Sizes) -> io
 }
 
 fn summarize(rt: &impl Print, name: &str, s: Sizes, image: &[u8], index: usize) -> io::Result<()> {
-    let before = try_kit::sums::sum_of(image);
+    let before = sum_of(image);
     say(rt, name)?;
     match record_listing::summary::memory_summary(s, image, index) {
         Err(refusal) => refused(rt, refusal, true)?,
@@ -136,7 +122,7 @@ fn show_trit(rt: &impl Print, trit: Option<u8>) -> io::Result<()> {
 }
 
 fn take_two(rt: &impl Print, name: &str, bytes: &[u8]) -> io::Result<()> {
-    let before = try_kit::sums::sum_of(bytes);
+    let before = sum_of(bytes);
     say(rt, name)?;
     let taken = FirstTrits::of(bytes);
     show_trit(rt, taken.first)?;
@@ -147,64 +133,56 @@ fn take_two(rt: &impl Print, name: &str, bytes: &[u8]) -> io::Result<()> {
 
 // ---- small cases: document 01's record, and records that break one rule
 
-fn first_sizes() -> Sizes {
-    Sizes {
-        unit: 2,
-        full: 1,
-        full_depth: 2,
-        partial: 1,
-        partial_depth: 1,
-    }
-}
+const FIRST: Sizes = Sizes {
+    unit: 2,
+    full: 1,
+    full_depth: 2,
+    partial: 1,
+    partial_depth: 1,
+};
 
 // A full depth that is no power of two.
-fn bad_sizes() -> Sizes {
-    Sizes {
-        unit: 2,
-        full: 1,
-        full_depth: 3,
-        partial: 1,
-        partial_depth: 1,
-    }
-}
+const BAD: Sizes = Sizes {
+    unit: 2,
+    full: 1,
+    full_depth: 3,
+    partial: 1,
+    partial_depth: 1,
+};
 
-fn no_sizes() -> Sizes {
-    Sizes {
-        unit: 1,
-        full: 0,
-        full_depth: 0,
-        partial: 0,
-        partial_depth: 0,
-    }
-}
+const NONE: Sizes = Sizes {
+    unit: 1,
+    full: 0,
+    full_depth: 0,
+    partial: 0,
+    partial_depth: 0,
+};
 
-fn huge_sizes() -> Sizes {
-    Sizes {
-        unit: 4294967295,
-        full: 4294967295,
-        full_depth: 4294967295,
-        partial: 4294967295,
-        partial_depth: 4294967295,
-    }
-}
+const HUGE: Sizes = Sizes {
+    unit: 4294967295,
+    full: 4294967295,
+    full_depth: 4294967295,
+    partial: 4294967295,
+    partial_depth: 4294967295,
+};
 
 fn write_cases(rt: &impl Print, out: &mut [u8]) -> io::Result<()> {
     let image = b"\x01\x00\x02\x01\x00\x00\x01\x00\x07";
     let record = b"\x05\x00\x02\x00\x01\x00\x02\x00\x01\x00\x01\x00\x3B\x09";
-    write(rt, out, "write the first", first_sizes(), image, record)?;
-    write(rt, out, "write sizes", bad_sizes(), image, record)
+    write(rt, out, "write the first", FIRST, image, record)?;
+    write(rt, out, "write sizes", BAD, image, record)
 }
 
 fn write_bad(rt: &impl Print, out: &mut [u8]) -> io::Result<()> {
     let bad = b"\x01\x00\x02\x01\x03\x00\x01\x00";
-    write(rt, out, "write a bad trit", first_sizes(), bad, bad)?;
-    write(rt, out, "write a bad trit, sizes", bad_sizes(), bad, bad)
+    write(rt, out, "write a bad trit", FIRST, bad, bad)?;
+    write(rt, out, "write a bad trit, sizes", BAD, bad, bad)
 }
 
 fn write_more(rt: &impl Print, out: &mut [u8]) -> io::Result<()> {
     let image = b"\x01\x00\x02\x01\x00";
-    write(rt, out, "write huge sizes", huge_sizes(), image, image)?;
-    write(rt, out, "write a short image", first_sizes(), image, image)
+    write(rt, out, "write huge sizes", HUGE, image, image)?;
+    write(rt, out, "write a short image", FIRST, image, image)
 }
 
 fn write_none(rt: &impl Print, out: &mut [u8]) -> io::Result<()> {
@@ -212,7 +190,7 @@ fn write_none(rt: &impl Print, out: &mut [u8]) -> io::Result<()> {
         rt,
         out,
         "write no memories",
-        no_sizes(),
+        NONE,
         b"\x09",
         b"\x05\x00\x01\x00\x00\x00\x00\x00\x00\x00\x00\x00",
     )
@@ -220,18 +198,11 @@ fn write_none(rt: &impl Print, out: &mut [u8]) -> io::Result<()> {
 
 fn write_short(rt: &impl Print, out: &mut [u8]) -> io::Result<()> {
     let image = b"\x01\x00\x02\x01\x00\x00";
-    write(rt, out, "write a short room", first_sizes(), image, image)
+    write(rt, out, "write a short room", FIRST, image, image)
 }
 
 fn read_first(rt: &impl Print, image: &mut [u8], name: &str, bytes: &[u8]) -> io::Result<()> {
-    read(
-        rt,
-        image,
-        name,
-        bytes,
-        first_sizes(),
-        b"\x01\x00\x02\x01\x00\x00",
-    )
+    read(rt, image, name, bytes, FIRST, b"\x01\x00\x02\x01\x00\x00")
 }
 
 fn read_cases(rt: &impl Print, image: &mut [u8]) -> io::Result<()> {
@@ -310,7 +281,7 @@ fn read_none(rt: &impl Print, image: &mut [u8]) -> io::Result<()> {
         image,
         "read no memories",
         b"\x05\x00\x01\x00\x00\x00\x00\x00\x00\x00\x00\x00",
-        no_sizes(),
+        NONE,
         b"",
     )
 }
@@ -332,8 +303,8 @@ fn read_short(rt: &impl Print, image: &mut [u8]) -> io::Result<()> {
 
 fn head_cases(rt: &impl Print) -> io::Result<()> {
     let first = b"\x05\x00\x02\x00\x01\x00\x02\x00\x01\x00\x01\x00";
-    head(rt, "head of the first", first, 14, first_sizes())?;
-    head(rt, "head of another length", first, 15, first_sizes())
+    head(rt, "head of the first", first, 14, FIRST)?;
+    head(rt, "head of another length", first, 15, FIRST)
 }
 
 fn head_more(rt: &impl Print) -> io::Result<()> {
@@ -343,21 +314,15 @@ fn head_more(rt: &impl Print) -> io::Result<()> {
         "head of the largest words",
         largest,
         140731046002700,
-        no_sizes(),
+        NONE,
     )?;
-    head(
-        rt,
-        "head of the largest words, length",
-        largest,
-        2700,
-        no_sizes(),
-    )?;
+    head(rt, "head of the largest words, length", largest, 2700, NONE)?;
     head(
         rt,
         "head of eleven bytes",
         b"\x05\x00\x02\x00\x01\x00\x02\x00\x01\x00\x01",
         14,
-        first_sizes(),
+        FIRST,
     )
 }
 
@@ -401,19 +366,19 @@ fn trit_ends(rt: &impl Print) -> io::Result<()> {
 
 fn summary_cases(rt: &impl Print) -> io::Result<()> {
     let image = b"\x01\x00\x02\x01\x00\x00\x09";
-    summarize(rt, "memory 0", first_sizes(), image, 0)?;
-    summarize(rt, "memory 1", first_sizes(), image, 1)?;
-    summarize(rt, "memory 2", first_sizes(), image, 2)
+    summarize(rt, "memory 0", FIRST, image, 0)?;
+    summarize(rt, "memory 1", FIRST, image, 1)?;
+    summarize(rt, "memory 2", FIRST, image, 2)
 }
 
 fn summary_more(rt: &impl Print) -> io::Result<()> {
-    summarize(rt, "memory 2, trit", first_sizes(), b"\x03", 2)?;
-    summarize(rt, "memory 0, room", first_sizes(), b"\x01\x00", 0)
+    summarize(rt, "memory 2, trit", FIRST, b"\x03", 2)?;
+    summarize(rt, "memory 0, room", FIRST, b"\x01\x00", 0)
 }
 
 fn summary_sizes(rt: &impl Print) -> io::Result<()> {
-    summarize(rt, "memory 2, sizes", bad_sizes(), b"", 2)?;
-    summarize(rt, "memory 0, sizes", bad_sizes(), b"", 0)
+    summarize(rt, "memory 2, sizes", BAD, b"", 2)?;
+    summarize(rt, "memory 0, sizes", BAD, b"", 0)
 }
 
 // ---- rooms for the small cases
@@ -452,19 +417,17 @@ const RECORD_ROOM: usize = rules::MAX_RECORD + 10;
 const LARGEST_SUM: u64 = 3758585772;
 
 // One memory of the largest depth.
-fn deep_sizes() -> Sizes {
-    Sizes {
-        unit: 4,
-        full: 1,
-        full_depth: 32768,
-        partial: 0,
-        partial_depth: 0,
-    }
-}
+const DEEP: Sizes = Sizes {
+    unit: 4,
+    full: 1,
+    full_depth: 32768,
+    partial: 0,
+    partial_depth: 0,
+};
 
 // All its bytes are those that are wanted.
 fn whole_record(rt: &impl Print, bytes: &[u8]) -> io::Result<()> {
-    let sum = try_kit::sums::sum_of(lists::part(bytes, 0, rules::MAX_RECORD));
+    let sum = sum_of(lists::part(bytes, 0, rules::MAX_RECORD));
     say(rt, "its bytes")?;
     say_if(rt, sum == LARGEST_SUM, " same\n", " DIFFERENT\n")
 }
@@ -476,7 +439,7 @@ fn largest(
     back: &mut [u8],
     s: Sizes,
 ) -> io::Result<()> {
-    try_kit::paint::fill_trits(image);
+    fill_trits(image);
     write(rt, bytes, "write the largest", s, image, b"\x05\x00")?;
     whole_record(rt, bytes)?;
     read(
@@ -501,7 +464,7 @@ fn largest_case(rt: &impl Print) -> io::Result<()> {
     let mut image = image_room();
     let mut back = image_room();
     let mut bytes = bytes_room();
-    largest(rt, &mut image, &mut bytes, &mut back, deep_sizes())
+    largest(rt, &mut image, &mut bytes, &mut back, DEEP)
 }
 
 fn main(rt: HostRuntime) -> io::Result<()> {

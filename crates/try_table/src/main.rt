@@ -14,7 +14,7 @@ fn write_answer(rt: &impl Print, answer: Result<usize, Refused>) -> io::Result<(
             rt.print("line ")?;
             rt.print(fault.line)?;
             rt.print(" reason ")?;
-            rt.print(fault.reason)?
+            rt.print(fault.reason.number())?
         }
         Err(Refused::Call(refusal)) => {
             rt.print("refused ")?;

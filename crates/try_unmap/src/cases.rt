@@ -35,7 +35,7 @@ fn answer_is(r: Driven, number: u32, used: usize, next: u32, clocked: bool) -> b
 // The read port's flip-flop becomes a cell behind it.
 pub(crate) fn accepted(t: Tally) -> Tally {
     let mut log = [0u32; ROOM];
-    paint::paint_words(&mut log);
+    paint::paint(&mut log);
     let mut output = [80u32];
     let nets = sample::nets();
     let trits = sample::trits();
@@ -51,15 +51,15 @@ pub(crate) fn accepted(t: Tally) -> Tally {
     );
     let t = tally::add(t, answer_is(r, 0, sample::WORDS, 200 + sample::NETS, false));
     let words = sample::log();
-    let t = tally::add(t, paint::starts_words(&log, &words));
-    let t = tally::add(t, paint::painted_words(&log, sample::WORDS));
+    let t = tally::add(t, log.starts_with(&words));
+    let t = tally::add(t, paint::painted(&log, sample::WORDS));
     tally::add(t, output[0] == 200)
 }
 
 // What is unmapped has no flip-flop: a second call is accepted and does nothing.
 pub(crate) fn unclocked(t: Tally) -> Tally {
     let mut log = [0u32; ROOM];
-    paint::paint_words(&mut log);
+    paint::paint(&mut log);
     let mut output = [80u32];
     let nets = sample::nets();
     let trits = sample::trits();
@@ -76,14 +76,14 @@ pub(crate) fn unclocked(t: Tally) -> Tally {
         0,
     );
     let t = tally::add(t, answer_is(r, 0, 7, 200, false));
-    let t = tally::add(t, paint::painted_words(&log, 0));
+    let t = tally::add(t, paint::painted(&log, 0));
     tally::add(t, output[0] == 80)
 }
 
 // One refused call: the number, and all as it was. So many words of the log are used, and the outputs are net `out`.
 fn refused_by(t: Tally, number: u32, used: usize, next: u32, out: u32, port: usize) -> Tally {
     let mut log = [0u32; ROOM];
-    paint::paint_words(&mut log);
+    paint::paint(&mut log);
     let mut output = [out];
     let nets = sample::nets();
     let trits = sample::trits();
@@ -91,7 +91,7 @@ fn refused_by(t: Tally, number: u32, used: usize, next: u32, out: u32, port: usi
     let st = LogState { used, next };
     let r = port_unmap::unmap_read_dff(&mut log, st, &mut output, m, &nets, &trits, port);
     let t = tally::add(t, answer_is(r, number, used, next, true));
-    let t = tally::add(t, paint::painted_words(&log, 0));
+    let t = tally::add(t, paint::painted(&log, 0));
     tally::add(t, output[0] == out)
 }
 

@@ -1,6 +1,7 @@
 -- `table_read::head_table` meets its contract.
 use Rattle.table_read.proofs.Tables.{count_small, width_read, wide_refused, good_read, head_refused}
 use Rattle.table_read.specs.View.{parsed_of}
+use Rattle.table_text.specs.View.{head_of}
 use Rattle.std.proofs.Common.{[], ◌∙◌, refl, arith}
 use Rattle.table_read.proofs.head_table.Goals as goal
 
@@ -18,7 +19,7 @@ pub entries_of-entries-requires : goal.entries_of-entries-requires
 entries_of-entries-requires c =
     let a = c.args in
     let i = rw c.if-is_bad_head.false at c.is_bad_head.ensures in
-    (c.requires.1, count_small (record { state = a.end.head; words = a.words.now; rest = [] }) 0 i refl, width_read c.params_of-params.result a.words.now a.end.head.count c.params_of-params.ensures, c.if-params-gt-MAX_WIDTH.false)
+    (c.requires.1, count_small (record { state = head_of a.end.head; words = a.words.now; rest = [] }) 0 i refl, width_read c.params_of-params.result a.words.now a.end.head.count c.params_of-params.ensures, c.if-params-gt-MAX_WIDTH.false)
 
 pub returns : goal.returns
 returns c =

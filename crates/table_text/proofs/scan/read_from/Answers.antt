@@ -1,7 +1,7 @@
 -- `table_text::scan::read_from` meets its contract.
 use Rattle.table_text.proofs.Runs.{scan_turn, scan_end, length_scan_stored}
-use Rattle.table_text.specs.Scan.{scan_step_of, scan_run}
-use Rattle.table_text.specs.declared.scan.Scan.{Scan}
+use Rattle.table_text.specs.Scan.{Scan, scan_step_of, scan_run}
+use Rattle.table_text.specs.View.{scan_of}
 use lib.ListN.{length, drop}
 use native.Mathlib.Omega.{arith}
 use Prim.Native.Nat.{ℕ, ◌+◌}
@@ -19,10 +19,10 @@ loop-i-preserved c =
     let a = c.args in
     let t = a.text.now in
     let b = c.byte_at-b.result in (
-      ap length c.store.ensures ∙ length_scan_stored a.depth a.width l.scan b l.rows ∙ l.invariant.0,
+      ap length c.store.ensures ∙ length_scan_stored a.depth a.width (scan_of l.scan) b l.rows ∙ l.invariant.0,
       ap (λ (s : Scan). scan_run a.depth a.width s c.store.new.rows (drop (l.i + 1) (t ++ (10 ∷ [])))) c.step-scan.ensures
-          ∙ ap (λ (rs : List ℕ). scan_run a.depth a.width (scan_step_of a.depth a.width l.scan b) rs (drop (l.i + 1) (t ++ (10 ∷ [])))) c.store.ensures
-          ∙ scan_turn a.depth a.width l.scan l.rows t l.i b (omega arith) c.byte_at-b.ensures ∙ l.invariant.1,
+          ∙ ap (λ (rs : List ℕ). scan_run a.depth a.width (scan_step_of a.depth a.width (scan_of l.scan) b) rs (drop (l.i + 1) (t ++ (10 ∷ [])))) c.store.ensures
+          ∙ scan_turn a.depth a.width (scan_of l.scan) l.rows t l.i b (omega arith) c.byte_at-b.ensures ∙ l.invariant.1,
     )
 
 pub shape_of-rows : goal.shape_of-rows
@@ -30,4 +30,4 @@ shape_of-rows c = c.loop-i.invariant.0
 
 pub returns : goal.returns
 returns c =
-    let l = c.loop-i in let a = c.args in sym l.invariant.1 ∙ scan_end a.depth a.width l.scan l.rows a.text.now l.i (omega arith)
+    let l = c.loop-i in let a = c.args in sym l.invariant.1 ∙ scan_end a.depth a.width (scan_of l.scan) l.rows a.text.now l.i (omega arith)

@@ -1,6 +1,5 @@
 -- The invariants of `try_kit::nets::fill_nets`.
 use mathlib.Core.Path.{◌≡◌}
-use Prim.Native.Nat.{◌-◌, ◌≤◌}
 use lib.ListN.{length}
 use lib.Seq.{sets}
 use Rattle.try_kit.specs.Paint.{pattern_of}
@@ -9,7 +8,4 @@ use Rattle.try_kit.proofs.Turns.{left}
 use Rattle.try_kit.proofs.nets.fill_nets.Given as goal
 
 abbrev pub invariant-loop-i : goal.invariant-loop-i
-invariant-loop-i l = (l.i ≤ length l.initial.s) × (length l.s ≡ length l.initial.s) × (sets l.s l.i (left (λ k. net_at_of l.next k l.turn) (length l.initial.s) l.i) ≡ pattern_of (λ k. net_at_of l.next k l.turn) (length l.initial.s))
-
-abbrev pub decreases-loop-i : goal.decreases-loop-i
-decreases-loop-i l = length l.initial.s - l.i
+invariant-loop-i l = (length l.s ≡ length l.initial.s) × (sets l.s l.i (left (λ k. net_at_of l.next k l.turn) (length l.initial.s) l.i) ≡ pattern_of (λ k. net_at_of l.next k l.turn) (length l.initial.s))

@@ -1,6 +1,5 @@
 -- The invariants of `try_kit::paint::fill_trits`.
 use mathlib.Core.Path.{◌≡◌}
-use Prim.Native.Nat.{◌-◌, ◌≤◌}
 use lib.ListN.{length}
 use lib.Seq.{sets}
 use Rattle.try_kit.specs.Paint.{trit_at_of, pattern_of}
@@ -8,7 +7,4 @@ use Rattle.try_kit.proofs.Turns.{left}
 use Rattle.try_kit.proofs.paint.fill_trits.Given as goal
 
 abbrev pub invariant-loop-i : goal.invariant-loop-i
-invariant-loop-i l = (l.i ≤ length l.initial.room) × (length l.room ≡ length l.initial.room) × (sets l.room l.i (left trit_at_of (length l.initial.room) l.i) ≡ pattern_of trit_at_of (length l.initial.room))
-
-abbrev pub decreases-loop-i : goal.decreases-loop-i
-decreases-loop-i l = length l.initial.room - l.i
+invariant-loop-i l = (length l.room ≡ length l.initial.room) × (sets l.room l.i (left trit_at_of (length l.initial.room) l.i) ≡ pattern_of trit_at_of (length l.initial.room))

@@ -1,12 +1,7 @@
 -- The invariants of `try_kit::paint::painted`.
-use Rattle.try_kit.specs.Paint.{paint_at, pattern_from}
+use Rattle.try_kit.specs.Paint.{pattern_from}
 use mathlib.Core.Path.{◌≡◌}
-use Prim.Native.Nat.{◌-◌}
-use lib.ListN.{length}
 use Rattle.try_kit.proofs.paint.painted.Given as goal
 
 abbrev pub invariant-loop-i : goal.invariant-loop-i
-invariant-loop-i l = pattern_from paint_at l.room l.i ≡ pattern_from paint_at l.room l.from
-
-abbrev pub decreases-loop-i : goal.decreases-loop-i
-decreases-loop-i l = length l.room - l.i
+invariant-loop-i g l = pattern_from g.T.PartialEq.eq g.T.Pattern.pattern l.room l.i ≡ pattern_from g.T.PartialEq.eq g.T.Pattern.pattern l.room l.from

@@ -23,16 +23,16 @@ all sum i bytes h = rw (drop_of_length-le bytes h)
 below : (n : ℕ) → n % 4294967291 < 4294967291
 below n = omega arith
 
-pub loop-i-init : goal.loop-i-init
-loop-i-init c = (omega arith, refl)
+pub loop-b-init : goal.loop-b-init
+loop-b-init c = (omega arith, refl)
 
-pub loop-i-preserved : goal.loop-i-preserved
-loop-i-preserved c =
-    let l = c.loop-i in
+pub loop-b-preserved : goal.loop-b-preserved
+loop-b-preserved c =
+    let l = c.loop-b in
     let b = c.args.bytes.now in
-    (below (l.sum * 257 + get_or b l.i 0 + 1), sym (more l.sum l.i b (omega arith)) ∙ l.invariant.1)
+    (below (l.sum * 257 + get_or b l.b-index 0 + 1), sym (more l.sum l.b-index b (omega arith)) ∙ l.invariant.1)
 
 pub returns : goal.returns
 returns c =
-    let l = c.loop-i in
-    sym (all l.sum l.i c.args.bytes.now (omega arith)) ∙ l.invariant.1
+    let l = c.loop-b in
+    sym (all l.sum l.b-index c.args.bytes.now (omega arith)) ∙ l.invariant.1
