@@ -7,7 +7,7 @@ ghost use Rattle.rules.specs.Fallback.{fallback_plan, lower_rows, lower_fallback
 ghost use Rattle.rules.specs.Refusals.{room_refusal, log_refusal, swizzle_refusal, lower_fallback_number, lower_fallback_refusal};
 ghost use Rattle.rules.specs.Answers.{lower_fallback_call};
 ghost use Rattle.log_entries.specs.Emission.{run};
-ghost use Rattle.log_entries.specs.View.{state_of, lent};
+ghost use Rattle.log_entries.specs.View.{state_of, lent_of};
 ghost use Rattle.net_memory.specs.View.{memory_of};
 ghost use Rattle.net_memory.specs.Given.{given_of};
 ghost use Rattle.swizzle_result.specs.View.{results_of};
@@ -60,51 +60,47 @@ fn split_rows(
         trits,
         outs,
         s,
-        lists::part(&entries, 0, lists::usize_of_u32(b.width)),
+        lists::part(&entries, 0, b.width as usize),
         lists::part(&zeros, 0, writes),
         lists::part(&zeros, 0, reads),
     )
 }
 
 // The registers of the memories that a struct holds.
-fn lower_made(log: &mut [u32], st: LogState, g: WideMemory, nets: &[u32], image: &[u8]) -> LogState
+fn lower_made(log: &mut Log, g: WideMemory, nets: &[u32], image: &[u8])
     requires { Prepared g nets.now image.now }
-    ensures { lent result log.new ≡ run (lower_rows (results_of g nets.now [] image.now)) (lent st log.old) }
+    ensures { lent_of log.new ≡ run (lower_rows (results_of g nets.now [] image.now)) (lent_of log.old) }
 {
-    let mut log = Log {
-        words: log,
-        state: st,
-    };
-    fallback_rows::emit_lowered(&mut log, g, nets, image);
-    log.state
+    fallback_rows::emit_lowered(log, g, nets, image);
 }
 
 // The split and the registers, of a memory that passes the numbers of a fallback; `m` may have flip-flops, which are taken for unmapped.
 fn lower_rows(
-    log: &mut [u32],
-    st: LogState,
+    log: &mut Log,
     tables: &mut [u32],
     m: Memory,
     nets: &[u32],
     trits: &[u8],
     outs: &[u32],
-) -> LogState
-    requires { Ready m nets.now trits.now outs.now st log.old tables.old }
-    ensures log_after { lent result log.new ≡ run (split_lowered (memory_of (bare_of m) nets.now trits.now) outs.now) (lent st log.old) }
+)
+    requires { Ready m nets.now trits.now outs.now log.old.state log.old.words.now tables.old }
+    ensures log_after { lent_of log.new ≡ run (split_lowered (memory_of (bare_of m) nets.now trits.now) outs.now) (lent_of log.old) }
     ensures tables_unchanged { drop (fallback_scratch (memory_of m nets.now trits.now)) tables.new ≡ drop (fallback_scratch (memory_of m nets.now trits.now)) tables.old }
 {
     let b = fallback_bare::bare_memory(m);
     let mut image = [0u8; rules::BITS_ROOM];
-    let x = split_rows(log, st, &mut image, tables, b, nets, trits, outs);
+    let x = split_rows(
+        log.words, log.state, &mut image, tables, b, nets, trits, outs,
+    );
     let made = x.made;
+    log.state = made.state;
     let n = net_memory::init_size(m);
     lower_made(
         log,
-        made.state,
         made.memory,
         lists::part(tables, 0, made.nets_at),
         lists::part(&image, 0, n),
-    )
+    );
 }
 
 // 1 to 4, 11 and 14.
@@ -129,7 +125,7 @@ fn scratch_need(m: Memory) -> usize
     requires { m.depth * m.width ≤ max_bits }
     ensures { result ≡ 2 * min max_ports m.write_count * (m.depth * m.width) }
 {
-    let cells = lists::usize_of_u32(m.depth * m.width);
+    let cells = (m.depth * m.width) as usize;
     2 * net_memory::ports_used(m.write_count) * cells
 }
 
@@ -146,22 +142,22 @@ fn dry_unmapped(
     requires { (lower_fallback_number st.next (given_of m nets.now trits.now) output.now ≡ 0) × (length after.old ≡ max_outputs) }
     ensures { DryRun (memory_of m nets.now trits.now) output.now (state_of st) (state_of result) }
 {
-    let mut no_log = [0u32; 0];
-    let start = st.dry_start();
-    port_unmap_all::emit_unmap_all_with(&mut no_log, start, overlay, after, m, nets, trits, output)
+    let mut dry = Log {
+        words: &mut [],
+        state: st.dry_start(),
+    };
+    port_unmap_all::emit_unmap_all(&mut dry, overlay, after, m, nets, trits, output);
+    dry.state
 }
 
 // The next free net after so many more. One outside the limits stays, and counts past the limit are all alike.
 fn later_net(next: u32, made: usize) -> u32
     ensures { Later next made result }
 {
-    if next < rules::FIRST_CELL {
+    if next < rules::FIRST_CELL || rules::MAX_NETS < next {
         return next;
     }
-    if rules::MAX_NETS < next {
-        return next;
-    }
-    let more = made.min(lists::usize_of_u32(rules::MAX_NETS) + 1);
+    let more = made.min(rules::MAX_NETS as usize + 1);
     next + more as u32
 }
 
@@ -193,7 +189,7 @@ fn plan_number(
         trits,
         outs,
         s,
-        lists::part(&entries, 0, lists::usize_of_u32(b.width)),
+        lists::part(&entries, 0, b.width as usize),
         lists::part(&zeros, 0, writes),
         lists::part(&zeros, 0, reads),
     )
@@ -250,7 +246,7 @@ fn log_number(
         return 20;
     }
     let start = st.dry_start();
-    let unmapped = lists::usize_of_u32(dry.next.saturating_sub(start.next));
+    let unmapped = dry.next.saturating_sub(start.next) as usize;
     let rows = fallback_masks::rows_size(m, nets);
     let words = dry.used + rows.words;
     let made = unmapped + rows.nets;
@@ -262,8 +258,7 @@ fn log_number(
 
 // The log of a fallback that no number refuses.
 fn act(
-    log: &mut [u32],
-    st: LogState,
+    log: &mut Log,
     tables: &mut [u32],
     after: &mut [u32],
     overlay: &mut Overlay,
@@ -271,19 +266,17 @@ fn act(
     nets: &[u32],
     trits: &[u8],
     output: &[u32],
-) -> LogState
-    requires { (lower_fallback_refusal (length tables.old) (length log.old) (state_of st) (given_of m nets.now trits.now) output.now ≡ 0) × (length after.old ≡ max_outputs) }
-    ensures log_after { lent result log.new ≡ run (lower_fallback (memory_of m nets.now trits.now) output.now) (lent st log.old) }
+)
+    requires { (lower_fallback_refusal (length tables.old) (length log.old.words.now) (state_of log.old.state) (given_of m nets.now trits.now) output.now ≡ 0) × (length after.old ≡ max_outputs) }
+    ensures log_after { lent_of log.new ≡ run (lower_fallback (memory_of m nets.now trits.now) output.now) (lent_of log.old) }
     ensures tables_unchanged { drop (fallback_scratch (memory_of m nets.now trits.now)) tables.new ≡ drop (fallback_scratch (memory_of m nets.now trits.now)) tables.old }
 {
-    let state = port_unmap_all::emit_unmap_all_with(
-        log, st, overlay, after, m, nets, trits, output,
-    );
+    port_unmap_all::emit_unmap_all(log, overlay, after, m, nets, trits, output);
     if m.width == 0 {
-        return state;
+        return;
     }
     let outs = lists::part(after, 0, output.len());
-    lower_rows(log, state, tables, m, nets, trits, outs)
+    lower_rows(log, tables, m, nets, trits, outs);
 }
 
 // What a fallback gives: the number that refuses it or 0, and the log's state.
@@ -316,8 +309,15 @@ fn lower_asked(
             state: st,
         };
     }
-    let state = act(log, st, tables, after, overlay, m, nets, trits, output);
-    Lowered { refusal: 0, state }
+    let mut log = Log {
+        words: log,
+        state: st,
+    };
+    act(&mut log, tables, after, overlay, m, nets, trits, output);
+    Lowered {
+        refusal: 0,
+        state: log.state,
+    }
 }
 
 // A memory lowered to registers and muxes. Refused: the log, its state and the scratch are as they were. Accepted: the scratch past its need is.

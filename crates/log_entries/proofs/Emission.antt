@@ -6,7 +6,7 @@ use native.Mathlib.Omega.{arith}
 use mathlib.Core.Bool.{Bool, true, false, ◌&&◌}
 use mathlib.Core.List.{List, [], ◌∷◌, ◌++◌, append-nil}
 use lib.ListN.{length, length-append}
-use lib.Seq.{sets}
+use lib.Seq.{sets, length-sets}
 use lib.Dec.{leb, ltb}
 use Rattle.std.specs.Borrow.{GName}
 use borrow.Author.Tests.{ne_eqb, eqb-true, leb-true, ltb-true, le-leb, lt-leb, lt-ltb, le-ltb}
@@ -228,7 +228,24 @@ emit-named n l [] = refl
 emit-named n l (e ∷ es) =
     ap (λ (x : Lent). emit x es) (words-named n l (encode e) (result_width e)) ∙ emit-named n (emit_words l (encode e) (result_width e)) es
 
+-- ---- the length of the lent words: no entry changes it
+words-long : (l : Lent) (ws : List ℕ) (k : ℕ) → length (emit_words l ws k).log ≡ length l.log
+words-long l ws k = on (counts l.state (length ws) k) refl
+  where
+    on : (b : Bool) → counts l.state (length ws) k ≡ b → length (emit_words l ws k).log ≡ length l.log
+    on true q = ap (λ (x : Lent). length x.log) (emit_when l ws k q) ∙ length-sets l.log l.state.used ws
+    on false q = ap (λ (x : Lent). length x.log) (emit-over l ws k q)
+
+emit-long : (l : Lent) (es : List Entry) → length (emit l es).log ≡ length l.log
+unfolding emit
+emit-long l [] = refl
+emit-long l (e ∷ es) = emit-long (emit_words l (encode e) (result_width e)) es ∙ words-long l (encode e) (result_width e)
+
 module _ {A : Type 0} (t : Trace A) where
+  pub run_long : (l k : Lent) → k ≡ run t l → length k.log ≡ length l.log
+  unfolding run
+  run_long l k e = ap (λ (x : Lent). length x.log) e ∙ emit-long l (t l.state.next).entries
+
   pub run_named : (n : GName) (l : Lent) → run t (named n l) ≡ named n (run t l)
   unfolding run
   run_named n l = emit-named n l (t l.state.next).entries
@@ -236,6 +253,10 @@ module _ {A : Type 0} (t : Trace A) where
   -- what runs on a log, runs on its words and state
   pub unnamed : (n : GName) (l k : Lent) → k ≡ run t l → named n k ≡ run t (named n l)
   unnamed n l k e = ap (named n) e ∙ sym (run_named n l)
+
+  -- and back, where the words kept their name
+  pub renamed : (l k : Lent) → k.name ≡ l.name → named 0 k ≡ run t (named 0 l) → k ≡ run t l
+  renamed l k n e = (λ i. record { log = k.log; state = k.state; name = n i }) ∙ unnamed l.name (named 0 l) (named 0 k) e
 
   -- and the log's words are the same lent ones
   pub run_name : (l k : Lent) → k ≡ run t l → k.name ≡ l.name

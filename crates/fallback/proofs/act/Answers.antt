@@ -1,25 +1,51 @@
 -- `fallback::act` meets its contract.
-use mathlib.Core.Path.{refl}
+use Rattle.std.proofs.Common.{rules}
+use mathlib.Core.Path.{refl, ◌∙◌}
+use mathlib.Core.List.{List}
+use Prim.Native.Nat.{ℕ}
 use lib.ListN.{length}
-use Rattle.log_entries.specs.View.{lent}
+use lib.Seq.{sets}
+use Rattle.rules.specs.Fallback.{lower_fallback}
+use Rattle.net_memory.specs.View.{memory_of}
+use Rattle.log_entries.specs.View.{lent, lent_of}
+use Rattle.log_entries.proofs.Emission.{named, unnamed, renamed, run_name, run_long}
+use Rattle.port_transparency.specs.Gave.{Gave}
+use Rattle.port_unmap_all.specs.All.{unmapped_all}
+use Rattle.fallback_bare.specs.Bare.{bare_of}
+use Rattle.fallback.specs.Split.{split_lowered}
 use Rattle.fallback.proofs.Acts.{flat_ran, rows_ready, rows_ran}
-use borrow.Author.Rules.{rules}
 use Rattle.fallback.proofs.act.Goals as goal
 
 pub returns-then-m-eq0 : goal.returns-then-m-eq0
 returns-then-m-eq0 c =
     let v = c.args in
-    let e = c.emit_unmap_all_with-state in
-    record { log_after = flat_ran v.m v.nets.now v.trits.now v.output.now v.st v.log.now v.tables.now c.requires.0 c.if-m-eq0.true v.after.now e.new.after e.result e.new.log c.requires.1 e.ensures; tables_unchanged = refl }
+    let l = v.log.now in
+    let e = c.emit_unmap_all in
+    let t = unmapped_all (memory_of v.m v.nets.now v.trits.now) v.output.now (sets v.after.now 0 v.output.now) in
+    let g : Gave t (lent l.state l.words.now) (lent e.new.log.state e.new.log.words.now) e.new.after = record { ran = unnamed t 0 _ _ e.ensures.ran; value = e.ensures.value } in
+    let r = flat_ran v.m v.nets.now v.trits.now v.output.now l.state l.words.now v.tables.now c.requires.0 c.if-m-eq0.true v.after.now e.new.after e.new.log.state e.new.log.words.now c.requires.1 g in
+    record { log_after = renamed (lower_fallback (memory_of v.m v.nets.now v.trits.now) v.output.now) (lent_of l) (lent_of e.new.log) (run_name t _ _ e.ensures.ran) r; tables_unchanged = refl }
 
 pub lower_rows-requires : goal.lower_rows-requires
 lower_rows-requires c =
     let v = c.args in
-    let e = c.emit_unmap_all_with-state in
-    rows_ready v.m v.nets.now v.trits.now v.output.now v.st v.log.now v.tables.now c.requires.0 c.if-m-eq0.false v.after.now e.new.after e.result e.new.log (search rules) c.requires.1 e.ensures (length v.output.now) refl c.part-outs.result.now c.part-outs.ensures.part
+    let l = v.log.now in
+    let e = c.emit_unmap_all in
+    let t = unmapped_all (memory_of v.m v.nets.now v.trits.now) v.output.now (sets v.after.now 0 v.output.now) in
+    let g : Gave t (lent l.state l.words.now) (lent e.new.log.state e.new.log.words.now) e.new.after = record { ran = unnamed t 0 _ _ e.ensures.ran; value = e.ensures.value } in
+    rows_ready v.m v.nets.now v.trits.now v.output.now l.state l.words.now v.tables.now c.requires.0 c.if-m-eq0.false v.after.now e.new.after e.new.log.state e.new.log.words.now (run_long t _ _ e.ensures.ran) c.requires.1 g (length v.output.now) refl c.part-outs.result.now c.part-outs.ensures.part
 
 pub returns : goal.returns
 returns c =
     let v = c.args in
-    let e = c.emit_unmap_all_with-state in
-    record { log_after = rows_ran v.m v.nets.now v.trits.now v.output.now v.st v.log.now v.tables.now c.requires.0 c.if-m-eq0.false v.after.now e.new.after e.result e.new.log (search rules) c.requires.1 e.ensures (length v.output.now) refl c.part-outs.result.now c.part-outs.ensures.part (lent c.lower_rows.result c.lower_rows.new.log) c.lower_rows.ensures.log_after; tables_unchanged = c.lower_rows.ensures.tables_unchanged }
+    let l = v.log.now in
+    let e = c.emit_unmap_all in
+    let p = c.lower_rows in
+    let t = unmapped_all (memory_of v.m v.nets.now v.trits.now) v.output.now (sets v.after.now 0 v.output.now) in
+    let s = split_lowered (memory_of (bare_of v.m) v.nets.now v.trits.now) c.part-outs.result.now in
+    let g : Gave t (lent l.state l.words.now) (lent e.new.log.state e.new.log.words.now) e.new.after = record { ran = unnamed t 0 _ _ e.ensures.ran; value = e.ensures.value } in
+    let r = rows_ran v.m v.nets.now v.trits.now v.output.now l.state l.words.now v.tables.now c.requires.0 c.if-m-eq0.false v.after.now e.new.after e.new.log.state e.new.log.words.now (run_long t _ _ e.ensures.ran) c.requires.1 g (length v.output.now) refl c.part-outs.result.now c.part-outs.ensures.part (named 0 (lent_of p.new.log)) (unnamed s 0 _ _ p.ensures.log_after) in
+    record {
+      log_after = renamed (lower_fallback (memory_of v.m v.nets.now v.trits.now) v.output.now) (lent_of l) (lent_of p.new.log) (run_name s _ _ p.ensures.log_after ∙ run_name t _ _ e.ensures.ran) r;
+      tables_unchanged = p.ensures.tables_unchanged;
+    }

@@ -9,8 +9,8 @@ returns-then-n-ne0 c =
     let v = c.args in
     kept v.m v.nets.now v.trits.now v.output.now v.st v.log.now v.tables.now c.log_number-n.result c.if-n-ne0.true (whole-log v.m v.nets.now v.trits.now v.output.now v.st (length v.log.now) (length v.tables.now) c.requires.0.number c.requires.0.room c.log_number-n.result c.log_number-n.ensures)
 
-pub act-state-requires : goal.act-state-requires
-act-state-requires c =
+pub act-requires : goal.act-requires
+act-requires c =
     let v = c.args in
     (sym (whole-log v.m v.nets.now v.trits.now v.output.now v.st (length v.log.now) (length v.tables.now) c.requires.0.number c.requires.0.room c.log_number-n.result c.log_number-n.ensures) ∙ c.if-n-ne0.false, c.dry_unmapped-dry.auto.after ∙ c.requires.1)
 
@@ -21,5 +21,5 @@ returns c =
     record {
       number = sym z;
       refused = λ h. absurd (h refl);
-      accepted = λ h. record { log_is = c.act-state.ensures.log_after; scratch_kept = c.act-state.ensures.tables_unchanged };
+      accepted = λ h. record { log_is = c.act.ensures.log_after; scratch_kept = c.act.ensures.tables_unchanged };
     }

@@ -6,7 +6,7 @@ use Rattle.fallback.proofs.scratch_need.Goals as goal
 
 pub overflow_mul-result-2 : goal.overflow_mul-result-2
 overflow_mul-result-2 c =
-    omega (arith, need_small c.ports_used.result c.usize_of_u32-cells.result c.ports_used.ensures.1 (omega (arith, c.usize_of_u32-cells.ensures.0, c.requires)))
+    omega (arith, need_small c.ports_used.result (c.args.m.depth * c.args.m.width) c.ports_used.ensures.1 c.requires)
 
 pub returns : goal.returns
-returns c = λ i. 2 * c.ports_used.ensures.0 i * c.usize_of_u32-cells.ensures.0 i
+returns c = λ i. 2 * c.ports_used.ensures.0 i * (c.args.m.depth * c.args.m.width)
