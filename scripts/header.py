@@ -42,7 +42,7 @@ STRUCTS = [
     ('c_memory::Extracted', 'extracted', 'Extracted'),
     ('c_port::Driven', 'driven', 'Driven'),
     ('swizzle_plan::MemorySwizzle', 'memory_swizzle', 'MemorySwizzle'),
-    ('swizzle_sizes::MuxBits', 'mux_bits', 'MuxBits'),
+    ('c_plan::MuxBits', 'mux_bits', 'MuxBits'),
     ('image_geometry::Params', 'params', 'Params'),
     ('image_geometry::Shape', 'shape', 'Shape'),
     ('image_rows::Place', 'place', 'Place'),

@@ -3,30 +3,45 @@
 
 ghost use Rattle.std.specs.Prelude.{◌≡◌};
 ghost use Rattle.rules.specs.Answers.{make_data_swizzle_call, swizzle_depths_call, swizzle_mux_bits_call, filled_with};
+ghost use Rattle.rules.specs.Refusal.{answer_by};
 ghost use Rattle.net_memory.specs.Given.{given_of};
 ghost use Rattle.swizzle_plan.specs.Calls.{plan_of};
-ghost use Rattle.swizzle_sizes.specs.Calls.{mux_bits_by};
+ghost use Rattle.swizzle_sizes.specs.Calls.{bits_of};
 ghost use Rattle.c_memory.specs.View.{given_memory};
 ghost use Rattle.c_net.specs.View.{count_struct};
-ghost use Rattle.c_plan.specs.View.{entries_of};
+ghost use Rattle.c_plan.specs.View.{bits_struct, mux_bits_struct};
 
 use c_memory::Memory;
 use c_net::Count;
-use swizzle_entries::DataSwizzle;
+use rules::Refusal;
 use swizzle_plan::MemorySwizzle;
-use swizzle_sizes::MuxBits;
 
-fn entries_result(a: DataSwizzle) -> Count
-    ensures { result ≡ count_struct (entries_of a) }
+// The number that refuses `swizzle_mux_bits`, or 0, and the mux bits of the write ports and of the listed read ports.
+#[repr(C)]
+#[derive(Clone, Copy)]
+pub struct MuxBits {
+    pub refusal: u32,
+    pub writes: [u32; rules::MAX_PORTS],
+    pub reads: [u32; rules::MAX_PORTS],
+}
+
+fn mux_bits_result(r: Result<swizzle_sizes::MuxBits, Refusal>) -> MuxBits
+    ensures { result ≡ bits_struct (answer_by bits_of r) }
 {
-    match a {
-        DataSwizzle::Refused(n) => Count {
-            number: n,
-            count: 0,
-        },
-        DataSwizzle::Accepted(k) => Count {
-            number: 0,
-            count: k,
+    match r {
+        Ok(b) => {
+            let writes = b.writes;
+            let reads = b.reads;
+            MuxBits {
+                refusal: 0,
+                writes,
+                reads,
+            }
+        }
+        Err(e) => MuxBits {
+            refusal: e.number(),
+            writes: [0; rules::MAX_PORTS],
+            reads: [0; rules::MAX_PORTS],
         },
     }
 }
@@ -43,7 +58,7 @@ pub fn tablegoose_make_data_swizzle(
     ensures out_after { out.new ≡ (make_data_swizzle_call out.old (given_of (given_memory m) nets.now trits.now) granularities.now).out }
 {
     let g = c_memory::memory_of(m);
-    entries_result(swizzle_entries::make_data_swizzle(out, g, nets, trits, granularities))
+    c_net::count_result(swizzle_entries::make_data_swizzle(out, g, nets, trits, granularities))
 }
 
 pub fn tablegoose_swizzle_depths(
@@ -59,7 +74,8 @@ pub fn tablegoose_swizzle_depths(
     ensures { filled_with result out.new ≡ swizzle_depths_call out.old (given_of (given_memory m) nets.now trits.now) (plan_of s entries.now writes.now reads.now) }
 {
     let g = c_memory::memory_of(m);
-    swizzle_sizes::swizzle_depths(out, g, nets, trits, s, entries, writes, reads)
+    let r = swizzle_sizes::swizzle_depths(out, g, nets, trits, s, entries, writes, reads);
+    rules::number_of(r)
 }
 
 pub fn tablegoose_swizzle_mux_bits(
@@ -72,8 +88,9 @@ pub fn tablegoose_swizzle_mux_bits(
     writes: &[u32],
     reads: &[u32],
 ) -> MuxBits
-    ensures { result ≡ mux_bits_by (swizzle_mux_bits_call (given_of (given_memory m) nets.now trits.now) ports.now (plan_of s entries.now writes.now reads.now)) }
+    ensures { result ≡ mux_bits_struct (swizzle_mux_bits_call (given_of (given_memory m) nets.now trits.now) ports.now (plan_of s entries.now writes.now reads.now)) }
 {
     let g = c_memory::memory_of(m);
-    swizzle_sizes::swizzle_mux_bits(g, nets, trits, ports, s, entries, writes, reads)
+    let r = swizzle_sizes::swizzle_mux_bits(g, nets, trits, ports, s, entries, writes, reads);
+    mux_bits_result(r)
 }

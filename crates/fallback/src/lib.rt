@@ -180,7 +180,7 @@ fn plan_number(
     let zeros = [0u32; rules::MAX_PORTS];
     let writes = net_memory::ports_used(b.write_count);
     let reads = net_memory::ports_used(b.read_count);
-    swizzle_refusal::swizzle_refusal(
+    rules::number_of(swizzle_refusal::swizzle_refusal(
         r,
         room,
         st,
@@ -192,7 +192,7 @@ fn plan_number(
         lists::part(&entries, 0, b.width as usize),
         lists::part(&zeros, 0, writes),
         lists::part(&zeros, 0, reads),
-    )
+    ))
 }
 
 // 20 and 21 of so many words and nets and the split's, which are counted by its refusal in what the others leave.

@@ -5,6 +5,7 @@ ghost use Rattle.std.specs.Prelude.{◌≡◌, ◌≤◌, length, take};
 ghost use Rattle.rules.specs.Limits.{max_outputs};
 ghost use Rattle.rules.specs.Value.{x_nets};
 ghost use Rattle.rules.specs.Log.{replace_value_of};
+ghost use Rattle.rules.specs.Refusal.{number_of};
 ghost use Rattle.rules.specs.Refusals.{log_refusal};
 ghost use Rattle.log_entries.specs.Emission.{run};
 ghost use Rattle.log_entries.specs.View.{state_of, lent, lent_of};
@@ -15,6 +16,7 @@ use log_entries::{Log, LogState};
 use merge_mux::emit::Keys;
 use net_memory::Memory;
 use port_transparency::Overlay;
+use rules::Refusal;
 
 // The first n nets of `after` replaced by X.
 fn emit_unknown(log: &mut Log, after: &[u32], n: usize)
@@ -85,9 +87,9 @@ pub fn empty_refusal(
     nets: &[u32],
     trits: &[u8],
     output: &[u32],
-) -> u32
-    ensures { result ≡ log_refusal room (state_of st) (emptied_if (memory_of m nets.now trits.now) output.now) }
+) -> Result<(), Refusal>
+    ensures { number_of result ≡ log_refusal room (state_of st) (emptied_if (memory_of m nets.now trits.now) output.now) }
 {
     let dry = emit_empty(&mut [], st.dry_start(), m, nets, trits, output);
-    rules::number_of(st.dry_refusal(room, dry))
+    st.dry_refusal(room, dry)
 }

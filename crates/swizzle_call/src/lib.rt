@@ -176,7 +176,7 @@ pub fn swizzle<'a>(
         trits: trits_to.len(),
         scratch: scratch.len(),
     };
-    let n = swizzle_refusal::swizzle_refusal(
+    let n = rules::number_of(swizzle_refusal::swizzle_refusal(
         r,
         log.len(),
         st,
@@ -188,7 +188,7 @@ pub fn swizzle<'a>(
         entries,
         writes,
         reads,
-    );
+    ));
     if n != 0 {
         let made = none_yet(st);
         let laid = Laid::unset();

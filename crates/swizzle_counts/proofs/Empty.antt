@@ -1,8 +1,8 @@
 -- The whole refusal of a swizzle from that of its rows: depth 0 unmaps the flip-flops, and asks for no room.
 use mathlib.Core.Path.{◌≡◌, refl, sym, ap, ◌∙◌}
 use mathlib.Core.Logic.{◌≢◌, ⊎_elim}
-use Prim.Native.Nat.{ℕ, zero, suc, ◌+◌, ◌-◌, ◌*◌, ◌/◌, ◌%◌, ◌^◌, ◌≤◌, ◌<◌, min}
-use native.Mathlib.Nat.{zero-div, zero-mod, mul-zero, zero-mul, zero-add, div-zero, div-eq_of_lt, eq-zero-or-pos}
+use Prim.Native.Nat.{ℕ, ◌+◌, ◌-◌, ◌*◌, ◌/◌, ◌%◌, ◌^◌, ◌<◌, min}
+use native.Mathlib.Nat.{zero-div, zero-mod, mul-zero, zero-mul, div-zero, div-eq_of_lt, eq-zero-or-pos}
 use native.Mathlib.Omega.{arith}
 use mathlib.Core.Bool.{Bool, true, false, not, ◌&&◌, ◌||◌}
 use mathlib.Core.List.{List, []}
@@ -10,7 +10,7 @@ use lib.ListN.{length}
 use lib.Dec.{eqb}
 use borrow.Author.Tests.{eq-eqb, ne_eqb}
 use Rattle.lists.specs.Choice.{when◌then◌else◌, ◌or_else◌}
-use Rattle.lists.proofs.Choice.{else_first, else_rest, else_zero}
+use Rattle.lists.proofs.Choice.{else_first, else_rest}
 use Rattle.rules.specs.Numbers.{ceil_div}
 use Rattle.rules.specs.Value.{Value}
 use Rattle.rules.specs.Cell.{Mem, Given, Plan}

@@ -1,9 +1,8 @@
 -- The nets of a row's mask that differ, by a merge against zeros.
 use mathlib.Core.Path.{◌≡◌, refl, sym, ap, ◌∙◌}
-use Prim.Native.Nat.{ℕ, ◌+◌, ◌*◌, ◌≤◌, min}
-use native.Mathlib.Nat.{zero-add, mul-le-mul}
+use Prim.Native.Nat.{ℕ, ◌*◌, ◌≤◌, min}
+use native.Mathlib.Nat.{mul-le-mul}
 use native.Mathlib.Omega.{arith}
-use mathlib.Core.Bool.{true}
 use mathlib.Core.List.{List, []}
 use lib.ListN.{length, take, replicate, length-replicate}
 use lib.Seq.{sets, length-sets, take_all}
@@ -22,7 +21,7 @@ use Rattle.merge_keys.specs.Keys.{room, merging}
 use Rattle.swizzle_laws.proofs.WriteCounts.{length_zero_kept}
 use Rattle.swizzle_columns.specs.declared.WidePort.{WidePort}
 use Rattle.swizzle_columns.specs.Rows.{all_sources}
-use Rattle.swizzle_columns.specs.Wide.{rows_fit, mask_row}
+use Rattle.swizzle_columns.specs.Wide.{mask_row}
 use Rattle.swizzle_columns.proofs.Rows.{length_repeating}
 use Rattle.swizzle_columns.proofs.Ports.{length_sources, mask_row_lem}
 use Rattle.swizzle_columns.proofs.Fits.{mask_can, rows_are}

@@ -1,25 +1,24 @@
 -- What the code counts for each port is what the rules count.
 use mathlib.Core.Path.{◌≡◌, refl, sym, ap, ◌∙◌, subst}
-use Prim.Native.Nat.{ℕ, zero, suc, ◌+◌, ◌-◌, ◌*◌, ◌^◌, ◌≤◌, ◌<◌, max, min}
-use native.Mathlib.Nat.{zero-add, add-zero, add-suc, suc-add}
+use Prim.Native.Nat.{ℕ, ◌+◌, ◌-◌, ◌*◌, ◌^◌, ◌≤◌, ◌<◌, min}
+use native.Mathlib.Nat.{zero-add, add-zero}
 use native.Mathlib.Omega.{arith}
 use mathlib.Core.Bool.{Bool, true, false}
 use mathlib.Core.Option.{Option, none, some}
-use mathlib.Core.List.{List, [], ◌∷◌, map}
-use lib.ListN.{length, get_or, take, drop, length-take}
+use mathlib.Core.List.{List, [], ◌∷◌}
+use lib.ListN.{length, take, drop, length-take}
 use lib.Seq.{take_all}
 use lib.Dec.{eqb, eqb-suc-zero}
 use Rattle.lists.specs.Choice.{when◌then◌else◌}
-use Rattle.lists.specs.Lists.{sum_by, part, pairs, up_from}
+use Rattle.lists.specs.Lists.{part}
 use Rattle.lists.specs.Distinct.{kept}
 use Rattle.rules.specs.Limits.{X, max_ports}
-use Rattle.rules.specs.Numbers.{largest}
 use Rattle.rules.specs.Value.{Value}
 use Rattle.rules.specs.Cell.{WritePort, ReadFlipFlop, ReadPort, Mem, wide_log2, write_wide_log2, read_wide_log2, write_at, read_at_of, is_some}
 use Rattle.rules.specs.Ports.{is_empty}
 use Rattle.rules.specs.Geometry.{Layout, soft_bits, soft, full_depth_of, full_chunks, part_depth_of, all_chunks, columns}
-use Rattle.rules.specs.Swizzle.{Split, split_by, split_addr, sources, repeating}
-use Rattle.rules.specs.Beside.Counts.{Count, plus, nothing, sum_counts, times_count, mux_count_of, dff_count, eq_count, void_count, replace_count, mask_nets, write_count_of, clocked_count, read_count_of}
+use Rattle.rules.specs.Swizzle.{Split, split_by, split_addr, repeating}
+use Rattle.rules.specs.Beside.Counts.{plus, nothing, times_count, mux_count_of, dff_count, eq_count, void_count, replace_count, mask_nets, write_count_of, clocked_count, read_count_of}
 use Rattle.net_memory.specs.declared.Memory.{Memory}
 use Rattle.net_memory.specs.declared.MemoryReadPort.{MemoryReadPort}
 use Rattle.net_memory.specs.FlipFlop.{MemoryReadFlipFlop}
@@ -29,18 +28,13 @@ use Rattle.net_memory.specs.View.{memory_of, read_port, read_nets, write_port, w
 use Rattle.net_memory.proofs.Ports.{read_of_view, reads_at, nets_at, write_of_view, writes_at, write_nets_at}
 use Rattle.image_geometry.specs.declared.Params.{Params}
 use Rattle.image_geometry.specs.View.{layout_by}
-use Rattle.swizzle_laws.proofs.ReadsCounts as reads
-use Rattle.swizzle_laws.proofs.ReadsCounts.{reads_count_of}
-use Rattle.swizzle_laws.proofs.WritesCounts as writes
-use Rattle.swizzle_laws.proofs.WritesCounts.{writes_count_of}
 use Rattle.swizzle_split.specs.Steps.{can_split}
-use Rattle.swizzle_columns.specs.Rows.{all_sources}
 use Rattle.swizzle_columns.proofs.Rules.{sources_are}
 use Rattle.swizzle_facts.specs.Passed.{LayoutPassed, PortPassed, SplitPassed, WritePassed, ReadPassed}
 use Rattle.swizzle_facts.proofs.Splits.{split_passed, split_can}
 use Rattle.swizzle_counts.specs.declared.Needs.{Needs}
 use Rattle.swizzle_counts.specs.Rooms.{write_room, read_room, trits_by, trit_room}
-use Rattle.swizzle_counts.specs.Needs.{all_needs, split_of, PortFits, read_from, is_clocked, read_log, read_needs, mux_words, mux_nets, write_from, kept_nets, write_log, write_addr, write_mask, write_needs}
+use Rattle.swizzle_counts.specs.Needs.{PortFits, read_from, is_clocked, read_log, read_needs, mux_words, mux_nets, write_from, kept_nets, write_log, write_addr, write_needs}
 
 -- ---- the entries of a row have no part in a split
 module _ (p : Params) (es : List ℕ) (old new : ℕ) where

@@ -1,51 +1,44 @@
 -- A port's needs by the numbers that the code has.
 use mathlib.Core.Path.{◌≡◌, refl, sym, ap, ◌∙◌, subst}
 use Prim.Native.Nat.{ℕ, ◌+◌, ◌-◌, ◌*◌, ◌^◌, ◌≤◌, ◌<◌, max}
-use native.Mathlib.Nat.{mul-le-mul, add_assoc, add-zero, zero-add, sub-zero}
+use native.Mathlib.Nat.{mul-le-mul, pow-le-pow_right, add_assoc, add-zero, zero-add, sub-zero}
 use native.Mathlib.Omega.{arith}
-use mathlib.Core.Bool.{Bool, true, false, not}
+use mathlib.Core.Bool.{Bool, true, false}
 use mathlib.Core.List.{List, [], ◌∷◌, map}
 use lib.ListN.{length, get_or}
-use lib.Dec.{eqb}
-use borrow.Author.Tests.{eq-eqb, ne_eqb}
-use Rattle.lists.specs.Choice.{when◌then◌else◌}
 use Rattle.lists.specs.Lists.{up_from}
 use Rattle.lists.proofs.UpFrom.{count_step, count_end}
 use Rattle.rules.specs.Value.{Value}
 use Rattle.rules.specs.Geometry.{Layout}
-use Rattle.rules.specs.Swizzle.{Split, split_addr}
+use Rattle.rules.specs.Swizzle.{split_addr}
 use Rattle.net_memory.specs.declared.Memory.{Memory}
 use Rattle.image_geometry.specs.declared.Params.{Params}
 use Rattle.image_geometry.specs.View.{layout_by}
 use Rattle.swizzle_split.specs.declared.Split as machine
 use Rattle.std.specs.Prelude.{Option, None, Some}
-use Rattle.swizzle_split.specs.Steps.{can_split, Answers, Refuses, Gives}
+use Rattle.std.specs.Option.{is_some, unwrap_or}
+use Rattle.net_memory.specs.FlipFlop.{MemoryReadFlipFlop}
+use Rattle.swizzle_split.specs.Steps.{can_split, Answers}
 use Rattle.swizzle_counts.specs.declared.Needs.{Needs}
-use Rattle.swizzle_counts.specs.Needs.{no_needs, plus_needs, all_needs, Most, port_most, split_of, Lengths, PortFits, Ranges, read_from, read_needs, reads_needs, mux_words, mux_nets, write_from, write_needs, writes_needs}
+use Rattle.swizzle_counts.specs.Needs.{no_needs, plus_needs, all_needs, Most, port_most, split_of, Lengths, PortFits, Ranges, is_clocked, read_from, read_needs, reads_needs, mux_words, mux_nets, write_from, write_needs, writes_needs}
 
 pub product_max : (a b : ℕ) → a ≤ 1048576 → b ≤ 32768 → a * b ≤ 34359738368
 product_max a b h g = mul-le-mul {n₁ = a} {m₁ = b} {n₂ = 1048576} {m₂ = 32768} h g
 
-pub off : (b : Bool) → not b ≡ true → b ≡ false
-off true e = let z : ◌≡◌ {A = ℕ} 0 1 = cc in absurd (omega arith)
-off false e = refl
+pub clocked_is : (f : MemoryReadFlipFlop) → is_some f ≡ is_clocked f
+clocked_is None = refl
+clocked_is (Some c) = refl
 
-pub on : (b : Bool) → not b ≡ false → b ≡ true
-on true e = refl
-on false e = let z : ◌≡◌ {A = ℕ} 0 1 = cc in absurd (omega arith)
+pub rows_most : (k : ℕ) → k ≤ 4 → 2 ^ k ≤ 16
+rows_most k h = pow-le-pow_right {n = 2} (omega arith) {i = k} {j = 4} h
 
--- ---- the answer of the split
-module _ (q : Layout) (old new : ℕ) (addr hw₀ hw mux₀ mux : Value) (o : Option machine.Split) (a : Answers q old new addr hw₀ hw mux₀ mux o) where
-  pub split_none : o ≡ None → can_split q old new (length addr) ≡ true → ⊥
-  split_none e f =
-      let r : Refuses q old new addr hw₀ hw mux₀ mux = subst (λ (x : Option machine.Split). Answers q old new addr hw₀ hw mux₀ mux x) e a in
-      let g = r.cannot in
-      let z : ◌≡◌ {A = ℕ} 0 1 = cc in omega arith
-
-  pub split_some : (s : machine.Split) → o ≡ Some s → Lengths (split_addr q old new addr) s
-  split_some s e =
-      let r : Gives q old new addr hw₀ hw mux₀ mux s = subst (λ (x : Option machine.Split). Answers q old new addr hw₀ hw mux₀ mux x) e a in
-      record { hw_len = r.splits.hw_len; mux_len = r.splits.mux_len; pieces_are = r.splits.pieces_are }
+-- ---- the answer of the split: there is one where the limits are kept
+pub split_or : (q : Layout) (old new : ℕ) (addr hw₀ hw mux₀ mux : Value) (o : Option machine.Split) → Answers q old new addr hw₀ hw mux₀ mux o
+    → (d r : machine.Split) → r ≡ unwrap_or o d → can_split q old new (length addr) ≡ true → Lengths (split_addr q old new addr) r
+split_or q old new addr hw₀ hw mux₀ mux None a d r e f =
+    let g = a.cannot in
+    let z : ◌≡◌ {A = ℕ} 0 1 = cc in absurd (omega arith)
+split_or q old new addr hw₀ hw mux₀ mux (Some s) a d r e f = rw e (record { hw_len = a.splits.hw_len; mux_len = a.splits.mux_len; pieces_are = a.splits.pieces_are })
 
 -- ---- a read port
 module _ (n n' m m' hw hw' rows columns len wide muxes made scratch : ℕ) (b : Bool) (en : n ≡ n') (ew : wide ≡ rows * columns) (ex : muxes ≡ (n - 1) * (5 + 2 * len)) (ed : made ≡ (n - 1) * len)
@@ -158,13 +151,6 @@ unfolding reads_needs
 reads_are r m nets p columns reads e = e
 
 -- ---- a write port
-module _ {A : Type 0} (m : ℕ) (x : A) (kept : A) where
-  pub mux_none : m ≡ 0 → x ≡ (when eqb m 0 then x else kept)
-  mux_none e = rw (eq-eqb m 0 e)
-
-  pub mux_some : (m ≡ 0 → ⊥) → kept ≡ (when eqb m 0 then x else kept)
-  mux_some h = rw (ne_eqb m 0 h)
-
 pub write_is : (n n' m m' hw hw' rows columns kept wide mw words mn nets : ℕ) → n ≡ n' → m ≡ m' → hw ≡ hw' → wide ≡ rows * columns → mw ≡ mux_words m kept
     → words ≡ n * (4 + 2 * m + mw) → mn ≡ mux_nets m kept → nets ≡ n * (1 + mn)
     → record { words = words; nets = nets; room = hw + 2 * wide; trits = 0; scratch = 0 } ≡ write_from n' m' hw' rows columns kept

@@ -1,28 +1,30 @@
 -- The refusal of a swizzle by its tests: the plan's number, width 0, depth 0, and what a swizzle of rows asks for.
 use mathlib.Core.Path.{◌≡◌, refl, sym, ap, ◌∙◌}
 use mathlib.Core.Logic.{◌≢◌}
-use Prim.Native.Nat.{ℕ, zero, suc, ◌+◌, ◌-◌, ◌≤◌, ◌<◌, max, min}
-use native.Mathlib.Nat.{zero-add}
+use Prim.Native.Nat.{ℕ, ◌-◌, ◌≤◌, ◌<◌}
 use native.Mathlib.Omega.{arith}
 use mathlib.Core.Bool.{Bool, true, false, not, ◌&&◌, ◌||◌}
 use mathlib.Core.List.{List, [], ◌∷◌, ◌++◌, map}
-use lib.ListN.{length, get_or}
-use lib.Dec.{eqb, ltb}
+use lib.ListN.{length}
+use lib.Dec.{eqb}
 use borrow.Author.Tests.{eq-eqb, ne_eqb, lt-ltb, le-ltb}
 use Rattle.lists.specs.Choice.{when◌then◌else◌, ◌or_else◌}
-use Rattle.lists.specs.Lists.{any, sum_by, pairs, up_from, concat_map}
-use Rattle.lists.proofs.Choice.{else_first, else_rest, else_zero, or_both, or_left, or_right, hit, miss}
+use Rattle.lists.specs.Lists.{any, pairs, up_from, concat_map}
+use Rattle.lists.proofs.Choice.{else_first, else_rest, or_both, or_left, or_right}
 use Rattle.rules.specs.Value.{Value}
-use Rattle.rules.specs.Cell.{ReadFlipFlop, ReadPort, Mem, Given, Plan, wide_log2, write_wide_log2, read_wide_log2, write_at, read_at_of, held, transparent_ports}
+use Rattle.rules.specs.Cell.{ReadPort, Mem, Given, Plan, write_wide_log2, read_wide_log2, write_at, held, transparent_ports}
 use Rattle.rules.specs.Log.{Trace, done, LogState, start_net}
 use Rattle.rules.specs.Ports.{Driving}
-use Rattle.rules.specs.Geometry.{Layout, layout_of, columns}
+use Rattle.rules.specs.Geometry.{layout_of}
 use Rattle.rules.specs.Image.{image_size}
 use Rattle.rules.specs.Swizzle.{swizzle, swizzle_rows, shared_write, shared_nets, shared_read, shared_trits, swizzle_scratch, piece_nets}
 use Rattle.rules.specs.Numbers.{largest}
 use Rattle.rules.specs.Conditions.{no_room_of, too_few_bits, short_pair, short_port, short_ports}
 use Rattle.rules.specs.Refusals as rules
 use Rattle.rules.specs.Refusals.{room_refusal, log_refusal, lent_refusal, image_refusal, results_refusal, swizzle_plan_number, swizzle_number, swizzle_refusal}
+use Rattle.rules.specs.declared.numbers.Refusal.{Refusal}
+use Rattle.rules.specs.Refusal as refusal
+use Rattle.rules.proofs.Answers.{number_nonzero}
 use Rattle.rules.proofs.Counted.{counted_done, counted_refusal}
 use Rattle.net_memory.proofs.WideLaws.{log_no_width}
 use Rattle.swizzle_counts.specs.declared.Needs.{Needs}
@@ -141,7 +143,7 @@ module _ (r : rules.SwizzleRooms) (room : ℕ) (st : LogState) (g : Given) (outp
   unfolding rows_refusal swizzle_refusal swizzle_number
   form = refl
 
-  pub by_plan : (n : ℕ) → n ≡ number → n ≢ 0 → n ≡ rows_refusal r room st g output p
+  by_plan : (n : ℕ) → n ≡ number → n ≢ 0 → n ≡ rows_refusal r room st g output p
   by_plan n e h = on (not (eqb m.width 0) && eqb m.depth 0) ∙ sym form
     where
       first : ((number or_else fourteen) or_else lent) ≡ n
@@ -152,6 +154,9 @@ module _ (r : rules.SwizzleRooms) (room : ℕ) (st : LogState) (g : Given) (outp
       on : (t : Bool) → n ≡ (when t then number else ((number or_else fourteen) or_else lent))
       on true = e
       on false = sym first
+
+  pub plan_err : (e : Refusal) → refusal.number e ≡ number → refusal.number e ≡ rows_refusal r room st g output p
+  plan_err e h = by_plan (refusal.number e) h (number_nonzero e)
 
   module _ (z : number ≡ 0) where
     -- depth 0 is left to the caller

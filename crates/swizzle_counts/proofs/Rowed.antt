@@ -1,10 +1,10 @@
 -- A swizzle of rows: what its code asks, and its refusal by what it counts.
 use mathlib.Core.Path.{◌≡◌, refl, sym, ap, ◌∙◌, subst}
 use mathlib.Core.Logic.{◌≢◌}
-use Prim.Native.Nat.{ℕ, ◌+◌, ◌-◌, max, min}
-use native.Mathlib.Nat.{add-zero, zero-add}
+use Prim.Native.Nat.{ℕ, ◌+◌, max, min}
+use native.Mathlib.Nat.{zero-add}
 use native.Mathlib.Omega.{arith}
-use mathlib.Core.Bool.{true, false}
+use mathlib.Core.Bool.{false}
 use mathlib.Core.List.{List, map}
 use lib.ListN.{length}
 use Rattle.lists.specs.Lists.{pairs}
@@ -19,7 +19,6 @@ use Rattle.rules.specs.Numbers.{largest}
 use Rattle.rules.specs.Conditions.{bad_layout_sizes}
 use Rattle.rules.specs.Refusals as rules
 use Rattle.rules.specs.Refusals.{room_refusal, log_refusal, swizzle_plan_number, swizzle_number}
-use Rattle.rules.specs.Answers as answers
 use Rattle.rules.specs.Beside.Shape as sizes
 use Rattle.rules.specs.Beside.Shape.{shape_of, shape_call}
 use Rattle.rules.proofs.GoodLayouts.{good, layout_too_large}

@@ -1,6 +1,6 @@
 -- The lent room of a result: the nets and the trits of its memories, port after port, and how many there are.
 use mathlib.Core.Path.{◌≡◌, refl, sym, ap, ◌∙◌}
-use Prim.Native.Nat.{ℕ, zero, suc, ◌+◌, ◌-◌, ◌*◌, ◌^◌, ◌≤◌, ◌<◌}
+use Prim.Native.Nat.{ℕ, zero, suc, ◌+◌, ◌-◌, ◌*◌, ◌^◌, ◌<◌}
 use native.Mathlib.Nat.{add-zero, add-suc, suc-add, zero-add, mul_left_comm}
 use native.Mathlib.Omega.{arith}
 use mathlib.Core.Option.{Option, none, some}
@@ -21,7 +21,7 @@ use Rattle.swizzle_laws.specs.Order.{gather, by_memory, ordered}
 use Rattle.swizzle_laws.proofs.Parts.{length_ordered}
 use Rattle.swizzle_laws.proofs.Whole.{bits_whole, mask_whole, const_whole}
 use Rattle.swizzle_result.specs.Held.{clock_trits}
-use Rattle.swizzle_facts.specs.Passed.{LayoutPassed, PortPassed, SplitPassed, WritePassed, ReadPassed, EachPair}
+use Rattle.swizzle_facts.specs.Passed.{LayoutPassed, SplitPassed, WritePassed, ReadPassed, EachPair}
 use Rattle.swizzle_facts.proofs.Splits.{split_passed}
 use Rattle.swizzle_counts.specs.Rooms.{wide_of, write_room, read_room, trits_by, trit_room}
 

@@ -1,10 +1,9 @@
 -- What the code counts for all ports is what the rules count.
 use mathlib.Core.Path.{◌≡◌, refl, sym, ap, ◌∙◌, subst}
 use mathlib.Core.Logic.{◌≢◌}
-use Prim.Native.Nat.{ℕ, zero, suc, ◌+◌, ◌-◌, ◌*◌, ◌^◌, ◌≤◌, ◌<◌, max, min}
+use Prim.Native.Nat.{ℕ, suc, ◌+◌, ◌≤◌, ◌<◌, max, min}
 use native.Mathlib.Nat.{zero-add, add-zero, add-suc, suc-add}
 use native.Mathlib.Omega.{arith}
-use mathlib.Core.Bool.{Bool, true, false}
 use mathlib.Core.List.{List, [], ◌∷◌, map}
 use lib.ListN.{length, get_or}
 use Rattle.lists.specs.Lists.{sum_by, pairs, up_from}
@@ -13,9 +12,9 @@ use Rattle.rules.specs.Numbers.{largest}
 use Rattle.rules.specs.Value.{Value}
 use Rattle.rules.specs.Cell.{WritePort, ReadPort, Mem, Plan, write_at, read_at_of}
 use Rattle.rules.specs.Geometry.{Layout, layout_of, row_len_of, columns}
-use Rattle.rules.specs.Swizzle.{piece_nets, split_addr}
+use Rattle.rules.specs.Swizzle.{piece_nets}
 use Rattle.rules.specs.Refusals.{swizzle_number}
-use Rattle.rules.specs.Beside.Counts.{Count, plus, nothing, sum_counts}
+use Rattle.rules.specs.Beside.Counts.{plus, nothing, sum_counts}
 use Rattle.net_memory.specs.declared.Memory.{Memory}
 use Rattle.net_memory.specs.View.{memory_of, writes_of, reads_of, read_port, read_nets}
 use Rattle.net_memory.specs.Given.{given_of}
@@ -25,14 +24,14 @@ use Rattle.swizzle_plan.specs.declared.MemorySwizzle.{MemorySwizzle}
 use Rattle.swizzle_plan.specs.Calls.{plan_of, params_by}
 use Rattle.swizzle_laws.proofs.ReadsCounts.{reads_count_of}
 use Rattle.swizzle_laws.proofs.WritesCounts.{writes_count_of}
-use Rattle.swizzle_facts.specs.Passed.{LayoutPassed, PortPassed, SplitPassed, WritePassed, ReadPassed}
+use Rattle.swizzle_facts.specs.Passed.{LayoutPassed, PortPassed, WritePassed, ReadPassed}
 use Rattle.swizzle_facts.proofs.Layouts.{layout_passed}
 use Rattle.swizzle_facts.proofs.Splits.{split_passed}
 use Rattle.swizzle_facts.proofs.Ports.{writes_few, reads_few, writes_long, reads_long, write_passed, read_passed}
 use Rattle.swizzle_counts.specs.declared.Needs.{Needs}
 use Rattle.swizzle_counts.specs.Rooms.{write_room, read_room, trit_room}
-use Rattle.swizzle_counts.specs.Needs.{all_needs, PortFits, read_log, read_needs, ReadFits, ReadsFit, reads_needs, write_log, write_addr, write_needs, WriteFits, WritesFit, writes_needs}
-use Rattle.swizzle_counts.proofs.Meant.{port_fits_lem, read_addr_lem, read_len, read_log_lem, read_rules, read_one, read_of, write_log_lem, write_addr_lem, write_view, write_rules, write_one, write_of}
+use Rattle.swizzle_counts.specs.Needs.{all_needs, read_log, read_needs, ReadFits, ReadsFit, reads_needs, write_log, write_addr, write_needs, WriteFits, WritesFit, writes_needs}
+use Rattle.swizzle_counts.proofs.Meant.{port_fits_lem, read_addr_lem, read_len, read_log_lem, read_rules, read_one, read_of, write_log_lem, write_addr_lem, write_rules, write_one, write_of}
 
 -- ---- ports by index, and in pairs with their new wide logs
 module _ {A : Type 0} (d : A) (f : ℕ → Needs) (g : A × ℕ → Needs) where

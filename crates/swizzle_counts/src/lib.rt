@@ -2,14 +2,14 @@
 // closed form.
 #![tactic(auto)]
 
-ghost use Rattle.std.specs.Prelude.{◌≡◌, true, [], ◌*◌, ◌^◌, ◌≤◌, length};
+ghost use Rattle.std.specs.Prelude.{◌≡◌, true, [], eqb, ◌*◌, ◌^◌, ◌≤◌, length};
+ghost use Rattle.lists.specs.Choice.{when◌then◌else◌};
 ghost use Rattle.rules.specs.Limits.{max_ports, max_wide, max_width, max_row, max_merge};
 ghost use Rattle.image_geometry.specs.View.{layout_by};
 ghost use Rattle.swizzle_split.specs.Steps.{can_split};
-ghost use Rattle.swizzle_counts.specs.Needs.{no_needs, plus_needs, Most, port_most, split_of, Lengths, Ranges, read_from, is_clocked, read_needs, ReadFits, ReadsFit, reads_needs, mux_words, mux_nets, write_from, kept_nets, MaskFits, write_needs, WriteFits, WritesFit, writes_needs};
+ghost use Rattle.swizzle_counts.specs.Needs.{no_needs, plus_needs, Most, port_most, split_of, Lengths, Ranges, read_from, read_needs, ReadFits, ReadsFit, reads_needs, write_from, kept_nets, MaskFits, write_needs, WriteFits, WritesFit, writes_needs};
 
 use image_geometry::Params;
-use net_flip_flop::Controls;
 use net_memory::Memory;
 use swizzle_columns::WidePort;
 use swizzle_split::Split;
@@ -35,17 +35,32 @@ pub struct SwizzleRooms {
     pub scratch: usize,
 }
 
-// What two ask for together; the scratch serves one after the other.
-fn plus(a: Needs, b: Needs) -> Needs
-    requires { Most (16 * port_most) a × Most (16 * port_most) b }
-    ensures { result ≡ plus_needs a b }
-{
-    Needs {
-        words: a.words + b.words,
-        nets: a.nets + b.nets,
-        room: a.room + b.room,
-        trits: a.trits + b.trits,
-        scratch: a.scratch.max(b.scratch),
+impl Needs {
+    // Nothing.
+    fn none() -> Needs
+        ensures { result ≡ no_needs }
+    {
+        Needs {
+            words: 0,
+            nets: 0,
+            room: 0,
+            trits: 0,
+            scratch: 0,
+        }
+    }
+
+    // What two ask for together; the scratch serves one after the other.
+    fn plus(self, other: Needs) -> Needs
+        requires { Most (16 * port_most) self × Most (16 * port_most) other }
+        ensures { result ≡ plus_needs self other }
+    {
+        Needs {
+            words: self.words + other.words,
+            nets: self.nets + other.nets,
+            room: self.room + other.room,
+            trits: self.trits + other.trits,
+            scratch: self.scratch.max(other.scratch),
+        }
     }
 }
 
@@ -54,13 +69,7 @@ fn rows_of(wide: u32) -> usize
     requires { wide ≤ max_wide }
     ensures { (result ≡ 2 ^ wide) × (result ≤ 16) }
 {
-    let mut rows: usize = 1;
-    let mut i: u32 = 0;
-    while i < wide {
-        rows *= 2;
-        i += 1;
-    }
-    rows
+    lists::two_to(wide) as usize
 }
 
 // The numbers of a split; its two parts are not kept.
@@ -69,18 +78,15 @@ fn split_of(p: Params, old: u32, new: u32, addr: &[u32]) -> Split
 {
     let mut hw = [0u32; 1];
     let mut mux = [0u32; 1];
-    let outcome = swizzle_split::split_addr(&mut hw, &mut mux, p, old, new, addr);
-    match outcome {
-        None => Split {
-            old,
-            new,
-            hw_len: 0,
-            mux_len: 0,
-            pieces: 0,
-            mask: 0,
-        },
-        Some(s) => s,
-    }
+    let none = Split {
+        old,
+        new,
+        hw_len: 0,
+        mux_len: 0,
+        pieces: 0,
+        mask: 0,
+    };
+    swizzle_split::split_addr(&mut hw, &mut mux, p, old, new, addr).unwrap_or(none)
 }
 
 // A product of two of a port's numbers.
@@ -96,8 +102,8 @@ fn read_by(s: Split, rows: usize, columns: usize, len: usize, clocked: bool) -> 
     requires { Ranges s.pieces s.mux_len s.hw_len rows columns len }
     ensures { (result ≡ read_from s.pieces s.mux_len s.hw_len rows columns len clocked) × Most port_most result }
 {
-    let n = lists::usize_of_u32(s.pieces);
-    let room = lists::usize_of_u32(s.hw_len);
+    let n = s.pieces as usize;
+    let room = s.hw_len as usize;
     let wide = product(rows, columns);
     let muxes = product(n - 1, 5 + 2 * len) + (4 + 2 * len);
     let made = product(n - 1, len);
@@ -111,7 +117,7 @@ fn read_by(s: Split, rows: usize, columns: usize, len: usize, clocked: bool) -> 
             scratch,
         };
     }
-    let m = lists::usize_of_u32(s.mux_len);
+    let m = s.mux_len as usize;
     Needs {
         words: rows * 4 + (13 + 4 * m + muxes),
         nets: wide + (m + made),
@@ -121,26 +127,16 @@ fn read_by(s: Split, rows: usize, columns: usize, len: usize, clocked: bool) -> 
     }
 }
 
-fn is_clocked(f: Option<Controls>) -> bool
-    ensures { result ≡ is_clocked f }
-{
-    match f {
-        None => false,
-        Some(_) => true,
-    }
-}
-
 // Read port i with its new wide log.
 fn read_needs(m: Memory, nets: &[u32], p: Params, columns: usize, new: u32, i: usize) -> Needs
     requires { ReadFits m nets.now p columns new i }
     ensures { (result ≡ read_needs m nets.now p columns new i) × Most port_most result }
 {
     let port = m.read_ports[i];
-    let f = port.flip_flop;
-    let len = lists::usize_of_u32(port.data_len);
+    let len = port.data_len as usize;
     let old = net_memory::wide::wide_log(m.width, len);
     let s = split_of(p, old, new, net_memory::read_nets(m, nets, i));
-    read_by(s, rows_of(new), columns, len, is_clocked(f))
+    read_by(s, rows_of(new), columns, len, port.flip_flop.is_some())
 }
 
 // All read ports.
@@ -148,18 +144,9 @@ fn reads_needs(m: Memory, nets: &[u32], p: Params, columns: usize, reads: &[u32]
     requires { ReadsFit m nets.now p columns reads.now }
     ensures { (result ≡ reads_needs m nets.now p columns reads.now) × Most (max_ports * port_most) result }
 {
-    let mut total = Needs {
-        words: 0,
-        nets: 0,
-        room: 0,
-        trits: 0,
-        scratch: 0,
-    };
-    let mut i = 0;
-    while i < reads.len() {
-        let one = read_needs(m, nets, p, columns, reads[i], i);
-        total = plus(total, one);
-        i += 1;
+    let mut total = Needs::none();
+    for (i, new) in reads.iter().enumerate() {
+        total = total.plus(read_needs(m, nets, p, columns, *new, i));
     }
     total
 }
@@ -197,25 +184,14 @@ fn port_mask_count(width: u32, old: u32, entries: &[u32], mask: &[u32]) -> usize
     mask_count(w, n, entries, mask)
 }
 
-// The words of a piece's mux; an empty mux address makes none.
-fn mux_words(mux_len: usize, kept: usize) -> usize
-    requires { kept ≤ max_merge }
-    ensures { (result ≡ mux_words mux_len kept) × (result ≤ 8197) }
+// So much of a piece's mux; an empty mux address makes none.
+fn if_mux(mux_len: usize, n: usize) -> usize
+    ensures { (result ≡ (when eqb mux_len 0 then 0 else n)) × (result ≤ n) }
 {
     if mux_len == 0 {
         return 0;
     }
-    5 + 2 * kept
-}
-
-fn mux_nets(mux_len: usize, kept: usize) -> usize
-    requires { kept ≤ max_merge }
-    ensures { (result ≡ mux_nets mux_len kept) × (result ≤ max_merge) }
-{
-    if mux_len == 0 {
-        return 0;
-    }
-    kept
+    n
 }
 
 // A write port by its split, and the nets of its mask that differ.
@@ -223,16 +199,15 @@ fn write_by(s: Split, rows: usize, columns: usize, kept: usize) -> Needs
     requires { Ranges s.pieces s.mux_len s.hw_len rows columns kept }
     ensures { (result ≡ write_from s.pieces s.mux_len s.hw_len rows columns kept) × Most port_most result }
 {
-    let n = lists::usize_of_u32(s.pieces);
-    let m = lists::usize_of_u32(s.mux_len);
-    let hw = lists::usize_of_u32(s.hw_len);
+    let n = s.pieces as usize;
+    let m = s.mux_len as usize;
     let wide = product(rows, columns);
-    let words = product(n, 4 + 2 * m + mux_words(m, kept));
-    let nets = product(n, 1 + mux_nets(m, kept));
+    let words = product(n, 4 + 2 * m + if_mux(m, 5 + 2 * kept));
+    let nets = product(n, 1 + if_mux(m, kept));
     Needs {
         words,
         nets,
-        room: hw + 2 * wide,
+        room: s.hw_len as usize + 2 * wide,
         trits: 0,
         scratch: 0,
     }
@@ -271,18 +246,9 @@ fn writes_needs(
     requires { WritesFit m nets.now p columns entries.now writes.now }
     ensures { (result ≡ writes_needs m nets.now p columns entries.now writes.now) × Most (max_ports * port_most) result }
 {
-    let mut total = Needs {
-        words: 0,
-        nets: 0,
-        room: 0,
-        trits: 0,
-        scratch: 0,
-    };
-    let mut i = 0;
-    while i < writes.len() {
-        let one = write_needs(m, nets, p, columns, entries, writes[i], i);
-        total = plus(total, one);
-        i += 1;
+    let mut total = Needs::none();
+    for (i, new) in writes.iter().enumerate() {
+        total = total.plus(write_needs(m, nets, p, columns, entries, *new, i));
     }
     total
 }

@@ -3,6 +3,7 @@ ghost use Rattle.std.specs.Prelude.{◌≡◌};
 ghost use Rattle.image_geometry.specs.View.{layout_by};
 ghost use Rattle.rules.specs.Geometry.{columns};
 ghost use Rattle.rules.specs.Image.{image_size};
+ghost use Rattle.rules.specs.Refusal.{number_of};
 ghost use Rattle.log_entries.specs.View.{state_of};
 ghost use Rattle.net_memory.specs.Given.{given_of};
 ghost use Rattle.swizzle_plan.specs.Calls.{plan_of, params_by};
@@ -12,25 +13,23 @@ ghost use Rattle.swizzle_counts.specs.Refusal.{rooms_of, needs_refusal, rows_ref
 use crate::{Needs, SwizzleRooms};
 use log_entries::LogState;
 use net_memory::Memory;
+use rules::Refusal;
 use swizzle_plan::MemorySwizzle;
 
 // 20 and 21 of a swizzle that asks for this, and has an image of so many trits.
-fn needs_refusal(r: SwizzleRooms, room: usize, st: LogState, n: Needs, image: usize) -> u32
-    ensures { result ≡ needs_refusal (rooms_of r) room (state_of st) n image }
+fn needs_refusal(
+    r: SwizzleRooms,
+    room: usize,
+    st: LogState,
+    n: Needs,
+    image: usize,
+) -> Result<(), Refusal>
+    ensures { number_of result ≡ needs_refusal (rooms_of r) room (state_of st) n image }
 {
-    if r.image < image {
-        return 20;
+    if r.image < image || r.nets < n.room || r.trits < n.trits || r.scratch < n.scratch {
+        return Err(Refusal::NoRoom);
     }
-    if r.nets < n.room {
-        return 20;
-    }
-    if r.trits < n.trits {
-        return 20;
-    }
-    if r.scratch < n.scratch {
-        return 20;
-    }
-    rules::number_of(st.room_refusal(room, n.words, n.nets))
+    st.room_refusal(room, n.words, n.nets)
 }
 
 // The same from a plan that passes.
@@ -44,24 +43,21 @@ fn rows_by_needs(
     entries: &[u32],
     writes: &[u32],
     reads: &[u32],
-) -> u32
+) -> Result<(), Refusal>
     requires { RowsFit m nets.now s entries.now writes.now reads.now }
-    ensures { result ≡ needs_refusal (rooms_of r) room (state_of st) (plus_needs (writes_needs m nets.now (params_by m s) (columns (layout_by (params_by m s) entries.now)) entries.now writes.now) (reads_needs m nets.now (params_by m s) (columns (layout_by (params_by m s) entries.now)) reads.now)) (image_size (layout_by (params_by m s) entries.now)) }
+    ensures { number_of result ≡ needs_refusal (rooms_of r) room (state_of st) (plus_needs (writes_needs m nets.now (params_by m s) (columns (layout_by (params_by m s) entries.now)) entries.now writes.now) (reads_needs m nets.now (params_by m s) (columns (layout_by (params_by m s) entries.now)) reads.now)) (image_size (layout_by (params_by m s) entries.now)) }
 {
     let p = swizzle_plan::params_of(m, s);
-    let layout = image_geometry::Layout { params: p, entries };
-    let Ok(z) = layout.measure() else {
-        return 1;
-    };
-    let columns = lists::usize_of_u64(z.columns);
+    let z = image_geometry::Layout { params: p, entries }.measure()?;
+    let columns = z.columns as usize;
     let w = crate::writes_needs(m, nets, p, columns, entries, writes);
     let d = crate::reads_needs(m, nets, p, columns, reads);
-    let image = lists::usize_of_u64(z.image_size);
-    needs_refusal(r, room, st, crate::plus(w, d), image)
+    needs_refusal(r, room, st, w.plus(d), z.image_size as usize)
 }
 
-// The number that refuses a swizzle, or 0, all before anything is stored. Depth 0 of a memory that has a width unmaps its flip-flops: there the
-// number is that of the plan alone, and 14, 20 and 21 are left to the caller.
+// By what a swizzle is refused, all before anything is stored. Depth 0 of a memory that has a width unmaps its flip-flops: there it is the plan alone,
+// and 14, 20 and 21 are left to the caller.
+#[tactic(auto, using(crate::proofs::Refusing::plan_err))]
 pub fn rows_refusal(
     r: SwizzleRooms,
     room: usize,
@@ -74,19 +70,16 @@ pub fn rows_refusal(
     entries: &[u32],
     writes: &[u32],
     reads: &[u32],
-) -> u32
-    ensures { result ≡ rows_refusal (rooms_of r) room (state_of st) (given_of m nets.now trits.now) output.now (plan_of s entries.now writes.now reads.now) }
+) -> Result<(), Refusal>
+    ensures { number_of result ≡ rows_refusal (rooms_of r) room (state_of st) (given_of m nets.now trits.now) output.now (plan_of s entries.now writes.now reads.now) }
 {
     let next = st.next;
-    let n = swizzle_plan::plan_number(m, nets, trits, output, next, s, entries, writes, reads);
-    if n != 0 {
-        return n;
-    }
+    swizzle_plan::plan_refusal(m, nets, trits, output, next, s, entries, writes, reads)?;
     if m.width == 0 {
-        return rules::number_of(st.room_refusal(room, 0, 0));
+        return st.room_refusal(room, 0, 0);
     }
     if m.depth == 0 {
-        return 0;
+        return Ok(());
     }
     rows_by_needs(r, room, st, m, nets, s, entries, writes, reads)
 }

@@ -1,6 +1,8 @@
 -- Laws of the entries: a bit more, the end, and the refusal by its tests.
 use mathlib.Core.Path.{◌≡◌, refl, sym, ap, ◌∙◌}
-use mathlib.Core.Logic.{◌≢◌}
+use Rattle.rules.specs.declared.numbers.Refusal.{Refusal}
+use Rattle.rules.specs.Refusal.{number}
+use Rattle.rules.proofs.Answers.{else_err, else_ok}
 use Prim.Native.Nat.{ℕ, suc, ◌+◌, ◌-◌, ◌<◌, ◌≤◌}
 use native.Mathlib.Numerals.{add-one}
 use native.Mathlib.Omega.{arith}
@@ -11,7 +13,7 @@ use lib.Seq.{sets}
 use lib.Dec.{eqb, ltb}
 use borrow.Author.Tests.{lt-ltb, le-ltb}
 use Rattle.lists.specs.Lists.{any}
-use Rattle.lists.proofs.Choice.{else_first, else_rest, hit, miss}
+use Rattle.lists.proofs.Choice.{hit, miss}
 use Rattle.lists.proofs.Store.{sets_at}
 use Rattle.rules.specs.Limits.{None, max_granularity}
 use Rattle.rules.specs.Cell.{Mem}
@@ -68,31 +70,31 @@ module _ (m : Memory) (nets trits gs : List ℕ) where
 
   -- ---- the refusal
   module _ (room : ℕ) where
-    pub by_memory_lem : (n : ℕ) → n ≡ mem_refusal (given_of m nets trits) → n ≢ 0 → n ≡ make_data_swizzle_refusal room (given_of m nets trits) gs
+    pub memory_err : (e : Refusal) → number e ≡ mem_refusal (given_of m nets trits) → number e ≡ make_data_swizzle_refusal room (given_of m nets trits) gs
     unfolding make_data_swizzle_refusal
-    by_memory_lem n e h = e ∙ sym (else_first (mem_refusal (given_of m nets trits)) _ (λ z. h (e ∙ z)))
+    memory_err e h = else_err e (mem_refusal (given_of m nets trits)) _ h
 
-    module _ (z : mem_refusal (given_of m nets trits) ≡ 0) where
+    module _ (z : 0 ≡ mem_refusal (given_of m nets trits)) where
       pub by_five : bad_granularities v gs ≡ true → 5 ≡ make_data_swizzle_refusal room (given_of m nets trits) gs
       unfolding make_data_swizzle_refusal
-      by_five a = hit 5 _ a ∙ sym (else_rest (mem_refusal (given_of m nets trits)) _ z)
+      by_five a = else_ok (mem_refusal (given_of m nets trits)) _ 5 z (hit 5 _ a)
 
       module _ (a : bad_granularities v gs ≡ false) (k : ℕ) (e : k ≡ length (make_data_swizzle v gs)) where
         pub by_six : 256 < k → 6 ≡ make_data_swizzle_refusal room (given_of m nets trits) gs
         unfolding make_data_swizzle_refusal row_too_long
-        by_six h = miss 5 _ 6 a (hit 6 _ (ap (ltb 256) (sym e) ∙ lt-ltb 256 k h)) ∙ sym (else_rest (mem_refusal (given_of m nets trits)) _ z)
+        by_six h = else_ok (mem_refusal (given_of m nets trits)) _ 6 z (miss 5 _ 6 a (hit 6 _ (ap (ltb 256) (sym e) ∙ lt-ltb 256 k h)))
 
         pub by_room : k ≤ 256 → room < k → 20 ≡ make_data_swizzle_refusal room (given_of m nets trits) gs
         unfolding make_data_swizzle_refusal row_too_long no_room_of
         by_room h l =
-            miss 5 _ 20 a (miss 6 _ 20 (ap (ltb 256) (sym e) ∙ le-ltb 256 k h) (hit 20 _ (ap (ltb room) (sym e) ∙ lt-ltb room k l)))
-            ∙ sym (else_rest (mem_refusal (given_of m nets trits)) _ z)
+            else_ok (mem_refusal (given_of m nets trits)) _ 20 z
+            (miss 5 _ 20 a (miss 6 _ 20 (ap (ltb 256) (sym e) ∙ le-ltb 256 k h) (hit 20 _ (ap (ltb room) (sym e) ∙ lt-ltb room k l))))
 
         pub by_none : k ≤ 256 → k ≤ room → 0 ≡ make_data_swizzle_refusal room (given_of m nets trits) gs
         unfolding make_data_swizzle_refusal row_too_long no_room_of
         by_none h l =
-            miss 5 _ 0 a (miss 6 _ 0 (ap (ltb 256) (sym e) ∙ le-ltb 256 k h) (miss 20 _ 0 (ap (ltb room) (sym e) ∙ le-ltb room k l) refl))
-            ∙ sym (else_rest (mem_refusal (given_of m nets trits)) _ z)
+            else_ok (mem_refusal (given_of m nets trits)) _ 0 z
+            (miss 5 _ 0 a (miss 6 _ 0 (ap (ltb 256) (sym e) ∙ le-ltb 256 k h) (miss 20 _ 0 (ap (ltb room) (sym e) ∙ le-ltb room k l) refl)))
 
 -- ---- number 5
 abbrev pub out_of_limits : ℕ → Bool

@@ -1,17 +1,16 @@
 -- The answer of `make_data_swizzle`, as the rules have it, and what the code compares.
-use Rattle.std.specs.Prelude.{ℕ, ◌+◌, ◌-◌, ◌*◌, Bool, List, map, get_or}
+use Rattle.std.specs.Prelude.{ℕ, ◌+◌, ◌-◌, ◌*◌, Bool, List, map, get_or, Result}
 use Rattle.lists.specs.Lists.{up_from, same_list}
 use Rattle.rules.specs.Limits.{X}
 use Rattle.rules.specs.Cell.{Mem, WritePort}
 use Rattle.rules.specs.Geometry.{mask_slice}
 use Rattle.rules.specs.Answers as rules
-use Rattle.swizzle_entries.specs.declared.DataSwizzle.{DataSwizzle}
-use Rattle.swizzle_entries.specs.declared.DataSwizzle.TheVariants.{Refused, Accepted}
+use Rattle.rules.specs.declared.numbers.Refusal.{Refusal}
+use Rattle.rules.specs.Refusal.{answer_by}
 
 -- how many entries, and the lent room after the call
-abbrev pub listed_of : DataSwizzle → List ℕ → rules.Listed
-listed_of (Refused n) out = record { answer = rules.Refused n; out = out }
-listed_of (Accepted n) out = record { answer = rules.Accepted n; out = out }
+abbrev pub listed_of : Result ℕ Refusal → List ℕ → rules.Listed
+listed_of r out = record { answer = answer_by (λ n. n) r; out = out }
 
 -- the nets of a mask that belong to bit b, one to each of so many subports
 abbrev pub slice : List ℕ → ℕ → ℕ → ℕ → List ℕ

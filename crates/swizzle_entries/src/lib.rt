@@ -10,19 +10,14 @@ ghost use Rattle.rules.specs.Limits.{X, None, max_granularity};
 ghost use Rattle.rules.specs.Geometry.{changing, aligned, padded, make_data_swizzle};
 ghost use Rattle.rules.specs.Conditions.{bad_granularities};
 ghost use Rattle.net_memory.specs.View.{memory_of, writes_of, write_by};
+ghost use Rattle.rules.specs.Refusal.{number_of};
 ghost use Rattle.rules.specs.Refusals.{make_data_swizzle_refusal};
 ghost use Rattle.rules.specs.Answers.{make_data_swizzle_call};
 ghost use Rattle.net_memory.specs.Given.{given_of};
 ghost use Rattle.swizzle_entries.specs.Calls.{slice, unchanged, listed_of};
 
 use net_memory::Memory;
-
-// How many entries there are, or the number that refuses the call.
-#[derive(Clone, Copy)]
-pub enum DataSwizzle {
-    Refused(u32),
-    Accepted(usize),
-}
+use rules::Refusal;
 
 // The net at a place, X past the end.
 fn net_at(s: &[u32], i: usize) -> u32
@@ -39,38 +34,21 @@ fn masks_same(mask: &[u32], width: usize, bit: usize, count: usize) -> bool
     requires { (width < 0x100000000) × (bit < 0x100000000) × (count < 0x100000000) }
     ensures { result ≡ same_list (slice mask.now width bit count) (slice mask.now width (bit - 1) count) }
 {
-    let before = lower_by_one(bit);
-    let mut j: usize = 0;
-    while j < count {
+    let before = bit.saturating_sub(1);
+    for j in 0..count {
         if net_at(mask, j * width + bit) != net_at(mask, j * width + before) {
             return false;
         }
-        j += 1;
     }
     true
-}
-
-fn lower_by_one(x: usize) -> usize
-    ensures { result ≡ x - 1 }
-{
-    if x == 0 {
-        return 0;
-    }
-    x - 1
 }
 
 // Whether a number of entries is a multiple of each granularity.
+#[tactic(auto, unfolding(rules::specs::Geometry::aligned))]
 fn is_aligned(gs: &[u32], n: usize) -> bool
     ensures { result ≡ aligned gs.now n }
 {
-    let mut i = 0;
-    while i < gs.len() {
-        if !divides(lists::usize_of_u32(gs[i]), n) {
-            return false;
-        }
-        i += 1;
-    }
-    true
+    gs.iter().all(|g| divides(*g as usize, n))
 }
 
 fn divides(g: usize, n: usize) -> bool
@@ -87,14 +65,12 @@ fn padding_of(gs: &[u32], n: usize) -> usize
     requires { n ≤ 0x1000000000000 }
     ensures { (result ≡ padded gs.now n) × (result ≤ 257) }
 {
-    let mut count: usize = 0;
-    while count <= rules::MAX_ROW {
+    for count in 0..rules::MAX_ROW + 1 {
         if is_aligned(gs, n + count) {
             return count;
         }
-        count += 1;
     }
-    count
+    rules::MAX_ROW + 1
 }
 
 // A write port with these nets has the same mask nets at a bit as at the one before.
@@ -126,18 +102,15 @@ fn changing_of(out: &mut [u32], m: Memory, nets: &[u32], gs: &[u32], bit: usize)
     ensures by_index_2 { (trits : List ℕ) → out.new ≡ sets out.old 0 (changing (memory_of m nets.now trits) bit (writes_of m nets.now) gs.now) }
 {
     let end = net_memory::ports_used(m.write_count).min(gs.len());
-    let width = lists::usize_of_u32(m.width);
-    let mut found: usize = 0;
-    let mut at: usize = 0;
-    let mut i = 0;
-    while i < end {
+    let mut found = 0;
+    let mut at = 0;
+    for i in 0..end {
         let p = m.write_ports[i];
         let size = net_memory::write_size(p);
         let part = lists::part(nets, at, size);
-        let same = port_same(p, part, width, bit);
+        let same = port_same(p, part, m.width as usize, bit);
         found = keep(out, found, same, gs[i]);
         at += size;
-        i += 1;
     }
     found
 }
@@ -169,13 +142,10 @@ fn put_entries(out: &mut [u32], m: Memory, nets: &[u32], gs: &[u32]) -> usize
     ensures by_index { (trits : List ℕ) → result ≡ length (make_data_swizzle (memory_of m nets.now trits) gs.now) }
     ensures by_index_2 { (trits : List ℕ) → out.new ≡ sets out.old 0 (make_data_swizzle (memory_of m nets.now trits) gs.now) }
 {
-    let width = m.width;
-    let mut n: usize = 0;
-    let mut bit: u32 = 0;
-    while bit < width {
-        let count = bit_padding(m, nets, gs, lists::usize_of_u32(bit), n);
+    let mut n = 0;
+    for bit in 0..m.width {
+        let count = bit_padding(m, nets, gs, bit as usize, n);
         n = put_bit(out, n, count, bit);
-        bit += 1;
     }
     let last = padding_of(gs, n);
     lists::fill(out, n, last, rules::NO_BIT);
@@ -186,66 +156,55 @@ fn put_entries(out: &mut [u32], m: Memory, nets: &[u32], gs: &[u32]) -> usize
 fn granularity_bad(g: u32) -> bool
     ensures { result ≡ (eqb g 0 || ltb max_granularity g) }
 {
-    if g == 0 {
-        return true;
-    }
-    rules::MAX_GRANULARITY < g
+    g == 0 || rules::MAX_GRANULARITY < g
 }
 
 // Number 5.
 fn granularities_bad(m: Memory, gs: &[u32]) -> bool
     ensures { (nets trits : List ℕ) → result ≡ bad_granularities (memory_of m nets trits) gs.now }
 {
-    let count = net_memory::ports_used(m.write_count);
-    if gs.len() != count {
+    if gs.len() != net_memory::ports_used(m.write_count) {
         return true;
     }
-    let mut i = 0;
-    while i < gs.len() {
-        if granularity_bad(gs[i]) {
-            return true;
-        }
-        i += 1;
-    }
-    false
+    gs.iter().any(|g| granularity_bad(*g))
 }
 
-// The number that refuses the call with a room of this length, or 0.
-fn swizzle_refusal(m: Memory, nets: &[u32], trits: &[u8], gs: &[u32], room: usize) -> u32
-    ensures { result ≡ make_data_swizzle_refusal room (given_of m nets.now trits.now) gs.now }
+// By what the call is refused with a room of this length.
+#[tactic(auto, using(crate::proofs::Entries::memory_err))]
+fn entries_refusal(
+    m: Memory,
+    nets: &[u32],
+    trits: &[u8],
+    gs: &[u32],
+    room: usize,
+) -> Result<(), Refusal>
+    ensures { number_of result ≡ make_data_swizzle_refusal room (given_of m nets.now trits.now) gs.now }
 {
-    let n = rules::number_of(net_check::memory_refusal(m, nets, trits));
-    if n != 0 {
-        return n;
-    }
+    net_check::memory_refusal(m, nets, trits)?;
     if granularities_bad(m, gs) {
-        return 5;
+        return Err(Refusal::BadGranularity);
     }
-    let mut none = [0u32; 1];
-    let count = put_entries(&mut none, m, nets, gs);
+    let count = put_entries(&mut [], m, nets, gs);
     if rules::MAX_ROW < count {
-        return 6;
+        return Err(Refusal::RowTooLong);
     }
     if room < count {
-        return 20;
+        return Err(Refusal::NoRoom);
     }
-    0
+    Ok(())
 }
 
-// The entries of a row, padded with None so that masks with these granularities can be applied, one granularity to a write port.
+// The entries of a row, padded with None so that masks with these granularities can be applied, one granularity to a write port; and how many they are.
+#[tactic(auto, using(crate::proofs::Answered::entries_err))]
 pub fn make_data_swizzle(
     out: &mut [u32],
     m: Memory,
     nets: &[u32],
     trits: &[u8],
     granularities: &[u32],
-) -> DataSwizzle
+) -> Result<usize, Refusal>
     ensures { listed_of result out.new ≡ make_data_swizzle_call out.old (given_of m nets.now trits.now) granularities.now }
 {
-    let n = swizzle_refusal(m, nets, trits, granularities, out.len());
-    if n != 0 {
-        return DataSwizzle::Refused(n);
-    }
-    let count = put_entries(out, m, nets, granularities);
-    DataSwizzle::Accepted(count)
+    entries_refusal(m, nets, trits, granularities, out.len())?;
+    Ok(put_entries(out, m, nets, granularities))
 }

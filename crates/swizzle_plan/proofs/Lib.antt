@@ -3,4 +3,3 @@ pub mod Planned
 pub mod Wides
 pub mod WideLogs
 pub mod Whole
-pub mod Fields

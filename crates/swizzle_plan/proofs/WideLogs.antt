@@ -5,9 +5,7 @@ use Prim.Native.Nat.{ℕ, ◌<◌, min}
 use mathlib.Core.Bool.{Bool, true, not, ◌||◌}
 use mathlib.Core.List.{List, [], map}
 use lib.Dec.{eqb}
-use lib.ListN.{length, get_or, length-map, replicate, get_or-map}
-use native.Mathlib.Omega.{arith}
-use Rattle.lists.proofs.Parts.{get_d_any}
+use lib.ListN.{length, get_or, length-map, replicate}
 use lib.Seq.{sets}
 use borrow.Author.Tests.{eq-eqb, ne_eqb}
 use Rattle.lists.specs.Lists.{any, pairs, part}
@@ -69,16 +67,3 @@ module _ (s : MemorySwizzle) where
 pub logs_length : (m : Memory) (nets trits : List ℕ) → length (write_logs (memory_of m nets trits)) ≡ length (writes_of m nets)
 unfolding memory_of
 logs_length m nets trits = length-map (writes_of m nets) (write_wide_log2 (memory_of m nets trits))
-
--- the old usize-of-u32 log of a listed read port, by its data bits
-pub log_at : (m : Memory) (nets trits ports : List ℕ) (i k n w : ℕ) → i < length ports → n ≡ (read_at_of (memory_of m nets trits) k).data_len → k ≡ get_or ports i 0 → w ≡ wide_log2 m.width n
-    → w ≡ get_or (read_logs (memory_of m nets trits) ports) i 0
-log_at m nets trits ports i k n w h e q u =
-    let f : ℕ → ℕ = λ (j : ℕ). read_wide_log2 (memory_of m nets trits) (read_at_of (memory_of m nets trits) j) in
-    u
-    ∙ read_log_is m nets trits k (get_or ports i 0) n e q
-    ∙ sym (get_or-map f ports i 0)
-    ∙ get_d_any (map f ports) i (f 0) 0 (omega (arith, length-map ports f))
-
-pub read_logs_length : (m : Memory) (nets trits ports : List ℕ) → length (read_logs (memory_of m nets trits) ports) ≡ length ports
-read_logs_length m nets trits ports = length-map ports (λ (j : ℕ). read_wide_log2 (memory_of m nets trits) (read_at_of (memory_of m nets trits) j))

@@ -1,41 +1,16 @@
 -- Laws of soft bits, of pairs of old and new usize-of-u32 logs, and of a list in an array.
 use mathlib.Core.Path.{◌≡◌, refl, sym, ap, ◌∙◌}
-use Prim.Native.Nat.{ℕ, suc, ◌+◌, ◌-◌, ◌/◌, ◌%◌, ◌<◌, ◌≤◌, min}
+use Prim.Native.Nat.{ℕ, ◌+◌, ◌<◌, ◌≤◌, min}
 use native.Mathlib.Numerals.{add-one}
-use native.Mathlib.Nat.{zero-add}
 use native.Mathlib.Omega.{arith}
-use mathlib.Core.Bool.{Bool, true, false, ◌||◌}
+use mathlib.Core.Bool.{Bool, ◌||◌}
 use mathlib.Core.List.{List, [], ◌∷◌, map}
 use lib.ListN.{length, take, drop, get_or, set, drop_of_length-le}
 use lib.Seq.{sets, drop-cons, take_all}
+use Rattle.std.specs.List.{zip}
 use Rattle.lists.specs.Lists.{any, pairs, part}
 use Rattle.lists.proofs.Choice.{cases_le}
 use Rattle.lists.proofs.Store.{sets_more, part_sets}
-use Rattle.rules.specs.Numbers.{softs}
-
--- ---- soft bits
-one_more : (n m : ℕ) → softs (suc n) m ≡ m % 2 + softs n (m / 2)
-unfolding softs
-one_more n m = refl
-
-none : (m : ℕ) → softs 0 m ≡ 0
-unfolding softs
-none m = refl
-
-pub soft_turn : (k i count rest t : ℕ) → i < k → count + softs (k - i) rest ≡ t → count + rest % 2 + softs (k - (i + 1)) (rest / 2) ≡ t
-soft_turn k i count rest t h e =
-    let q : k - i ≡ suc (k - (i + 1)) = omega arith in
-    omega (arith, ap (λ (n : ℕ). softs n rest) q ∙ one_more (k - (i + 1)) rest)
-
-pub soft_end : (k i count rest t : ℕ) → k ≤ i → count + softs (k - i) rest ≡ t → count ≡ t
-soft_end k i count rest t h e =
-    let q : k - i ≡ 0 = omega arith in
-    omega (arith, ap (λ (n : ℕ). softs n rest) q ∙ none rest)
-
-pub soft_start : (k m : ℕ) → 0 + softs (k - 0) m ≡ softs k m
-soft_start k m =
-    let q : k - 0 ≡ k = omega arith in
-    zero-add (softs (k - 0) m) ∙ ap (λ (n : ℕ). softs n m) q
 
 -- ---- pairs
 module _ (a b : List ℕ) where
@@ -57,27 +32,20 @@ module _ (a b : List ℕ) where
       (λ k. ap (λ (l : List ℕ). pairs l (drop i b)) (drop_of_length-le a {i = i} k))
       (λ k. ap (pairs (drop i a)) (drop_of_length-le b {i = i} (omega arith)) ∙ no_more (drop i a))
 
-  module _ (f : ℕ × ℕ → Bool) where
-    pub pair_found : (i : ℕ) → i < length a → i < length b → f (get_or a i 0, get_or b i 0) ≡ true → any f (left i) ≡ any f (pairs a b) → true ≡ any f (pairs a b)
-    pair_found i h k t e = sym (ap (any f) (step i h k) ∙ ap (λ (x : Bool). x || any f (left (i + 1))) t) ∙ e
-
-    pub pair_pass : (i : ℕ) → i < length a → i < length b → f (get_or a i 0, get_or b i 0) ≡ false → any f (left i) ≡ any f (pairs a b) → any f (left (i + 1)) ≡ any f (pairs a b)
-    pair_pass i h k t e = sym (ap (any f) (step i h k) ∙ ap (λ (x : Bool). x || any f (left (i + 1))) t) ∙ e
-
-    pub pair_end : (i : ℕ) → min (length a) (length b) ≤ i → any f (left i) ≡ any f (pairs a b) → false ≡ any f (pairs a b)
-    pair_end i h e = sym (ap (any f) (none_left i h)) ∙ e
-
   -- a number of each pair
   module _ (g : ℕ × ℕ → ℕ) where
-    pub pair_at : (i d : ℕ) → i < length a → i < length b → get_or (map g (left i)) 0 d ≡ g (get_or a i 0, get_or b i 0)
-    pair_at i d h k = ap (λ (l : List (ℕ × ℕ)). get_or (map g l) 0 d) (step i h k)
-
     pub pair_store : (logs all : List ℕ) (i v : ℕ) → i < length a → i < length b → v ≡ g (get_or a i 0, get_or b i 0) → sets logs i (map g (left i)) ≡ all → sets (set logs i v) (i + 1) (map g (left (i + 1))) ≡ all
     pair_store logs all i v h k e q =
         (λ j. sets (set logs i (e j)) (add-one i j) (map g (left (i + 1)))) ∙ sym (ap (λ (l : List (ℕ × ℕ)). sets logs i (map g l)) (step i h k)) ∙ q
 
     pub pair_stored : (logs all : List ℕ) (i : ℕ) → min (length a) (length b) ≤ i → sets logs i (map g (left i)) ≡ all → logs ≡ all
     pair_stored logs all i h q = sym (ap (λ (l : List (ℕ × ℕ)). sets logs i (map g l)) (none_left i h)) ∙ q
+
+-- the library's pairs
+pub zipped : (a b : List ℕ) → zip a b ≡ pairs a b
+zipped [] b = refl
+zipped (x ∷ a) [] = refl
+zipped (x ∷ a) (y ∷ b) = ap (λ (l : List (ℕ × ℕ)). (x, y) ∷ l) (zipped a b)
 
 -- the first of each pair may be a number of something
 module _ {A : Type 0} (h : A → ℕ) where

@@ -1,16 +1,18 @@
 // memory/src/lib.rs, MemorySwizzle: a plan and its numbers, alone and with those of the memory that it is for.
 #![tactic(auto)]
 
-ghost use Rattle.std.specs.Prelude.{◌≡◌, false, ◌||◌, List, ℕ, ltb, length};
+ghost use Rattle.std.specs.Prelude.{◌≡◌, false, List, ℕ, ltb, length};
 ghost use Rattle.lists.specs.Lists.{any};
 ghost use Rattle.rules.specs.Limits.{max_wide};
 ghost use Rattle.rules.specs.Conditions.{plan_too_large, bad_layout_sizes};
 ghost use Rattle.net_memory.specs.View.{memory_of};
-ghost use Rattle.rules.specs.Refusals.{whole_plan, planned_number, swizzle_plan_number};
+ghost use Rattle.rules.specs.Refusals.{plan_number, whole_plan, planned_number, swizzle_plan_number};
+ghost use Rattle.rules.specs.Refusal.{number_of};
 ghost use Rattle.net_memory.specs.Given.{given_of};
 ghost use Rattle.swizzle_plan.specs.Calls.{plan_of, params_by};
 
 use net_memory::Memory;
+use rules::Refusal;
 
 pub mod logs;
 
@@ -40,40 +42,34 @@ pub fn params_of(m: Memory, s: MemorySwizzle) -> image_geometry::Params
 fn any_wide(logs: &[u32]) -> bool
     ensures { result ≡ any (ltb max_wide) logs.now }
 {
-    let mut i = 0;
-    while i < logs.len() {
-        if rules::MAX_WIDE < logs[i] {
-            return true;
-        }
-        i += 1;
-    }
-    false
+    logs.iter().any(|log| rules::MAX_WIDE < *log)
 }
 
 // Number 1 of a plan.
+#[tactic(auto, unfolding(rules::specs::Conditions::plan_too_large))]
 pub fn plan_too_large(s: MemorySwizzle, entries: &[u32], writes: &[u32], reads: &[u32]) -> bool
     ensures { result ≡ plan_too_large (plan_of s entries.now writes.now reads.now) }
 {
-    if rules::MAX_ROW < entries.len() {
-        return true;
-    }
-    if s.data_width_unit == 0 {
-        return true;
-    }
-    if rules::MAX_UNIT < s.data_width_unit {
-        return true;
-    }
-    if rules::MAX_HARD < s.hard_addr_bits {
-        return true;
-    }
-    if any_wide(writes) {
-        return true;
-    }
-    any_wide(reads)
+    rules::MAX_ROW < entries.len()
+        || s.data_width_unit == 0
+        || rules::MAX_UNIT < s.data_width_unit
+        || rules::MAX_HARD < s.hard_addr_bits
+        || any_wide(writes)
+        || any_wide(reads)
 }
 
-// The numbers 1 to 4, 7 and 8 of a memory and a plan; `long` says what else of the call breaks 1.
-pub fn planned_number(
+// 7 and 8 of a plan.
+#[tactic(auto, using(crate::proofs::Whole::entries_err, crate::proofs::Whole::entries_ok))]
+fn check_parts(m: Memory, s: MemorySwizzle, entries: &[u32]) -> Result<(), Refusal>
+    ensures { (nets trits ws rs : List ℕ) → number_of result ≡ plan_number (memory_of m nets trits) (plan_of s entries.now ws rs) }
+{
+    image_check::check_entries(m.width, entries)?;
+    image_geometry::check_soft_mask(m.depth, s.soft_addr_bits_mask)
+}
+
+// 1 to 4, 7 and 8 of a memory and a plan; `long` says what else of the call breaks 1.
+#[tactic(auto, using(rules::proofs::Answers::else_err, rules::proofs::Answers::else_ok), unfolding(rules::specs::Refusals::planned_number))]
+pub fn planned_refusal(
     m: Memory,
     nets: &[u32],
     trits: &[u8],
@@ -82,73 +78,44 @@ pub fn planned_number(
     writes: &[u32],
     reads: &[u32],
     long: bool,
-) -> u32
-    ensures { result ≡ planned_number long (given_of m nets.now trits.now) (plan_of s entries.now writes.now reads.now) }
+) -> Result<(), Refusal>
+    ensures { number_of result ≡ planned_number long (given_of m nets.now trits.now) (plan_of s entries.now writes.now reads.now) }
 {
-    let one = either(plan_too_large(s, entries, writes, reads), long);
-    let n = rules::number_of(net_check::call_refusal(
-        m,
-        nets,
-        trits,
-        rules::MAX_NETS,
-        one,
-        false,
-        false,
-    ));
-    if n != 0 {
-        return n;
-    }
-    let k = rules::number_of(image_check::check_entries(m.width, entries));
-    if k != 0 {
-        return k;
-    }
-    rules::number_of(image_geometry::check_soft_mask(m.depth, s.soft_addr_bits_mask))
+    let one = plan_too_large(s, entries, writes, reads) || long;
+    net_check::call_refusal(m, nets, trits, rules::MAX_NETS, one, false, false)?;
+    check_parts(m, s, entries)
 }
 
-pub fn either(a: bool, b: bool) -> bool
-    ensures { result ≡ (a || b) }
-{
-    if a {
-        return true;
-    }
-    b
-}
-
-// The numbers of a plan whose sizes are within number 1's limits, over a memory whose sizes are: 7, 8, 9 and 10.
-fn whole_number(
+// 7, 8, 9 and 10 of a plan whose sizes are within number 1's limits, over a memory whose sizes are.
+#[tactic(auto, using(rules::proofs::Answers::else_err, rules::proofs::Answers::else_ok), unfolding(rules::specs::Refusals::whole_plan, rules::specs::Refusals::wide_number))]
+fn whole_refusal(
     m: Memory,
     nets: &[u32],
     s: MemorySwizzle,
     entries: &[u32],
     writes: &[u32],
     reads: &[u32],
-) -> u32
+) -> Result<(), Refusal>
     requires { bad_layout_sizes m.depth m.width (length entries.now) s.data_width_unit s.hard_addr_bits ≡ false }
-    ensures { (trits : List ℕ) → result ≡ whole_plan (memory_of m nets.now trits) (plan_of s entries.now writes.now reads.now) }
+    ensures { (trits : List ℕ) → number_of result ≡ whole_plan (memory_of m nets.now trits) (plan_of s entries.now writes.now reads.now) }
 {
-    let k = rules::number_of(image_check::check_entries(m.width, entries));
-    if k != 0 {
-        return k;
-    }
-    let j = rules::number_of(image_geometry::check_soft_mask(m.depth, s.soft_addr_bits_mask));
-    if j != 0 {
-        return j;
-    }
+    check_parts(m, s, entries)?;
     if logs::all_logs_bad(m, nets, s, writes, reads) {
-        return 9;
+        return Err(Refusal::BadWideLogs);
     }
     if m.width == 0 {
-        return 0;
+        return Ok(());
     }
     let layout = image_geometry::Layout {
         params: params_of(m, s),
         entries,
     };
-    rules::number_of(layout.check_result())
+    layout.check_result()
 }
 
-// The number that refuses a plan for a memory and the nets that its outputs drive, or 0: 1 to 4, then 7, 8, 9 and 10.
-pub fn plan_number(
+// By what a plan is refused for a memory and the nets that its outputs drive: 1 to 4, then 7, 8, 9 and 10.
+#[tactic(auto, using(rules::proofs::Answers::else_err, rules::proofs::Answers::else_ok), unfolding(rules::specs::Refusals::swizzle_plan_number))]
+pub fn plan_refusal(
     m: Memory,
     nets: &[u32],
     trits: &[u8],
@@ -158,13 +125,10 @@ pub fn plan_number(
     entries: &[u32],
     writes: &[u32],
     reads: &[u32],
-) -> u32
-    ensures { result ≡ swizzle_plan_number next (given_of m nets.now trits.now) output.now (plan_of s entries.now writes.now reads.now) }
+) -> Result<(), Refusal>
+    ensures { number_of result ≡ swizzle_plan_number next (given_of m nets.now trits.now) output.now (plan_of s entries.now writes.now reads.now) }
 {
     let one = plan_too_large(s, entries, writes, reads);
-    let n = rules::number_of(port_outputs::driving_refusal(m, nets, trits, output, next, one));
-    if n != 0 {
-        return n;
-    }
-    whole_number(m, nets, s, entries, writes, reads)
+    port_outputs::driving_refusal(m, nets, trits, output, next, one)?;
+    whole_refusal(m, nets, s, entries, writes, reads)
 }

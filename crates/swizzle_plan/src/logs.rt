@@ -1,8 +1,8 @@
 // Number 9: the new wide logs of a plan against a memory's ports.
-ghost use Rattle.std.specs.Prelude.{◌≡◌, ◌||◌, List, ℕ, ◌-◌, ◌≤◌};
+ghost use Rattle.std.specs.Prelude.{◌≡◌, ◌||◌, List, ℕ};
 ghost use Rattle.lists.specs.Lists.{any, pairs};
-ghost use Rattle.rules.specs.Numbers.{softs};
 ghost use Rattle.rules.specs.Conditions.{bad_wide, bad_writes, bad_reads, all_reads};
+ghost use Rattle.rules.specs.Cell.{read_wide_log2, read_at_of};
 ghost use Rattle.net_memory.specs.View.{memory_of};
 ghost use Rattle.swizzle_plan.specs.Calls.{plan_of};
 ghost use Rattle.swizzle_plan.specs.Numbers.{in_eight, write_logs, read_logs};
@@ -10,61 +10,37 @@ ghost use Rattle.swizzle_plan.specs.Numbers.{in_eight, write_logs, read_logs};
 use crate::MemorySwizzle;
 use net_memory::Memory;
 
-// How many of the lowest k bits of a mask are set.
-fn low_softs(k: u32, mask: u32) -> u32
-    ensures { (result ≡ softs k mask) × (result ≤ k) }
-{
-    let mut rest = mask;
-    let mut count: u32 = 0;
-    let mut i: u32 = 0;
-    while i < k {
-        count += rest % 2;
-        rest /= 2;
-        i += 1;
-    }
-    count
-}
-
 // A new wide log is above the hard bits, or below the non-soft bits under the old one.
+#[tactic(auto, unfolding(rules::specs::Conditions::bad_wide))]
 fn wide_bad(s: MemorySwizzle, old: u32, new: u32) -> bool
     ensures { (es ws rs : List ℕ) → result ≡ bad_wide (plan_of s es ws rs) old new }
 {
-    if s.hard_addr_bits < new {
-        return true;
-    }
-    new < old.saturating_sub(low_softs(old, s.soft_addr_bits_mask))
+    s.hard_addr_bits < new
+        || new < old.saturating_sub(image_geometry::low_softs(old, s.soft_addr_bits_mask))
 }
 
 // One of these is.
 fn wides_bad(s: MemorySwizzle, olds: &[u32], news: &[u32]) -> bool
     ensures { (es ws rs : List ℕ) → result ≡ any (λ x. bad_wide (plan_of s es ws rs) x.0 x.1) (pairs olds.now news.now) }
 {
-    let end = olds.len().min(news.len());
-    let mut i = 0;
-    while i < end {
-        if wide_bad(s, olds[i], news[i]) {
-            return true;
-        }
-        i += 1;
-    }
-    false
+    olds.iter()
+        .zip(news)
+        .any(|(old, new)| wide_bad(s, *old, *new))
 }
 
 // The old wide logs of the write ports.
-pub fn write_logs(m: Memory, nets: &[u32]) -> [u32; 8]
+pub fn write_logs(m: Memory, nets: &[u32]) -> [u32; rules::MAX_PORTS]
     ensures { (trits : List ℕ) → result ≡ in_eight (write_logs (memory_of m nets.now trits)) }
 {
-    let mut logs = [0u32; 8];
+    let mut logs = [0u32; rules::MAX_PORTS];
     let count = net_memory::ports_used(m.write_count);
-    let mut at: usize = 0;
-    let mut i = 0;
-    while i < count {
-        let p = m.write_ports[i];
-        let size = net_memory::write_size(p);
+    let mut at = 0;
+    for i in 0..count {
+        let port = m.write_ports[i];
+        let size = net_memory::write_size(port);
         let part = lists::part(nets, at, size);
-        logs[i] = net_memory::wide::wide_log(m.width, net_memory::data_count(p, part));
+        logs[i] = net_memory::wide::wide_log(m.width, net_memory::data_count(port, part));
         at += size;
-        i += 1;
     }
     logs
 }
@@ -81,20 +57,23 @@ fn writes_bad(m: Memory, nets: &[u32], s: MemorySwizzle, news: &[u32]) -> bool
     wides_bad(s, lists::part(&logs, 0, count), news)
 }
 
+// The old wide log of a listed read port.
+#[tactic(auto, using(crate::proofs::WideLogs::read_log_is))]
+pub fn read_log(m: Memory, port: u32) -> u32
+    ensures { (nets trits : List ℕ) → result ≡ read_wide_log2 (memory_of m nets trits) (read_at_of (memory_of m nets trits) port) }
+{
+    let bits = net_memory::read_data_len(m, port as usize);
+    net_memory::wide::wide_log(m.width, bits)
+}
+
 // One of the listed read ports has a bad new wide log.
 fn listed_bad(m: Memory, ports: &[u32], s: MemorySwizzle, news: &[u32]) -> bool
     ensures { (nets trits es ws rs : List ℕ) → result ≡ any (λ x. bad_wide (plan_of s es ws rs) x.0 x.1) (pairs (read_logs (memory_of m nets trits) ports.now) news.now) }
 {
-    let end = ports.len().min(news.len());
-    let mut i = 0;
-    while i < end {
-        let bits = net_memory::read_data_len(m, lists::usize_of_u32(ports[i]));
-        if wide_bad(s, net_memory::wide::wide_log(m.width, bits), news[i]) {
-            return true;
-        }
-        i += 1;
-    }
-    false
+    ports
+        .iter()
+        .zip(news)
+        .any(|(port, new)| wide_bad(s, read_log(m, *port), *new))
 }
 
 // Number 9 of the listed read ports.
@@ -118,10 +97,7 @@ pub fn logs_bad(
 ) -> bool
     ensures { (trits es : List ℕ) → result ≡ (bad_writes (memory_of m nets.now trits) (plan_of s es writes.now reads.now) || bad_reads (memory_of m nets.now trits) ports.now (plan_of s es writes.now reads.now)) }
 {
-    if writes_bad(m, nets, s, writes) {
-        return true;
-    }
-    reads_bad(m, ports, s, reads)
+    writes_bad(m, nets, s, writes) || reads_bad(m, ports, s, reads)
 }
 
 // Number 9 of the write ports and every read port.

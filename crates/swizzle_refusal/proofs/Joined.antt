@@ -8,7 +8,7 @@ use mathlib.Core.List.{List}
 use lib.Dec.{eqb}
 use borrow.Author.Tests.{eq-eqb, ne_eqb}
 use Rattle.lists.specs.Choice.{when◌then◌else◌, ◌or_else◌}
-use Rattle.lists.proofs.Choice.{else_first, else_rest, else_zero, or_false}
+use Rattle.lists.proofs.Choice.{else_first, else_rest, else_zero}
 use Rattle.rules.specs.Value.{Value}
 use Rattle.rules.specs.Cell.{Mem, Given, Plan}
 use Rattle.rules.specs.Log.{LogState}
@@ -16,10 +16,13 @@ use Rattle.rules.specs.Swizzle.{swizzle_empty}
 use Rattle.rules.specs.Conditions.{plan_too_large, bad_output_len, short_ports}
 use Rattle.rules.specs.Refusals as rules
 use Rattle.rules.specs.Refusals.{log_refusal, driving_number, mem_number, whole_plan, swizzle_plan_number, swizzle_refusal}
+use Rattle.rules.specs.declared.numbers.Refusal.{Refusal}
+use Rattle.rules.specs.Refusal.{number}
+use Rattle.rules.proofs.Answers.{number_nonzero}
 use Rattle.net_memory.specs.declared.Memory.{Memory}
 use Rattle.net_memory.specs.View.{memory_of}
 use Rattle.net_memory.specs.Given.{given_of}
-use Rattle.net_check.proofs.Accept.{Valid, valid}
+use Rattle.net_check.proofs.Accept.{valid}
 use Rattle.rules.specs.Conditions.{bad_value}
 use Rattle.swizzle_plan.specs.declared.MemorySwizzle.{MemorySwizzle}
 use Rattle.swizzle_plan.specs.Calls.{plan_of}
@@ -39,7 +42,7 @@ module _ (r : rules.SwizzleRooms) (room : ℕ) (st : LogState) (g : Given) (outp
   plan_when f = ap (λ (t : Bool). when t then swizzle_plan_number st.next g output p else swizzle_refusal r room st g output p) f
 
   -- a number that refuses the rows, or the plan, refuses the swizzle
-  pub joined_first : n ≢ 0 → n ≡ swizzle_refusal r room st g output p
+  joined_first : n ≢ 0 → n ≡ swizzle_refusal r room st g output p
   joined_first h = on flat refl
     where
       on : (t : Bool) → flat ≡ t → n ≡ swizzle_refusal r room st g output p
@@ -55,6 +58,10 @@ module _ (r : rules.SwizzleRooms) (room : ℕ) (st : LogState) (g : Given) (outp
       on : (t : Bool) → (t && false) ≡ false
       on true = refl
       on false = refl
+
+pub joined_err : (r : rules.SwizzleRooms) (room : ℕ) (st : LogState) (g : Given) (output : Value) (p : Plan) (e : Refusal) → number e ≡ rows_refusal r room st g output p
+    → number e ≡ swizzle_refusal r room st g output p
+joined_err r room st g output p e h = joined_first r room st g output p (number e) h (number_nonzero e)
 
 -- ---- depth 0
 module _ (r : rules.SwizzleRooms) (room : ℕ) (st : LogState) (m : Memory) (nets trits : List ℕ) (output : Value) (s : MemorySwizzle) (es ws rs : List ℕ) (n : ℕ)

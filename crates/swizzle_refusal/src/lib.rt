@@ -2,6 +2,7 @@
 #![tactic(auto)]
 
 ghost use Rattle.std.specs.Prelude.{◌≡◌};
+ghost use Rattle.rules.specs.Refusal.{number_of};
 ghost use Rattle.rules.specs.Refusals.{swizzle_refusal};
 ghost use Rattle.log_entries.specs.View.{state_of};
 ghost use Rattle.net_memory.specs.Given.{given_of};
@@ -10,10 +11,12 @@ ghost use Rattle.swizzle_counts.specs.Refusal.{rooms_of};
 
 use log_entries::LogState;
 use net_memory::Memory;
+use rules::Refusal;
 use swizzle_counts::SwizzleRooms;
 use swizzle_plan::MemorySwizzle;
 
-// The number that refuses a swizzle, or 0.
+// By what a swizzle is refused.
+#[tactic(auto, using(crate::proofs::Joined::joined_err))]
 pub fn swizzle_refusal(
     r: SwizzleRooms,
     room: usize,
@@ -26,23 +29,20 @@ pub fn swizzle_refusal(
     entries: &[u32],
     writes: &[u32],
     reads: &[u32],
-) -> u32
-    ensures { result ≡ swizzle_refusal (rooms_of r) room (state_of st) (given_of m nets.now trits.now) output.now (plan_of s entries.now writes.now reads.now) }
+) -> Result<(), Refusal>
+    ensures { number_of result ≡ swizzle_refusal (rooms_of r) room (state_of st) (given_of m nets.now trits.now) output.now (plan_of s entries.now writes.now reads.now) }
 {
-    let n = swizzle_counts::refusal::rows_refusal(
+    swizzle_counts::refusal::rows_refusal(
         r, room, st, m, nets, trits, output, s, entries, writes, reads,
-    );
-    if n != 0 {
-        return n;
-    }
+    )?;
     if m.width == 0 {
-        return 0;
+        return Ok(());
     }
     if m.depth != 0 {
-        return 0;
+        return Ok(());
     }
     if port_unmap_all::ports_short(m, nets) {
-        return 14;
+        return Err(Refusal::ShortAddress);
     }
     port_empty::empty_refusal(room, st, m, nets, trits, output)
 }

@@ -1,19 +1,21 @@
 -- The numbers of the call.
 use mathlib.Core.Path.{◌≡◌, refl, sym, ap, ◌∙◌}
-use mathlib.Core.Logic.{◌≢◌}
 use native.Mathlib.Omega.{arith}
 use Prim.Native.Nat.{ℕ, ◌+◌, ◌-◌, ◌<◌, ◌≤◌}
 use mathlib.Core.Bool.{true, false, ◌||◌}
 use lib.Dec.{eqb, ltb}
 use borrow.Author.Tests.{ltb-false}
 use Rattle.lists.specs.Lists.{any, pairs}
-use Rattle.lists.proofs.Choice.{else_first, else_rest, else_zero, or_false, hit, miss}
+use Rattle.lists.proofs.Choice.{else_first, else_zero, or_false, hit, miss}
 use Rattle.lists.proofs.All.{any_at}
 use Rattle.rules.specs.Limits.{max_wide, max_row, max_unit, max_hard, addr_bits}
 use Rattle.rules.specs.Numbers.{bits_for}
 use Rattle.rules.specs.Geometry.{Layout, layout_of, chunk_mux_bits, soft, soft_bits, mux_bits, write_mux_bits, read_mux_bits}
 use Rattle.rules.specs.Conditions.{plan_too_large, long_list, bad_writes, bad_reads, bad_port}
 use Rattle.rules.specs.Cell.{Mem, Plan, write_wide_log2, read_wide_log2, read_at_of}
+use Rattle.rules.specs.declared.numbers.Refusal.{Refusal}
+use Rattle.rules.specs.Refusal.{number}
+use Rattle.rules.proofs.Answers.{else_err, else_ok}
 use Rattle.rules.proofs.Walks.{tops_le, softs_le}
 use Rattle.net_check.proofs.Accept.{Valid}
 use Rattle.image_geometry.specs.View.{layout_by}
@@ -37,35 +39,31 @@ module _ (m : Memory) (nets trits ports : List ℕ) (p : Plan) where
   abbrev first : ℕ
   first = planned_number (long_list ports) (given_of m nets trits) p
 
-  pub by_planned : (n : ℕ) → n ≡ first → n ≢ 0 → n ≡ swizzle_mux_bits_refusal (given_of m nets trits) ports p
-  unfolding swizzle_mux_bits_refusal
-  by_planned n e h = e ∙ sym (else_first first _ (λ z. h (e ∙ z)))
+  pub planned_err : (e : Refusal) → number e ≡ planned_number (ltb 8 (length ports)) (given_of m nets trits) p → number e ≡ swizzle_mux_bits_refusal (given_of m nets trits) ports p
+  unfolding swizzle_mux_bits_refusal long_list
+  planned_err e h = else_err e first _ h
 
-  module _ (z : first ≡ 0) where
+  module _ (z : 0 ≡ planned_number (ltb 8 (length ports)) (given_of m nets trits) p) where
     pub by_nine : bad_writes (memory_of m nets trits) p || bad_reads (memory_of m nets trits) ports p ≡ true → 9 ≡ swizzle_mux_bits_refusal (given_of m nets trits) ports p
-    unfolding swizzle_mux_bits_refusal wide_number
-    by_nine e = sym (else_rest first _ z ∙ else_first (wide_number v ports p) _ (λ q. absurd (omega (arith, hit 9 0 e, q))) ∙ sym (hit 9 0 e))
+    unfolding swizzle_mux_bits_refusal wide_number long_list
+    by_nine e = else_ok first _ 9 z (sym (else_first (wide_number v ports p) _ (λ q. absurd (omega (arith, hit 9 0 e, q))) ∙ sym (hit 9 0 e)))
 
     module _ (e : bad_writes (memory_of m nets trits) p || bad_reads (memory_of m nets trits) ports p ≡ false) where
       pub by_port : any (bad_port (memory_of m nets trits)) ports ≡ true → 15 ≡ swizzle_mux_bits_refusal (given_of m nets trits) ports p
-      unfolding swizzle_mux_bits_refusal wide_number
-      by_port f = hit 15 0 f ∙ sym (else_rest first _ z ∙ else_rest (wide_number v ports p) _ (sym (miss 9 0 0 e refl)))
+      unfolding swizzle_mux_bits_refusal wide_number long_list
+      by_port f = else_ok first _ 15 z (else_ok (wide_number v ports p) _ 15 (miss 9 0 0 e refl) (hit 15 0 f))
 
       pub by_none : any (bad_port (memory_of m nets trits)) ports ≡ false → 0 ≡ swizzle_mux_bits_refusal (given_of m nets trits) ports p
-      unfolding swizzle_mux_bits_refusal wide_number
-      by_none f = miss 15 0 0 f refl ∙ sym (else_rest first _ z ∙ else_rest (wide_number v ports p) _ (sym (miss 9 0 0 e refl)))
+      unfolding swizzle_mux_bits_refusal wide_number long_list
+      by_none f = else_ok first _ 0 z (else_ok (wide_number v ports p) _ 0 (miss 9 0 0 e refl) (miss 15 0 0 f refl))
 
-  pub mux_planned : swizzle_mux_bits_refusal (given_of m nets trits) ports p ≡ 0 → first ≡ 0
+  pub mux_planned : 0 ≡ swizzle_mux_bits_refusal (given_of m nets trits) ports p → first ≡ 0
   unfolding swizzle_mux_bits_refusal
-  mux_planned e = (else_zero first _ e).0
+  mux_planned e = (else_zero first _ (sym e)).0
 
 pub few : (ports : List ℕ) → long_list ports ≡ false → length ports ≤ 8
 unfolding long_list
 few ports e = ltb-false 8 (length ports) e
-
-pub long_by : (ports : List ℕ) → ltb 8 (length ports) ≡ long_list ports
-unfolding long_list
-long_by ports = refl
 
 -- ---- where nothing refuses
 module _ (m : Memory) (nets trits ports : List ℕ) (s : MemorySwizzle) (es ws rs : List ℕ) (z : planned_number (long_list ports) (given_of m nets trits) (plan_of s es ws rs) ≡ 0) where

@@ -1,14 +1,16 @@
--- The answer of `swizzle_mux_bits` as a struct, and what the mux bits are counted from.
-use Rattle.std.specs.Prelude.{ℕ, ◌≤◌, ◌<◌, List, length, get_or, replicate}
-use Rattle.rules.specs.Limits.{max_ports}
+-- The answer of `swizzle_mux_bits` in arrays, and what the mux bits are counted from.
+use Rattle.std.specs.Prelude.{ℕ, ◌≤◌, ◌<◌, List, length, get_or}
 use Rattle.rules.specs.Answers.{Answer, Refused, Accepted}
 use Rattle.swizzle_plan.specs.Numbers.{in_eight}
 use Rattle.swizzle_sizes.specs.declared.MuxBits.{MuxBits}
 
--- the struct of an answer: nothing but zeros where it is refused, and past the last port
-abbrev pub mux_bits_by : Answer (List ℕ × List ℕ) → MuxBits
-mux_bits_by (Refused n) = record { refusal = n; writes = replicate max_ports 0; reads = replicate max_ports 0 }
-mux_bits_by (Accepted x) = record { refusal = 0; writes = in_eight x.0; reads = in_eight x.1 }
+-- the two arrays of a struct, and an answer with its lists in arrays of eight
+abbrev pub bits_of : MuxBits → List ℕ × List ℕ
+bits_of b = (b.writes, b.reads)
+
+abbrev pub in_arrays : Answer (List ℕ × List ℕ) → Answer (List ℕ × List ℕ)
+in_arrays (Refused n) = Refused n
+in_arrays (Accepted x) = Accepted (in_eight x.0, in_eight x.1)
 
 -- what the mux bits can be counted from: the bits that all ports have, and the new wide logs
 pub record SmallLogs (base : ℕ) (news : List ℕ) : Type 0 where

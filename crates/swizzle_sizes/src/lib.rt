@@ -10,18 +10,18 @@ ghost use Rattle.net_memory.specs.View.{memory_of};
 ghost use Rattle.swizzle_plan.specs.Calls.{plan_of, params_by};
 ghost use Rattle.swizzle_plan.specs.Numbers.{in_eight, write_logs, read_logs};
 ghost use Rattle.rules.specs.Answers.{swizzle_depths_call, swizzle_mux_bits_call, filled_with};
+ghost use Rattle.rules.specs.Refusal.{number_of, answer_by};
 ghost use Rattle.rules.specs.Refusals.{swizzle_mux_bits_refusal};
 ghost use Rattle.net_memory.specs.Given.{given_of};
-ghost use Rattle.swizzle_sizes.specs.Calls.{mux_bits_by, Countable, SmallLogs};
+ghost use Rattle.swizzle_sizes.specs.Calls.{bits_of, in_arrays, Countable, SmallLogs};
 
 use net_memory::Memory;
+use rules::Refusal;
 use swizzle_plan::MemorySwizzle;
 
-// The number that refuses `swizzle_mux_bits`, or 0, and the mux bits of the write ports and of the listed read ports.
-#[repr(C)]
-#[derive(Clone, Copy)]
+// The mux bits of the write ports and of the listed read ports; 0 past the last.
+#[derive(Clone, Copy, Debug, PartialEq, Eq)]
 pub struct MuxBits {
-    pub refusal: u32,
     pub writes: [u32; rules::MAX_PORTS],
     pub reads: [u32; rules::MAX_PORTS],
 }
@@ -32,18 +32,14 @@ fn read_logs(m: Memory, ports: &[u32]) -> [u32; rules::MAX_PORTS]
     ensures { (nets trits : List ℕ) → result ≡ in_eight (read_logs (memory_of m nets trits) ports.now) }
 {
     let mut logs = [0u32; rules::MAX_PORTS];
-    let mut j = 0;
-    while j < ports.len() {
-        logs[j] = net_memory::wide::wide_log(
-            m.width,
-            net_memory::read_data_len(m, lists::usize_of_u32(ports[j])),
-        );
-        j += 1;
+    for (j, port) in ports.iter().enumerate() {
+        logs[j] = swizzle_plan::logs::read_log(m, *port);
     }
     logs
 }
 
-// The number that refuses `swizzle_mux_bits`, or 0.
+// By what `swizzle_mux_bits` is refused.
+#[tactic(auto, using(crate::proofs::Refused::planned_err))]
 fn mux_refusal(
     m: Memory,
     nets: &[u32],
@@ -53,21 +49,18 @@ fn mux_refusal(
     entries: &[u32],
     writes: &[u32],
     reads: &[u32],
-) -> u32
-    ensures { result ≡ swizzle_mux_bits_refusal (given_of m nets.now trits.now) ports.now (plan_of s entries.now writes.now reads.now) }
+) -> Result<(), Refusal>
+    ensures { number_of result ≡ swizzle_mux_bits_refusal (given_of m nets.now trits.now) ports.now (plan_of s entries.now writes.now reads.now) }
 {
     let long = rules::MAX_PORTS < ports.len();
-    let n = swizzle_plan::planned_number(m, nets, trits, s, entries, writes, reads, long);
-    if n != 0 {
-        return n;
-    }
+    swizzle_plan::planned_refusal(m, nets, trits, s, entries, writes, reads, long)?;
     if swizzle_plan::logs::logs_bad(m, nets, ports, s, writes, reads) {
-        return 9;
+        return Err(Refusal::BadWideLogs);
     }
     if port_outputs::port_missing(m, ports) {
-        return 15;
+        return Err(Refusal::OutOfRange);
     }
-    0
+    Ok(())
 }
 
 // The mux bits of ports with these old and new wide logs, over the bits that all ports have.
@@ -76,11 +69,8 @@ fn bits_of(base: u32, olds: &[u32], news: &[u32]) -> [u32; rules::MAX_PORTS]
     ensures { result ≡ in_eight (map (λ x. base + x.1 - x.0) (pairs olds.now news.now)) }
 {
     let mut bits = [0u32; rules::MAX_PORTS];
-    let end = olds.len().min(news.len());
-    let mut i = 0;
-    while i < end {
+    for i in 0..olds.len().min(news.len()) {
         bits[i] = (base + news[i]).saturating_sub(olds[i]);
-        i += 1;
     }
     bits
 }
@@ -115,6 +105,7 @@ fn shared_bits(m: Memory, s: MemorySwizzle) -> u32
 }
 
 // The mux bits of the write ports and of the listed read ports.
+#[tactic(auto, using(crate::proofs::Answered::bits_err))]
 pub fn swizzle_mux_bits(
     m: Memory,
     nets: &[u32],
@@ -124,28 +115,19 @@ pub fn swizzle_mux_bits(
     entries: &[u32],
     writes: &[u32],
     reads: &[u32],
-) -> MuxBits
-    ensures { result ≡ mux_bits_by (swizzle_mux_bits_call (given_of m nets.now trits.now) ports.now (plan_of s entries.now writes.now reads.now)) }
+) -> Result<MuxBits, Refusal>
+    ensures { answer_by bits_of result ≡ in_arrays (swizzle_mux_bits_call (given_of m nets.now trits.now) ports.now (plan_of s entries.now writes.now reads.now)) }
 {
-    let n = mux_refusal(m, nets, trits, ports, s, entries, writes, reads);
-    if n != 0 {
-        return MuxBits {
-            refusal: n,
-            writes: [0u32; rules::MAX_PORTS],
-            reads: [0u32; rules::MAX_PORTS],
-        };
-    }
+    mux_refusal(m, nets, trits, ports, s, entries, writes, reads)?;
     let base = shared_bits(m, s);
-    let written = write_bits(m, nets, base, writes);
-    let read = read_bits(m, ports, base, reads);
-    MuxBits {
-        refusal: 0,
-        writes: written,
-        reads: read,
-    }
+    Ok(MuxBits {
+        writes: write_bits(m, nets, base, writes),
+        reads: read_bits(m, ports, base, reads),
+    })
 }
 
 // The depths of the memories that a swizzle would give, into lent room.
+#[tactic(auto, using(swizzle_plan::proofs::Planned::depths_err, swizzle_plan::proofs::Planned::depths_ten))]
 pub fn swizzle_depths(
     out: &mut [u32],
     m: Memory,
@@ -155,18 +137,14 @@ pub fn swizzle_depths(
     entries: &[u32],
     writes: &[u32],
     reads: &[u32],
-) -> u32
-    ensures { filled_with result out.new ≡ swizzle_depths_call out.old (given_of m nets.now trits.now) (plan_of s entries.now writes.now reads.now) }
+) -> Result<(), Refusal>
+    ensures { filled_with (number_of result) out.new ≡ swizzle_depths_call out.old (given_of m nets.now trits.now) (plan_of s entries.now writes.now reads.now) }
 {
-    let n = swizzle_plan::planned_number(m, nets, trits, s, entries, writes, reads, false);
-    if n != 0 {
-        return n;
-    }
-    let p = swizzle_plan::params_of(m, s);
-    let layout = image_geometry::Layout { params: p, entries };
-    let k = rules::number_of(layout.check_result());
-    if k != 0 {
-        return k;
-    }
-    rules::number_of(layout.depths(out))
+    swizzle_plan::planned_refusal(m, nets, trits, s, entries, writes, reads, false)?;
+    let layout = image_geometry::Layout {
+        params: swizzle_plan::params_of(m, s),
+        entries,
+    };
+    layout.check_result()?;
+    layout.depths(out)
 }

@@ -3,14 +3,14 @@ ghost use Rattle.std.specs.Prelude.{◌≡◌};
 ghost use Rattle.rules.specs.Answers.{make_data_swizzle_call, swizzle_depths_call, swizzle_mux_bits_call, filled_with};
 ghost use Rattle.net_memory.specs.Given.{given_of};
 ghost use Rattle.swizzle_plan.specs.Calls.{plan_of};
-ghost use Rattle.swizzle_sizes.specs.Calls.{mux_bits_by};
 ghost use Rattle.c_memory.specs.View.{given_memory};
 ghost use Rattle.c_net.specs.View.{count_struct};
+ghost use Rattle.c_plan.specs.View.{mux_bits_struct};
 
 use c_memory::Memory;
 use c_net::Count;
+use c_plan::MuxBits;
 use swizzle_plan::MemorySwizzle;
-use swizzle_sizes::MuxBits;
 
 #[unsafe(no_mangle)]
 pub extern "C" fn tablegoose_make_data_swizzle(
@@ -53,7 +53,7 @@ pub extern "C" fn tablegoose_swizzle_mux_bits(
     writes: &[u32],
     reads: &[u32],
 ) -> MuxBits
-    ensures { result ≡ mux_bits_by (swizzle_mux_bits_call (given_of (given_memory m) nets.now trits.now) ports.now (plan_of s entries.now writes.now reads.now)) }
+    ensures { result ≡ mux_bits_struct (swizzle_mux_bits_call (given_of (given_memory m) nets.now trits.now) ports.now (plan_of s entries.now writes.now reads.now)) }
 {
     c_plan::tablegoose_swizzle_mux_bits(m, nets, trits, ports, s, entries, writes, reads)
 }

@@ -1,16 +1,16 @@
 // make_data_swizzle: a painted room, of which the first words are lent.
 use net_memory::Memory;
-use swizzle_entries::DataSwizzle;
+use rules::Refusal;
 use try_kit::paint::{paint, painted};
 use try_kit::tally::{Tally, add};
 
 const ROOM: usize = 300;
 
 // A number that refuses, or 0 and how many entries there are.
-fn answer_is(r: DataSwizzle, number: u32, count: usize) -> bool {
+fn answer_is(r: Result<usize, Refusal>, number: u32, count: usize) -> bool {
     match r {
-        DataSwizzle::Refused(n) => number != 0 && n == number,
-        DataSwizzle::Accepted(k) => number == 0 && k == count,
+        Ok(k) => number == 0 && k == count,
+        Err(e) => e.number() == number,
     }
 }
 
@@ -22,7 +22,7 @@ fn call(
     sizes: &[u32],
     out: &mut [u32],
     lent: usize,
-) -> DataSwizzle {
+) -> Result<usize, Refusal> {
     let n = lent.min(out.len());
     swizzle_entries::make_data_swizzle(&mut out[0..n], m, nets, trits, sizes)
 }

@@ -1,5 +1,6 @@
 // swizzle_depths and swizzle_mux_bits.
 use net_memory::Memory;
+use rules::Refusal;
 use swizzle_plan::MemorySwizzle;
 use swizzle_sizes::MuxBits;
 use try_kit::paint::{paint, painted};
@@ -62,7 +63,7 @@ fn call(
 ) -> u32 {
     let nets = [5u32; NETS];
     let trits = [1u8; TRITS];
-    swizzle_sizes::swizzle_depths(
+    rules::number_of(swizzle_sizes::swizzle_depths(
         out,
         m,
         lists::part(&nets, 0, net_memory::nets_total(m)),
@@ -71,7 +72,7 @@ fn call(
         entries,
         writes,
         reads,
-    )
+    ))
 }
 
 // The call with so many words of a room.
@@ -121,7 +122,7 @@ fn mux_call(
     entries: &[u32],
     writes: &[u32],
     reads: &[u32],
-) -> MuxBits {
+) -> Result<MuxBits, Refusal> {
     let nets = [5u32; NETS];
     let trits = [1u8; TRITS];
     swizzle_sizes::swizzle_mux_bits(
@@ -149,10 +150,18 @@ pub(crate) fn mux(
     want_writes: [u32; 8],
     want_reads: [u32; 8],
 ) -> Tally {
-    let r = mux_call(m, list, s, entries, writes, reads);
-    let t = add(t, r.refusal == number);
-    let t = add(t, r.writes == want_writes);
-    add(t, r.reads == want_reads)
+    match mux_call(m, list, s, entries, writes, reads) {
+        Ok(bits) => {
+            let t = add(t, number == 0);
+            let t = add(t, bits.writes == want_writes);
+            add(t, bits.reads == want_reads)
+        }
+        Err(e) => {
+            let t = add(t, e.number() == number);
+            let t = add(t, [0; 8] == want_writes);
+            add(t, [0; 8] == want_reads)
+        }
+    }
 }
 
 // A refused call's words are 0.

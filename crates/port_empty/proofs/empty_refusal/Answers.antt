@@ -1,5 +1,4 @@
 -- `port_empty::empty_refusal` meets its contract.
-use mathlib.Core.Path.{◌∙◌}
 use native.Mathlib.Omega.{arith}
 use Rattle.log_entries.specs.View.{state_of}
 use Rattle.log_entries.proofs.Emission.{dry_called}
@@ -19,4 +18,4 @@ returns c =
     let w = memory_of v.m v.nets.now v.trits.now in
     let s = state_of v.st in
     dry_called (emptied_if w v.output.now) v.room s _ (chains_empty w v.output.now) (empty_below w v.output.now (omega (arith, reads_are v.m v.nets.now v.trits.now (reads_length v.m _ c.well_formed.1.1.0 v.nets.now v.trits.now))) s)
-    p.new.log _ (state_of p.result) c.number_of.result c.dry_start.ensures p.ensures (c.number_of.ensures ∙ q.ensures)
+    p.new.log _ (state_of p.result) _ c.dry_start.ensures p.ensures q.ensures

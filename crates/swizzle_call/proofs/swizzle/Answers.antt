@@ -19,7 +19,7 @@ pub returns-then-n-ne0 : goal.returns-then-n-ne0
 returns-then-n-ne0 c =
     let v = c.args in
     let whole = promises (record {
-      number = c.swizzle_refusal-n.ensures;
+      number = c.number_of-n.ensures ∙ c.swizzle_refusal.ensures;
       refused = λ h. record {
         made_is = ap (λ (y : Made). made_of y v.log.now v.nets_to.now v.trits_to.now) c.none_yet-made.ensures;
         image_is = refl;
@@ -34,12 +34,12 @@ returns-then-n-ne0 c =
 pub make-made-requires : goal.make-made-requires
 make-made-requires c =
     let v = c.args in
-    record { image = length v.image.now; zero = (sym c.swizzle_refusal-n.ensures ∙ c.if-n-ne0.false) }
+    record { image = length v.image.now; zero = (sym (c.number_of-n.ensures ∙ c.swizzle_refusal.ensures) ∙ c.if-n-ne0.false) }
 
 pub returns : goal.returns
 returns c =
     let v = c.args in
-    let z = (sym c.swizzle_refusal-n.ensures ∙ c.if-n-ne0.false) in
+    let z = (sym (c.number_of-n.ensures ∙ c.swizzle_refusal.ensures) ∙ c.if-n-ne0.false) in
     let a = c.make-made in
     let l = c.lay-laid in
     let p = c.params_of-p in

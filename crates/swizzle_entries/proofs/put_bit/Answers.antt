@@ -1,6 +1,6 @@
 -- `swizzle_entries::put_bit` meets its contract.
 use mathlib.Core.Path.{refl, sym, ap, ◌∙◌}
-use Prim.Native.Nat.{ℕ, ◌+◌, ◌-◌}
+use Prim.Native.Nat.{ℕ, ◌+◌}
 use mathlib.Core.List.{List, [], ◌∷◌}
 use lib.ListN.{set, replicate, length-replicate}
 use Rattle.rules.specs.Limits.{None}

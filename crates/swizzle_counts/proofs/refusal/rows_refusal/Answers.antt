@@ -5,33 +5,28 @@ use Rattle.net_memory.specs.Given.{given_of}
 use Rattle.net_memory.proofs.Sized.{writes_length, reads_length}
 use Rattle.swizzle_plan.specs.Calls.{plan_of}
 use Rattle.swizzle_counts.specs.Refusal.{rooms_of}
-use Rattle.swizzle_counts.proofs.Refusing.{by_plan, by_flat, by_empty}
+use Rattle.swizzle_counts.proofs.Refusing.{by_flat, by_empty}
 use Rattle.swizzle_counts.proofs.Rowed.{mem_width, mem_depth_lem, rows_ready, rows_refused}
 use Rattle.swizzle_counts.proofs.refusal.rows_refusal.Goals as goal
-
-pub returns-then-n-ne0 : goal.returns-then-n-ne0
-returns-then-n-ne0 c =
-    let v = c.args in
-    by_plan (rooms_of v.r) v.room (state_of v.st) (given_of v.m v.nets.now v.trits.now) v.output.now (plan_of v.s v.entries.now v.writes.now v.reads.now) _ c.plan_number-n.ensures c.if-n-ne0.true
 
 pub returns-then-m-eq0 : goal.returns-then-m-eq0
 returns-then-m-eq0 c =
     let v = c.args in
-    by_flat (rooms_of v.r) v.room (state_of v.st) (given_of v.m v.nets.now v.trits.now) v.output.now (plan_of v.s v.entries.now v.writes.now v.reads.now) (sym c.plan_number-n.ensures ∙ c.if-n-ne0.false) (mem_width v.m v.nets.now v.trits.now ∙ c.if-m-eq0.true) _ (c.number_of.ensures ∙ c.room_refusal.ensures)
+    by_flat (rooms_of v.r) v.room (state_of v.st) (given_of v.m v.nets.now v.trits.now) v.output.now (plan_of v.s v.entries.now v.writes.now v.reads.now) (sym c.in_ok-plan_refusal.ensures) (mem_width v.m v.nets.now v.trits.now ∙ c.if-m-eq0.true) _ c.room_refusal.ensures
 
 pub returns-then-m-eq0-2 : goal.returns-then-m-eq0-2
 returns-then-m-eq0-2 c =
     let v = c.args in
-    by_empty (rooms_of v.r) v.room (state_of v.st) (given_of v.m v.nets.now v.trits.now) v.output.now (plan_of v.s v.entries.now v.writes.now v.reads.now) (sym c.plan_number-n.ensures ∙ c.if-n-ne0.false) (λ f. c.if-m-eq0.false (sym (mem_width v.m v.nets.now v.trits.now) ∙ f)) (mem_depth_lem v.m v.nets.now v.trits.now ∙ c.if-m-eq0-2.true)
+    by_empty (rooms_of v.r) v.room (state_of v.st) (given_of v.m v.nets.now v.trits.now) v.output.now (plan_of v.s v.entries.now v.writes.now v.reads.now) (sym c.in_ok-plan_refusal.ensures) (λ f. c.if-m-eq0.false (sym (mem_width v.m v.nets.now v.trits.now) ∙ f)) (mem_depth_lem v.m v.nets.now v.trits.now ∙ c.if-m-eq0-2.true)
 
 pub rows_by_needs-requires : goal.rows_by_needs-requires
 rows_by_needs-requires c =
     let k = c in
     let v = k.args in
-    rows_ready (rooms_of v.r) v.room (state_of v.st) v.m v.nets.now v.trits.now v.s v.entries.now v.writes.now v.reads.now v.output.now (sym c.plan_number-n.ensures ∙ c.if-n-ne0.false) c.if-m-eq0.false c.if-m-eq0-2.false (writes_length v.m _ k.well_formed.1.1.1.0 v.nets.now) (reads_length v.m _ k.well_formed.1.1.1.0 v.nets.now v.trits.now)
+    rows_ready (rooms_of v.r) v.room (state_of v.st) v.m v.nets.now v.trits.now v.s v.entries.now v.writes.now v.reads.now v.output.now (sym c.in_ok-plan_refusal.ensures) c.if-m-eq0.false c.if-m-eq0-2.false (writes_length v.m _ k.well_formed.1.1.1.0 v.nets.now) (reads_length v.m _ k.well_formed.1.1.1.0 v.nets.now v.trits.now)
 
 pub returns : goal.returns
 returns c =
     let k = c in
     let v = k.args in
-    rows_refused (rooms_of v.r) v.room (state_of v.st) v.m v.nets.now v.trits.now v.s v.entries.now v.writes.now v.reads.now v.output.now (sym c.plan_number-n.ensures ∙ c.if-n-ne0.false) c.if-m-eq0.false c.if-m-eq0-2.false (writes_length v.m _ k.well_formed.1.1.1.0 v.nets.now) (reads_length v.m _ k.well_formed.1.1.1.0 v.nets.now v.trits.now) _ c.rows_by_needs.ensures
+    rows_refused (rooms_of v.r) v.room (state_of v.st) v.m v.nets.now v.trits.now v.s v.entries.now v.writes.now v.reads.now v.output.now (sym c.in_ok-plan_refusal.ensures) c.if-m-eq0.false c.if-m-eq0-2.false (writes_length v.m _ k.well_formed.1.1.1.0 v.nets.now) (reads_length v.m _ k.well_formed.1.1.1.0 v.nets.now v.trits.now) _ c.rows_by_needs.ensures

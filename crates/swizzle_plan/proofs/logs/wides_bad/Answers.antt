@@ -1,29 +1,16 @@
 -- `swizzle_plan::logs::wides_bad` meets its contract.
-use mathlib.Core.Path.{refl, sym, ◌∙◌}
-use Prim.Native.Nat.{ℕ, ◌-◌}
-use native.Mathlib.Omega.{arith}
+use Rattle.std.proofs.Common.{ℕ, ap, ◌∙◌, rules, tests}
+use Rattle.std.proofs.lemmas.Iterator.{YieldsList-from_slice, YieldsList-from_zip}
+use Rattle.std.proofs.lemmas.Iterator.Search.{any_from_yields_List}
+use Rattle.lists.specs.Lists.{any}
 use Rattle.rules.specs.Conditions.{bad_wide}
-use Rattle.swizzle_plan.proofs.Wides.{pair_found, pair_pass, pair_end}
 use Rattle.swizzle_plan.specs.Calls.{plan_of}
+use Rattle.swizzle_plan.proofs.Wides.{zipped}
 use Rattle.swizzle_plan.proofs.logs.wides_bad.Goals as goal
-
-pub loop-i-init : goal.loop-i-init
-loop-i-init c = (omega arith, λ es ws rs. refl)
-
-pub returns-then-wide_bad : goal.returns-then-wide_bad
-returns-then-wide_bad c =
-    let h = c in
-    let v = h.args in
-    λ es ws rs. pair_found v.olds.now v.news.now (λ (x : ℕ × ℕ). bad_wide (plan_of v.s es ws rs) x.0 x.1) h.loop-i.i (omega arith) (omega arith) (sym (c.wide_bad.ensures es ws rs) ∙ c.if-wide_bad.true) (h.loop-i.invariant.1 es ws rs)
-
-pub loop-i-preserved : goal.loop-i-preserved
-loop-i-preserved c =
-    let h = c in
-    let v = h.args in
-    (omega arith, λ es ws rs. pair_pass v.olds.now v.news.now (λ (x : ℕ × ℕ). bad_wide (plan_of v.s es ws rs) x.0 x.1) h.loop-i.i (omega arith) (omega arith) (sym (c.wide_bad.ensures es ws rs) ∙ c.if-wide_bad.false) (h.loop-i.invariant.1 es ws rs))
 
 pub returns : goal.returns
 returns c =
-    let h = c in
-    let v = h.args in
-    λ es ws rs. pair_end v.olds.now v.news.now (λ (x : ℕ × ℕ). bad_wide (plan_of v.s es ws rs) x.0 x.1) h.loop-i.i (omega arith) (h.loop-i.invariant.1 es ws rs)
+    let v = c.args in
+    λ es ws rs.
+    any_from_yields_List (λ (x : ℕ × ℕ). bad_wide (plan_of v.s es ws rs) x.0 x.1) c.any.new.self _ c.any.result c.any.ensures.ran (YieldsList-from_zip (YieldsList-from_slice v.olds.now cc) (YieldsList-from_slice v.news.now cc)) (λ x b q k. search (rules, tests))
+    ∙ ap (any (λ (x : ℕ × ℕ). bad_wide (plan_of v.s es ws rs) x.0 x.1)) (zipped v.olds.now v.news.now)

@@ -1,2 +1,0 @@
--- The answer of `make_data_swizzle` and its room, one by one.
-pub mod Entries
