@@ -61,7 +61,7 @@ fn refusal_by(shape: bool, depth: bool, nets: bool) -> Option<Refusal>
 }
 
 // The shape of a write port with these nets is bad.
-#[tactic(auto, using(crate::proofs::Tests::found, crate::proofs::Tests::passed), unfolding(rules::specs::Conditions::bad_write_shape, rules::specs::Cell::write_wide_log2, rules::specs::Conditions::unequal, rules::specs::Conditions::bad_addr_len))]
+#[tactic(auto, unfolding(rules::specs::Conditions::bad_write_shape, rules::specs::Cell::write_wide_log2, rules::specs::Conditions::unequal, rules::specs::Conditions::bad_addr_len))]
 fn write_shape_bad(width: u32, p: MemoryWritePort, nets: &[u32]) -> bool
     ensures { (m : Mem) → m.width ≡ width → result ≡ bad_write_shape m (write_by p nets.now []) }
 {
@@ -74,7 +74,7 @@ fn write_shape_bad(width: u32, p: MemoryWritePort, nets: &[u32]) -> bool
 }
 
 // A net or the clock of a write port is bad.
-#[tactic(auto, using(crate::proofs::Tests::found, crate::proofs::Tests::passed), unfolding(rules::specs::Conditions::bad_write_nets, rules::specs::Conditions::bad_value, rules::specs::Conditions::bad_control))]
+#[tactic(auto, unfolding(rules::specs::Conditions::bad_write_nets, rules::specs::Conditions::bad_value, rules::specs::Conditions::bad_control))]
 fn write_nets_bad(next: u32, p: MemoryWritePort, nets: &[u32]) -> bool
     ensures { result ≡ bad_write_nets next (write_by p nets.now []) }
 {
@@ -150,7 +150,7 @@ fn flip_flop_shape_bad(writes: usize, p: MemoryReadPort, trits: &[u8]) -> bool
 }
 
 // A control, a trit or a relation of a clocked port's flip-flop is bad.
-#[tactic(auto, using(crate::proofs::Tests::found, crate::proofs::Tests::passed), unfolding(rules::specs::Conditions::bad_flip_flop_nets, rules::specs::Conditions::bad_trits))]
+#[tactic(auto, unfolding(rules::specs::Conditions::bad_flip_flop_nets, rules::specs::Conditions::bad_trits))]
 fn flip_flop_nets_bad(next: u32, f: Controls, p: MemoryReadPort, trits: &[u8]) -> bool
     ensures { result ≡ bad_flip_flop_nets next (clocked_by f p trits.now) }
 {
@@ -162,37 +162,26 @@ fn flip_flop_nets_bad(next: u32, f: Controls, p: MemoryReadPort, trits: &[u8]) -
 }
 
 // The shape of a read port with these nets and trits is bad, `writes` being the number of write ports.
+#[tactic(auto, unfolding(rules::specs::Conditions::bad_read_shape, rules::specs::Conditions::bad_addr_len, rules::specs::Cell::read_wide_log2, rules::specs::Cell::held))]
 fn read_shape_bad(width: u32, writes: usize, p: MemoryReadPort, nets: &[u32], trits: &[u8]) -> bool
     ensures { (m : Mem) → m.width ≡ width → length m.writes ≡ writes → result ≡ bad_read_shape m (read_by p nets.now trits.now) }
 {
     let len = p.data_len as usize;
-    let f = p.flip_flop;
-    if net_memory::wide::data_len_bad(width, len) {
-        return true;
-    }
     let addr = net_memory::read_addr_of(p, nets);
     let k = net_memory::wide::wide_log(width, len);
-    if (rules::ADDR_BITS as usize) < addr.len() + (k as usize) {
-        return true;
-    }
-    match f {
-        None => false,
-        Some(_) => flip_flop_shape_bad(writes, p, trits),
-    }
+    net_memory::wide::data_len_bad(width, len)
+        || (rules::ADDR_BITS as usize) < addr.len() + (k as usize)
+        || p.flip_flop.is_some() && flip_flop_shape_bad(writes, p, trits)
 }
 
 // A net, a control, a trit or a relation of a read port is bad.
+#[tactic(auto, unfolding(rules::specs::Conditions::bad_read_nets, rules::specs::Conditions::bad_value, rules::specs::Cell::held))]
 fn read_nets_bad(next: u32, p: MemoryReadPort, nets: &[u32], trits: &[u8]) -> bool
     ensures { result ≡ bad_read_nets next (read_by p nets.now trits.now) }
 {
-    let f = p.flip_flop;
-    if !net_value::value_good(next, net_memory::read_addr_of(p, nets)) {
-        return true;
-    }
-    match f {
-        None => false,
-        Some(c) => flip_flop_nets_bad(next, c, p, trits),
-    }
+    !net_value::value_good(next, net_memory::read_addr_of(p, nets))
+        || p.flip_flop
+            .is_some_and(|c| flip_flop_nets_bad(next, c, p, trits))
 }
 
 // By what a read port with these nets and trits is refused.
@@ -299,7 +288,7 @@ fn any_long_relations(m: Memory) -> bool
 }
 
 // The arrays are not as long as the struct says.
-#[tactic(auto, using(crate::proofs::Tests::found, crate::proofs::Tests::passed), unfolding(net_memory::specs::Given::bad_lens))]
+#[tactic(auto, unfolding(net_memory::specs::Given::bad_lens))]
 fn lens_bad(m: Memory, nets: usize, trits: usize) -> bool
     ensures { result ≡ bad_lens m nets trits }
 {
