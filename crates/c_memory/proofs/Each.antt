@@ -1,26 +1,19 @@
--- An array that a loop fills place by place with the images of another array's elements.
-use mathlib.Core.Path.{◌≡◌, refl, sym, ap, ◌∙◌}
-use Prim.Native.Nat.{ℕ, ◌+◌, ◌<◌, ◌≤◌}
-use native.Mathlib.Numerals.{add-one}
-use mathlib.Core.List.{List, [], ◌∷◌, ◌++◌, map, map-append}
-use lib.ListN.{length, take, get_or, set}
-use lib.Seq.{take-suc, take-suc-set, take_all}
+-- A list of the images of another list's elements.
+use mathlib.Core.Path.{◌≡◌, refl, ap, ◌∙◌}
+use Prim.Native.Nat.{ℕ, zero, suc, ◌<◌}
+use native.Mathlib.Omega.{arith}
+use mathlib.Core.List.{List, [], ◌∷◌, map}
+use lib.ListN.{length, get_or}
 
 module _ {A B : Type 0} (f : A → B) where
-  -- one more place
-  pub turn : (ports : List A) (out : List B) (i : ℕ) (d : A) (v : B) → i < length ports → i < length out → v ≡ f (get_or ports i d)
-      → take i out ≡ map f (take i ports) → take (i + 1) (set out i v) ≡ map f (take (i + 1) ports)
-  turn ports out i d v hp ho e t =
-      rw add-one
-      (take-suc-set out i v ho
-      ∙ ap (λ (l : List B). l ++ (v ∷ [])) t
-      ∙ ap (λ (x : B). map f (take i ports) ++ (x ∷ [])) e
-      ∙ sym (map-append f (take i ports) (get_or ports i d ∷ []))
-      ∙ sym (ap (map f) (take-suc ports i d hp)))
-
-  -- all places
-  pub whole : (ports : List A) (out : List B) (i : ℕ) → length ports ≤ i → length out ≤ i → take i out ≡ map f (take i ports) → out ≡ map f ports
-  whole ports out i hp ho t = sym (take_all i out ho) ∙ t ∙ ap (map f) (take_all i ports hp)
+  -- an image that is known place by place
+  pub by_place : (xs : List A) (ys : List B) (n : ℕ) → length xs ≡ n → length ys ≡ n → ((i : ℕ) (d : A) (e : B) → i < n → get_or ys i e ≡ f (get_or xs i d)) → ys ≡ map f xs
+  by_place [] [] n hx hy h = refl
+  by_place [] (y ∷ ys) n hx hy h = absurd (omega arith)
+  by_place (x ∷ xs) [] n hx hy h = absurd (omega arith)
+  by_place (x ∷ xs) (y ∷ ys) zero hx hy h = absurd (omega arith)
+  by_place (x ∷ xs) (y ∷ ys) (suc n) hx hy h =
+      λ i. h 0 x y (omega arith) i ∷ by_place xs ys n (omega arith) (omega arith) (λ k d e l. h (suc k) d e (omega arith)) i
 
 -- a function after another that it undoes
 pub undone : {A B : Type 0} (f : A → B) (g : B → A) → ((b : B) → f (g b) ≡ b) → (l : List B) → map f (map g l) ≡ l

@@ -85,36 +85,34 @@ pub struct Extracted {
 }
 
 // The library's memory. A flag of a port above 1 gives a control that is none: calls refuse it by 4.
+#[tactic(auto, unfolding(crate::specs::View::given_memory))]
 pub fn memory_of(m: Memory) -> net_memory::Memory
     ensures { result ≡ given_memory m }
 {
-    let write_ports = m.write_ports;
-    let read_ports = m.read_ports;
     net_memory::Memory {
         depth: m.depth,
         width: m.width,
         init_len: m.init_len,
         write_count: m.write_count,
         read_count: m.read_count,
-        write_ports: ports::writes_of(write_ports),
-        read_ports: ports::reads_of(read_ports),
+        write_ports: ports::writes_of(m.write_ports),
+        read_ports: ports::reads_of(m.read_ports),
     }
 }
 
 // The struct of a library's memory, which read again is that memory.
+#[tactic(auto, using(crate::proofs::Back::memory_back), unfolding(crate::specs::View::memory_struct))]
 pub fn memory_struct(m: net_memory::Memory) -> Memory
     ensures { (result ≡ memory_struct m) × (given_memory result ≡ m) }
 {
-    let write_ports = m.write_ports;
-    let read_ports = m.read_ports;
     Memory {
         depth: m.depth,
         width: m.width,
         init_len: m.init_len,
         write_count: m.write_count,
         read_count: m.read_count,
-        write_ports: ports::write_structs(write_ports),
-        read_ports: ports::read_structs(read_ports),
+        write_ports: ports::write_structs(m.write_ports),
+        read_ports: ports::read_structs(m.read_ports),
     }
 }
 

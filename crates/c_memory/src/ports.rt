@@ -1,6 +1,6 @@
 // A caller's ports as the library's, and back.
 ghost use Rattle.std.specs.Prelude.{◌≡◌, map};
-ghost use Rattle.c_memory.specs.View.{given_net, given_write, given_clock, given_reset, given_controls, given_flip_flop, fields_of, given_read, net_struct, write_struct, clocked_struct, no_flip_flop, flip_flop_struct, read_with, read_struct, zero_control, zero_write, zero_read};
+ghost use Rattle.c_memory.specs.View.{given_net, given_write, given_clock, given_reset, given_controls, given_flip_flop, fields_of, given_read, net_struct, write_struct, no_flip_flop, flip_flop_struct, read_with, read_struct, zero_control, zero_write, zero_read};
 
 use crate::{FlipFlop, ReadPort, WritePort};
 use c_net::Control;
@@ -19,51 +19,49 @@ pub fn net_of(c: Control) -> ControlNet
 fn write_of(p: WritePort) -> MemoryWritePort
     ensures { result ≡ given_write p }
 {
-    let clock = p.clock;
     MemoryWritePort {
         addr_len: p.addr_len,
         data_len: p.data_len,
         mask_len: p.mask_len,
-        clock: net_of(clock),
+        clock: net_of(p.clock),
     }
 }
 
 // The clock of a clocked port. A flag above 1 gives Neg(0), which is no control: calls refuse it by 4.
+#[tactic(auto, unfolding(crate::specs::View::given_clock))]
 fn clock_of(p: FlipFlop) -> ControlNet
     ensures { result ≡ given_clock p }
 {
     if p.clocked == 1 {
-        let clock = p.clock;
-        return net_of(clock);
+        return net_of(p.clock);
     }
     ControlNet::Neg(Net(0))
 }
 
 // Its reset: Neg(0) too where the flag `reset_over_enable` is above 1.
+#[tactic(auto, unfolding(crate::specs::View::given_reset))]
 fn reset_of(p: FlipFlop) -> ControlNet
     ensures { result ≡ given_reset p }
 {
     if 1 < p.reset_over_enable {
         return ControlNet::Neg(Net(0));
     }
-    let reset = p.reset;
-    net_of(reset)
+    net_of(p.reset)
 }
 
 fn controls_of(p: FlipFlop) -> Controls
     ensures { result ≡ given_controls p }
 {
-    let clear = p.clear;
-    let enable = p.enable;
     Controls {
         clock: clock_of(p),
-        clear: net_of(clear),
+        clear: net_of(p.clear),
         reset: reset_of(p),
-        enable: net_of(enable),
+        enable: net_of(p.enable),
         reset_over_enable: p.reset_over_enable == 1,
     }
 }
 
+#[tactic(auto, unfolding(crate::specs::View::given_flip_flop))]
 pub fn flip_flop_of(p: FlipFlop) -> Option<Controls>
     ensures { result ≡ given_flip_flop p }
 {
@@ -76,16 +74,12 @@ pub fn flip_flop_of(p: FlipFlop) -> Option<Controls>
 fn fields_of(r: ReadPort) -> FlipFlop
     ensures { result ≡ fields_of r }
 {
-    let clock = r.clock;
-    let clear = r.clear;
-    let reset = r.reset;
-    let enable = r.enable;
     FlipFlop {
         clocked: r.clocked,
-        clock: clock,
-        clear: clear,
-        reset: reset,
-        enable: enable,
+        clock: r.clock,
+        clear: r.clear,
+        reset: r.reset,
+        enable: r.enable,
         reset_over_enable: r.reset_over_enable,
     }
 }
@@ -101,7 +95,7 @@ fn read_of(p: ReadPort) -> MemoryReadPort
         reset_len: p.reset_len,
         init_len: p.init_len,
         relations_len: p.relations_len,
-        relations: relations,
+        relations,
         flip_flop: flip_flop_of(fields_of(p)),
     }
 }
@@ -110,29 +104,13 @@ fn read_of(p: ReadPort) -> MemoryReadPort
 pub(crate) fn writes_of(ports: [WritePort; rules::MAX_PORTS]) -> [MemoryWritePort; rules::MAX_PORTS]
     ensures { result ≡ map given_write ports }
 {
-    let mut out = [write_of(zero_write()); rules::MAX_PORTS];
-    let mut i = 0;
-    while i < rules::MAX_PORTS {
-        let p = ports[i];
-        let q = write_of(p);
-        out[i] = q;
-        i += 1;
-    }
-    out
+    ports.map(write_of)
 }
 
 pub(crate) fn reads_of(ports: [ReadPort; rules::MAX_PORTS]) -> [MemoryReadPort; rules::MAX_PORTS]
     ensures { result ≡ map given_read ports }
 {
-    let mut out = [read_of(zero_read()); rules::MAX_PORTS];
-    let mut i = 0;
-    while i < rules::MAX_PORTS {
-        let p = ports[i];
-        let q = read_of(p);
-        out[i] = q;
-        i += 1;
-    }
-    out
+    ports.map(read_of)
 }
 
 // ---- to a caller's struct
@@ -140,12 +118,11 @@ pub(crate) fn reads_of(ports: [ReadPort; rules::MAX_PORTS]) -> [MemoryReadPort; 
 fn write_struct(p: MemoryWritePort) -> WritePort
     ensures { result ≡ write_struct p }
 {
-    let clock = p.clock;
     WritePort {
         addr_len: p.addr_len,
         data_len: p.data_len,
         mask_len: p.mask_len,
-        clock: c_net::control_struct(clock),
+        clock: c_net::control_struct(p.clock),
     }
 }
 
@@ -161,31 +138,13 @@ pub fn zero_control() -> Control
 fn no_flip_flop() -> FlipFlop
     ensures { result ≡ no_flip_flop }
 {
-    let none = zero_control();
     FlipFlop {
         clocked: 0,
-        clock: none,
-        clear: none,
-        reset: none,
-        enable: none,
+        clock: zero_control(),
+        clear: zero_control(),
+        reset: zero_control(),
+        enable: zero_control(),
         reset_over_enable: 0,
-    }
-}
-
-fn clocked_struct(c: Controls) -> FlipFlop
-    ensures { result ≡ clocked_struct c }
-{
-    let clock = c.clock;
-    let clear = c.clear;
-    let reset = c.reset;
-    let enable = c.enable;
-    FlipFlop {
-        clocked: 1,
-        clock: c_net::control_struct(clock),
-        clear: c_net::control_struct(clear),
-        reset: c_net::control_struct(reset),
-        enable: c_net::control_struct(enable),
-        reset_over_enable: c.reset_over_enable as u32,
     }
 }
 
@@ -194,7 +153,14 @@ pub fn flip_flop_struct(f: Option<Controls>) -> FlipFlop
 {
     match f {
         None => no_flip_flop(),
-        Some(c) => clocked_struct(c),
+        Some(c) => FlipFlop {
+            clocked: 1,
+            clock: c_net::control_struct(c.clock),
+            clear: c_net::control_struct(c.clear),
+            reset: c_net::control_struct(c.reset),
+            enable: c_net::control_struct(c.enable),
+            reset_over_enable: u32::from(c.reset_over_enable),
+        },
     }
 }
 
@@ -203,10 +169,6 @@ fn read_with(p: MemoryReadPort, f: FlipFlop) -> ReadPort
     ensures { result ≡ read_with p f }
 {
     let relations = p.relations;
-    let clock = f.clock;
-    let clear = f.clear;
-    let reset = f.reset;
-    let enable = f.enable;
     ReadPort {
         addr_len: p.addr_len,
         data_len: p.data_len,
@@ -214,12 +176,12 @@ fn read_with(p: MemoryReadPort, f: FlipFlop) -> ReadPort
         reset_len: p.reset_len,
         init_len: p.init_len,
         relations_len: p.relations_len,
-        relations: relations,
+        relations,
         clocked: f.clocked,
-        clock: clock,
-        clear: clear,
-        reset: reset,
-        enable: enable,
+        clock: f.clock,
+        clear: f.clear,
+        reset: f.reset,
+        enable: f.enable,
         reset_over_enable: f.reset_over_enable,
     }
 }
@@ -227,8 +189,7 @@ fn read_with(p: MemoryReadPort, f: FlipFlop) -> ReadPort
 fn read_struct(p: MemoryReadPort) -> ReadPort
     ensures { result ≡ read_struct p }
 {
-    let f = p.flip_flop;
-    read_with(p, flip_flop_struct(f))
+    read_with(p, flip_flop_struct(p.flip_flop))
 }
 
 pub(crate) fn write_structs(
@@ -236,15 +197,7 @@ pub(crate) fn write_structs(
 ) -> [WritePort; rules::MAX_PORTS]
     ensures { result ≡ map write_struct ports }
 {
-    let mut out = [zero_write(); rules::MAX_PORTS];
-    let mut i = 0;
-    while i < rules::MAX_PORTS {
-        let p = ports[i];
-        let q = write_struct(p);
-        out[i] = q;
-        i += 1;
-    }
-    out
+    ports.map(write_struct)
 }
 
 pub(crate) fn read_structs(
@@ -252,15 +205,7 @@ pub(crate) fn read_structs(
 ) -> [ReadPort; rules::MAX_PORTS]
     ensures { result ≡ map read_struct ports }
 {
-    let mut out = [zero_read(); rules::MAX_PORTS];
-    let mut i = 0;
-    while i < rules::MAX_PORTS {
-        let p = ports[i];
-        let q = read_struct(p);
-        out[i] = q;
-        i += 1;
-    }
-    out
+    ports.map(read_struct)
 }
 
 // ---- all 0

@@ -3,7 +3,6 @@
 
 ghost use Rattle.std.specs.Prelude.{◌≡◌, length};
 ghost use Rattle.rules.specs.Record.{record_bytes};
-ghost use Rattle.rules.specs.Refusal.{answer_by};
 ghost use Rattle.rules.specs.Refusals.{write_record_refusal};
 ghost use Rattle.rules.specs.Answers.{answer_of, write_record_call, read_record_call, header_call, summary_call, list_record_call};
 ghost use Rattle.rules.specs.Beside.Stored.{list_input_call};
@@ -69,23 +68,11 @@ fn summary_result(answer: Result<Summary, Refusal>) -> SummaryResult
     }
 }
 
-fn count_result(answer: Result<usize, Refusal>) -> Count
-    ensures { result ≡ count_struct (answer_by (λ n. n) answer) }
-{
-    match answer {
-        Ok(count) => Count { number: 0, count },
-        Err(refusal) => Count {
-            number: refusal.number(),
-            count: 0,
-        },
-    }
-}
-
 // Writes the record of an image; how many bytes it has.
 pub fn tablegoose_write_record(out: &mut [u8], sizes: Sizes, image: &[u8]) -> Count
     ensures { (result ≡ count_struct (answer_of (write_record_refusal (length out.old) (view_sizes sizes) image.now) (record_bytes (view_sizes sizes)))) × (out.new ≡ (write_record_call out.old (view_sizes sizes) image.now).out) }
 {
-    count_result(record_codec::write_record(out, sizes, image))
+    c_net::count_result(record_codec::write_record(out, sizes, image))
 }
 
 // Reads a record: its sizes, and its image into lent room.
@@ -113,12 +100,12 @@ pub fn tablegoose_memory_summary(sizes: Sizes, image: &[u8], index: usize) -> Su
 pub fn tablegoose_list_record(out: &mut [u8], bytes: &[u8]) -> Count
     ensures { (result ≡ count_struct (list_record_call out.old bytes.now).answer) × (out.new ≡ (list_record_call out.old bytes.now).out) }
 {
-    count_result(record_listing::list_record(out, bytes))
+    c_net::count_result(record_listing::list_record(out, bytes))
 }
 
 // The same for an input of `total` bytes, of which the first are given.
 pub fn tablegoose_list_input(out: &mut [u8], first: &[u8], total: usize) -> Count
     ensures { (result ≡ count_struct (list_input_call out.old first.now total).answer) × (out.new ≡ (list_input_call out.old first.now total).out) }
 {
-    count_result(record_listing::list_input(out, first, total))
+    c_net::count_result(record_listing::list_input(out, first, total))
 }

@@ -1,11 +1,10 @@
 -- The library's struct of the memories that a caller's struct is, and the caller's struct of a library's.
-use Rattle.std.specs.Prelude.{map, replicate}
-use Rattle.rules.specs.Limits.{max_ports}
+use Rattle.std.specs.Prelude.{map}
 use Rattle.swizzle_result.specs.declared.WideWritePort.{WideWritePort as MachineWrite}
 use Rattle.swizzle_result.specs.declared.WideReadPort.{WideReadPort as MachineRead}
 use Rattle.swizzle_result.specs.declared.WideMemory.{WideMemory as MachineWide}
 use Rattle.c_memory.specs.declared.FlipFlop.{FlipFlop}
-use Rattle.c_memory.specs.View.{given_net, given_flip_flop, net_struct, flip_flop_struct, zero_control}
+use Rattle.c_memory.specs.View.{given_net, given_flip_flop, net_struct, flip_flop_struct}
 use Rattle.c_swizzle.specs.declared.WideWritePort.{WideWritePort}
 use Rattle.c_swizzle.specs.declared.WideReadPort.{WideReadPort}
 use Rattle.c_swizzle.specs.declared.WideMemory.{WideMemory}
@@ -75,23 +74,4 @@ wide_struct g = record {
   read_count = g.read_count;
   write_ports = map write_struct g.write_ports;
   read_ports = map read_struct g.read_ports;
-}
-
--- ---- all 0
-abbrev pub zero_write : WideWritePort
-zero_write = record { addr_len = 0; wide = 0; clock = zero_control }
-
-abbrev pub zero_read : WideReadPort
-zero_read = record {
-  addr_len = 0;
-  wide = 0;
-  first = 0;
-  relations_len = 0;
-  relations = replicate max_ports 0;
-  clocked = 0;
-  clock = zero_control;
-  clear = zero_control;
-  reset = zero_control;
-  enable = zero_control;
-  reset_over_enable = 0;
 }

@@ -1,19 +1,15 @@
--- Laws of tests in a row, and of the tests of a port.
+-- Laws of tests in a row, and of the relations of a port.
 use mathlib.Core.Path.{◌≡◌, refl, sym, ap, ◌∙◌}
-use Prim.Native.Nat.{ℕ, ◌<◌, ◌≤◌, min}
+use Prim.Native.Nat.{ℕ, min}
 use native.Mathlib.Omega.{arith}
 use mathlib.Core.Bool.{Bool, true, false, not, ◌&&◌, ◌||◌}
-use mathlib.Core.Option.{none, some}
 use mathlib.Core.List.{List, [], ◌∷◌}
 use lib.ListN.{length, length-take}
 use lib.Dec.{ltb, leb}
 use borrow.Author.Tests.{le-leb, lt-leb, lt-ltb, le-ltb}
-use Rattle.lists.specs.Choice.{least}
 use Rattle.lists.specs.Lists.{any, all, part}
 use Rattle.lists.proofs.Choice.{cases_le}
-use Rattle.lists.proofs.All.{least_both}
 use Rattle.rules.specs.Logic.{are_trits}
-use Rattle.rules.specs.Cell.{ReadFlipFlop, held}
 use Rattle.rules.specs.Conditions.{bad_relation}
 
 -- the test that holds, and one that does not
@@ -35,30 +31,6 @@ pub relations_trits : (l : List ℕ) → any bad_relation l ≡ not (are_trits l
 unfolding are_trits bad_relation
 relations_trits [] = refl
 relations_trits (a ∷ l) = (λ i. high a 2 i || relations_trits l i) ∙ not_and (leb a 2) (all (λ (t : ℕ). leb t 2) l)
-
--- the flip-flop that is there
-pub any_held : (f : ReadFlipFlop → Bool) (x : ReadFlipFlop) → f x ≡ any f (held (some x))
-unfolding held
-any_held f x = or_none (f x)
-  where
-    or_none : (a : Bool) → a ≡ a || false
-    or_none true = refl
-    or_none false = refl
-
-pub any-held_none : (f : ReadFlipFlop → Bool) → false ≡ any f (held none)
-unfolding held
-any-held_none f = refl
-
--- ---- the lower of two numbers
-pub lower_first : (a b : ℕ) → (a ≡ 0 → ⊥) → (b ≡ 0 → ⊥) → a < b → a ≡ least a b
-lower_first a b x y h =
-    let e : min a b ≡ a = omega arith in
-    sym (least_both a b x y ∙ e)
-
-pub lower_second : (a b : ℕ) → (a ≡ 0 → ⊥) → (b ≡ 0 → ⊥) → b ≤ a → b ≡ least a b
-lower_second a b x y h =
-    let e : min a b ≡ b = omega arith in
-    sym (least_both a b x y ∙ e)
 
 -- as many as are named, of eight
 pub few : (l : List ℕ) (n : ℕ) → length l ≡ 8 → length (part 0 n l) ≡ min 8 n

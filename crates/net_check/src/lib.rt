@@ -61,40 +61,31 @@ fn refusal_by(shape: bool, depth: bool, nets: bool) -> Option<Refusal>
 }
 
 // The shape of a write port with these nets is bad.
+#[tactic(auto, unfolding(rules::specs::Conditions::bad_write_shape, rules::specs::Cell::write_wide_log2, rules::specs::Conditions::unequal, rules::specs::Conditions::bad_addr_len))]
 fn write_shape_bad(width: u32, p: MemoryWritePort, nets: &[u32]) -> bool
     ensures { (m : Mem) → m.width ≡ width → result ≡ bad_write_shape m (write_by p nets.now []) }
 {
     let bits = net_memory::data_of(p, nets);
-    if net_memory::wide::data_len_bad(width, bits.len()) {
-        return true;
-    }
-    let mask = net_memory::mask_of(p, nets);
-    if mask.len() != bits.len() {
-        return true;
-    }
     let addr = net_memory::addr_of(p, nets);
     let k = net_memory::wide::wide_log(width, bits.len());
-    (rules::ADDR_BITS as usize) < addr.len() + (k as usize)
+    net_memory::wide::data_len_bad(width, bits.len())
+        || net_memory::mask_of(p, nets).len() != bits.len()
+        || (rules::ADDR_BITS as usize) < addr.len() + (k as usize)
 }
 
 // A net or the clock of a write port is bad.
+#[tactic(auto, unfolding(rules::specs::Conditions::bad_write_nets, rules::specs::Conditions::bad_value, rules::specs::Conditions::bad_control))]
 fn write_nets_bad(next: u32, p: MemoryWritePort, nets: &[u32]) -> bool
     ensures { result ≡ bad_write_nets next (write_by p nets.now []) }
 {
-    let clock = p.clock;
-    if !net_value::value_good(next, net_memory::addr_of(p, nets)) {
-        return true;
-    }
-    if !net_value::value_good(next, net_memory::data_of(p, nets)) {
-        return true;
-    }
-    if !net_value::value_good(next, net_memory::mask_of(p, nets)) {
-        return true;
-    }
-    !net_value::control_good(next, clock)
+    !net_value::value_good(next, net_memory::addr_of(p, nets))
+        || !net_value::value_good(next, net_memory::data_of(p, nets))
+        || !net_value::value_good(next, net_memory::mask_of(p, nets))
+        || !net_value::control_good(next, p.clock)
 }
 
 // By what a write port with these nets is refused.
+#[tactic(auto, unfolding(crate::specs::Number::write_number, rules::specs::Cell::write_wide_log2))]
 fn write_refusal(
     depth: u32,
     width: u32,
@@ -129,6 +120,7 @@ fn writes_refusal(m: Memory, nets: &[u32], next: u32) -> Option<Refusal>
 }
 
 // How many relations a port has: as many as it says, up to the eight that there is place for.
+#[tactic(auto, using(crate::proofs::Tests::few, net_memory::proofs::Sized::relations_8))]
 fn relations_len(p: MemoryReadPort) -> usize
     ensures { result ≡ length (part 0 p.relations_len p.relations) }
 {
@@ -136,6 +128,7 @@ fn relations_len(p: MemoryReadPort) -> usize
 }
 
 // A relation is bad.
+#[tactic(auto, using(crate::proofs::Tests::relations_trits))]
 fn relations_bad(p: MemoryReadPort) -> bool
     ensures { result ≡ any bad_relation (part 0 p.relations_len p.relations) }
 {
@@ -150,72 +143,49 @@ fn flip_flop_shape_bad(writes: usize, p: MemoryReadPort, trits: &[u8]) -> bool
     ensures { (m : Mem) (f : Controls) → length m.writes ≡ writes → result ≡ bad_flip_flop_shape m p.data_len (clocked_by f p trits.now) }
 {
     let len = p.data_len as usize;
-    if net_memory::clear_of(p, trits).len() != len {
-        return true;
-    }
-    if net_memory::reset_of(p, trits).len() != len {
-        return true;
-    }
-    if net_memory::init_of(p, trits).len() != len {
-        return true;
-    }
-    relations_len(p) != writes
+    net_memory::clear_of(p, trits).len() != len
+        || net_memory::reset_of(p, trits).len() != len
+        || net_memory::init_of(p, trits).len() != len
+        || relations_len(p) != writes
 }
 
 // A control, a trit or a relation of a clocked port's flip-flop is bad.
+#[tactic(auto, unfolding(rules::specs::Conditions::bad_flip_flop_nets, rules::specs::Conditions::bad_trits))]
 fn flip_flop_nets_bad(next: u32, f: Controls, p: MemoryReadPort, trits: &[u8]) -> bool
     ensures { result ≡ bad_flip_flop_nets next (clocked_by f p trits.now) }
 {
-    if f.is_bad(next) {
-        return true;
-    }
-    if !net_logic::trits_good(net_memory::clear_of(p, trits)) {
-        return true;
-    }
-    if !net_logic::trits_good(net_memory::reset_of(p, trits)) {
-        return true;
-    }
-    if !net_logic::trits_good(net_memory::init_of(p, trits)) {
-        return true;
-    }
-    relations_bad(p)
+    f.is_bad(next)
+        || !net_logic::trits_good(net_memory::clear_of(p, trits))
+        || !net_logic::trits_good(net_memory::reset_of(p, trits))
+        || !net_logic::trits_good(net_memory::init_of(p, trits))
+        || relations_bad(p)
 }
 
 // The shape of a read port with these nets and trits is bad, `writes` being the number of write ports.
+#[tactic(auto, unfolding(rules::specs::Conditions::bad_read_shape, rules::specs::Conditions::bad_addr_len, rules::specs::Cell::read_wide_log2, rules::specs::Cell::held))]
 fn read_shape_bad(width: u32, writes: usize, p: MemoryReadPort, nets: &[u32], trits: &[u8]) -> bool
     ensures { (m : Mem) → m.width ≡ width → length m.writes ≡ writes → result ≡ bad_read_shape m (read_by p nets.now trits.now) }
 {
     let len = p.data_len as usize;
-    let f = p.flip_flop;
-    if net_memory::wide::data_len_bad(width, len) {
-        return true;
-    }
     let addr = net_memory::read_addr_of(p, nets);
     let k = net_memory::wide::wide_log(width, len);
-    if (rules::ADDR_BITS as usize) < addr.len() + (k as usize) {
-        return true;
-    }
-    match f {
-        None => false,
-        Some(_) => flip_flop_shape_bad(writes, p, trits),
-    }
+    net_memory::wide::data_len_bad(width, len)
+        || (rules::ADDR_BITS as usize) < addr.len() + (k as usize)
+        || p.flip_flop.is_some() && flip_flop_shape_bad(writes, p, trits)
 }
 
 // A net, a control, a trit or a relation of a read port is bad.
+#[tactic(auto, unfolding(rules::specs::Conditions::bad_read_nets, rules::specs::Conditions::bad_value, rules::specs::Cell::held))]
 fn read_nets_bad(next: u32, p: MemoryReadPort, nets: &[u32], trits: &[u8]) -> bool
     ensures { result ≡ bad_read_nets next (read_by p nets.now trits.now) }
 {
-    let f = p.flip_flop;
-    if !net_value::value_good(next, net_memory::read_addr_of(p, nets)) {
-        return true;
-    }
-    match f {
-        None => false,
-        Some(c) => flip_flop_nets_bad(next, c, p, trits),
-    }
+    !net_value::value_good(next, net_memory::read_addr_of(p, nets))
+        || p.flip_flop
+            .is_some_and(|c| flip_flop_nets_bad(next, c, p, trits))
 }
 
 // By what a read port with these nets and trits is refused.
+#[tactic(auto, unfolding(crate::specs::Number::read_number, rules::specs::Cell::read_wide_log2))]
 fn read_refusal(
     depth: u32,
     width: u32,
@@ -271,6 +241,7 @@ fn reads_refusal(m: Memory, nets: &[u32], trits: &[u8], next: u32) -> Option<Ref
 }
 
 // By what the initial trits are refused.
+#[tactic(auto, unfolding(rules::specs::Conditions::bad_trits))]
 fn init_refusal(m: Memory, trits: &[u8]) -> Option<Refusal>
     ensures { number_if result ≡ number_by_of (not (eqb (length (part 0 m.init_len trits.now)) (m.depth * m.width))) false (bad_trits (part 0 m.init_len trits.now)) }
 {
@@ -279,7 +250,7 @@ fn init_refusal(m: Memory, trits: &[u8]) -> Option<Refusal>
     refusal_by(rows, false, !net_logic::trits_good(init))
 }
 
-// A size is too large, or there are too many ports.
+// A size is too large, or there are too many ports. (Test by test: of one chain the proof did not close.)
 #[tactic(auto, unfolding(rules::specs::Conditions::too_large, net_memory::specs::View::memory_of, net_memory::specs::Given::too_many_ports))]
 fn too_large(m: Memory) -> bool
     ensures { (nets trits : List ℕ) → result ≡ (too_large (memory_of m nets trits) || too_many_ports m) }
@@ -300,14 +271,11 @@ fn too_large(m: Memory) -> bool
 }
 
 // A clocked port says more relations than there is place for.
+#[tactic(auto, unfolding(net_memory::specs::Given::long_relations))]
 fn long_relations(p: MemoryReadPort) -> bool
     ensures { result ≡ long_relations p }
 {
-    let f = p.flip_flop;
-    match f {
-        None => false,
-        Some(_) => rules::MAX_PORTS < p.relations_len as usize,
-    }
+    p.flip_flop.is_some() && rules::MAX_PORTS < p.relations_len as usize
 }
 
 fn any_long_relations(m: Memory) -> bool
@@ -320,16 +288,13 @@ fn any_long_relations(m: Memory) -> bool
 }
 
 // The arrays are not as long as the struct says.
+#[tactic(auto, unfolding(net_memory::specs::Given::bad_lens))]
 fn lens_bad(m: Memory, nets: usize, trits: usize) -> bool
     ensures { result ≡ bad_lens m nets trits }
 {
-    if nets != net_memory::nets_total(m) {
-        return true;
-    }
-    if trits != net_memory::trits_total(m) {
-        return true;
-    }
-    any_long_relations(m)
+    nets != net_memory::nets_total(m)
+        || trits != net_memory::trits_total(m)
+        || any_long_relations(m)
 }
 
 // By which of 2 to 4 what a memory holds is refused, the lowest of all.
@@ -342,6 +307,7 @@ fn parts_refusal(m: Memory, nets: &[u32], trits: &[u8], next: u32) -> Option<Ref
 }
 
 // 1 to 4 of a call over a memory. `one`, `two` and `four` say what else of the call breaks these numbers.
+#[tactic(auto, using(crate::proofs::Sizes::by_one, crate::proofs::Sizes::by_large, crate::proofs::Sizes::by_two, crate::proofs::Sizes::by_lens, crate::proofs::Sizes::by_four, crate::proofs::Sizes::by_parts))]
 pub fn call_refusal(
     m: Memory,
     nets: &[u32],
@@ -373,6 +339,7 @@ pub fn call_refusal(
 }
 
 // 1 to 4 of a memory by itself, without the log state.
+#[tactic(auto, unfolding(rules::specs::Refusals::mem_refusal))]
 pub fn memory_refusal(m: Memory, nets: &[u32], trits: &[u8]) -> Result<(), Refusal>
     ensures { number_of result ≡ mem_refusal (given_of m nets.now trits.now) }
 {

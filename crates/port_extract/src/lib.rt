@@ -17,6 +17,7 @@ use net_memory::{Memory, MemoryReadPort};
 use rules::Refusal;
 
 // Port i's part of the outputs.
+#[tactic(auto, unfolding(rules::specs::Cell::output_slice))]
 fn output_part(m: Memory, output: &[u32], i: usize) -> &[u32]
     ensures by_index { (nets trits : List ℕ) → result.now ≡ output_slice (memory_of m nets trits) i output.now }
     ensures result_len_bound { length result.now < 0x100000000 }
@@ -29,6 +30,7 @@ fn output_part(m: Memory, output: &[u32], i: usize) -> &[u32]
 }
 
 // The trits of port i where it has a flip-flop; none otherwise.
+#[tactic(auto, using(crate::proofs::View::kept_none, crate::proofs::View::kept_by))]
 fn clocked_trits(m: Memory, trits: &[u8], i: usize) -> &[u8]
     ensures { (result.now ≡ kept_trits m trits.now i) × (length result.now < 0x300000000) }
 {
@@ -90,6 +92,7 @@ fn put_outputs(room: &mut [u32], m: Memory, output: &[u32], list: &[u32]) -> usi
 }
 
 // Stores the new nets, and says how many they are.
+#[tactic(auto, using(crate::proofs::Stored::joined, crate::proofs::Stored::joined_length))]
 fn put_nets(room: &mut [u32], m: Memory, nets: &[u32], list: &[u32]) -> usize
     requires { length list.now ≤ max_ports }
     ensures value { result ≡ length (new_nets m nets.now list.now) }
@@ -101,6 +104,7 @@ fn put_nets(room: &mut [u32], m: Memory, nets: &[u32], list: &[u32]) -> usize
 }
 
 // Stores the new trits, and says how many they are.
+#[tactic(auto, using(crate::proofs::Stored::joined, crate::proofs::Stored::joined_length))]
 fn put_trits(room: &mut [u8], m: Memory, trits: &[u8], list: &[u32]) -> usize
     requires { length list.now ≤ max_ports }
     ensures value { result ≡ length (new_trits m trits.now list.now) }
@@ -125,6 +129,7 @@ fn kept_port(p: MemoryReadPort) -> MemoryReadPort
 }
 
 // The struct with the listed ports.
+#[tactic(auto, using(crate::proofs::View::ports_turn))]
 fn pick_ports(m: Memory, list: &[u32]) -> Memory
     requires { ListedPorts m list.now }
     ensures { result ≡ with_ports m list.now }

@@ -35,6 +35,7 @@ fn outputs_of(m: Memory) -> usize
 }
 
 // The outputs are not as many as the read ports' data bits.
+#[tactic(auto, unfolding(rules::specs::Conditions::bad_output_len))]
 fn output_len_bad(m: Memory, size: usize) -> bool
     ensures { (nets trits output : List ℕ) → length output ≡ size → result ≡ bad_output_len (memory_of m nets trits) output }
 {
@@ -42,6 +43,7 @@ fn output_len_bad(m: Memory, size: usize) -> bool
 }
 
 // 1 to 4 of a call over a memory and the nets that its outputs drive. `one` says what else of the call breaks 1.
+#[tactic(auto, unfolding(rules::specs::Refusals::driving_number, rules::specs::Conditions::bad_value))]
 pub fn driving_refusal(
     m: Memory,
     nets: &[u32],

@@ -40,6 +40,7 @@ fn is_plain(c: Controls, init: &[u8], rels: &[u8], incl: bool) -> bool
 }
 
 // There is nothing to unmap of port i, whose struct and controls these are.
+#[tactic(auto, using(net_memory::proofs::Sized::relations_8, crate::proofs::Plain::plain_as))]
 pub fn port_plain(
     m: Memory,
     trits: &[u8],
@@ -103,6 +104,7 @@ pub fn unreset(m: Memory, i: usize, c: Controls, incl: bool) -> Memory
 }
 
 // Where the trits of port i start: a memory of i read ports has as many.
+#[tactic(auto, using(crate::proofs::View::start_is))]
 fn trit_start(m: Memory, i: usize) -> usize
     requires { i < 8 }
     ensures { (result ≡ trit_start m i) × (result ≤ 0x1900000000) }

@@ -1,27 +1,8 @@
 -- `c_swizzle::wide::writes_of` meets its contract.
-use mathlib.Core.Path.{◌≡◌, refl, ◌∙◌}
-use Prim.Native.Nat.{◌-◌, ◌<◌}
-use native.Mathlib.Omega.{arith}
-use lib.ListN.{length, length-set}
+use borrow.Author.Rules.{rules}
 use Rattle.c_swizzle.specs.View.{given_write}
-use Rattle.c_memory.proofs.Each.{turn, whole}
+use Rattle.c_memory.proofs.Each.{by_place}
 use Rattle.c_swizzle.proofs.wide.writes_of.Goals as goal
 
-pub loop-i-init : goal.loop-i-init
-loop-i-init c = (omega arith, refl, refl)
-
-pub loop-i-preserved : goal.loop-i-preserved
-loop-i-preserved c =
-    let h = c.loop-i in
-    let s = c in
-    let n : length s.args.ports ≡ 8 = s.well_formed.0.1.0.1 in
-    let lp : h.i < length s.args.ports = omega (arith, n) in
-    let lo : h.i < length h.out = omega (arith, h.invariant.1) in
-    (omega arith, length-set h.out h.i c.write_of-q.result ∙ h.invariant.1, turn given_write s.args.ports h.out h.i _ c.write_of-q.result lp lo c.write_of-q.ensures h.invariant.2)
-
 pub returns : goal.returns
-returns c =
-    let h = c.loop-i in
-    let s = c in
-    let n : length s.args.ports ≡ 8 = s.well_formed.0.1.0.1 in
-    whole given_write s.args.ports h.out h.i (omega (arith, n)) (omega (arith, h.invariant.1)) h.invariant.2
+returns c = by_place given_write c.args.ports c.map.result 8 c.well_formed.0.1.0.1 c.map.ensures.items.long (λ i d e h. let z = (c.map.ensures.items.at i d e h).2 in search rules)
