@@ -131,6 +131,14 @@ fn room_number(data_room: usize, mask_room: usize, n: usize, masked: bool) -> u3
     0
 }
 
+// What a call is asked for: data, and a mask where `masked` says so.
+#[derive(Clone, Copy)]
+struct Asked<'a> {
+    bits: &'a [u32],
+    mask: &'a [u32],
+    masked: bool,
+}
+
 // The pair's entries; data and mask after stand under the overlay and in `over`. The same function runs dry on an empty log.
 fn emit_mux<'a>(
     log: &mut Log,
@@ -142,12 +150,10 @@ fn emit_mux<'a>(
     i: usize,
     p: MemoryReadPort,
     j: usize,
-    bits: &[u32],
-    mask: &[u32],
-    masked: bool,
+    o: Asked,
 )
-    requires { Paired m nets.now trits.now i j masked bits.now mask.now × (p ≡ read_port m i) }
-    ensures { Gave (transparency_mux (memory_of m nets.now trits.now) i j (overlay_of masked bits.now mask.now)) (lent_of log.old) (lent_of log.new) (overlay_of masked (take p.data_len overlay.new.under) (take p.data_len over.new)) }
+    requires { Paired m nets.now trits.now i j o.masked o.bits.now o.mask.now × (p ≡ read_port m i) }
+    ensures { Gave (transparency_mux (memory_of m nets.now trits.now) i j (overlay_of o.entry.masked o.entry.bits.now o.entry.mask.now)) (lent_of log.old) (lent_of log.new) (overlay_of o.entry.masked (take p.data_len overlay.new.under) (take p.data_len over.new)) }
 {
     let count = p.data_len as usize;
     let r = Reading {
@@ -155,11 +161,11 @@ fn emit_mux<'a>(
         addr: net_memory::read_nets(m, nets, i),
         count,
     };
-    lists::copy(&mut overlay.under, 0, bits);
-    if !masked {
+    lists::copy(&mut overlay.under, 0, o.bits);
+    if !o.masked {
         return port_overlay::emit_pair(log, overlay, m, nets, j, r);
     }
-    lists::copy(over, 0, mask);
+    lists::copy(over, 0, o.mask);
     port_masked::emit_masked_pair(log, overlay, over, m, nets, j, r)
 }
 
@@ -175,20 +181,16 @@ fn dry_number(
     i: usize,
     p: MemoryReadPort,
     j: usize,
-    bits: &[u32],
-    mask: &[u32],
-    masked: bool,
+    o: Asked,
 ) -> u32
-    requires { Paired m nets.now trits.now i j masked bits.now mask.now × (p ≡ read_port m i) }
-    ensures { result ≡ log_refusal room (state_of st) (transparency_mux (memory_of m nets.now trits.now) i j (overlay_of masked bits.now mask.now)) }
+    requires { Paired m nets.now trits.now i j o.masked o.bits.now o.mask.now × (p ≡ read_port m i) }
+    ensures { result ≡ log_refusal room (state_of st) (transparency_mux (memory_of m nets.now trits.now) i j (overlay_of o.entry.masked o.entry.bits.now o.entry.mask.now)) }
 {
     let mut dry = Log {
         words: &mut [],
         state: st.dry_start(),
     };
-    emit_mux(
-        &mut dry, overlay, over, m, nets, trits, i, p, j, bits, mask, masked,
-    );
+    emit_mux(&mut dry, overlay, over, m, nets, trits, i, p, j, o);
     rules::number_of(st.dry_refusal(room, dry.state))
 }
 
@@ -215,12 +217,10 @@ fn mux_fitting(
     i: usize,
     p: MemoryReadPort,
     j: usize,
-    bits: &[u32],
-    mask: &[u32],
-    masked: bool,
+    o: Asked,
 ) -> Answer
-    requires { Paired m nets.now trits.now i j masked bits.now mask.now × (p ≡ read_port m i) × (p.data_len ≤ length bits_to.old) × (masked ≡ true → p.data_len ≤ length mask_to.old) }
-    ensures { overlaid_of masked (length bits.now) result log.new bits_to.new mask_to.new ≡ overlaid (log_refusal (length log.old) (state_of st) (transparency_mux (memory_of m nets.now trits.now) i j (overlay_of masked bits.now mask.now))) bits_to.old mask_to.old log.old (state_of st) (transparency_mux (memory_of m nets.now trits.now) i j (overlay_of masked bits.now mask.now)) }
+    requires { Paired m nets.now trits.now i j o.masked o.bits.now o.mask.now × (p ≡ read_port m i) × (p.data_len ≤ length bits_to.old) × (o.masked ≡ true → p.data_len ≤ length mask_to.old) }
+    ensures { overlaid_of o.entry.masked (length o.entry.bits.now) result log.new bits_to.new mask_to.new ≡ overlaid (log_refusal (length log.old) (state_of st) (transparency_mux (memory_of m nets.now trits.now) i j (overlay_of o.entry.masked o.entry.bits.now o.entry.mask.now))) bits_to.old mask_to.old log.old (state_of st) (transparency_mux (memory_of m nets.now trits.now) i j (overlay_of o.entry.masked o.entry.bits.now o.entry.mask.now)) }
 {
     let mut overlay = Overlay {
         under: [0; rules::MAX_MERGE],
@@ -246,9 +246,7 @@ fn mux_fitting(
         i,
         p,
         j,
-        bits,
-        mask,
-        masked,
+        o,
     );
     if k != 0 {
         return Answer::Refused(k);
@@ -267,12 +265,10 @@ fn mux_fitting(
         i,
         p,
         j,
-        bits,
-        mask,
-        masked,
+        o,
     );
-    store(bits_to, &overlay.under, bits.len(), true);
-    store(mask_to, &over, bits.len(), masked);
+    store(bits_to, &overlay.under, o.bits.len(), true);
+    store(mask_to, &over, o.bits.len(), o.masked);
     Answer::Accepted(log.state)
 }
 
@@ -299,9 +295,8 @@ fn mux_pair(
     if n != 0 {
         return Answer::Refused(n);
     }
-    mux_fitting(
-        log, st, bits_to, mask_to, m, nets, trits, i, p, j, bits, mask, masked,
-    )
+    let o = Asked { bits, mask, masked };
+    mux_fitting(log, st, bits_to, mask_to, m, nets, trits, i, p, j, o)
 }
 
 // transparency_mux: the data of write port `write` over `bits`, which read port `read` reads, where the addresses are equal and the mask
