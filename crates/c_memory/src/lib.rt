@@ -5,14 +5,16 @@ ghost use Rattle.std.specs.Prelude.{◌≡◌};
 ghost use Rattle.rules.specs.Refusals.{mem_refusal};
 ghost use Rattle.rules.specs.Answers.{wide_log2_call, output_len_call, output_slice_call, can_lower_fallback_call, extract_read_ports_call};
 ghost use Rattle.net_memory.specs.Given.{given_of};
-ghost use Rattle.port_outputs.specs.Calls.{len_of, slice_of, can_of};
+ghost use Rattle.rules.specs.Refusal.{answer_by};
+ghost use Rattle.port_outputs.specs.View.{slice_of};
 ghost use Rattle.port_extract.specs.Extract.{extracted_of};
 ghost use Rattle.c_net.specs.View.{flag_result, value_result, count_struct};
 ghost use Rattle.c_memory.specs.View.{given_memory, memory_struct, zero_memory};
 ghost use Rattle.c_memory.specs.Calls.{slice_result, extracted_struct, given_extracted, NewMemory};
 
 use c_net::{Control, Count};
-use port_outputs::{CanLower, OutputLen, OutputSlice};
+use port_outputs::OutputSlice;
+use rules::Refusal;
 
 pub mod ports;
 
@@ -131,50 +133,17 @@ fn zero_memory() -> Memory
     }
 }
 
-fn len_result(a: OutputLen) -> Count
-    ensures { result ≡ count_struct (len_of a) }
+fn slice_result(a: Result<OutputSlice, Refusal>) -> Slice
+    ensures { result ≡ slice_result (answer_by slice_of a) }
 {
-    match a {
-        OutputLen::Refused(n) => Count {
-            number: n,
-            count: 0,
-        },
-        OutputLen::Accepted(k) => Count {
-            number: 0,
-            count: k,
-        },
-    }
-}
-
-fn slice_result(a: OutputSlice) -> Slice
-    ensures { result ≡ slice_result (slice_of a) }
-{
-    match a {
-        OutputSlice::Refused(n) => Slice {
-            number: n,
-            start: 0,
-            size: 0,
-        },
-        OutputSlice::Accepted { start, size } => Slice {
-            number: 0,
-            start: start,
-            size: size,
-        },
-    }
-}
-
-fn fallback_result(a: CanLower) -> c_net::Result
-    ensures { result ≡ flag_result (can_of a) }
-{
-    match a {
-        CanLower::Refused(n) => c_net::Result {
-            number: n,
-            value: 0,
-        },
-        CanLower::Accepted(b) => c_net::Result {
-            number: 0,
-            value: b as u32,
-        },
+    let (number, start, size) = match a {
+        Ok(OutputSlice { start, size }) => (0, start, size),
+        Err(refusal) => (refusal.number(), 0, 0),
+    };
+    Slice {
+        number,
+        start,
+        size,
     }
 }
 
@@ -204,13 +173,13 @@ pub fn tablegoose_wide_log2(width: u32, size: usize) -> c_net::Result
 pub fn tablegoose_memory_refusal(m: Memory, nets: &[u32], trits: &[u8]) -> u32
     ensures { result ≡ mem_refusal (given_of (given_memory m) nets.now trits.now) }
 {
-    net_check::memory_refusal(memory_of(m), nets, trits)
+    rules::number_of(net_check::memory_refusal(memory_of(m), nets, trits))
 }
 
 pub fn tablegoose_output_len(m: Memory, nets: &[u32], trits: &[u8]) -> Count
     ensures { result ≡ count_struct (output_len_call (given_of (given_memory m) nets.now trits.now)) }
 {
-    len_result(port_outputs::output_len(memory_of(m), nets, trits))
+    c_net::count_result(port_outputs::output_len(memory_of(m), nets, trits))
 }
 
 pub fn tablegoose_read_port_output_slice(
@@ -228,7 +197,7 @@ pub fn tablegoose_read_port_output_slice(
 pub fn tablegoose_can_lower_fallback(m: Memory, nets: &[u32], trits: &[u8]) -> c_net::Result
     ensures { result ≡ flag_result (can_lower_fallback_call (given_of (given_memory m) nets.now trits.now)) }
 {
-    fallback_result(port_outputs::can_lower_fallback(memory_of(m), nets, trits))
+    c_net::flag_result(port_outputs::can_lower_fallback(memory_of(m), nets, trits))
 }
 
 pub fn tablegoose_extract_read_ports(

@@ -111,7 +111,7 @@ pub fn number_result(a: result::Result<u32, Refusal>) -> Result
     Result { number, value }
 }
 
-fn count_result(a: result::Result<usize, Refusal>) -> Count
+pub fn count_result(a: result::Result<usize, Refusal>) -> Count
     ensures { result ≡ count_struct (answer_by (λ n. n) a) }
 {
     match a {
@@ -123,7 +123,7 @@ fn count_result(a: result::Result<usize, Refusal>) -> Count
     }
 }
 
-fn flag_result(a: result::Result<bool, Refusal>) -> Result
+pub fn flag_result(a: result::Result<bool, Refusal>) -> Result
     ensures { result ≡ flag_result (bool_answer a) }
 {
     number_result(a.map(u32::from))

@@ -104,7 +104,7 @@ fn lower_rows(
 fn lower_number(m: Memory, nets: &[u32], trits: &[u8], output: &[u32], next: u32) -> u32
     ensures { result ≡ lower_fallback_number next (given_of m nets.now trits.now) output.now }
 {
-    let n = port_outputs::driving_number(m, nets, trits, output, next, false);
+    let n = rules::number_of(port_outputs::driving_refusal(m, nets, trits, output, next, false));
     if n != 0 {
         return n;
     }

@@ -4,7 +4,7 @@
 
 ghost use Rattle.std.specs.Prelude.{◌≡◌, true, List, ℕ, ◌+◌, ◌-◌, ◌*◌, ◌^◌, ◌≤◌, ◌<◌, ltb, length};
 ghost use Rattle.rules.specs.Limits.{addr_bits, max_row};
-ghost use Rattle.rules.specs.Numbers.{top_bits};
+ghost use Rattle.rules.specs.Numbers.{softs, top_bits};
 ghost use Rattle.rules.specs.Geometry.{soft_bits, chunk_mux_bits, to_chunk, walk};
 ghost use Rattle.rules.specs.Conditions.{bad_layout_sizes};
 ghost use Rattle.rules.specs.Beside.Shape.{shape_of, shape_call, depths_call, soft_mask_number, result_number};
@@ -78,6 +78,14 @@ pub fn soft_bits(mask: u32) -> u32
     ensures { result ≡ soft_bits mask }
 {
     mask.count_ones()
+}
+
+// Those among the lowest k bits.
+pub fn low_softs(k: u32, mask: u32) -> u32
+    ensures value { result ≡ softs k mask }
+    ensures most { result ≤ k }
+{
+    soft_bits((u64::from(mask) % lists::two_to(k)) as u32)
 }
 
 // One more than the highest bit that is set, or 0.

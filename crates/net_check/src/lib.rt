@@ -1,4 +1,4 @@
-// The test of a memory: which of the numbers 1 to 4 refuses it.
+// The test of a memory: by which of the numbers 1 to 4 it is refused.
 #![tactic(auto)]
 
 ghost use Rattle.std.specs.Prelude.{◌≡◌, false, not, ◌||◌, List, [], ℕ, ◌*◌, length, get_or, eqb};
@@ -9,11 +9,13 @@ ghost use Rattle.net_flip_flop.specs.declared.Controls.{Controls};
 ghost use Rattle.rules.specs.Conditions.{too_large, bad_trits, bad_write_shape, bad_write_nets, bad_flip_flop_shape, bad_flip_flop_nets, bad_relation, bad_read_shape, bad_read_nets, bad_shape, bad_depth, bad_nets};
 ghost use Rattle.net_memory.specs.View.{write_by, clocked_by, read_by, writes_of, reads_of, read_ports_of, memory_of};
 ghost use Rattle.net_memory.specs.Given.{too_many_ports, long_relations, bad_lens, given_of};
+ghost use Rattle.rules.specs.Refusal.{number_of, number_if};
 ghost use Rattle.rules.specs.Refusals.{mem_number, mem_refusal, number_by_of};
 ghost use Rattle.net_check.specs.Number.{write_number, read_number, ReadsFrom, no_read_of};
 
 use net_flip_flop::Controls;
 use net_memory::{Memory, MemoryReadPort, MemoryWritePort};
+use rules::Refusal;
 
 fn product(a: u32, b: u32) -> u64
     ensures { result ≡ a * b }
@@ -21,36 +23,41 @@ fn product(a: u32, b: u32) -> u64
     u64::from(a) * u64::from(b)
 }
 
-// The lower of two numbers, where 0 is none.
-fn lower(a: u32, b: u32) -> u32
-    ensures { result ≡ least a b }
+// The lower of two refusals by their numbers.
+fn lower(a: Option<Refusal>, b: Option<Refusal>) -> Option<Refusal>
+    ensures { number_if result ≡ least (number_if a) (number_if b) }
 {
-    if a == 0 {
-        return b;
+    match (a, b) {
+        (Some(x), Some(y)) if y.number() < x.number() => b,
+        (None, _) => b,
+        _ => a,
     }
-    if b == 0 {
-        return a;
-    }
-    if a < b {
-        return a;
-    }
-    b
 }
 
-// 2, 3 or 4 by their tests, or 0.
-fn number_by(shape: bool, depth: bool, nets: bool) -> u32
-    ensures { result ≡ number_by_of shape depth nets }
+// The answer that a refusal makes.
+fn answer(refusal: Option<Refusal>) -> Result<(), Refusal>
+    ensures { number_of result ≡ number_if refusal }
+{
+    match refusal {
+        Some(e) => Err(e),
+        None => Ok(()),
+    }
+}
+
+// 2, 3 or 4 by their tests.
+fn refusal_by(shape: bool, depth: bool, nets: bool) -> Option<Refusal>
+    ensures { number_if result ≡ number_by_of shape depth nets }
 {
     if shape {
-        return 2;
+        return Some(Refusal::BadShape);
     }
     if depth {
-        return 3;
+        return Some(Refusal::BadDepth);
     }
     if nets {
-        return 4;
+        return Some(Refusal::BadValue);
     }
-    0
+    None
 }
 
 // The shape of a write port with these nets is bad.
@@ -87,32 +94,38 @@ fn write_nets_bad(next: u32, p: MemoryWritePort, nets: &[u32]) -> bool
     !net_value::control_good(next, clock)
 }
 
-// The number that refuses a write port with these nets, or 0.
-fn write_number(depth: u32, width: u32, next: u32, p: MemoryWritePort, nets: &[u32]) -> u32
-    ensures { (m : Mem) → m.depth ≡ depth → m.width ≡ width → result ≡ write_number next m (write_by p nets.now []) }
+// By what a write port with these nets is refused.
+fn write_refusal(
+    depth: u32,
+    width: u32,
+    next: u32,
+    p: MemoryWritePort,
+    nets: &[u32],
+) -> Option<Refusal>
+    ensures { (m : Mem) → m.depth ≡ depth → m.width ≡ width → number_if result ≡ write_number next m (write_by p nets.now []) }
 {
     let bits = net_memory::data_of(p, nets);
     let k = net_memory::wide::wide_log(width, bits.len());
     let shape = write_shape_bad(width, p, nets);
     let rows = net_memory::wide::is_indivisible(depth, k);
-    number_by(shape, rows, write_nets_bad(next, p, nets))
+    refusal_by(shape, rows, write_nets_bad(next, p, nets))
 }
 
-// The lowest number that refuses a write port, or 0.
-fn writes_number(m: Memory, nets: &[u32], next: u32) -> u32
-    ensures { (trits : List ℕ) → result ≡ least_by (write_number next (memory_of m nets.now trits)) (writes_of m nets.now) }
+// By what a write port is refused, the lowest of all.
+fn writes_refusal(m: Memory, nets: &[u32], next: u32) -> Option<Refusal>
+    ensures { (trits : List ℕ) → number_if result ≡ least_by (write_number next (memory_of m nets.now trits)) (writes_of m nets.now) }
 {
     let count = net_memory::ports_used(m.write_count);
-    let mut number = 0;
+    let mut refusal = None;
     let mut at = 0;
     for i in 0..count {
         let p = m.write_ports[i];
         let size = net_memory::write_size(p);
         let part = lists::part(nets, at, size);
-        number = lower(number, write_number(m.depth, m.width, next, p, part));
+        refusal = lower(refusal, write_refusal(m.depth, m.width, next, p, part));
         at += size;
     }
-    number
+    refusal
 }
 
 // How many relations a port has: as many as it says, up to the eight that there is place for.
@@ -202,8 +215,8 @@ fn read_nets_bad(next: u32, p: MemoryReadPort, nets: &[u32], trits: &[u8]) -> bo
     }
 }
 
-// The number that refuses a read port with these nets and trits, or 0.
-fn read_number(
+// By what a read port with these nets and trits is refused.
+fn read_refusal(
     depth: u32,
     width: u32,
     next: u32,
@@ -211,17 +224,17 @@ fn read_number(
     p: MemoryReadPort,
     nets: &[u32],
     trits: &[u8],
-) -> u32
-    ensures { (m : Mem) → m.depth ≡ depth → m.width ≡ width → length m.writes ≡ writes → result ≡ read_number next m (read_by p nets.now trits.now) }
+) -> Option<Refusal>
+    ensures { (m : Mem) → m.depth ≡ depth → m.width ≡ width → length m.writes ≡ writes → number_if result ≡ read_number next m (read_by p nets.now trits.now) }
 {
     let k = net_memory::wide::wide_log(width, p.data_len as usize);
     let shape = read_shape_bad(width, writes, p, nets, trits);
     let rows = net_memory::wide::is_indivisible(depth, k);
-    number_by(shape, rows, read_nets_bad(next, p, nets, trits))
+    refusal_by(shape, rows, read_nets_bad(next, p, nets, trits))
 }
 
-// The number that refuses read port i, whose nets and trits start at these places, or 0.
-fn read_number_at(
+// By what read port i is refused, whose nets and trits start at these places.
+fn read_refusal_at(
     m: Memory,
     nets: &[u32],
     trits: &[u8],
@@ -229,41 +242,41 @@ fn read_number_at(
     i: usize,
     at: usize,
     from: usize,
-) -> u32
+) -> Option<Refusal>
     requires { ReadsFrom m i at from }
-    ensures { result ≡ read_number next (memory_of m nets.now trits.now) (get_or (reads_of m nets.now trits.now) i no_read_of) }
+    ensures { number_if result ≡ read_number next (memory_of m nets.now trits.now) (get_or (reads_of m nets.now trits.now) i no_read_of) }
 {
     let p = m.read_ports[i];
     let addr = lists::part(nets, at, net_memory::addr_size(p));
     let values = lists::part(trits, from, net_memory::trit_size(p));
     let writes = net_memory::ports_used(m.write_count);
-    read_number(m.depth, m.width, next, writes, p, addr, values)
+    read_refusal(m.depth, m.width, next, writes, p, addr, values)
 }
 
-// The lowest number that refuses a read port, or 0.
-fn reads_number(m: Memory, nets: &[u32], trits: &[u8], next: u32) -> u32
-    ensures { result ≡ least_by (read_number next (memory_of m nets.now trits.now)) (reads_of m nets.now trits.now) }
+// By what a read port is refused, the lowest of all.
+fn reads_refusal(m: Memory, nets: &[u32], trits: &[u8], next: u32) -> Option<Refusal>
+    ensures { number_if result ≡ least_by (read_number next (memory_of m nets.now trits.now)) (reads_of m nets.now trits.now) }
 {
     let count = net_memory::ports_used(m.read_count);
     let mut at = net_memory::reads_start(m);
     let mut from = net_memory::init_size(m);
-    let mut number = 0;
+    let mut refusal = None;
     for i in 0..count {
         let p = m.read_ports[i];
-        number = lower(number, read_number_at(m, nets, trits, next, i, at, from));
+        refusal = lower(refusal, read_refusal_at(m, nets, trits, next, i, at, from));
         at += net_memory::addr_size(p);
         from += net_memory::trit_size(p);
     }
-    number
+    refusal
 }
 
-// The number that refuses the initial trits, or 0.
-fn init_number(m: Memory, trits: &[u8]) -> u32
-    ensures { result ≡ number_by_of (not (eqb (length (part 0 m.init_len trits.now)) (m.depth * m.width))) false (bad_trits (part 0 m.init_len trits.now)) }
+// By what the initial trits are refused.
+fn init_refusal(m: Memory, trits: &[u8]) -> Option<Refusal>
+    ensures { number_if result ≡ number_by_of (not (eqb (length (part 0 m.init_len trits.now)) (m.depth * m.width))) false (bad_trits (part 0 m.init_len trits.now)) }
 {
     let init = lists::part(trits, 0, m.init_len as usize);
     let rows = init.len() as u64 != product(m.depth, m.width);
-    number_by(rows, false, !net_logic::trits_good(init))
+    refusal_by(rows, false, !net_logic::trits_good(init))
 }
 
 // A size is too large, or there are too many ports.
@@ -319,17 +332,17 @@ fn lens_bad(m: Memory, nets: usize, trits: usize) -> bool
     any_long_relations(m)
 }
 
-// The lowest number 2 to 4 that refuses what a memory holds, or 0.
-fn parts_number(m: Memory, nets: &[u32], trits: &[u8], next: u32) -> u32
-    ensures { result ≡ number_by_of (bad_shape (memory_of m nets.now trits.now)) (bad_depth (memory_of m nets.now trits.now)) (bad_nets next (memory_of m nets.now trits.now)) }
+// By which of 2 to 4 what a memory holds is refused, the lowest of all.
+fn parts_refusal(m: Memory, nets: &[u32], trits: &[u8], next: u32) -> Option<Refusal>
+    ensures { number_if result ≡ number_by_of (bad_shape (memory_of m nets.now trits.now)) (bad_depth (memory_of m nets.now trits.now)) (bad_nets next (memory_of m nets.now trits.now)) }
 {
-    let a = init_number(m, trits);
-    let b = writes_number(m, nets, next);
-    lower(a, lower(b, reads_number(m, nets, trits, next)))
+    let a = init_refusal(m, trits);
+    let b = writes_refusal(m, nets, next);
+    lower(a, lower(b, reads_refusal(m, nets, trits, next)))
 }
 
-// The number 1 to 4 that refuses a call over a memory, or 0. `one`, `two` and `four` say what else of the call breaks these numbers.
-pub fn memory_number(
+// 1 to 4 of a call over a memory. `one`, `two` and `four` say what else of the call breaks these numbers.
+pub fn call_refusal(
     m: Memory,
     nets: &[u32],
     trits: &[u8],
@@ -337,31 +350,31 @@ pub fn memory_number(
     one: bool,
     two: bool,
     four: bool,
-) -> u32
-    ensures { result ≡ mem_number one two four next (given_of m nets.now trits.now) }
+) -> Result<(), Refusal>
+    ensures { number_of result ≡ mem_number one two four next (given_of m nets.now trits.now) }
 {
     if one {
-        return 1;
+        return Err(Refusal::TooLarge);
     }
     if too_large(m) {
-        return 1;
+        return Err(Refusal::TooLarge);
     }
     if two {
-        return 2;
+        return Err(Refusal::BadShape);
     }
     if lens_bad(m, nets.len(), trits.len()) {
-        return 2;
+        return Err(Refusal::BadShape);
     }
-    let number = parts_number(m, nets, trits, next);
+    let refusal = parts_refusal(m, nets, trits, next);
     if four {
-        return lower(number, 4);
+        return answer(lower(refusal, Some(Refusal::BadValue)));
     }
-    number
+    answer(refusal)
 }
 
-// The number that refuses a memory by itself, without the log state.
-pub fn memory_refusal(m: Memory, nets: &[u32], trits: &[u8]) -> u32
-    ensures { result ≡ mem_refusal (given_of m nets.now trits.now) }
+// 1 to 4 of a memory by itself, without the log state.
+pub fn memory_refusal(m: Memory, nets: &[u32], trits: &[u8]) -> Result<(), Refusal>
+    ensures { number_of result ≡ mem_refusal (given_of m nets.now trits.now) }
 {
-    memory_number(m, nets, trits, rules::MAX_NETS, false, false, false)
+    call_refusal(m, nets, trits, rules::MAX_NETS, false, false, false)
 }

@@ -196,7 +196,14 @@ fn extract_refusal(
     ensures { result ≡ extract_read_ports_refusal (record { nets = a; trits = b; output = c }) (given_of m nets.entry.now trits.now) list.now output.now }
 {
     let long = rules::MAX_PORTS < list.len();
-    let n = port_outputs::driving_number(m, nets, trits, output, rules::MAX_NETS, long);
+    let n = rules::number_of(port_outputs::driving_refusal(
+        m,
+        nets,
+        trits,
+        output,
+        rules::MAX_NETS,
+        long,
+    ));
     if n != 0 {
         return n;
     }

@@ -106,7 +106,7 @@ fn mux_number(
     let one = overlay_long(bits, mask, masked);
     let two = overlay_unlike(m, bits, mask, masked, i);
     let four = overlay_bad(next, bits, mask, masked);
-    let n = net_check::memory_number(m, nets, trits, next, one, two, four);
+    let n = rules::number_of(net_check::call_refusal(m, nets, trits, next, one, two, four));
     if n != 0 {
         return n;
     }

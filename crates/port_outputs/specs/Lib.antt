@@ -1,2 +1,2 @@
--- The answers of the calls that only look at a memory.
-pub mod Calls
+-- A port's part of the outputs.
+pub mod View

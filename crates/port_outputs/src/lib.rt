@@ -10,33 +10,21 @@ ghost use Rattle.rules.specs.Fallback.{can_lower_fallback};
 ghost use Rattle.net_value.specs.View.{control_of};
 ghost use Rattle.net_memory.specs.declared.MemoryWritePort.{MemoryWritePort};
 ghost use Rattle.net_memory.specs.View.{memory_of};
+ghost use Rattle.rules.specs.Refusal.{number_of, answer_by};
 ghost use Rattle.rules.specs.Refusals.{driving_number, output_slice_refusal};
 ghost use Rattle.rules.specs.Answers.{output_len_call, output_slice_call, can_lower_fallback_call};
 ghost use Rattle.net_memory.specs.Given.{given_of};
-ghost use Rattle.port_outputs.specs.Calls.{len_of, slice_of, can_of};
+ghost use Rattle.port_outputs.specs.View.{slice_of};
 
 use net_memory::{Memory, MemoryWritePort};
 use net_value::ControlNet;
+use rules::Refusal;
 
-// The answer of `output_len`.
-#[derive(Clone, Copy)]
-pub enum OutputLen {
-    Refused(u32),
-    Accepted(usize),
-}
-
-// The answer of `read_port_output_slice`.
-#[derive(Clone, Copy)]
-pub enum OutputSlice {
-    Refused(u32),
-    Accepted { start: usize, size: usize },
-}
-
-// The answer of `can_lower_fallback`.
-#[derive(Clone, Copy)]
-pub enum CanLower {
-    Refused(u32),
-    Accepted(bool),
+// Where a port's part of the outputs starts, and how long it is.
+#[derive(Clone, Copy, Debug, PartialEq, Eq)]
+pub struct OutputSlice {
+    pub start: usize,
+    pub size: usize,
 }
 
 // The read ports' data bits in all.
@@ -53,74 +41,66 @@ fn output_len_bad(m: Memory, size: usize) -> bool
     size != outputs_of(m)
 }
 
-// The number 1 to 4 that refuses a call over a memory and the nets that its outputs drive, or 0. `one` says what else of the call breaks 1.
-pub fn driving_number(
+// 1 to 4 of a call over a memory and the nets that its outputs drive. `one` says what else of the call breaks 1.
+pub fn driving_refusal(
     m: Memory,
     nets: &[u32],
     trits: &[u8],
     output: &[u32],
     next: u32,
     one: bool,
-) -> u32
-    ensures { result ≡ driving_number one next (given_of m nets.now trits.now) output.now }
+) -> Result<(), Refusal>
+    ensures { number_of result ≡ driving_number one next (given_of m nets.now trits.now) output.now }
 {
     let two = output_len_bad(m, output.len());
     let good = net_value::value_good(next, output);
-    net_check::memory_number(m, nets, trits, next, one, two, !good)
+    net_check::call_refusal(m, nets, trits, next, one, two, !good)
 }
 
 // The read ports' data bits in all.
-pub fn output_len(m: Memory, nets: &[u32], trits: &[u8]) -> OutputLen
-    ensures { len_of result ≡ output_len_call (given_of m nets.now trits.now) }
+#[tactic(auto, using(rules::proofs::Answers::answer_err, rules::proofs::Answers::answer_ok), unfolding(rules::specs::Answers::output_len_call))]
+pub fn output_len(m: Memory, nets: &[u32], trits: &[u8]) -> Result<usize, Refusal>
+    ensures { answer_by (λ n. n) result ≡ output_len_call (given_of m nets.now trits.now) }
 {
-    let n = net_check::memory_refusal(m, nets, trits);
-    if n != 0 {
-        return OutputLen::Refused(n);
-    }
-    OutputLen::Accepted(outputs_of(m))
+    net_check::memory_refusal(m, nets, trits)?;
+    Ok(outputs_of(m))
 }
 
-// The number that refuses `read_port_output_slice`, or 0.
-fn slice_refusal(m: Memory, nets: &[u32], trits: &[u8], port: usize) -> u32
-    ensures { result ≡ output_slice_refusal (given_of m nets.now trits.now) port }
+// 1 to 4 and 15 of `read_port_output_slice`.
+#[tactic(auto, using(rules::proofs::Answers::else_err), unfolding(rules::specs::Refusals::output_slice_refusal))]
+fn slice_refusal(m: Memory, nets: &[u32], trits: &[u8], port: usize) -> Result<(), Refusal>
+    ensures { number_of result ≡ output_slice_refusal (given_of m nets.now trits.now) port }
 {
-    let n = net_check::memory_refusal(m, nets, trits);
-    if n != 0 {
-        return n;
-    }
+    net_check::memory_refusal(m, nets, trits)?;
     if net_memory::ports_used(m.read_count) <= port {
-        return 15;
+        return Err(Refusal::OutOfRange);
     }
-    0
+    Ok(())
 }
 
 // Where a port's part of the outputs starts, and how long it is.
-pub fn read_port_output_slice(m: Memory, nets: &[u32], trits: &[u8], port: usize) -> OutputSlice
-    ensures { slice_of result ≡ output_slice_call (given_of m nets.now trits.now) port }
+#[tactic(auto, using(rules::proofs::Answers::answer_err, rules::proofs::Answers::answer_ok), unfolding(rules::specs::Answers::output_slice_call))]
+pub fn read_port_output_slice(
+    m: Memory,
+    nets: &[u32],
+    trits: &[u8],
+    port: usize,
+) -> Result<OutputSlice, Refusal>
+    ensures { answer_by slice_of result ≡ output_slice_call (given_of m nets.now trits.now) port }
 {
-    let n = slice_refusal(m, nets, trits, port);
-    if n != 0 {
-        return OutputSlice::Refused(n);
-    }
-    OutputSlice::Accepted {
+    slice_refusal(m, nets, trits, port)?;
+    Ok(OutputSlice {
         start: net_memory::output_start(m, port),
         size: net_memory::read_data_len(m, port),
-    }
-}
-
-// The two controls are the same net with the same sign.
-#[tactic(auto, unfolding(rules::specs::Value::same_control))]
-pub fn same_control(a: ControlNet, b: ControlNet) -> bool
-    ensures { result ≡ same_control (control_of a) (control_of b) }
-{
-    a == b
+    })
 }
 
 // Every port of these has the clock.
+#[tactic(auto, unfolding(rules::specs::Value::same_control))]
 fn clocks_are(ports: &[MemoryWritePort], clock: ControlNet) -> bool
     ensures { result ≡ all (λ (p : MemoryWritePort). same_control (control_of p.clock) (control_of clock)) ports.now }
 {
-    ports.iter().all(|port| same_control(port.clock, clock))
+    ports.iter().all(|port| port.clock == clock)
 }
 
 // Every write port has the first one's clock.
@@ -132,14 +112,12 @@ pub fn clocks_same(m: Memory) -> bool
 }
 
 // A memory is legal for fallback lowering where all write ports have one clock.
-pub fn can_lower_fallback(m: Memory, nets: &[u32], trits: &[u8]) -> CanLower
-    ensures { can_of result ≡ can_lower_fallback_call (given_of m nets.now trits.now) }
+#[tactic(auto, using(rules::proofs::Answers::answer_err, rules::proofs::Answers::answer_ok), unfolding(rules::specs::Answers::can_lower_fallback_call, rules::specs::Refusals::can_lower_fallback_refusal))]
+pub fn can_lower_fallback(m: Memory, nets: &[u32], trits: &[u8]) -> Result<bool, Refusal>
+    ensures { answer_by (λ b. b) result ≡ can_lower_fallback_call (given_of m nets.now trits.now) }
 {
-    let n = net_check::memory_refusal(m, nets, trits);
-    if n != 0 {
-        return CanLower::Refused(n);
-    }
-    CanLower::Accepted(clocks_same(m))
+    net_check::memory_refusal(m, nets, trits)?;
+    Ok(clocks_same(m))
 }
 
 // A number of the list is not below the count.

@@ -45,13 +45,11 @@ fn clock_of(p: MemoryReadPort) -> ControlNet
 }
 
 // The port is clocked, and not by this clock.
+#[tactic(auto, unfolding(rules::specs::Value::same_control))]
 fn port_differs(p: MemoryReadPort, clock: ControlNet) -> bool
     ensures { result ≡ port_differs (control_of clock) p }
 {
-    if !is_clocked(p) {
-        return false;
-    }
-    !port_outputs::same_control(clock_of(p), clock)
+    is_clocked(p) && clock_of(p) != clock
 }
 
 // A read port from port i on is clocked by another clock.
@@ -169,7 +167,7 @@ fn any_unclocked(m: Memory) -> bool
 pub fn input_number(m: Memory, nets: &[u32], trits: &[u8], next: u32) -> u32
     ensures { result ≡ (emulate_number next (given_of m nets.now trits.now) or_else (when any unclocked (memory_of m nets.now trits.now).reads then 22 else 0)) }
 {
-    let n = net_check::memory_number(m, nets, trits, next, false, false, false);
+    let n = rules::number_of(net_check::call_refusal(m, nets, trits, next, false, false, false));
     if n != 0 {
         return n;
     }

@@ -48,7 +48,7 @@ fn reset_number(
 ) -> u32
     ensures { result ≡ unmap_reset_number next (given_of m nets.now trits.now) i incl output.now }
 {
-    let n = port_outputs::driving_number(m, nets, trits, output, next, false);
+    let n = rules::number_of(port_outputs::driving_refusal(m, nets, trits, output, next, false));
     if n != 0 {
         return n;
     }

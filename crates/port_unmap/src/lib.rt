@@ -193,7 +193,7 @@ pub fn port_short(m: Memory, nets: &[u32], i: usize) -> bool
 fn unmap_number(m: Memory, nets: &[u32], trits: &[u8], i: usize, output: &[u32], next: u32) -> u32
     ensures { result ≡ unmap_read_dff_number next (given_of m nets.now trits.now) i output.now }
 {
-    let n = port_outputs::driving_number(m, nets, trits, output, next, false);
+    let n = rules::number_of(port_outputs::driving_refusal(m, nets, trits, output, next, false));
     if n != 0 {
         return n;
     }

@@ -18,8 +18,7 @@ use Rattle.net_memory.specs.declared.Memory.{Memory}
 use Rattle.image_geometry.specs.declared.Params.{Params}
 use Rattle.image_geometry.specs.View.{layout_by}
 use Rattle.swizzle_split.specs.declared.Split as machine
-use Rattle.swizzle_split.specs.declared.Outcome.{Outcome}
-use Rattle.swizzle_split.specs.declared.Outcome.TheVariants.{Refused, Accepted}
+use Rattle.std.specs.Prelude.{Option, None, Some}
 use Rattle.swizzle_split.specs.Steps.{can_split, Answers, Refuses, Gives}
 use Rattle.swizzle_counts.specs.declared.Needs.{Needs}
 use Rattle.swizzle_counts.specs.Needs.{no_needs, plus_needs, all_needs, Most, port_most, split_of, Lengths, PortFits, Ranges, read_from, read_needs, reads_needs, mux_words, mux_nets, write_from, write_needs, writes_needs}
@@ -36,16 +35,16 @@ on true e = refl
 on false e = let z : ◌≡◌ {A = ℕ} 0 1 = cc in absurd (omega arith)
 
 -- ---- the answer of the split
-module _ (q : Layout) (old new : ℕ) (addr hw₀ hw mux₀ mux : Value) (o : Outcome) (a : Answers q old new addr hw₀ hw mux₀ mux o) where
-  pub split_none : o ≡ Refused → can_split q old new (length addr) ≡ true → ⊥
+module _ (q : Layout) (old new : ℕ) (addr hw₀ hw mux₀ mux : Value) (o : Option machine.Split) (a : Answers q old new addr hw₀ hw mux₀ mux o) where
+  pub split_none : o ≡ None → can_split q old new (length addr) ≡ true → ⊥
   split_none e f =
-      let r : Refuses q old new addr hw₀ hw mux₀ mux = subst (λ (x : Outcome). Answers q old new addr hw₀ hw mux₀ mux x) e a in
+      let r : Refuses q old new addr hw₀ hw mux₀ mux = subst (λ (x : Option machine.Split). Answers q old new addr hw₀ hw mux₀ mux x) e a in
       let g = r.cannot in
       let z : ◌≡◌ {A = ℕ} 0 1 = cc in omega arith
 
-  pub split_some : (s : machine.Split) → o ≡ Accepted s → Lengths (split_addr q old new addr) s
+  pub split_some : (s : machine.Split) → o ≡ Some s → Lengths (split_addr q old new addr) s
   split_some s e =
-      let r : Gives q old new addr hw₀ hw mux₀ mux s = subst (λ (x : Outcome). Answers q old new addr hw₀ hw mux₀ mux x) e a in
+      let r : Gives q old new addr hw₀ hw mux₀ mux s = subst (λ (x : Option machine.Split). Answers q old new addr hw₀ hw mux₀ mux x) e a in
       record { hw_len = r.splits.hw_len; mux_len = r.splits.mux_len; pieces_are = r.splits.pieces_are }
 
 -- ---- a read port

@@ -12,7 +12,7 @@ use image_geometry::Params;
 use net_flip_flop::Controls;
 use net_memory::Memory;
 use swizzle_columns::WidePort;
-use swizzle_split::{Outcome, Split};
+use swizzle_split::Split;
 
 pub mod refusal;
 
@@ -71,7 +71,7 @@ fn split_of(p: Params, old: u32, new: u32, addr: &[u32]) -> Split
     let mut mux = [0u32; 1];
     let outcome = swizzle_split::split_addr(&mut hw, &mut mux, p, old, new, addr);
     match outcome {
-        Outcome::Refused => Split {
+        None => Split {
             old,
             new,
             hw_len: 0,
@@ -79,7 +79,7 @@ fn split_of(p: Params, old: u32, new: u32, addr: &[u32]) -> Split
             pieces: 0,
             mask: 0,
         },
-        Outcome::Accepted(s) => s,
+        Some(s) => s,
     }
 }
 

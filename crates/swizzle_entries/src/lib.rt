@@ -214,7 +214,7 @@ fn granularities_bad(m: Memory, gs: &[u32]) -> bool
 fn swizzle_refusal(m: Memory, nets: &[u32], trits: &[u8], gs: &[u32], room: usize) -> u32
     ensures { result ≡ make_data_swizzle_refusal room (given_of m nets.now trits.now) gs.now }
 {
-    let n = net_check::memory_refusal(m, nets, trits);
+    let n = rules::number_of(net_check::memory_refusal(m, nets, trits));
     if n != 0 {
         return n;
     }

@@ -1,7 +1,7 @@
 -- A memory's part of a port's nets or trits, as a part of the whole lent array.
-use mathlib.Core.Path.{◌≡◌, sym, ap, ◌∙◌}
+use mathlib.Core.Path.{◌≡◌, refl, sym, ap, ◌∙◌}
 use Prim.Native.Nat.{ℕ, ◌+◌, ◌*◌, ◌<◌, ◌≤◌}
-use native.Mathlib.Nat.{zero-add, add-zero, add-mul, mul-le-mul_right}
+use native.Mathlib.Nat.{add-zero, add-mul, mul-le-mul_right}
 use native.Mathlib.Omega.{arith}
 use mathlib.Core.Bool.{true}
 use mathlib.Core.List.{List}
@@ -12,11 +12,17 @@ use Rattle.rules.specs.Limits.{max_ports}
 use Rattle.rules.specs.Cell.{WritePort, ReadPort, write_at, read_at_of}
 use Rattle.net_flip_flop.specs.declared.Controls.{Controls}
 use Rattle.net_memory.specs.FlipFlop.{MemoryReadFlipFlop}
-use Rattle.std.specs.Prelude.{Some}
+use Rattle.std.specs.Prelude.{None, Some}
+use Rattle.std.specs.Option.{is_some}
 use Rattle.swizzle_result.specs.declared.WideMemory.{WideMemory}
 use Rattle.swizzle_result.specs.View.{own, whole, write_size, addr_size, trits_if}
 use Rattle.swizzle_parts.specs.Parts.{write_port, read_port, has_write, has_read, memory_at, clear_at, reset_at, init_at, write_start, read_start, trit_start}
 use Rattle.swizzle_parts.proofs.Found.{write_known, read_known, write_at_lem, read_at, clear_is, reset_is, init_is}
+
+-- a flip-flop that is there
+controls_of : (x : MemoryReadFlipFlop) → is_some x ≡ true → (f : Controls) × (x ≡ Some f)
+controls_of None h = cc
+controls_of (Some f) h = (f, refl)
 
 module _ (g : WideMemory) (n w : ℕ) (h : n < g.mems) where
   own_within : n * own g w + own g w ≤ whole g w
@@ -40,14 +46,19 @@ module _ (g : WideMemory) (n j : ℕ) (nets trits image : List ℕ) (e : has_wri
       ∙ part-part 0 P (write_start g j) (write_size g (write_port g j)) nets (omega arith)
       ∙ ap (λ (s : ℕ). part s P nets) (add-zero (write_start g j)))
 
-  pub data_cut : part (write_start g j + (P + n * O)) O nets ≡ (write_at (memory_at g nets trits image n).memory j).bits
+  -- after so many times the columns of all memories
+  pub data_cut : part (write_start g j + (P + 0 * W + n * O)) O nets ≡ (write_at (memory_at g nets trits image n).memory j).bits
   data_cut =
-      sym (ap (λ (w : WritePort). w.bits) (write_at_lem g n j nets trits image e z)
+      let e′ : P + 0 * W + n * O ≡ P + n * O = omega arith in
+      ap (λ (k : ℕ). part (write_start g j + k) O nets) e′
+      ∙ sym (ap (λ (w : WritePort). w.bits) (write_at_lem g n j nets trits image e z)
       ∙ part-part (P + n * O) O (write_start g j) (write_size g (write_port g j)) nets (omega (arith, own_within g n (write_port g j).wide (write_known g n j e).0.below)))
 
-  pub mask_cut : part (write_start g j + (P + W + n * O)) O nets ≡ (write_at (memory_at g nets trits image n).memory j).mask
+  pub mask_cut : part (write_start g j + (P + 1 * W + n * O)) O nets ≡ (write_at (memory_at g nets trits image n).memory j).mask
   mask_cut =
-      sym (ap (λ (w : WritePort). w.mask) (write_at_lem g n j nets trits image e z)
+      let e′ : P + 1 * W + n * O ≡ P + W + n * O = omega arith in
+      ap (λ (k : ℕ). part (write_start g j + k) O nets) e′
+      ∙ sym (ap (λ (w : WritePort). w.mask) (write_at_lem g n j nets trits image e z)
       ∙ part-part (P + W + n * O) O (write_start g j) (write_size g (write_port g j)) nets (omega (arith, own_within g n (write_port g j).wide (write_known g n j e).0.below)))
 
 module _ (g : WideMemory) (n i : ℕ) (nets trits image : List ℕ) (e : has_read g n i ≡ true) (z : length g.read_ports ≡ max_ports) where
@@ -57,7 +68,10 @@ module _ (g : WideMemory) (n i : ℕ) (nets trits image : List ℕ) (e : has_rea
       ∙ part-part 0 (read_port g i).addr_len (read_start g i) (addr_size (read_port g i)) nets (omega arith)
       ∙ ap (λ (s : ℕ). part s (read_port g i).addr_len nets) (add-zero (read_start g i)))
 
-  module _ (f : Controls) (h : (read_port g i).flip_flop ≡ Some f) where
+  module _ (h : is_some (read_port g i).flip_flop ≡ true) where
+    abbrev F : (f : Controls) × ((read_port g i).flip_flop ≡ Some f)
+    F = controls_of (read_port g i).flip_flop h
+
     abbrev R : ℕ
     R = own g (read_port g i).wide
 
@@ -67,18 +81,24 @@ module _ (g : WideMemory) (n i : ℕ) (nets trits image : List ℕ) (e : has_rea
     -- the port has three times as many trits as all memories have columns in its rows
     inside : (k : ℕ) → k + R ≤ A + (A + A) → part k R (part (trit_start g i) (trits_if (read_port g i).flip_flop A) trits) ≡ part (trit_start g i + k) R trits
     inside k l =
-        ap (λ (x : MemoryReadFlipFlop). part k R (part (trit_start g i) (trits_if x A) trits)) h
+        ap (λ (x : MemoryReadFlipFlop). part k R (part (trit_start g i) (trits_if x A) trits)) F.1
         ∙ part-part k R (trit_start g i) (A + (A + A)) trits l
 
-    pub clear_cut : part (trit_start g i + (0 + n * R)) R trits ≡ clear_at (memory_at g nets trits image n).memory i
+    -- after so many times the columns of all memories
+    at_cut : (k k′ : ℕ) → k ≡ k′ → part (trit_start g i + k) R trits ≡ part (trit_start g i + k′) R trits
+    at_cut k k′ q = ap (λ (s : ℕ). part (trit_start g i + s) R trits) q
+
+    pub clear_cut : part (trit_start g i + (0 * A + n * R)) R trits ≡ clear_at (memory_at g nets trits image n).memory i
     clear_cut =
-        sym (clear_is g n i nets trits image e z f h ∙ inside (n * R) (omega (arith, own_within g n (read_port g i).wide (read_known g n i e).0.below))
-        ∙ ap (λ (s : ℕ). part (trit_start g i + s) R trits) (sym (zero-add (n * R))))
+        at_cut (0 * A + n * R) (n * R) (omega arith)
+        ∙ sym (clear_is g n i nets trits image e z F.0 F.1 ∙ inside (n * R) (omega (arith, own_within g n (read_port g i).wide (read_known g n i e).0.below)))
 
-    pub reset_cut : part (trit_start g i + (A + n * R)) R trits ≡ reset_at (memory_at g nets trits image n).memory i
+    pub reset_cut : part (trit_start g i + (1 * A + n * R)) R trits ≡ reset_at (memory_at g nets trits image n).memory i
     reset_cut =
-        sym (reset_is g n i nets trits image e z f h ∙ inside (A + n * R) (omega (arith, own_within g n (read_port g i).wide (read_known g n i e).0.below)))
+        at_cut (1 * A + n * R) (A + n * R) (omega arith)
+        ∙ sym (reset_is g n i nets trits image e z F.0 F.1 ∙ inside (A + n * R) (omega (arith, own_within g n (read_port g i).wide (read_known g n i e).0.below)))
 
-    pub init_cut : part (trit_start g i + (A + A + n * R)) R trits ≡ init_at (memory_at g nets trits image n).memory i
+    pub init_cut : part (trit_start g i + (2 * A + n * R)) R trits ≡ init_at (memory_at g nets trits image n).memory i
     init_cut =
-        sym (init_is g n i nets trits image e z f h ∙ inside (A + A + n * R) (omega (arith, own_within g n (read_port g i).wide (read_known g n i e).0.below)))
+        at_cut (2 * A + n * R) (A + A + n * R) (omega arith)
+        ∙ sym (init_is g n i nets trits image e z F.0 F.1 ∙ inside (A + A + n * R) (omega (arith, own_within g n (read_port g i).wide (read_known g n i e).0.below)))

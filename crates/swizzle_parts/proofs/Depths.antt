@@ -1,21 +1,14 @@
 -- The depth of a full memory and of the others, and where a memory's trits start in the image.
-use mathlib.Core.Path.{◌≡◌, sym}
-use Prim.Native.Nat.{ℕ, suc, ◌+◌, ◌-◌, ◌*◌, ◌<◌, ◌≤◌, min}
-use native.Mathlib.Nat.{mul-le-mul, mul-le-mul_right}
+use mathlib.Core.Path.{◌≡◌}
+use Prim.Native.Nat.{ℕ, ◌+◌, ◌-◌, ◌*◌, ◌<◌, ◌≤◌, min}
+use native.Mathlib.Nat.{mul-le-mul_right}
 use native.Mathlib.Omega.{arith}
-use native.Mathlib.Numerals.{add-one}
 use lib.Dec.{ltb}
 use borrow.Author.Tests.{lt-ltb, le-ltb}
 use Rattle.lists.proofs.Choice.{if_true, if_false}
 use Rattle.rules.specs.Image.{depth_at, rows_before}
 use Rattle.swizzle_result.specs.View.{start_by}
 use Rattle.swizzle_result.specs.declared.WideMemory.{WideMemory}
-
-pub product_rows : (a b : ℕ) → a ≤ 32768 → b ≤ 4294967296 → a * b ≤ 140737488355328
-product_rows a b h l = mul-le-mul {n₂ = 32768} {m₂ = 4294967296} h l
-
-pub product_image : (a b : ℕ) → a ≤ 281474976710656 → b ≤ 256 → a * b ≤ 72057594037927936
-product_image a b h l = mul-le-mul {n₂ = 281474976710656} {m₂ = 256} h l
 
 -- so many rows of one depth, then of the other, are no fewer for one memory more
 before_more : (full H P n : ℕ) → min n full * H + (n - full) * P ≤ min (n + 1) full * H + (n + 1 - full) * P

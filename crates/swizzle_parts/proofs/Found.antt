@@ -1,16 +1,16 @@
 -- Where a memory and its ports are found.
-use mathlib.Core.Path.{◌≡◌, refl, sym, ap, ◌∙◌, subst}
+use mathlib.Core.Path.{◌≡◌, refl, ap, ◌∙◌, subst}
 use Prim.Native.Nat.{ℕ, zero, suc, ◌+◌, ◌*◌, ◌<◌, ◌≤◌, min}
 use native.Mathlib.Nat.{zero-add}
 use native.Mathlib.Numerals.{add-one}
 use native.Mathlib.Omega.{arith}
-use mathlib.Core.Bool.{Bool, true, false, ◌&&◌}
+use mathlib.Core.Bool.{Bool, true, false}
 use mathlib.Core.Option.{none}
 use mathlib.Core.List.{List, [], ◌∷◌, map, append-nil}
 use lib.ListN.{length, take, drop, get_or, length-take, length-map, get_or-eq_default}
 use lib.Seq.{drop-drop, take-take, get_or-take}
-use lib.Dec.{leb, ltb}
-use borrow.Author.Tests.{leb-true, ltb-true, ltb-false, le-leb, lt-leb}
+use lib.Dec.{leb}
+use borrow.Author.Tests.{leb-true, ltb-true, ltb-false}
 use Rattle.lists.specs.Choice.{when◌then◌else◌}
 use Rattle.lists.specs.Lists.{sum_by, part, all, up_from, concat_map}
 use Rattle.lists.specs.Views.{views}
@@ -28,8 +28,9 @@ use Rattle.rules.specs.Image.{depth_at}
 use Rattle.net_flip_flop.specs.declared.Controls.{Controls}
 use Rattle.net_memory.specs.FlipFlop.{MemoryReadFlipFlop}
 use Rattle.std.specs.Prelude.{None, Some}
+use Rattle.std.specs.Option.{is_some}
 use Rattle.swizzle_result.specs.View.{own, whole, flip_flop_by, write_ports_of, read_ports_of, write_size, addr_size, trit_size, no_trits, write_by, read_by, reads_start, result_of, results_of}
-use Rattle.swizzle_parts.specs.Parts.{no_write_of, no_read_of, no_memory, write_port, read_port, small_write, small_read, is_small, Small, is_there, There, has_write, has_read, memory_at, clear_at, reset_at, init_at, write_nets, read_nets, read_trits}
+use Rattle.swizzle_parts.specs.Parts.{no_write_of, no_read_of, no_memory, write_port, read_port, small_write, small_read, is_small, Small, is_there, There, has_port, has_write, has_read, memory_at, clear_at, reset_at, init_at, write_nets, read_nets, read_trits}
 
 -- ---- lists
 all_at : {A : Type 0} (f : A → Bool) (d : A) (l : List A) → all f l ≡ true → f d ≡ true → (i : ℕ) → f (get_or l i d) ≡ true
@@ -50,6 +51,10 @@ either : {P : Type 0} (b : Bool) → (b ≡ true → P) → (b ≡ false → P) 
 either true f g = f refl
 either false f g = g refl
 
+none_of : (x : MemoryReadFlipFlop) → is_some x ≡ false → x ≡ None
+none_of None h = refl
+none_of (Some f) h = cc
+
 module _ {P A B R : Type 0} (s t : P → ℕ) (read : P → List A → List B → R) (d : P) (r : R) where
   views_at : (ps : List P) (i : ℕ) (l : List A) (m : List B) → i < length ps
       → get_or (views s t read ps l m) i r ≡ read (get_or ps i d) (part (sum_by s (take i ps)) (s (get_or ps i d)) l) (part (sum_by t (take i ps)) (t (get_or ps i d)) m)
@@ -62,18 +67,6 @@ module _ {P A B R : Type 0} (s t : P → ℕ) (read : P → List A → List B �
 else_none : {A : Type 0} (b : Bool) (x d : A) → (b ≡ true → x ≡ d) → (when b then x else d) ≡ d
 else_none true x d h = h refl
 else_none false x d h = refl
-
-and_off : (a b : Bool) → a ≡ false → false ≡ (a && b)
-and_off a b e = sym (ap (λ (x : Bool). x && b) e)
-
-and_on : (a b : Bool) {x : Bool} → a ≡ true → x ≡ b → x ≡ (a && b)
-and_on a b e h = h ∙ sym (ap (λ (x : Bool). x && b) e)
-
-pub read_off : (p : WideReadPort) → max_wide < p.wide → false ≡ small_read p
-read_off p h = and_off (leb p.wide max_wide) (leb p.first max_nets) (lt-leb p.wide max_wide h)
-
-pub read_on_lem : (p : WideReadPort) → p.wide ≤ max_wide → leb p.first max_nets ≡ small_read p
-read_on_lem p h = and_on (leb p.wide max_wide) (leb p.first max_nets) (le-leb p.wide max_wide h) refl
 
 -- what the rules have where there is no port
 abbrev pub no_write_port : WritePort
@@ -101,35 +94,7 @@ module _ (g : WideMemory) where
             (leb-true (read_port g i).wide max_wide q.0, leb-true (read_port g i).first max_nets q.1));
       }
 
-  pub many_mems : max_columns < g.mems → false ≡ is_small g
-  unfolding is_small
-  many_mems h = and_off (leb g.mems max_columns) _ (lt-leb g.mems max_columns h)
-
-  pub wide_unit : g.mems ≤ max_columns → max_unit < g.unit → false ≡ is_small g
-  unfolding is_small
-  wide_unit h k =
-      and_on (leb g.mems max_columns) _ (le-leb g.mems max_columns h) (and_off (leb g.unit max_unit) _ (lt-leb g.unit max_unit k))
-
-  pub by_ports : g.mems ≤ max_columns → g.unit ≤ max_unit → (all small_write (write_ports_of g) && all small_read (read_ports_of g)) ≡ is_small g
-  unfolding is_small
-  by_ports h k =
-      and_on (leb g.mems max_columns) _ (le-leb g.mems max_columns h) (and_on (leb g.unit max_unit) _ (le-leb g.unit max_unit k) refl)
-
-  pub by_writes : g.mems ≤ max_columns → g.unit ≤ max_unit → all small_write (write_ports_of g) ≡ false → false ≡ is_small g
-  by_writes h k e = and_off (all small_write (write_ports_of g)) (all small_read (read_ports_of g)) e ∙ by_ports h k
-
-  pub by_reads : g.mems ≤ max_columns → g.unit ≤ max_unit → all small_write (write_ports_of g) ≡ true → all small_read (read_ports_of g) ≡ is_small g
-  by_reads h k e = and_on (all small_write (write_ports_of g)) (all small_read (read_ports_of g)) e refl ∙ by_ports h k
-
   module _ (n : ℕ) where
-    pub not_small : is_small g ≡ false → false ≡ is_there g n
-    unfolding is_there
-    not_small e = and_off (is_small g) (ltb n g.mems) e
-
-    pub by_number : is_small g ≡ true → ltb n g.mems ≡ is_there g n
-    unfolding is_there
-    by_number e = and_on (is_small g) (ltb n g.mems) e refl
-
     pub there_is : is_there g n ≡ true → There g n
     unfolding is_there
     there_is e = record { small = small_is (and_true (is_small g) _ e).0; below = ltb-true n g.mems (and_true (is_small g) _ e).1 }
@@ -189,46 +154,30 @@ module _ (g : WideMemory) where
 
 -- ---- a memory's ports
 module _ (g : WideMemory) (n j : ℕ) where
-  pub write_off : is_there g n ≡ false → false ≡ has_write g n j
-  unfolding has_write
-  write_off e = and_off (is_there g n) _ e
-
-  pub write_on : is_there g n ≡ true → ltb j (min max_ports g.write_count) ≡ has_write g n j
-  unfolding has_write
-  write_on e = and_on (is_there g n) _ e refl
-
-  pub read_port_off : is_there g n ≡ false → false ≡ has_read g n j
-  unfolding has_read
-  read_port_off e = and_off (is_there g n) _ e
-
-  pub read_port_on : is_there g n ≡ true → ltb j (min max_ports g.read_count) ≡ has_read g n j
-  unfolding has_read
-  read_port_on e = and_on (is_there g n) _ e refl
-
   pub write_known : has_write g n j ≡ true → There g n × (j < min max_ports g.write_count)
-  unfolding has_write
+  unfolding has_port
   write_known e =
       (there_is g n (and_true (is_there g n) _ e).0, ltb-true j (min max_ports g.write_count) (and_true (is_there g n) _ e).1)
 
   pub read_known : has_read g n j ≡ true → There g n × (j < min max_ports g.read_count)
-  unfolding has_read
+  unfolding has_port
   read_known e =
       (there_is g n (and_true (is_there g n) _ e).0, ltb-true j (min max_ports g.read_count) (and_true (is_there g n) _ e).1)
 
   write_there : has_write g n j ≡ true → is_there g n ≡ true
-  unfolding has_write
+  unfolding has_port
   write_there e = (and_true (is_there g n) _ e).0
 
   pub read_there : has_read g n j ≡ true → is_there g n ≡ true
-  unfolding has_read
+  unfolding has_port
   read_there e = (and_true (is_there g n) _ e).0
 
   write_past : has_write g n j ≡ false → is_there g n ≡ true → min max_ports g.write_count ≤ j
-  unfolding has_write
+  unfolding has_port
   write_past e h = ltb-false j (min max_ports g.write_count) (and_false (is_there g n) _ h e)
 
   read_past : has_read g n j ≡ false → is_there g n ≡ true → min max_ports g.read_count ≤ j
-  unfolding has_read
+  unfolding has_port
   read_past e h = ltb-false j (min max_ports g.read_count) (and_false (is_there g n) _ h e)
 
   module _ (nets trits image : List ℕ) where
@@ -273,10 +222,11 @@ module _ (g : WideMemory) (n j : ℕ) where
         ∙ ap (λ (x : MemoryReadFlipFlop). concat_map q (held (flip_flop_by x g n (read_port g j) (read_trits g trits j)))) h
 
     module _ (e : has_read g n j ≡ true) (z : length g.read_ports ≡ max_ports) where
-      pub unclocked : (read_port g j).flip_flop ≡ None
+      pub unclocked : is_some (read_port g j).flip_flop ≡ false
           → (clear_at (memory_at g nets trits image n).memory j ≡ []) × (reset_at (memory_at g nets trits image n).memory j ≡ []) × (init_at (memory_at g nets trits image n).memory j ≡ [])
       unfolding clear_at reset_at init_at held
-      unclocked h =
+      unclocked b =
+          let h = none_of (read_port g j).flip_flop b in
           (by_kind (λ (x : ReadFlipFlop). x.clear_value) None e z h, by_kind (λ (x : ReadFlipFlop). x.reset_value) None e z h, by_kind (λ (x : ReadFlipFlop). x.init_value) None e z h)
 
       module _ (f : Controls) (h : (read_port g j).flip_flop ≡ Some f) where

@@ -9,14 +9,15 @@ use lib.ListN.{length, take, drop, get_or, length-append, length-take, get_or-ap
 use lib.Seq.{drop-drop, get_or-take, take_at, drop_at}
 use Rattle.lists.specs.Lists.{sum_by, part, up_from, concat_map}
 use Rattle.lists.proofs.UpFrom.{length_up, up_at}
-use Rattle.rules.specs.Limits.{max_ports}
+use Rattle.rules.specs.Limits.{max_ports, max_wide}
 use Rattle.rules.specs.Cell.{ReadPort, output_start, output_slice}
 use Rattle.rules.specs.Ports.{Driving}
 use Rattle.net_memory.proofs.Outputs.{sum_views}
 use Rattle.swizzle_result.specs.declared.WideReadPort.{WideReadPort}
 use Rattle.swizzle_result.specs.declared.WideMemory.{WideMemory}
 use Rattle.swizzle_result.specs.View.{own, read_ports_of, addr_size, trit_size, read_by, reads_start, output_by, result_of}
-use Rattle.swizzle_parts.specs.Parts.{no_read_of, read_port, has_read, memory_at}
+use Rattle.swizzle_parts.specs.Parts.{There, no_read_of, read_port, has_read, memory_at}
+use Rattle.swizzle_parts.proofs.Powers.{NetFits, net_fits}
 use Rattle.swizzle_parts.proofs.Found.{found, read_there, read_known, read_found, no_read}
 
 -- the lists of each element, cut at one
@@ -107,3 +108,7 @@ module _ (g : WideMemory) (n i : ℕ) (nets trits image : List ℕ) where
   pub no_slice : has_read g n i ≡ false → output_slice (memory_at g nets trits image n).memory i (memory_at g nets trits image n).output ≡ []
   unfolding output_slice
   no_slice e = ap (λ (p : ReadPort). part (output_start (memory_at g nets trits image n).memory i) p.data_len (memory_at g nets trits image n).output) (no_read g n i nets trits image e)
+
+-- the products of an output net's place
+pub net_room : (g : WideMemory) (n wide bit : ℕ) → There g n → wide ≤ max_wide → bit < own g wide → NetFits g.unit g.mems n (bit / g.unit) bit
+net_room g n wide bit t w h = net_fits g.unit g.mems n bit wide t.small.unit_small t.small.mems_small t.below w (row_below bit g.unit (2 ^ wide) h)

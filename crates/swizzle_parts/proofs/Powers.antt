@@ -16,9 +16,6 @@ power_16 (suc (suc (suc (suc (suc k))))) h = absurd (omega arith)
 pub product_4096 : (a b : ℕ) → a ≤ 16 → b ≤ 256 → a * b ≤ 4096
 product_4096 a b h l = mul-le-mul {n₂ = 16} {m₂ = 256} h l
 
-pub product_whole : (a b : ℕ) → a ≤ 32768 → b ≤ 4096 → a * b ≤ 134217728
-product_whole a b h l = mul-le-mul {n₂ = 32768} {m₂ = 4096} h l
-
 -- the code's power of a small wide log
 pub power_of : (r k : ℕ) → r ≡ 2 ^ min k 32 → k ≤ 4 → (r ≡ 2 ^ k) × (r ≤ 16)
 power_of r k e h =

@@ -1,5 +1,5 @@
 -- Memory n of those that a struct and three lent arrays hold, where the struct's numbers are within the limits of a swizzle.
-use Rattle.std.specs.Prelude.{ℕ, ◌+◌, ◌<◌, ◌≤◌, min, Bool, true, false, ◌&&◌, List, [], take, drop, get_or, leb, ltb}
+use Rattle.std.specs.Prelude.{ℕ, ◌+◌, ◌<◌, ◌≤◌, min, Bool, ◌&&◌, List, [], take, get_or, leb, ltb}
 use Rattle.lists.specs.Choice.{when◌then◌else◌}
 use Rattle.lists.specs.Lists.{sum_by, part, all, concat_map}
 use Rattle.rules.specs.Limits.{max_ports, max_wide, max_unit, max_columns, max_nets}
@@ -57,12 +57,15 @@ pub record There (g : WideMemory) (n : ℕ) : Type 0 where
   pub small : Small g
   pub below : n < g.mems
 
--- a memory n, and a port of this number
-unfoldable pub has_write : WideMemory → ℕ → ℕ → Bool
-has_write g n j = is_there g n && ltb j (min max_ports g.write_count)
+-- a memory n, and a port of this number, of so many
+unfoldable pub has_port : WideMemory → ℕ → ℕ → ℕ → Bool
+has_port g n i count = is_there g n && ltb i (min max_ports count)
 
-unfoldable pub has_read : WideMemory → ℕ → ℕ → Bool
-has_read g n i = is_there g n && ltb i (min max_ports g.read_count)
+abbrev pub has_write : WideMemory → ℕ → ℕ → Bool
+has_write g n j = has_port g n j g.write_count
+
+abbrev pub has_read : WideMemory → ℕ → ℕ → Bool
+has_read g n i = has_port g n i g.read_count
 
 -- it, with the outputs that it drives
 unfoldable pub memory_at : WideMemory → List ℕ → List ℕ → List ℕ → ℕ → Driving

@@ -8,7 +8,7 @@ ghost use Rattle.lists.specs.Lists.{all, part};
 ghost use Rattle.rules.specs.Limits.{max_ports, max_wide, max_unit, max_columns, max_nets};
 ghost use Rattle.rules.specs.Cell.{write_at, read_at_of, output_slice};
 ghost use Rattle.swizzle_result.specs.View.{own, whole, write_ports_of, read_ports_of, write_size, trit_size, start_by, output_by};
-ghost use Rattle.swizzle_parts.specs.Parts.{small_write, small_read, is_small, Small, is_there, There, has_write, has_read, memory_at, read_port, write_start, read_start, trit_start, clear_at, reset_at, init_at, no_part};
+ghost use Rattle.swizzle_parts.specs.Parts.{small_write, small_read, is_small, Small, is_there, There, has_port, memory_at, read_port, write_start, read_start, trit_start, clear_at, reset_at, init_at, no_part};
 
 use swizzle_result::{WideMemory, WideReadPort, WideWritePort};
 
@@ -24,68 +24,43 @@ pub struct Part {
 fn writes_small(g: WideMemory) -> bool
     ensures { result ≡ all small_write (write_ports_of g) }
 {
-    let count = net_memory::ports_used(g.write_count);
-    let mut j = 0;
-    while j < count {
-        let p = g.write_ports[j];
-        if rules::MAX_WIDE < p.wide {
-            return false;
-        }
-        j += 1;
-    }
-    true
-}
-
-// Those of a read port.
-fn read_small(p: WideReadPort) -> bool
-    ensures { result ≡ small_read p }
-{
-    if rules::MAX_WIDE < p.wide {
-        return false;
-    }
-    p.first <= rules::MAX_NETS
+    let ports = &g.write_ports[..net_memory::ports_used(g.write_count)];
+    ports.iter().all(|p| p.wide <= rules::MAX_WIDE)
 }
 
 // Those of the read ports in use.
 fn reads_small(g: WideMemory) -> bool
     ensures { result ≡ all small_read (read_ports_of g) }
 {
-    let count = net_memory::ports_used(g.read_count);
-    let mut i = 0;
-    while i < count {
-        let p = g.read_ports[i];
-        if !read_small(p) {
-            return false;
-        }
-        i += 1;
-    }
-    true
+    let ports = &g.read_ports[..net_memory::ports_used(g.read_count)];
+    ports.iter().all(|p| p.wide <= rules::MAX_WIDE && p.first <= rules::MAX_NETS)
 }
 
 // Those of the struct.
+#[tactic(auto, unfolding(crate::specs::Parts::is_small))]
 fn is_small(g: WideMemory) -> bool
     ensures { result ≡ is_small g }
 {
-    if rules::MAX_COLUMNS < lists::u64_of_u32(g.mems) {
-        return false;
-    }
-    if rules::MAX_UNIT < g.unit {
-        return false;
-    }
-    if !writes_small(g) {
-        return false;
-    }
-    reads_small(g)
+    u64::from(g.mems) <= rules::MAX_COLUMNS
+        && g.unit <= rules::MAX_UNIT
+        && writes_small(g)
+        && reads_small(g)
 }
 
 // Whether there is a memory n.
+#[tactic(auto, unfolding(crate::specs::Parts::is_there))]
 fn is_there(g: WideMemory, n: usize) -> bool
     ensures { result ≡ is_there g n }
 {
-    if !is_small(g) {
-        return false;
-    }
-    n < lists::usize_of_u32(g.mems)
+    is_small(g) && n < g.mems as usize
+}
+
+// Whether there is a memory n with a port i, of so many.
+#[tactic(auto, unfolding(crate::specs::Parts::has_port))]
+fn has_port(g: WideMemory, n: usize, i: usize, count: u32) -> bool
+    ensures { result ≡ has_port g n i count }
+{
+    is_there(g, n) && i < net_memory::ports_used(count)
 }
 
 // A memory's bits of a port with this wide log.
@@ -93,8 +68,7 @@ fn own(g: WideMemory, wide: u32) -> usize
     requires { Small g × (wide ≤ max_wide) }
     ensures { (result ≡ own g wide) × (result ≤ 4096) }
 {
-    let rows = lists::two_to(wide);
-    lists::usize_of_u64(rows) * lists::usize_of_u32(g.unit)
+    lists::two_to(wide) as usize * g.unit as usize
 }
 
 // Those of all memories.
@@ -102,8 +76,7 @@ fn whole(g: WideMemory, wide: u32) -> usize
     requires { Small g × (wide ≤ max_wide) }
     ensures { (result ≡ whole g wide) × (result ≤ 134217728) }
 {
-    let n = own(g, wide);
-    lists::usize_of_u32(g.mems) * n
+    g.mems as usize * own(g, wide)
 }
 
 // How many nets a write port has.
@@ -111,8 +84,7 @@ fn write_size(g: WideMemory, p: WideWritePort) -> usize
     requires { Small g × (p.wide ≤ max_wide) }
     ensures { (result ≡ write_size g p) × (result ≤ 0x200000000) }
 {
-    let n = whole(g, p.wide);
-    lists::usize_of_u32(p.addr_len) + (n + n)
+    p.addr_len as usize + 2 * whole(g, p.wide)
 }
 
 // How many trits a read port has.
@@ -120,12 +92,10 @@ fn trit_size(g: WideMemory, p: WideReadPort) -> usize
     requires { Small g × (p.wide ≤ max_wide) }
     ensures { (result ≡ trit_size g p) × (result ≤ 0x200000000) }
 {
-    let f = p.flip_flop;
-    let n = whole(g, p.wide);
-    match f {
-        None => 0,
-        Some(_) => n + (n + n),
+    if p.flip_flop.is_none() {
+        return 0;
     }
+    3 * whole(g, p.wide)
 }
 
 // Where the nets of write port j start.
@@ -133,12 +103,9 @@ fn write_start(g: WideMemory, j: usize) -> usize
     requires { Small g × (j ≤ min max_ports g.write_count) }
     ensures { (result ≡ write_start g j) × (result ≤ j * 0x200000000) }
 {
-    let mut at: usize = 0;
-    let mut k = 0;
-    while k < j {
-        let p = g.write_ports[k];
-        at += write_size(g, p);
-        k += 1;
+    let mut at = 0;
+    for port in &g.write_ports[..j] {
+        at += write_size(g, *port);
     }
     at
 }
@@ -149,48 +116,22 @@ fn read_start(g: WideMemory, i: usize) -> usize
     ensures { (result ≡ read_start g i) × (result ≤ 0x1000000000 + i * 0x100000000) }
 {
     let mut at = write_start(g, net_memory::ports_used(g.write_count));
-    let mut k = 0;
-    while k < i {
-        let p = g.read_ports[k];
-        at += lists::usize_of_u32(p.addr_len);
-        k += 1;
+    for port in &g.read_ports[..i] {
+        at += port.addr_len as usize;
     }
     at
 }
 
-// Where the trits of read port i start.
+// Where the trits of read port i start. No one loop for nets and trits: a closure for a port's size would have to be told that each port's numbers are small.
 fn trit_start(g: WideMemory, i: usize) -> usize
     requires { Small g × (i ≤ min max_ports g.read_count) }
     ensures { (result ≡ trit_start g i) × (result ≤ i * 0x200000000) }
 {
-    let mut at: usize = 0;
-    let mut k = 0;
-    while k < i {
-        let p = g.read_ports[k];
-        at += trit_size(g, p);
-        k += 1;
+    let mut at = 0;
+    for port in &g.read_ports[..i] {
+        at += trit_size(g, *port);
     }
     at
-}
-
-// Whether there is a memory n with a write port j.
-fn has_write(g: WideMemory, n: usize, j: usize) -> bool
-    ensures { result ≡ has_write g n j }
-{
-    if !is_there(g, n) {
-        return false;
-    }
-    j < net_memory::ports_used(g.write_count)
-}
-
-// Whether there is a memory n with a read port i.
-fn has_read(g: WideMemory, n: usize, i: usize) -> bool
-    ensures { result ≡ has_read g n i }
-{
-    if !is_there(g, n) {
-        return false;
-    }
-    i < net_memory::ports_used(g.read_count)
 }
 
 // The depth of memory n; 0 where there is none.
@@ -200,7 +141,7 @@ pub fn depth_of(g: WideMemory, n: usize) -> u32
     if !is_there(g, n) {
         return 0;
     }
-    if n < lists::usize_of_u32(g.full) {
+    if n < g.full as usize {
         return g.full_depth;
     }
     g.part_depth
@@ -215,17 +156,36 @@ fn no_part() -> Part
 }
 
 // The address of write port j in the nets, which all memories share.
+#[tactic(auto, using(crate::proofs::Found::write_known))]
 pub fn write_addr_part(g: WideMemory, n: usize, j: usize) -> Part
     ensures { (nets trits image : List ℕ) → part result.start result.size nets ≡ (write_at (memory_at g nets trits image n).memory j).addr }
 {
-    if !has_write(g, n, j) {
+    if !has_port(g, n, j, g.write_count) {
         return no_part();
     }
     let p = g.write_ports[j];
-    let start = write_start(g, j);
     Part {
-        start,
-        size: lists::usize_of_u32(p.addr_len),
+        start: write_start(g, j),
+        size: p.addr_len as usize,
+    }
+}
+
+// Memory n's data or mask of write port j: after none or one times the columns of all memories.
+#[tactic(auto, using(crate::proofs::Found::write_known))]
+fn columns_part(g: WideMemory, n: usize, j: usize, before: usize) -> Part
+    requires { before ≤ 1 }
+    ensures data_part { before ≡ 0 → (nets trits image : List ℕ) → part result.start result.size nets ≡ (write_at (memory_at g nets trits image n).memory j).bits }
+    ensures mask_part { before ≡ 1 → (nets trits image : List ℕ) → part result.start result.size nets ≡ (write_at (memory_at g nets trits image n).memory j).mask }
+{
+    if !has_port(g, n, j, g.write_count) {
+        return no_part();
+    }
+    let p = g.write_ports[j];
+    let size = own(g, p.wide);
+    let inside = p.addr_len as usize + before * whole(g, p.wide) + n * size;
+    Part {
+        start: write_start(g, j) + inside,
+        size,
     }
 }
 
@@ -233,101 +193,73 @@ pub fn write_addr_part(g: WideMemory, n: usize, j: usize) -> Part
 pub fn write_data_part(g: WideMemory, n: usize, j: usize) -> Part
     ensures { (nets trits image : List ℕ) → part result.start result.size nets ≡ (write_at (memory_at g nets trits image n).memory j).bits }
 {
-    if !has_write(g, n, j) {
-        return no_part();
-    }
-    let p = g.write_ports[j];
-    let size = own(g, p.wide);
-    let before = lists::usize_of_u32(p.addr_len) + n * size;
-    let start = write_start(g, j) + before;
-    Part { start, size }
+    columns_part(g, n, j, 0)
 }
 
 // Its mask.
 pub fn write_mask_part(g: WideMemory, n: usize, j: usize) -> Part
     ensures { (nets trits image : List ℕ) → part result.start result.size nets ≡ (write_at (memory_at g nets trits image n).memory j).mask }
 {
-    if !has_write(g, n, j) {
-        return no_part();
-    }
-    let p = g.write_ports[j];
-    let size = own(g, p.wide);
-    let before = lists::usize_of_u32(p.addr_len) + whole(g, p.wide) + n * size;
-    let start = write_start(g, j) + before;
-    Part { start, size }
+    columns_part(g, n, j, 1)
 }
 
-// The address of read port i in the nets, which all memories share.
+// The address of read port i in the nets, which all memories share. One function for both kinds of port would be no shorter.
+#[tactic(auto, using(crate::proofs::Found::read_known))]
 pub fn read_addr_part(g: WideMemory, n: usize, i: usize) -> Part
     ensures { (nets trits image : List ℕ) → part result.start result.size nets ≡ (read_at_of (memory_at g nets trits image n).memory i).addr }
 {
-    if !has_read(g, n, i) {
+    if !has_port(g, n, i, g.read_count) {
         return no_part();
     }
     let p = g.read_ports[i];
-    let start = read_start(g, i);
     Part {
-        start,
-        size: lists::usize_of_u32(p.addr_len),
+        start: read_start(g, i),
+        size: p.addr_len as usize,
     }
 }
 
-// Memory n's trits of read port i that start after so many of the port's.
-fn own_part(g: WideMemory, n: usize, i: usize, before: usize) -> Part
-    requires { There g n × (i < min max_ports g.read_count) × (before ≤ 0x100000000) }
-    ensures { (result.start ≡ trit_start g i + (before + n * own g (read_port g i).wide)) × (result.size ≡ own g (read_port g i).wide) }
+// Memory n's clear, reset or init trits of read port i: after none, one or two times the columns of all memories; none where it has no flip-flop.
+#[tactic(auto, using(crate::proofs::Found::read_known))]
+fn trits_part(g: WideMemory, n: usize, i: usize, before: usize) -> Part
+    requires { before ≤ 2 }
+    ensures clear_part { before ≡ 0 → (nets trits image : List ℕ) → part result.start result.size trits ≡ clear_at (memory_at g nets trits image n).memory i }
+    ensures reset_part { before ≡ 1 → (nets trits image : List ℕ) → part result.start result.size trits ≡ reset_at (memory_at g nets trits image n).memory i }
+    ensures init_part { before ≡ 2 → (nets trits image : List ℕ) → part result.start result.size trits ≡ init_at (memory_at g nets trits image n).memory i }
 {
+    if !has_port(g, n, i, g.read_count) {
+        return no_part();
+    }
     let p = g.read_ports[i];
+    if p.flip_flop.is_none() {
+        return no_part();
+    }
     let size = own(g, p.wide);
-    let start = trit_start(g, i) + (before + n * size);
-    Part { start, size }
+    let inside = before * whole(g, p.wide) + n * size;
+    Part {
+        start: trit_start(g, i) + inside,
+        size,
+    }
 }
 
-// Memory n's clear trits of read port i in the trits; none where it has no flip-flop.
+// Memory n's clear trits of read port i in the trits.
 pub fn clear_part(g: WideMemory, n: usize, i: usize) -> Part
     ensures { (nets trits image : List ℕ) → part result.start result.size trits ≡ clear_at (memory_at g nets trits image n).memory i }
 {
-    if !has_read(g, n, i) {
-        return no_part();
-    }
-    let p = g.read_ports[i];
-    let f = p.flip_flop;
-    match f {
-        None => no_part(),
-        Some(_) => own_part(g, n, i, 0),
-    }
+    trits_part(g, n, i, 0)
 }
 
 // Its reset trits.
 pub fn reset_part(g: WideMemory, n: usize, i: usize) -> Part
     ensures { (nets trits image : List ℕ) → part result.start result.size trits ≡ reset_at (memory_at g nets trits image n).memory i }
 {
-    if !has_read(g, n, i) {
-        return no_part();
-    }
-    let p = g.read_ports[i];
-    let f = p.flip_flop;
-    let all = whole(g, p.wide);
-    match f {
-        None => no_part(),
-        Some(_) => own_part(g, n, i, all),
-    }
+    trits_part(g, n, i, 1)
 }
 
 // Its init trits.
 pub fn init_part(g: WideMemory, n: usize, i: usize) -> Part
     ensures { (nets trits image : List ℕ) → part result.start result.size trits ≡ init_at (memory_at g nets trits image n).memory i }
 {
-    if !has_read(g, n, i) {
-        return no_part();
-    }
-    let p = g.read_ports[i];
-    let f = p.flip_flop;
-    let all = whole(g, p.wide);
-    match f {
-        None => no_part(),
-        Some(_) => own_part(g, n, i, all + all),
-    }
+    trits_part(g, n, i, 2)
 }
 
 // Where the trits of memory n start in the image.
@@ -335,11 +267,11 @@ fn image_start(g: WideMemory, n: usize) -> usize
     requires { (g.unit ≤ max_unit) × (n ≤ max_columns) }
     ensures { result ≡ start_by g n }
 {
-    let full = lists::usize_of_u32(g.full);
+    let full = g.full as usize;
     let low = n.min(full);
     let high = n - low;
-    let rows = low * lists::usize_of_u32(g.full_depth) + high * lists::usize_of_u32(g.part_depth);
-    rows * lists::usize_of_u32(g.unit)
+    let rows = low * g.full_depth as usize + high * g.part_depth as usize;
+    rows * g.unit as usize
 }
 
 // Memory n's part of the image.
@@ -418,22 +350,24 @@ pub fn image_of(g: WideMemory, image: &[u8], n: usize) -> &[u8]
 // ---- the outputs
 
 // The net of a bit of memory n's outputs of this port: they stand row after row, all memories' columns in each row.
+#[tactic(auto, using(crate::proofs::Outs::net_room))]
 fn net_of(g: WideMemory, p: WideReadPort, n: usize, bit: usize) -> u32
     requires { There g n × (p.wide ≤ max_wide) × (p.first ≤ max_nets) × (bit < own g p.wide) }
     ensures { result ≡ get_or (output_by g n p) bit 0 }
 {
-    let unit = lists::usize_of_u32(g.unit);
-    let columns = lists::usize_of_u32(g.mems) * unit;
+    let unit = g.unit as usize;
+    let columns = g.mems as usize * unit;
     let row = bit / unit;
     let at = row * columns + n * unit;
     p.first + (at + bit % unit) as u32
 }
 
 // The output net of a bit of memory n's read port i; 0 where there is none.
+#[tactic(auto, using(crate::proofs::Found::read_known))]
 pub fn output_of(g: WideMemory, n: usize, i: usize, bit: usize) -> u32
     ensures { (nets trits image : List ℕ) → result ≡ get_or (output_slice (memory_at g nets trits image n).memory i (memory_at g nets trits image n).output) bit 0 }
 {
-    if !has_read(g, n, i) {
+    if !has_port(g, n, i, g.read_count) {
         return 0;
     }
     let p = g.read_ports[i];

@@ -86,7 +86,15 @@ pub fn planned_number(
     ensures { result ≡ planned_number long (given_of m nets.now trits.now) (plan_of s entries.now writes.now reads.now) }
 {
     let one = either(plan_too_large(s, entries, writes, reads), long);
-    let n = net_check::memory_number(m, nets, trits, rules::MAX_NETS, one, false, false);
+    let n = rules::number_of(net_check::call_refusal(
+        m,
+        nets,
+        trits,
+        rules::MAX_NETS,
+        one,
+        false,
+        false,
+    ));
     if n != 0 {
         return n;
     }
@@ -154,7 +162,7 @@ pub fn plan_number(
     ensures { result ≡ swizzle_plan_number next (given_of m nets.now trits.now) output.now (plan_of s entries.now writes.now reads.now) }
 {
     let one = plan_too_large(s, entries, writes, reads);
-    let n = port_outputs::driving_number(m, nets, trits, output, next, one);
+    let n = rules::number_of(port_outputs::driving_refusal(m, nets, trits, output, next, one));
     if n != 0 {
         return n;
     }

@@ -25,8 +25,6 @@ use Rattle.net_memory.specs.View.{read_by, flip_flop_by}
 use Rattle.image_geometry.specs.declared.Params.{Params}
 use Rattle.image_geometry.specs.View.{layout_by}
 use Rattle.swizzle_split.specs.declared.Split.{Split}
-use Rattle.swizzle_split.specs.declared.Outcome.{Outcome}
-use Rattle.swizzle_split.specs.declared.Outcome.TheVariants.{Refused, Accepted}
 use Rattle.swizzle_split.specs.Steps.{can_split, Gives, Refuses, Answers}
 use Rattle.swizzle_split.proofs.Limits.{can_fits}
 use Rattle.swizzle_read.specs.Port.{addr_by, scratch_of}
@@ -197,20 +195,20 @@ module _ (p : Params) (es : List ℕ) (new : ℕ) (r : MemoryReadPort) (x y : Li
             (f ∙ raw_kept p z es old new addr hw mux s me sa r x y c out scratch g.lent ck facts.pos holds-all facts.below)
 
 -- ---- what `split_addr` answers, by the port's own address and lengths
-module _ (p : Params) (es : List ℕ) (new : ℕ) (r : MemoryReadPort) (x : List ℕ) (o : Outcome) (n old : ℕ) (addr hw₀ hw mux₀ mux : Value) (ea : addr ≡ part 0 r.addr_len x)
+module _ (p : Params) (es : List ℕ) (new : ℕ) (r : MemoryReadPort) (x : List ℕ) (o : flips.Option Split) (n old : ℕ) (addr hw₀ hw mux₀ mux : Value) (ea : addr ≡ part 0 r.addr_len x)
     (eo : old ≡ wide_log2 p.width n) (en : n ≡ r.data_len) (a : Answers (layout_by p es) old new addr hw₀ hw mux₀ mux o) where
   own : Answers (layout_by p es) (wide_log2 p.width r.data_len) new (part 0 r.addr_len x) hw₀ hw mux₀ mux o
   own =
       subst (λ (k : ℕ). Answers (layout_by p es) k new (part 0 r.addr_len x) hw₀ hw mux₀ mux o) (eo ∙ ap (wide_log2 p.width) en)
       (subst (λ (v : Value). Answers (layout_by p es) old new v hw₀ hw mux₀ mux o) ea a)
 
-  pub gives_port : (s : Split) → o ≡ Accepted s → Gives (layout_by p es) (wide_log2 p.width r.data_len) new (part 0 r.addr_len x) hw₀ hw mux₀ mux s
-  gives_port s e = subst (λ (k : Outcome). Answers (layout_by p es) (wide_log2 p.width r.data_len) new (part 0 r.addr_len x) hw₀ hw mux₀ mux k) e own
+  pub gives_port : (s : Split) → o ≡ flips.Some s → Gives (layout_by p es) (wide_log2 p.width r.data_len) new (part 0 r.addr_len x) hw₀ hw mux₀ mux s
+  gives_port s e = subst (λ (k : flips.Option Split). Answers (layout_by p es) (wide_log2 p.width r.data_len) new (part 0 r.addr_len x) hw₀ hw mux₀ mux k) e own
 
-  refuses : o ≡ Refused → Refuses (layout_by p es) (wide_log2 p.width r.data_len) new (part 0 r.addr_len x) hw₀ hw mux₀ mux
-  refuses e = subst (λ (k : Outcome). Answers (layout_by p es) (wide_log2 p.width r.data_len) new (part 0 r.addr_len x) hw₀ hw mux₀ mux k) e own
+  refuses : o ≡ flips.None → Refuses (layout_by p es) (wide_log2 p.width r.data_len) new (part 0 r.addr_len x) hw₀ hw mux₀ mux
+  refuses e = subst (λ (k : flips.Option Split). Answers (layout_by p es) (wide_log2 p.width r.data_len) new (part 0 r.addr_len x) hw₀ hw mux₀ mux k) e own
 
-  pub refused_port : o ≡ Refused → can_split (layout_by p es) (wide_log2 p.width r.data_len) new (length (part 0 r.addr_len x)) ≡ false
+  pub refused_port : o ≡ flips.None → can_split (layout_by p es) (wide_log2 p.width r.data_len) new (length (part 0 r.addr_len x)) ≡ false
   refused_port e = (refuses e).cannot
 
 pub limits_by : (q : Layout) (old new : ℕ) (addr hw₀ hw mux₀ mux : Value) (s : Split) (z : Sizes) → Gives q old new addr hw₀ hw mux₀ mux s → Measures q z

@@ -26,7 +26,7 @@ use swizzle_pieces::Pieces;
 use swizzle_read::{Clocking, ReadPort};
 use swizzle_read_trits::Trits;
 use swizzle_result::{WideMemory, WideReadPort};
-use swizzle_split::{Outcome, Split};
+use swizzle_split::Split;
 
 // Room for a part of an address, which has at most 32 nets.
 const ROOM: usize = rules::ADDR_BITS as usize;
@@ -295,7 +295,7 @@ impl Reads<'_> {
         let addr = net_memory::read_addr_of(r, x.nets);
         let old = net_memory::wide::wide_log(p.width, r.data_len as usize);
         let split = swizzle_split::split_addr(&mut hw, &mut mux, p, old, x.wide, addr);
-        let Outcome::Accepted(s) = split else {
+        let Some(s) = split else {
             return;
         };
         if !self.fits(p, z, s, r.flip_flop, scratch.len(), log.state.next) {

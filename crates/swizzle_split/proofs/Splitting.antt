@@ -13,36 +13,19 @@ use borrow.Author.Tests.{ltb-true}
 use Rattle.lists.specs.Choice.{when◌then◌else◌}
 use Rattle.lists.proofs.Store.{sets_at}
 use Rattle.rules.specs.Limits.{addr_bits}
-use Rattle.rules.specs.Numbers.{softs, top_bits, bits_for}
+use Rattle.rules.specs.Numbers.{softs, bits_for}
 use Rattle.rules.specs.Log.{flag}
 use Rattle.rules.specs.Value.{Value, zext}
 use Rattle.rules.specs.Geometry.{Layout, all_chunks, soft, soft_bits}
-use Rattle.rules.specs.Swizzle.{Role, Soft, Wide, Row, High, role_of, doubles, wide_after, rows_after, roles, low_roles, row_nets, mux_nets, mux_roles, count_doubles, split_by, split_addr}
-use Rattle.rules.proofs.Walks.{softs_le}
+use Rattle.rules.specs.Swizzle.{Role, Soft, Wide, Row, High, role_of, doubles, wide_after, rows_after, roles, low_roles, row_nets, mux_nets, count_doubles, split_by, split_addr}
 use Rattle.swizzle_laws.specs.Masks.{rows_mask}
 use Rattle.swizzle_laws.proofs.Masking.{rows_below}
 use Rattle.swizzle_laws.proofs.Within.{softs_of, soft-roles}
 use Rattle.swizzle_laws.proofs.Places.{softs_add, softs_mono}
 use Rattle.swizzle_split.specs.declared.Taking.{Taking}
-use Rattle.swizzle_split.specs.declared.Low.{Low}
-use Rattle.swizzle_split.specs.declared.Split.{Split}
-use Rattle.swizzle_split.specs.Steps.{roles_of, start_by, low_by, Starts, Took, Fits, Splits, row_bits}
-
--- ---- bits for n things
-pub bits_none : (n : ℕ) → n ≡ 0 → top_bits addr_bits 0 ≡ bits_for n
-unfolding bits_for
-bits_none n e = rw e
-
-pub bits_some : (n : ℕ) → top_bits addr_bits (n - 1) ≡ bits_for n
-unfolding bits_for
-bits_some n = refl
+use Rattle.swizzle_split.specs.Steps.{start_by, Starts, Took, Fits, Splits}
 
 -- ---- where the walk starts
-pub start_is : (mask hard old new : ℕ) (low : Low) → low ≡ low_by old mask
-    → ◌≡◌ {A = Taking} (record { mask = low.mask; wide = new - (old - low.softs); rows = hard - new; hw = 0; mux = 0; doubled = 0; weight = low.weight; row_mask = low.row_mask }) (start_by mask hard old new)
-start_is mask hard old new low e =
-    ap (λ (x : Low). record { mask = x.mask; wide = new - (old - x.softs); rows = hard - new; hw = 0; mux = 0; doubled = 0; weight = x.weight; row_mask = x.row_mask }) e
-
 length_low : (k m : ℕ) → length (low_roles k m) ≡ k
 unfolding low_roles
 length_low zero m = refl

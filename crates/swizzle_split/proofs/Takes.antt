@@ -1,44 +1,19 @@
 -- The walk over an address, in tail form: what is left gives the whole.
 use mathlib.Core.Path.{◌≡◌, refl, sym, ap, ◌∙◌, subst}
-use Prim.Native.Nat.{ℕ, zero, suc, ◌+◌, ◌-◌, ◌*◌, ◌/◌, ◌%◌, ◌^◌, ◌<◌, ◌≤◌}
-use native.Mathlib.Nat.{zero-add, add_assoc, add-zero, mul-add, mul_assoc, mul_left_comm, mul_comm, mul-one, mul-zero, pow-succ', le_trans, mul-le-mul_left}
+use Prim.Native.Nat.{ℕ, suc, ◌+◌, ◌*◌, ◌/◌, ◌^◌, ◌<◌, ◌≤◌}
+use native.Mathlib.Nat.{zero-add, add_assoc, add-zero, mul-add, mul_assoc, mul_left_comm, mul-one, pow-succ', le_trans, mul-le-mul_left}
 use native.Mathlib.Numerals.{add-one}
 use native.Mathlib.Omega.{arith}
 use lib.Pow.{pow_pos}
-use mathlib.Core.Bool.{Bool, true, false, not}
 use mathlib.Core.List.{List, [], ◌∷◌}
-use lib.ListN.{length, drop, get_or, set, drop_of_length-le, length-drop}
-use lib.Seq.{sets, set_out, drop-cons}
-use lib.Dec.{eqb, ltb}
-use borrow.Author.Tests.{eq-eqb, ne_eqb, lt-ltb, le-ltb}
-use Rattle.lists.specs.Choice.{when◌then◌else◌}
+use lib.ListN.{length, drop, get_or, set, drop_of_length-le}
+use lib.Seq.{sets, drop-cons}
 use Rattle.rules.specs.Log.{flag}
 use Rattle.rules.specs.Value.{Value}
 use Rattle.rules.specs.Swizzle.{Role, Soft, Wide, Row, High, role_of, is_row, is_chunk, doubles, wide_after, rows_after, roles, row_nets, mux_nets, mux_roles, count_doubles}
 use Rattle.swizzle_laws.specs.Masks.{rows_mask}
 use Rattle.swizzle_split.specs.declared.Taking.{Taking}
-use Rattle.swizzle_split.specs.Steps.{taken, to_row, to_mux, roles_of, Roomy, Starts, Took}
-
--- ---- the role of a bit
-module _ (mask wide rows : ℕ) where
-  pub is_soft : mask % 2 ≡ 1 → Soft ≡ role_of mask wide rows
-  unfolding role_of
-  is_soft e = rw (eq-eqb (mask % 2) 1 e)
-
-  pub is_wide : (mask % 2 ≡ 1 → ⊥) → 0 < wide → Wide ≡ role_of mask wide rows
-  unfolding role_of
-  is_wide e h = rw (ne_eqb (mask % 2) 1 e, lt-ltb 0 wide h)
-
-  pub is_row_lem : (mask % 2 ≡ 1 → ⊥) → wide ≤ 0 → 0 < rows → Row ≡ role_of mask wide rows
-  unfolding role_of
-  is_row_lem e h g = rw (ne_eqb (mask % 2) 1 e, le-ltb 0 wide h, lt-ltb 0 rows g)
-
-  pub is_high : (mask % 2 ≡ 1 → ⊥) → wide ≤ 0 → rows ≤ 0 → High ≡ role_of mask wide rows
-  unfolding role_of
-  is_high e h g = rw (ne_eqb (mask % 2) 1 e, le-ltb 0 wide h, le-ltb 0 rows g)
-
-pub put_out : (l : List ℕ) (i v : ℕ) → length l ≤ i → l ≡ set l i v
-put_out l i v h = sym (set_out l i v h)
+use Rattle.swizzle_split.specs.Steps.{taken, to_row, to_mux, roles_of, Took}
 
 -- ---- one bit
 module _ (t : Taking) (a : ℕ) (rs : List Role) (more : Value) where
@@ -144,32 +119,7 @@ pub record On (addr hw₀ mux₀ : Value) (t₀ : Taking) (hw mux : Value) (t : 
   pub low : t.row_mask < t.weight
   pub fits : t.weight * 2 ^ length (drop i addr) ≤ 4294967296
 
-pub on_starts : (addr hw mux : Value) (t : Taking) → Starts t addr → On addr hw mux t hw mux t 0
-on_starts addr hw mux t s = record {
-  within = omega arith;
-  hw_low = omega (arith, s.hw_none);
-  mux_low = omega (arith, s.mux_none);
-  doubled_low = omega (arith, s.doubled_none);
-  rows = ap (λ (i : ℕ). sets hw i (row_nets (roles_of t addr) addr)) s.hw_none;
-  row_count = omega (arith, s.hw_none);
-  muxes = ap (λ (i : ℕ). sets mux i (mux_nets (roles_of t addr) addr)) s.mux_none;
-  mux_count = omega (arith, s.mux_none);
-  doubles = omega (arith, s.doubled_none);
-  mask = refl;
-  low = s.low;
-  fits = s.fits;
-}
-
 module _ (addr hw₀ mux₀ : Value) (t₀ : Taking) (hw mux : Value) (t : Taking) (i : ℕ) (o : On addr hw₀ mux₀ t₀ hw mux t i) (s : length addr ≤ 4294967294) where
-  pub on_roomy : Roomy t
-  on_roomy = record {
-    hw_max = omega (arith, o.hw_low, o.within);
-    mux_max = omega (arith, o.mux_low, o.within);
-    doubled_max = omega (arith, o.doubled_low, o.within);
-    weight_max = weight_max _ _ _ o.fits;
-    mask_max = omega (arith, o.low, weight_max _ _ _ o.fits);
-  }
-
   module _ (h : i < length addr) (hw' mux' : Value) (t' : Taking)
       (e : t' ≡ taken (role_of t.mask t.wide t.rows) t)
       (f : hw' ≡ to_row (role_of t.mask t.wide t.rows) t (get_or addr i 0) hw)

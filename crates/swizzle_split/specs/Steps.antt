@@ -1,18 +1,15 @@
 -- One bit of an address after the other.
-use Rattle.std.specs.Prelude.{◌≡◌, ℕ, ◌+◌, ◌-◌, ◌*◌, ◌/◌, ◌^◌, ◌≤◌, ◌<◌, Bool, true, false, ◌&&◌, leb, List, length, take, set}
+use Rattle.std.specs.Prelude.{◌≡◌, ℕ, ◌+◌, ◌-◌, ◌*◌, ◌/◌, ◌^◌, ◌≤◌, ◌<◌, Bool, true, false, Option, None, Some, ◌&&◌, leb, List, length, set}
 use Rattle.std.proofs.lemmas.List.Edits.{sets}
-use Rattle.lists.specs.Choice.{when◌then◌else◌}
 use Rattle.rules.specs.Limits.{addr_bits, max_wide, max_columns}
 use Rattle.rules.specs.Numbers.{softs}
 use Rattle.rules.specs.Value.{Value}
 use Rattle.rules.specs.Geometry.{Layout, all_chunks, soft}
-use Rattle.rules.specs.Swizzle.{Role, Soft, Wide, Row, High, is_row, roles, low_roles, row_nets, mux_nets, mux_roles, count_doubles, split_addr}
+use Rattle.rules.specs.Swizzle.{Role, Soft, Wide, Row, High, roles, low_roles, row_nets, mux_nets, mux_roles, count_doubles, split_addr}
 use Rattle.swizzle_laws.specs.Masks.{rows_mask}
 use Rattle.swizzle_split.specs.declared.Taking.{Taking}
 use Rattle.swizzle_split.specs.declared.Low.{Low}
 use Rattle.swizzle_split.specs.declared.Split.{Split}
-use Rattle.swizzle_split.specs.declared.Outcome.{Outcome}
-use Rattle.swizzle_split.specs.declared.Outcome.TheVariants.{Refused, Accepted}
 
 -- what a bit of this role leaves
 abbrev pub taken : Role → Taking → Taking
@@ -125,6 +122,6 @@ pub record Gives (q : Layout) (old new : ℕ) (addr hw₀ hw mux₀ mux : Value)
   pub can : can_split q old new (length addr) ≡ true
   pub splits : Splits q old new addr hw₀ hw mux₀ mux r
 
-abbrev pub Answers : Layout → ℕ → ℕ → Value → Value → Value → Value → Value → Outcome → Type 0
-Answers q old new addr hw₀ hw mux₀ mux Refused = Refuses q old new addr hw₀ hw mux₀ mux
-Answers q old new addr hw₀ hw mux₀ mux (Accepted r) = Gives q old new addr hw₀ hw mux₀ mux r
+abbrev pub Answers : Layout → ℕ → ℕ → Value → Value → Value → Value → Value → Option Split → Type 0
+Answers q old new addr hw₀ hw mux₀ mux None = Refuses q old new addr hw₀ hw mux₀ mux
+Answers q old new addr hw₀ hw mux₀ mux (Some r) = Gives q old new addr hw₀ hw mux₀ mux r

@@ -8,7 +8,7 @@ ghost use Rattle.swizzle_split.specs.Steps.{start_by, taken, to_row, to_mux, Roo
 ghost use Rattle.rules.specs.Limits.{addr_bits};
 ghost use Rattle.rules.specs.Numbers.{bits_for, softs};
 ghost use Rattle.std.proofs.lemmas.List.Edits.{sets};
-ghost use Rattle.rules.specs.Geometry.{all_chunks};
+ghost use Rattle.rules.specs.Geometry.{all_chunks, soft};
 ghost use Rattle.image_geometry.specs.View.{layout_by};
 
 use image_geometry::Params;
@@ -23,13 +23,6 @@ pub struct Split {
     pub mux_len: u32,
     pub pieces: u32,
     pub mask: u32,
-}
-
-// A split, or none where the numbers pass their limits.
-#[derive(Clone, Copy)]
-pub enum Outcome {
-    Refused,
-    Accepted(Split),
 }
 
 // A walk over an address on its way: what is left of the mask, the wide bits and the row bits; the nets so far; the bits that double the pieces;
@@ -55,176 +48,116 @@ struct Low {
     row_mask: u64,
 }
 
-// Stores a net, unless it lies past the end.
-fn put(to: &mut [u32], at: u32, net: u32)
-    ensures { to.new ≡ set to.old at net }
-{
-    let i = lists::usize_of_u32(at);
-    if i < to.len() {
-        to[i] = net;
+impl Taking {
+    // Where the walk over an address starts.
+    fn from(p: Params, old: u32, new: u32) -> Taking
+        requires { (old ≤ addr_bits) × (old - softs old p.soft_mask ≤ new) × (new ≤ p.hard) }
+        ensures { result ≡ start_by p.soft_mask p.hard old new }
+    {
+        let low = low_bits(old, p.soft_mask);
+        Taking {
+            mask: low.mask,
+            wide: new - (old - low.softs),
+            rows: p.hard - new,
+            hw: 0,
+            mux: 0,
+            doubled: 0,
+            weight: low.weight,
+            row_mask: low.row_mask,
+        }
+    }
+
+    // A bit of an address by its role.
+    #[tactic(auto, unfolding(rules::specs::Swizzle::role_of))]
+    fn take(self, net: u32, hw: &mut [u32], mux: &mut [u32]) -> Taking
+        requires { Roomy self }
+        ensures value { result ≡ taken (role_of self.mask self.wide self.rows) self }
+        ensures hw_after { hw.new ≡ to_row (role_of self.mask self.wide self.rows) self net hw.old }
+        ensures mux_after { mux.new ≡ to_mux (role_of self.mask self.wide self.rows) self net mux.old }
+    {
+        let soft = self.mask % 2 == 1;
+        let left = Taking {
+            mask: self.mask / 2,
+            ..self
+        };
+        if !soft && self.wide == 0 && 0 < self.rows {
+            lists::put(hw, self.hw as usize, net);
+            return Taking {
+                rows: self.rows - 1,
+                hw: self.hw + 1,
+                ..left
+            };
+        }
+        lists::put(mux, self.mux as usize, net);
+        let left = Taking {
+            mux: self.mux + 1,
+            weight: 2 * self.weight,
+            ..left
+        };
+        if soft {
+            return Taking {
+                doubled: self.doubled + 1,
+                ..left
+            };
+        }
+        if 0 < self.wide {
+            return Taking {
+                wide: self.wide - 1,
+                doubled: self.doubled + 1,
+                row_mask: self.row_mask + self.weight,
+                ..left
+            };
+        }
+        left
+    }
+
+    // Every bit of an address.
+    fn take_all(self, addr: &[u32], hw: &mut [u32], mux: &mut [u32]) -> Taking
+        requires { Starts self addr.now }
+        ensures { Took self result addr.now hw.old hw.new mux.old mux.new }
+    {
+        let mut t = self;
+        for net in addr {
+            t = t.take(*net, hw, mux);
+        }
+        t
     }
 }
 
-fn taken_by(
-    mask: u32,
-    wide: u32,
-    rows: u32,
-    hw: u32,
-    mux: u32,
-    doubled: u32,
-    weight: u64,
-    row_mask: u64,
-) -> Taking
-    ensures { result ≡ record { mask = mask; wide = wide; rows = rows; hw = hw; mux = mux; doubled = doubled; weight = weight; row_mask = row_mask } }
-{
-    Taking {
-        mask,
-        wide,
-        rows,
-        hw,
-        mux,
-        doubled,
-        weight,
-        row_mask,
-    }
-}
-
-// A bit of an address by its role.
-fn take_bit(t: Taking, net: u32, hw: &mut [u32], mux: &mut [u32]) -> Taking
-    requires { Roomy t }
-    ensures value { result ≡ taken (role_of t.mask t.wide t.rows) t }
-    ensures hw_after { hw.new ≡ to_row (role_of t.mask t.wide t.rows) t net hw.old }
-    ensures mux_after { mux.new ≡ to_mux (role_of t.mask t.wide t.rows) t net mux.old }
-{
-    let half = t.mask / 2;
-    if t.mask % 2 == 1 {
-        put(mux, t.mux, net);
-        return taken_by(
-            half,
-            t.wide,
-            t.rows,
-            t.hw,
-            t.mux + 1,
-            t.doubled + 1,
-            2 * t.weight,
-            t.row_mask,
-        );
-    }
-    if 0 < t.wide {
-        put(mux, t.mux, net);
-        return taken_by(
-            half,
-            t.wide - 1,
-            t.rows,
-            t.hw,
-            t.mux + 1,
-            t.doubled + 1,
-            2 * t.weight,
-            t.row_mask + t.weight,
-        );
-    }
-    if 0 < t.rows {
-        put(hw, t.hw, net);
-        return taken_by(
-            half,
-            t.wide,
-            t.rows - 1,
-            t.hw + 1,
-            t.mux,
-            t.doubled,
-            t.weight,
-            t.row_mask,
-        );
-    }
-    put(mux, t.mux, net);
-    taken_by(
-        half,
-        t.wide,
-        t.rows,
-        t.hw,
-        t.mux + 1,
-        t.doubled,
-        2 * t.weight,
-        t.row_mask,
-    )
-}
-
-// Every bit of an address.
-fn take_bits(start: Taking, addr: &[u32], hw: &mut [u32], mux: &mut [u32]) -> Taking
-    requires { Starts start addr.now }
-    ensures { Took start result addr.now hw.old hw.new mux.old mux.new }
-{
-    let mut t = start;
-    let mut i = 0;
-    while i < addr.len() {
-        t = take_bit(t, addr[i], hw, mux);
-        i += 1;
-    }
-    t
-}
-
-// What a bit below the address adds to the bits that select a row: its weight, unless it is soft.
-fn row_weight(bit: u32, weight: u64) -> u64
-    requires { bit ≤ 1 }
-    ensures { result ≡ (1 - bit) * weight }
-{
-    if bit == 1 {
-        return 0;
-    }
-    weight
-}
-
-// The bits that a wide port leaves out of its address.
+// The bits that a wide port leaves out of its address; those that are not soft select a row.
 fn low_bits(old: u32, mask: u32) -> Low
     requires { old ≤ addr_bits }
-    ensures { result ≡ low_by old mask }
+    ensures value { result ≡ low_by old mask }
+    ensures few { result.softs ≤ old }
 {
-    let mut rest = mask;
-    let mut softs: u32 = 0;
-    let mut weight: u64 = 1;
-    let mut row_mask: u64 = 0;
-    let mut left = old;
-    while 0 < left {
-        let bit = rest % 2;
-        row_mask += row_weight(bit, weight);
-        softs += bit;
-        rest /= 2;
-        weight *= 2;
-        left -= 1;
-    }
+    let weight = lists::two_to(old);
+    let all = u64::from(mask);
     Low {
-        mask: rest,
-        softs,
+        mask: (all / weight) as u32,
+        softs: image_geometry::low_softs(old, mask),
         weight,
-        row_mask,
+        row_mask: weight - 1 - all % weight,
     }
 }
 
-fn pow2(k: u32) -> u64
-    requires { k ≤ addr_bits }
-    ensures { result ≡ 2 ^ k }
+// Into how many parts the soft bits divide the rows.
+#[tactic(auto, using(crate::proofs::Lows::parts_are))]
+fn parts(p: Params) -> u64
+    ensures value { (es : List ℕ) → result ≡ 2 ^ soft (layout_by p es) }
+    ensures positive { 0 < result }
+    ensures most { result ≤ 4294967296 }
 {
-    let mut power: u64 = 1;
-    let mut i: u32 = 0;
-    while i < k {
-        power *= 2;
-        i += 1;
-    }
-    power
+    lists::two_to(image_geometry::soft_bits(p.soft_mask))
 }
 
 // The chunks of a layout, whatever its entries are.
 fn all_chunks(p: Params) -> u64
     requires { p.hard ≤ addr_bits }
-    ensures { (es : List ℕ) → result ≡ all_chunks (layout_by p es) }
+    ensures value { (es : List ℕ) → result ≡ all_chunks (layout_by p es) }
+    ensures most { result ≤ 4294967295 }
 {
-    let deep = pow2(p.hard);
-    let base = lists::u64_of_u32(p.depth) / pow2(image_geometry::soft_bits(p.soft_mask));
-    let full = base / deep;
-    if base % deep == 0 {
-        return full;
-    }
-    full + 1
+    let base = u64::from(p.depth) / parts(p);
+    base.div_ceil(lists::two_to(p.hard))
 }
 
 // A value of `len` nets at the front filled up with net 0 to `want`; gives its length.
@@ -232,44 +165,16 @@ fn pad(to: &mut [u32], len: u32, want: u32) -> u32
     ensures value { result ≡ len + (want - len) }
     ensures to_after { to.new ≡ sets to.old len (replicate (want - len) 0) }
 {
-    if want <= len {
-        return len;
-    }
-    lists::fill(
-        to,
-        lists::usize_of_u32(len),
-        lists::usize_of_u32(want - len),
-        0,
-    );
-    want
+    lists::fill(to, len as usize, want.saturating_sub(len) as usize, 0);
+    want.max(len)
 }
 
 // How many bits count up to n things.
+#[tactic(auto, unfolding(rules::specs::Numbers::bits_for))]
 fn bits_for(n: u32) -> u32
     ensures { result ≡ bits_for n }
 {
-    if n == 0 {
-        return image_geometry::top_bits(0);
-    }
-    image_geometry::top_bits(n - 1)
-}
-
-// Where the walk over an address starts.
-fn start_of(p: Params, old: u32, new: u32) -> Taking
-    requires { (old ≤ addr_bits) × (old - softs old p.soft_mask ≤ new) × (new ≤ p.hard) }
-    ensures { result ≡ start_by p.soft_mask p.hard old new }
-{
-    let low = low_bits(old, p.soft_mask);
-    taken_by(
-        low.mask,
-        new - (old - low.softs),
-        p.hard - new,
-        0,
-        0,
-        0,
-        low.weight,
-        low.row_mask,
-    )
+    image_geometry::top_bits(n.saturating_sub(1))
 }
 
 // The split of an address; its two parts go to the front of the lent rooms.
@@ -277,8 +182,8 @@ fn split_in(p: Params, old: u32, new: u32, addr: &[u32], hw: &mut [u32], mux: &m
     requires { (es : List ℕ) → Fits (layout_by p es) old new (length addr.now) }
     ensures { (es : List ℕ) → Splits (layout_by p es) old new addr.now hw.old hw.new mux.old mux.new result }
 {
-    let t = take_bits(start_of(p, old, new), addr, hw, mux);
-    let pieces = (all_chunks(p) * pow2(t.doubled)) as u32;
+    let t = Taking::from(p, old, new).take_all(addr, hw, mux);
+    let pieces = (all_chunks(p) * lists::two_to(t.doubled)) as u32;
     let hw_len = pad(hw, t.hw, p.hard - new);
     let useful = bits_for(pieces);
     let mux_len = pad(mux, t.mux, useful);
@@ -293,33 +198,17 @@ fn split_in(p: Params, old: u32, new: u32, addr: &[u32], hw: &mut [u32], mux: &m
 }
 
 // Whether an address of this length can be split: the limits of a plan that is accepted.
+#[tactic(auto, using(crate::proofs::Limits::chunk_room), unfolding(crate::specs::Steps::can_split))]
 fn can_split(p: Params, old: u32, new: u32, len: usize) -> bool
     ensures { (es : List ℕ) → result ≡ can_split (layout_by p es) old new len }
 {
-    if rules::MAX_WIDE < old {
-        return false;
-    }
-    if rules::MAX_WIDE < new {
-        return false;
-    }
-    if p.hard < new {
-        return false;
-    }
-    if rules::ADDR_BITS < p.hard {
-        return false;
-    }
-    let low = low_bits(old, p.soft_mask);
-    if new < old - low.softs {
-        return false;
-    }
-    if lists::usize_of_u32(rules::ADDR_BITS - old) < len {
-        return false;
-    }
-    let chunks = all_chunks(p);
-    if rules::MAX_COLUMNS < chunks {
-        return false;
-    }
-    chunks * pow2(image_geometry::soft_bits(p.soft_mask)) <= rules::MAX_COLUMNS
+    old <= rules::MAX_WIDE
+        && new <= rules::MAX_WIDE
+        && new <= p.hard
+        && p.hard <= rules::ADDR_BITS
+        && old - low_bits(old, p.soft_mask).softs <= new
+        && len <= (rules::ADDR_BITS - old) as usize
+        && all_chunks(p) * parts(p) <= rules::MAX_COLUMNS
 }
 
 // The split of an address; its two parts go to the front of the lent rooms, whose rest is kept.
@@ -330,12 +219,11 @@ pub fn split_addr(
     old: u32,
     new: u32,
     addr: &[u32],
-) -> Outcome
+) -> Option<Split>
     ensures { (es : List ℕ) → Answers (layout_by p es) old new addr.now hw.old hw.new mux.old mux.new result }
 {
     if !can_split(p, old, new, addr.len()) {
-        return Outcome::Refused;
+        return None;
     }
-    let s = split_in(p, old, new, addr, hw, mux);
-    Outcome::Accepted(s)
+    Some(split_in(p, old, new, addr, hw, mux))
 }

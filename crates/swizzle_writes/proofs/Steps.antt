@@ -25,8 +25,7 @@ use Rattle.port_transparency.proofs.Gave.{gave_done, gave_bind, gave_same}
 use Rattle.net_memory.specs.declared.MemoryWritePort.{MemoryWritePort}
 use Rattle.swizzle_laws.specs.Stores.{spill_at, spill_masks, piece_by}
 use Rattle.swizzle_split.specs.declared.Split.{Split}
-use Rattle.swizzle_split.specs.declared.Outcome.{Outcome}
-use Rattle.swizzle_split.specs.declared.Outcome.TheVariants.{Refused, Accepted}
+use Rattle.std.specs.Prelude.{Option, None, Some}
 use Rattle.swizzle_split.specs.Steps.{can_split, Answers, Gives, Splits}
 use Rattle.swizzle_columns.specs.declared.WidePort.{WidePort}
 use Rattle.swizzle_columns.specs.Wide.{bits_of}
@@ -173,11 +172,11 @@ module _ (m : Mem) (q : Layout) (mems : ℕ) (ps : List MemoryWritePort) (ns : L
   going_end f₀ l₀ j f l h inv = inv l f (rw (from_nil j f h) (gave_done f l))
 
 -- ---- what a split answers
-module _ (q : Layout) (old new : ℕ) (addr hw₀ hw mux₀ mux : Value) (r : Outcome) (a : Answers q old new addr hw₀ hw mux₀ mux r) where
-  pub refused_by_lem : r ≡ Refused → can_split q old new (length addr) ≡ false
+module _ (q : Layout) (old new : ℕ) (addr hw₀ hw mux₀ mux : Value) (r : Option Split) (a : Answers q old new addr hw₀ hw mux₀ mux r) where
+  pub refused_by_lem : r ≡ None → can_split q old new (length addr) ≡ false
   refused_by_lem e = (rw e at a).cannot
 
-  pub accepted_by : (s : Split) → r ≡ Accepted s → Gives q old new addr hw₀ hw mux₀ mux s
+  pub accepted_by : (s : Split) → r ≡ Some s → Gives q old new addr hw₀ hw mux₀ mux s
   accepted_by s e = rw e at a
 
 pub wide_by : (q : Layout) (mems old new : ℕ) (addr hw₀ hw mux₀ mux : Value) (s : Split) (p : WidePort) → Splits q old new addr hw₀ hw mux₀ mux s

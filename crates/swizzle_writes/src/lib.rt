@@ -16,7 +16,7 @@ use net_memory::Memory;
 use net_value::{ControlNet, Net};
 use swizzle_columns::WidePort;
 use swizzle_result::WideWritePort;
-use swizzle_split::{Outcome, Split};
+use swizzle_split::Split;
 
 // How many nets all write ports take, and the ports of the result.
 #[derive(Clone, Copy)]
@@ -141,7 +141,7 @@ fn place_port(
     let mut hw = [0u32; ADDR_ROOM];
     let mut mux = [0u32; ADDR_ROOM];
     let split = swizzle_split::split_addr(&mut hw, &mut mux, q.params, old, new, addr);
-    let Outcome::Accepted(s) = split else {
+    let Some(s) = split else {
         return Placing {
             next: at,
             addr_len: 0,

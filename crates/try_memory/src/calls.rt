@@ -2,7 +2,8 @@
 use crate::case;
 use crate::case::Case;
 use net_memory::Memory;
-use port_outputs::{CanLower, OutputLen, OutputSlice};
+use port_outputs::OutputSlice;
+use rules::Refusal;
 
 // What is called: the test of a memory, output_len, can_lower_fallback, and read_port_output_slice.
 pub(crate) const REFUSAL: u32 = 0;
@@ -14,34 +15,34 @@ pub(crate) const CAN_LOWER: u32 = 2;
 pub(crate) const SLICE: u32 = 3;
 
 // The number that refuses, or 1000000 and the length.
-fn len_code(r: OutputLen) -> u64 {
+fn len_code(r: Result<usize, Refusal>) -> u64 {
     match r {
-        OutputLen::Refused(n) => n as u64,
-        OutputLen::Accepted(n) => 1000000 + ((n % 1000000) as u64),
+        Err(refusal) => refusal.number() as u64,
+        Ok(n) => 1000000 + ((n % 1000000) as u64),
     }
 }
 
 // The number that refuses, or 1000000, 1000 times the start and the size.
-fn slice_code(r: OutputSlice) -> u64 {
+fn slice_code(r: Result<OutputSlice, Refusal>) -> u64 {
     match r {
-        OutputSlice::Refused(n) => n as u64,
-        OutputSlice::Accepted { start, size } => {
+        Err(refusal) => refusal.number() as u64,
+        Ok(OutputSlice { start, size }) => {
             1000000 + 1000 * ((start % 1000) as u64) + ((size % 1000) as u64)
         }
     }
 }
 
 // The number that refuses, or 1000001 for yes and 1000000 for no.
-fn can_code(r: CanLower) -> u64 {
+fn can_code(r: Result<bool, Refusal>) -> u64 {
     match r {
-        CanLower::Refused(n) => n as u64,
-        CanLower::Accepted(b) => { if b { 1000001 } else { 1000000 } }
+        Err(refusal) => refusal.number() as u64,
+        Ok(yes) => 1000000 + (yes as u64),
     }
 }
 
 fn answer(m: Memory, nets: &[u32], trits: &[u8], call: u32, port: usize) -> u64 {
     if call == REFUSAL {
-        return net_check::memory_refusal(m, nets, trits) as u64;
+        return rules::number_of(net_check::memory_refusal(m, nets, trits)) as u64;
     }
     if call == LEN {
         return len_code(port_outputs::output_len(m, nets, trits));
@@ -71,7 +72,7 @@ pub(crate) fn number(c: Case, next: u32, one: bool, two: bool, four: bool) -> u3
     let nets = case::nets_of(c);
     let trits = case::trits_of(c);
     let m = c.m;
-    net_check::memory_number(
+    rules::number_of(net_check::call_refusal(
         m,
         lists::part(&nets, 0, c.nets),
         lists::part(&trits, 0, c.trits),
@@ -79,5 +80,5 @@ pub(crate) fn number(c: Case, next: u32, one: bool, two: bool, four: bool) -> u3
         one,
         two,
         four,
-    )
+    ))
 }

@@ -4,4 +4,4 @@ use Rattle.net_check.proofs.memory_refusal.Goals as goal
 
 pub returns : goal.returns
 unfolding mem_refusal
-returns c = c.memory_number.ensures
+returns c = c.call_refusal.ensures

@@ -12,25 +12,25 @@ use Rattle.port_extract.proofs.extract_refusal.Goals as goal
 pub returns-then-n-ne0 : goal.returns-then-n-ne0
 returns-then-n-ne0 c =
     let v = c.args in
-    by_number v.m v.nets.now v.trits.now v.list.now v.output.now (record { nets = v.a; trits = v.b; output = v.c }) _ (c.driving_number-n.ensures ∙ ap (λ (t : Bool). driving_number t max_nets (given_of v.m v.nets.now v.trits.now) v.output.now) (long_by v.list.now)) c.if-n-ne0.true
+    by_number v.m v.nets.now v.trits.now v.list.now v.output.now (record { nets = v.a; trits = v.b; output = v.c }) _ (c.number_of-n.ensures ∙ c.driving_refusal.ensures ∙ ap (λ (t : Bool). driving_number t max_nets (given_of v.m v.nets.now v.trits.now) v.output.now) (long_by v.list.now)) c.if-n-ne0.true
 
 pub returns-then-port_missing : goal.returns-then-port_missing
 returns-then-port_missing c =
     let v = c.args in
-    by_port v.m v.nets.now v.trits.now v.list.now v.output.now (record { nets = v.a; trits = v.b; output = v.c }) (sym (c.driving_number-n.ensures ∙ ap (λ (t : Bool). driving_number t max_nets (given_of v.m v.nets.now v.trits.now) v.output.now) (long_by v.list.now)) ∙ c.if-n-ne0.false) (sym (c.port_missing.ensures v.nets.now v.trits.now) ∙ c.if-port_missing.true)
+    by_port v.m v.nets.now v.trits.now v.list.now v.output.now (record { nets = v.a; trits = v.b; output = v.c }) (sym (c.number_of-n.ensures ∙ c.driving_refusal.ensures ∙ ap (λ (t : Bool). driving_number t max_nets (given_of v.m v.nets.now v.trits.now) v.output.now) (long_by v.list.now)) ∙ c.if-n-ne0.false) (sym (c.port_missing.ensures v.nets.now v.trits.now) ∙ c.if-port_missing.true)
 
 pub rooms_bad-requires : goal.rooms_bad-requires
 rooms_bad-requires c =
     let y = c in
     let v = y.args in
-    ready v.m v.nets.now v.trits.now v.list.now v.output.now (reads_length v.m _ y.well_formed.0 v.nets.now v.trits.now) (sym (c.driving_number-n.ensures ∙ ap (λ (t : Bool). driving_number t max_nets (given_of v.m v.nets.now v.trits.now) v.output.now) (long_by v.list.now)) ∙ c.if-n-ne0.false) (sym (c.port_missing.ensures v.nets.now v.trits.now) ∙ c.if-port_missing.false)
+    ready v.m v.nets.now v.trits.now v.list.now v.output.now (reads_length v.m _ y.well_formed.0 v.nets.now v.trits.now) (sym (c.number_of-n.ensures ∙ c.driving_refusal.ensures ∙ ap (λ (t : Bool). driving_number t max_nets (given_of v.m v.nets.now v.trits.now) v.output.now) (long_by v.list.now)) ∙ c.if-n-ne0.false) (sym (c.port_missing.ensures v.nets.now v.trits.now) ∙ c.if-port_missing.false)
 
 pub returns-then-rooms_bad : goal.returns-then-rooms_bad
 returns-then-rooms_bad c =
     let v = c.args in
-    by_room v.m v.nets.now v.trits.now v.list.now v.output.now (record { nets = v.a; trits = v.b; output = v.c }) (sym (c.driving_number-n.ensures ∙ ap (λ (t : Bool). driving_number t max_nets (given_of v.m v.nets.now v.trits.now) v.output.now) (long_by v.list.now)) ∙ c.if-n-ne0.false) (sym (c.port_missing.ensures v.nets.now v.trits.now) ∙ c.if-port_missing.false) (sym c.rooms_bad.ensures ∙ c.if-rooms_bad.true)
+    by_room v.m v.nets.now v.trits.now v.list.now v.output.now (record { nets = v.a; trits = v.b; output = v.c }) (sym (c.number_of-n.ensures ∙ c.driving_refusal.ensures ∙ ap (λ (t : Bool). driving_number t max_nets (given_of v.m v.nets.now v.trits.now) v.output.now) (long_by v.list.now)) ∙ c.if-n-ne0.false) (sym (c.port_missing.ensures v.nets.now v.trits.now) ∙ c.if-port_missing.false) (sym c.rooms_bad.ensures ∙ c.if-rooms_bad.true)
 
 pub returns : goal.returns
 returns c =
     let v = c.args in
-    by_none v.m v.nets.now v.trits.now v.list.now v.output.now (record { nets = v.a; trits = v.b; output = v.c }) (sym (c.driving_number-n.ensures ∙ ap (λ (t : Bool). driving_number t max_nets (given_of v.m v.nets.now v.trits.now) v.output.now) (long_by v.list.now)) ∙ c.if-n-ne0.false) (sym (c.port_missing.ensures v.nets.now v.trits.now) ∙ c.if-port_missing.false) (sym c.rooms_bad.ensures ∙ c.if-rooms_bad.false)
+    by_none v.m v.nets.now v.trits.now v.list.now v.output.now (record { nets = v.a; trits = v.b; output = v.c }) (sym (c.number_of-n.ensures ∙ c.driving_refusal.ensures ∙ ap (λ (t : Bool). driving_number t max_nets (given_of v.m v.nets.now v.trits.now) v.output.now) (long_by v.list.now)) ∙ c.if-n-ne0.false) (sym (c.port_missing.ensures v.nets.now v.trits.now) ∙ c.if-port_missing.false) (sym c.rooms_bad.ensures ∙ c.if-rooms_bad.false)

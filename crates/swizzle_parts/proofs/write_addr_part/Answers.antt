@@ -1,40 +1,19 @@
 -- `swizzle_parts::write_addr_part` meets its contract.
-use borrow.Author.Tests.{not-true, not-false}
-use mathlib.Core.Path.{sym, ap, ◌∙◌}
-use Prim.Native.Nat.{◌-◌}
+use Rattle.std.proofs.Common.{ap, sym, ◌∙◌}
 use Rattle.lists.specs.Lists.{part}
-use native.Mathlib.Omega.{arith}
 use Rattle.rules.specs.Cell.{WritePort}
+use Rattle.swizzle_parts.specs.Parts.{write_port}
 use Rattle.swizzle_parts.proofs.Sized.{write_ports_8}
-use Rattle.swizzle_parts.proofs.Found.{write_known, no_write}
+use Rattle.swizzle_parts.proofs.Found.{no_write}
 use Rattle.swizzle_parts.proofs.Cuts.{addr_cut}
-use mathlib.Core.Bool.{not}
 use Rattle.swizzle_parts.proofs.write_addr_part.Goals as goal
 
-pub returns-then-not-has_write : goal.returns-then-not-has_write
-returns-then-not-has_write c =
+pub returns-then-not-has_port : goal.returns-then-not-has_port
+returns-then-not-has_port c =
     let v = c.args in
-    λ nets trits image. (λ x. part (c.no_part.ensures x).start (c.no_part.ensures x).size nets) ∙ sym (ap (λ (w : WritePort). w.addr) (no_write v.g v.n v.j nets trits image (sym c.has_write.ensures ∙ not-true _ (ap not c.if-not-has_write.true))))
-
-pub offset_bounds-g-j : goal.offset_bounds-g-j
-offset_bounds-g-j c =
-    let v = c.args in
-    let k = write_known v.g v.n v.j (sym c.has_write.ensures ∙ not-false _ (ap not c.if-not-has_write.false)) in
-    omega (arith, k.1)
-
-pub bounds-g-j : goal.bounds-g-j
-bounds-g-j c =
-    let v = c.args in
-    let k = write_known v.g v.n v.j (sym c.has_write.ensures ∙ not-false _ (ap not c.if-not-has_write.false)) in
-    omega (arith, k.1)
-
-pub write_start-start-requires : goal.write_start-start-requires
-write_start-start-requires c =
-    let v = c.args in
-    let k = write_known v.g v.n v.j (sym c.has_write.ensures ∙ not-false _ (ap not c.if-not-has_write.false)) in
-    (k.0.small, omega (arith, k.1))
+    λ nets trits image. (λ x. part (c.no_part.ensures x).start (c.no_part.ensures x).size nets) ∙ sym (ap (λ (w : WritePort). w.addr) (no_write v.g v.n v.j nets trits image (sym c.has_port.ensures ∙ c.if-not-has_port.true)))
 
 pub returns : goal.returns
 returns c =
     let v = c.args in
-    λ nets trits image. (λ x. part (c.write_start-start.ensures.0 x) (c.usize_of_u32.ensures.0 x) nets) ∙ addr_cut v.g v.n v.j nets trits image (sym c.has_write.ensures ∙ not-false _ (ap not c.if-not-has_write.false)) (write_ports_8 v.g _ c.well_formed.0)
+    λ nets trits image. (λ x. part (c.write_start.ensures.0 x) (write_port v.g v.j).addr_len nets) ∙ addr_cut v.g v.n v.j nets trits image (sym c.has_port.ensures ∙ c.if-not-has_port.false) (write_ports_8 v.g _ c.well_formed.0)

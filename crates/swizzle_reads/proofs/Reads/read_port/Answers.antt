@@ -22,8 +22,8 @@ fits-requires c =
     let q = c.args.q in
     let x = c.args.x in
     let o = c.split_addr-split in
-    let s = c.in-Accepted.s in
-    let gv = gives_port q.params q.entries.now x.wide x.port x.nets.now o.result x.port.data_len c.wide_log-old.result _ (replicate 32 0) o.new.hw (replicate 32 0) o.new.mux c.read_addr_of-addr.ensures c.wide_log-old.ensures.0 refl (o.ensures q.entries.now) s c.in-Accepted.is in
+    let s = c.in-Some.s in
+    let gv = gives_port q.params q.entries.now x.wide x.port x.nets.now o.result x.port.data_len c.wide_log-old.result _ (replicate 32 0) o.new.hw (replicate 32 0) o.new.mux c.read_addr_of-addr.ensures c.wide_log-old.ensures.0 refl (o.ensures q.entries.now) s c.in-Some.is in
     limits_by (layout_of q) (wide_log2 q.params.width x.port.data_len) x.wide (part 0 x.port.addr_len x.nets.now) (replicate 32 0) o.new.hw (replicate 32 0) o.new.mux s c.args.z gv c.requires.0
 
 pub returns-then-not-fits-clause-ports_after : goal.returns-then-not-fits-clause-ports_after
@@ -31,8 +31,8 @@ returns-then-not-fits-clause-ports_after c =
     let q = c.args.q in
     let x = c.args.x in
     let o = c.split_addr-split in
-    let s = c.in-Accepted.s in
-    let gv = gives_port q.params q.entries.now x.wide x.port x.nets.now o.result x.port.data_len c.wide_log-old.result _ (replicate 32 0) o.new.hw (replicate 32 0) o.new.mux c.read_addr_of-addr.ensures c.wide_log-old.ensures.0 refl (o.ensures q.entries.now) s c.in-Accepted.is in
+    let s = c.in-Some.s in
+    let gv = gives_port q.params q.entries.now x.wide x.port x.nets.now o.result x.port.data_len c.wide_log-old.result _ (replicate 32 0) o.new.hw (replicate 32 0) o.new.mux c.read_addr_of-addr.ensures c.wide_log-old.ensures.0 refl (o.ensures q.entries.now) s c.in-Some.is in
     let sa = same_by (layout_of q) (wide_log2 q.params.width x.port.data_len) x.wide (part 0 x.port.addr_len x.nets.now) (replicate 32 0) o.new.hw (replicate 32 0) o.new.mux s s.hw_len s.mux_len gv refl refl refl refl in
     port_not q.params q.entries.now x.wide x.port x.nets.now x.trits.now (length c.args.scratch.now) x.number x.output.now (going_of c.args.log.now c.args.self.now) c.args.z (take s.hw_len o.new.hw) (take s.mux_len o.new.mux) s c.requires.0 sa gv.can (sym c.fits.ensures ∙ c.if-not-fits.true)
 
@@ -41,8 +41,8 @@ slice_bounds-hw-end c =
     let q = c.args.q in
     let x = c.args.x in
     let o = c.split_addr-split in
-    let s = c.in-Accepted.s in
-    let gv = gives_port q.params q.entries.now x.wide x.port x.nets.now o.result x.port.data_len c.wide_log-old.result _ (replicate 32 0) o.new.hw (replicate 32 0) o.new.mux c.read_addr_of-addr.ensures c.wide_log-old.ensures.0 refl (o.ensures q.entries.now) s c.in-Accepted.is in
+    let s = c.in-Some.s in
+    let gv = gives_port q.params q.entries.now x.wide x.port x.nets.now o.result x.port.data_len c.wide_log-old.result _ (replicate 32 0) o.new.hw (replicate 32 0) o.new.mux c.read_addr_of-addr.ensures c.wide_log-old.ensures.0 refl (o.ensures q.entries.now) s c.in-Some.is in
     omega (arith, (hw_room (layout_of q) (wide_log2 q.params.width x.port.data_len) x.wide (part 0 x.port.addr_len x.nets.now) (replicate 32 0) o.new.hw (replicate 32 0) o.new.mux s gv).0, o.auto.hw)
 
 pub slice_bounds-hw-end-2 : goal.slice_bounds-hw-end-2
@@ -50,8 +50,8 @@ slice_bounds-hw-end-2 c =
     let q = c.args.q in
     let x = c.args.x in
     let o = c.split_addr-split in
-    let s = c.in-Accepted.s in
-    let gv = gives_port q.params q.entries.now x.wide x.port x.nets.now o.result x.port.data_len c.wide_log-old.result _ (replicate 32 0) o.new.hw (replicate 32 0) o.new.mux c.read_addr_of-addr.ensures c.wide_log-old.ensures.0 refl (o.ensures q.entries.now) s c.in-Accepted.is in
+    let s = c.in-Some.s in
+    let gv = gives_port q.params q.entries.now x.wide x.port x.nets.now o.result x.port.data_len c.wide_log-old.result _ (replicate 32 0) o.new.hw (replicate 32 0) o.new.mux c.read_addr_of-addr.ensures c.wide_log-old.ensures.0 refl (o.ensures q.entries.now) s c.in-Some.is in
     sym (length-take-le s.hw_len o.new.hw (omega (arith, (hw_room (layout_of q) (wide_log2 q.params.width x.port.data_len) x.wide (part 0 x.port.addr_len x.nets.now) (replicate 32 0) o.new.hw (replicate 32 0) o.new.mux s gv).0, o.auto.hw)))
 
 pub slice_bounds-mux-end : goal.slice_bounds-mux-end
@@ -59,8 +59,8 @@ slice_bounds-mux-end c =
     let q = c.args.q in
     let x = c.args.x in
     let o = c.split_addr-split in
-    let s = c.in-Accepted.s in
-    let gv = gives_port q.params q.entries.now x.wide x.port x.nets.now o.result x.port.data_len c.wide_log-old.result _ (replicate 32 0) o.new.hw (replicate 32 0) o.new.mux c.read_addr_of-addr.ensures c.wide_log-old.ensures.0 refl (o.ensures q.entries.now) s c.in-Accepted.is in
+    let s = c.in-Some.s in
+    let gv = gives_port q.params q.entries.now x.wide x.port x.nets.now o.result x.port.data_len c.wide_log-old.result _ (replicate 32 0) o.new.hw (replicate 32 0) o.new.mux c.read_addr_of-addr.ensures c.wide_log-old.ensures.0 refl (o.ensures q.entries.now) s c.in-Some.is in
     omega (arith, (hw_room (layout_of q) (wide_log2 q.params.width x.port.data_len) x.wide (part 0 x.port.addr_len x.nets.now) (replicate 32 0) o.new.hw (replicate 32 0) o.new.mux s gv).1, o.auto.mux)
 
 pub slice_bounds-mux-end-2 : goal.slice_bounds-mux-end-2
@@ -68,8 +68,8 @@ slice_bounds-mux-end-2 c =
     let q = c.args.q in
     let x = c.args.x in
     let o = c.split_addr-split in
-    let s = c.in-Accepted.s in
-    let gv = gives_port q.params q.entries.now x.wide x.port x.nets.now o.result x.port.data_len c.wide_log-old.result _ (replicate 32 0) o.new.hw (replicate 32 0) o.new.mux c.read_addr_of-addr.ensures c.wide_log-old.ensures.0 refl (o.ensures q.entries.now) s c.in-Accepted.is in
+    let s = c.in-Some.s in
+    let gv = gives_port q.params q.entries.now x.wide x.port x.nets.now o.result x.port.data_len c.wide_log-old.result _ (replicate 32 0) o.new.hw (replicate 32 0) o.new.mux c.read_addr_of-addr.ensures c.wide_log-old.ensures.0 refl (o.ensures q.entries.now) s c.in-Some.is in
     sym (length-take-le s.mux_len o.new.mux (omega (arith, (hw_room (layout_of q) (wide_log2 q.params.width x.port.data_len) x.wide (part 0 x.port.addr_len x.nets.now) (replicate 32 0) o.new.hw (replicate 32 0) o.new.mux s gv).1, o.auto.mux)))
 
 pub read_split-requires : goal.read_split-requires
@@ -77,8 +77,8 @@ read_split-requires c =
     let q = c.args.q in
     let x = c.args.x in
     let o = c.split_addr-split in
-    let s = c.in-Accepted.s in
-    let gv = gives_port q.params q.entries.now x.wide x.port x.nets.now o.result x.port.data_len c.wide_log-old.result _ (replicate 32 0) o.new.hw (replicate 32 0) o.new.mux c.read_addr_of-addr.ensures c.wide_log-old.ensures.0 refl (o.ensures q.entries.now) s c.in-Accepted.is in
+    let s = c.in-Some.s in
+    let gv = gives_port q.params q.entries.now x.wide x.port x.nets.now o.result x.port.data_len c.wide_log-old.result _ (replicate 32 0) o.new.hw (replicate 32 0) o.new.mux c.read_addr_of-addr.ensures c.wide_log-old.ensures.0 refl (o.ensures q.entries.now) s c.in-Some.is in
     let sa = same_by (layout_of q) (wide_log2 q.params.width x.port.data_len) x.wide (part 0 x.port.addr_len x.nets.now) (replicate 32 0) o.new.hw (replicate 32 0) o.new.mux s s.hw_len s.mux_len gv refl refl refl refl in
     splitting q.params q.entries.now x.wide x.port x.nets.now x.trits.now (length c.args.scratch.now) x.number x.output.now (going_of c.args.log.now c.args.self.now) c.args.z (take s.hw_len o.new.hw) (take s.mux_len o.new.mux) s c.requires.0 sa gv.can (sym c.fits.ensures ∙ c.if-not-fits.false) c.requires.1
 
@@ -87,8 +87,8 @@ returns-clause-ports_after c =
     let q = c.args.q in
     let x = c.args.x in
     let o = c.split_addr-split in
-    let s = c.in-Accepted.s in
-    let gv = gives_port q.params q.entries.now x.wide x.port x.nets.now o.result x.port.data_len c.wide_log-old.result _ (replicate 32 0) o.new.hw (replicate 32 0) o.new.mux c.read_addr_of-addr.ensures c.wide_log-old.ensures.0 refl (o.ensures q.entries.now) s c.in-Accepted.is in
+    let s = c.in-Some.s in
+    let gv = gives_port q.params q.entries.now x.wide x.port x.nets.now o.result x.port.data_len c.wide_log-old.result _ (replicate 32 0) o.new.hw (replicate 32 0) o.new.mux c.read_addr_of-addr.ensures c.wide_log-old.ensures.0 refl (o.ensures q.entries.now) s c.in-Some.is in
     let sa = same_by (layout_of q) (wide_log2 q.params.width x.port.data_len) x.wide (part 0 x.port.addr_len x.nets.now) (replicate 32 0) o.new.hw (replicate 32 0) o.new.mux s s.hw_len s.mux_len gv refl refl refl refl in
     port_done_lem q.params q.entries.now x.wide x.port x.nets.now x.trits.now (length c.args.scratch.now) x.number x.output.now (going_of c.args.log.now c.args.self.now) c.args.z (take s.hw_len o.new.hw) (take s.mux_len o.new.mux) s c.requires.0 sa gv.can (sym c.fits.ensures ∙ c.if-not-fits.false) c.clock_of.result c.args.scratch.now refl (c.clock_of.ensures x.port x.trits.now) (going_of c.read_split.new.log c.read_split.new.self) c.read_split.ensures.ports_after
 
@@ -97,7 +97,7 @@ returns-clause-scratch_kept c =
     let q = c.args.q in
     let x = c.args.x in
     let o = c.split_addr-split in
-    let s = c.in-Accepted.s in
-    let gv = gives_port q.params q.entries.now x.wide x.port x.nets.now o.result x.port.data_len c.wide_log-old.result _ (replicate 32 0) o.new.hw (replicate 32 0) o.new.mux c.read_addr_of-addr.ensures c.wide_log-old.ensures.0 refl (o.ensures q.entries.now) s c.in-Accepted.is in
+    let s = c.in-Some.s in
+    let gv = gives_port q.params q.entries.now x.wide x.port x.nets.now o.result x.port.data_len c.wide_log-old.result _ (replicate 32 0) o.new.hw (replicate 32 0) o.new.mux c.read_addr_of-addr.ensures c.wide_log-old.ensures.0 refl (o.ensures q.entries.now) s c.in-Some.is in
     let sa = same_by (layout_of q) (wide_log2 q.params.width x.port.data_len) x.wide (part 0 x.port.addr_len x.nets.now) (replicate 32 0) o.new.hw (replicate 32 0) o.new.mux s s.hw_len s.mux_len gv refl refl refl refl in
     port_kept q.params q.entries.now x.wide x.port x.nets.now x.trits.now (length c.args.scratch.now) x.number x.output.now (going_of c.args.log.now c.args.self.now) c.args.z (take s.hw_len o.new.hw) (take s.mux_len o.new.mux) s c.requires.0 sa gv.can (sym c.fits.ensures ∙ c.if-not-fits.false) c.clock_of.result c.args.scratch.now refl (c.clock_of.ensures x.port x.trits.now) c.read_split.new.scratch c.read_split.ensures.scratch_after

@@ -1,8 +1,0 @@
--- `swizzle_parts::clear_of` meets its contract.
-use mathlib.Core.Path.{◌∙◌}
-use Rattle.swizzle_parts.proofs.clear_of.Goals as goal
-
-pub returns : goal.returns
-returns c =
-    let v = c.args in
-    λ nets image. c.part.ensures.part ∙ c.clear_part-p.ensures nets v.trits.now image

@@ -1,8 +1,0 @@
--- `swizzle_parts::write_data` meets its contract.
-use mathlib.Core.Path.{◌∙◌}
-use Rattle.swizzle_parts.proofs.write_data.Goals as goal
-
-pub returns : goal.returns
-returns c =
-    let v = c.args in
-    λ trits image. c.part.ensures.part ∙ c.write_data_part-p.ensures v.nets.now trits image
