@@ -19,7 +19,8 @@ pub struct SwizzledPatches {
     pub patches: u32,
 }
 
-// A swizzle and the calls of a list on its image; the number of each call goes into `numbers`. Where the swizzle is refused no call is made.
+// A swizzle and the calls of a list on its image; the number of each call goes into `numbers`. Where the swizzle is refused no call is made. A call takes
+// its log and the log's state apart, as C hands them.
 pub fn swizzle_and_patch<'a>(
     log: &mut [u32],
     st: LogState,

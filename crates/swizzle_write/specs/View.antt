@@ -8,4 +8,4 @@ use Rattle.swizzle_write.specs.declared.Masked.{Masked}
 
 -- its pieces in turn, into a room that holds this
 abbrev pub masks_by : Masked → List ℕ → Trace (List ℕ)
-masks_by m to = spill_masks m.port.mems m.port.rows m.port.unit m.len (port_starts m.port m.len) m.mux.now m.row.now (up_from 0 m.port.pieces) to
+masks_by m to = spill_masks m.port.mems m.port.rows m.port.unit m.per_row (port_starts m.port m.per_row) m.mux.now m.row.now (up_from 0 m.port.pieces) to

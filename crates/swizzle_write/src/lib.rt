@@ -21,11 +21,11 @@ use swizzle_columns::WidePort;
 // The nets of a mux address that a port has room for.
 const MUX_ROOM: usize = 64;
 
-// A port with the nets of its mux address, and a row of its mask, with so many entries to a row of the layout.
+// A port with the nets of its mux address, a row of its mask, and so many entries to a row of the layout.
 #[derive(Clone, Copy)]
 struct Masked<'a> {
     port: WidePort,
-    len: usize,
+    per_row: usize,
     mux: &'a [u32],
     row: &'a [u32],
 }
@@ -83,14 +83,14 @@ impl Masked<'_> {
         to: &mut [u32],
         x: usize,
     )
-        requires job { Job self.port self.len self.mux.now self.row.now kept.x.now kept.y.now kept.at.now (length number.old) (length piece.old) (length to.old) }
+        requires job { Job self.port self.per_row self.mux.now self.row.now kept.x.now kept.y.now kept.at.now (length number.old) (length piece.old) (length to.old) }
         requires x_lt_pieces { x < self.port.pieces }
         ensures log_after { lent_of log.new ≡ run (piece_by self.entry.mux.now self.entry.row.now x) (lent_of log.old) }
         ensures piece_after { is_over (state_of log.new.state) ≡ false → piece.new ≡ (piece_by self.entry.mux.now self.entry.row.now x log.old.state.next).value }
-        ensures to_after { to.new ≡ spill_at self.entry.port.mems self.entry.port.rows self.entry.port.unit self.entry.len (port_starts self.entry.port self.entry.len x) piece.new to.old }
+        ensures to_after { to.new ≡ spill_at self.entry.port.mems self.entry.port.rows self.entry.port.unit self.entry.per_row (port_starts self.entry.port self.entry.per_row x) piece.new to.old }
     {
         self.emit_piece(log, kept, number, piece, x);
-        swizzle_columns::store_nets(to, self.port, self.len, piece, x);
+        swizzle_columns::store_nets(to, self.port, self.per_row, piece, x);
     }
 
     // The pieces in turn.
@@ -102,7 +102,7 @@ impl Masked<'_> {
         piece: &mut [u32],
         to: &mut [u32],
     )
-        requires { Job self.port self.len self.mux.now self.row.now kept.x.now kept.y.now kept.at.now (length number.old) (length piece.old) (length to.old) }
+        requires { Job self.port self.per_row self.mux.now self.row.now kept.x.now kept.y.now kept.at.now (length number.old) (length piece.old) (length to.old) }
         ensures log_after { lent_of log.new ≡ run (masks_by self.entry to.old) (lent_of log.old) }
         ensures to_after { is_over (state_of log.new.state) ≡ false → to.new ≡ (masks_by self.entry to.old log.old.state.next).value }
     {
@@ -121,7 +121,7 @@ impl Masked<'_> {
         piece: &mut [u32],
         to: &mut [u32],
     )
-        requires { Rooms self.port self.len self.mux.now self.row.now zeros.now (length number.old) (length piece.old) (length to.old) }
+        requires { Rooms self.port self.per_row self.mux.now self.row.now zeros.now (length number.old) (length piece.old) (length to.old) }
         ensures log_after { lent_of log.new ≡ run (masks_by self.entry to.old) (lent_of log.old) }
         ensures to_after { is_over (state_of log.new.state) ≡ false → to.new ≡ (masks_by self.entry to.old log.old.state.next).value }
     {
@@ -137,7 +137,7 @@ impl Masked<'_> {
 
     // The same with scratch of its own.
     fn write(self, log: &mut Log, to: &mut [u32])
-        requires { Row self.port self.len (length self.mux.now) (length self.row.now) (length to.old) }
+        requires { Row self.port self.per_row (length self.mux.now) (length self.row.now) (length to.old) }
         ensures log_after { lent_of log.new ≡ run (masks_by self.entry to.old) (lent_of log.old) }
         ensures to_after { is_over (state_of log.new.state) ≡ false → to.new ≡ (masks_by self.entry to.old log.old.state.next).value }
     {
@@ -183,7 +183,7 @@ fn masks_in(
     lists::fill(to, 0, to.len(), 0);
     let masked = Masked {
         port,
-        len,
+        per_row: len,
         mux,
         row: &row[..n],
     };

@@ -21,5 +21,5 @@ returns c =
     record {
       log_after = e.ensures.log_after;
       piece_after = λ o. stored_all v.piece.now k _ (e.ensures.piece_after o) (piece_length m.mux.now m.row.now v.x _ ∙ sym j.piece_len);
-      to_after = c.store_nets.ensures ∙ stored_can m.port m.len v.x k v.to.now (can_tested m.port m.len (length v.to.now) (length k) v.x (record { port = j.port; enough = e.auto.piece ∙ j.piece_len ∙ j.enough; one = c.requires.x_lt_pieces }));
+      to_after = c.store_nets.ensures ∙ stored_can m.port m.per_row v.x k v.to.now (can_tested m.port m.per_row (length v.to.now) (length k) v.x (record { port = j.port; enough = e.auto.piece ∙ j.piece_len ∙ j.enough; one = c.requires.x_lt_pieces }));
     }

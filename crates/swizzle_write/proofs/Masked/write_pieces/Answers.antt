@@ -7,7 +7,7 @@ use Rattle.swizzle_write.proofs.Masked.write_pieces.Goals as goal
 pub loop-x-init : goal.loop-x-init
 loop-x-init c =
     let m = c.args.self in
-    going_starts m.port.mems m.port.rows m.port.unit m.len (port_starts m.port m.len) m.mux.now m.row.now m.port.pieces c.args.to.now (lent_of c.args.log.now)
+    going_starts m.port.mems m.port.rows m.port.unit m.per_row (port_starts m.port m.per_row) m.mux.now m.row.now m.port.pieces c.args.to.now (lent_of c.args.log.now)
 
 pub write_piece-requires : goal.write_piece-requires
 write_piece-requires c =
@@ -15,7 +15,7 @@ write_piece-requires c =
     let k = c.args.kept in
     let h = c.loop-x.auto in
     record {
-      job = job_same m.port m.len m.mux.now m.row.now k.x.now k.y.now k.at.now h.number h.piece h.to c.requires;
+      job = job_same m.port m.per_row m.mux.now m.row.now k.x.now k.y.now k.at.now h.number h.piece h.to c.requires;
       x_lt_pieces = c.loop-x-test.true;
     }
 
@@ -24,13 +24,13 @@ loop-x-preserved c =
     let m = c.args.self in
     let h = c.loop-x in
     let p = c.write_piece in
-    turn m.port.mems m.port.rows m.port.unit m.len (port_starts m.port m.len) m.mux.now m.row.now m.port.pieces c.args.to.now h.to p.new.to p.new.piece (lent_of c.args.log.now) (lent_of h.log) (lent_of p.new.log) h.x h.invariant c.loop-x-test.true p.ensures.log_after p.ensures.piece_after p.ensures.to_after
+    turn m.port.mems m.port.rows m.port.unit m.per_row (port_starts m.port m.per_row) m.mux.now m.row.now m.port.pieces c.args.to.now h.to p.new.to p.new.piece (lent_of c.args.log.now) (lent_of h.log) (lent_of p.new.log) h.x h.invariant c.loop-x-test.true p.ensures.log_after p.ensures.piece_after p.ensures.to_after
 
 pub returns : goal.returns
 returns c =
     let m = c.args.self in
     let h = c.loop-x in
     record {
-      log_after = going_ends m.port.mems m.port.rows m.port.unit m.len (port_starts m.port m.len) m.mux.now m.row.now m.port.pieces c.args.to.now h.to (lent_of c.args.log.now) (lent_of h.log) h.x h.invariant c.loop-x-test.false;
-      to_after = masks_end m.port.mems m.port.rows m.port.unit m.len (port_starts m.port m.len) m.mux.now m.row.now m.port.pieces c.args.to.now h.to (lent_of c.args.log.now) (lent_of h.log) h.x h.invariant c.loop-x-test.false;
+      log_after = going_ends m.port.mems m.port.rows m.port.unit m.per_row (port_starts m.port m.per_row) m.mux.now m.row.now m.port.pieces c.args.to.now h.to (lent_of c.args.log.now) (lent_of h.log) h.x h.invariant c.loop-x-test.false;
+      to_after = masks_end m.port.mems m.port.rows m.port.unit m.per_row (port_starts m.port m.per_row) m.mux.now m.row.now m.port.pieces c.args.to.now h.to (lent_of c.args.log.now) (lent_of h.log) h.x h.invariant c.loop-x-test.false;
     }
