@@ -3,47 +3,21 @@
 #![tactic(auto)]
 
 use log_entries::LogState;
-use std::io;
+use net_memory::Memory;
+use std::{fmt, io};
 use swizzle_plan::MemorySwizzle;
 use try_kit::samples;
 
-fn say(rt: &impl Print, n: u32) -> io::Result<()> {
-    rt.print(n)?;
-    rt.print(" ")
-}
-
-fn say_size(rt: &impl Print, n: usize) -> io::Result<()> {
-    rt.print(n)?;
-    rt.print(" ")
-}
-
-fn line(rt: &impl Print) -> io::Result<()> {
+// Words or trits, on a line.
+fn line<T: fmt::Display>(rt: &impl Print, l: &[T]) -> io::Result<()> {
+    for x in l {
+        print!(rt; "{x} ")?;
+    }
     rt.print("\n")
 }
 
-// The first n words, on a line.
-fn words(rt: &impl Print, l: &[u32], n: usize) -> io::Result<()> {
-    let some = lists::part(l, 0, n);
-    let mut i: usize = 0;
-    while i < some.len() {
-        say(rt, some[i])?;
-        i += 1;
-    }
-    line(rt)
-}
-
-// The first n trits.
-fn trits_of(rt: &impl Print, l: &[u8], n: usize) -> io::Result<()> {
-    let some = lists::part(l, 0, n);
-    let mut i: usize = 0;
-    while i < some.len() {
-        say(rt, lists::u32_of_u8(some[i]))?;
-        i += 1;
-    }
-    line(rt)
-}
-
-fn main(rt: HostRuntime) -> io::Result<()> {
+// 8 rows of 2 bits, with a write port and a clocked read port.
+fn memory() -> Memory {
     let w = samples::write_by(3, 2, 2, samples::pos(16));
     let f = samples::controls(
         samples::pos(16),
@@ -51,9 +25,12 @@ fn main(rt: HostRuntime) -> io::Result<()> {
         samples::pos(23),
         samples::pos(20),
     );
-    let relations = [0u8; 8];
-    let r = samples::read_by(3, 2, 2, 2, 2, 1, relations, f);
-    let m = samples::memory(8, 2, 16, 1, w, 1, r);
+    let r = samples::read_by(3, 2, 2, 2, 2, 1, [0u8; 8], f);
+    samples::memory(8, 2, 16, 1, w, 1, r)
+}
+
+fn main(rt: HostRuntime) -> io::Result<()> {
+    let m = memory();
     let nets = [10u32, 11, 12, 13, 14, 15, 15, 17, 18, 19];
     let trits = [
         0u8, 1, 1, 0, 2, 1, 0, 0, 1, 1, 0, 2, 1, 0, 1, 1, 0, 1, 1, 2, 2, 0,
@@ -91,19 +68,11 @@ fn main(rt: HostRuntime) -> io::Result<()> {
     let made = x.made;
     let state = made.state;
     let g = made.memory;
-    say(&rt, x.refusal)?;
-    line(&rt)?;
-    say_size(&rt, state.used)?;
-    say(&rt, state.next)?;
-    line(&rt)?;
-    words(&rt, &log, state.used)?;
-    say(&rt, g.mems)?;
-    say(&rt, g.full)?;
-    say(&rt, g.full_depth)?;
-    say(&rt, g.part_depth)?;
-    say(&rt, g.unit)?;
-    line(&rt)?;
-    words(&rt, &nets_to, made.nets_at)?;
-    trits_of(&rt, &trits_to, made.trits_at)?;
-    trits_of(&rt, &image, 64)
+    line(&rt, &[x.refusal])?;
+    println!(rt; "{} {} ", state.used, state.next)?;
+    line(&rt, lists::part(&log, 0, state.used))?;
+    line(&rt, &[g.mems, g.full, g.full_depth, g.part_depth, g.unit])?;
+    line(&rt, lists::part(&nets_to, 0, made.nets_at))?;
+    line(&rt, lists::part(&trits_to, 0, made.trits_at))?;
+    line(&rt, lists::part(&image, 0, 64))
 }
