@@ -7,10 +7,8 @@ ghost use Rattle.std.proofs.lemmas.List.Edits.{sets};
 ghost use Rattle.lists.specs.Lists.{up_from};
 ghost use Rattle.rules.specs.Limits.{max_merge, max_nets};
 ghost use Rattle.rules.specs.Value.{net_of_trit, of_const};
-ghost use Rattle.rules.specs.Cell.{plain_controls};
 ghost use Rattle.rules.specs.Log.{add_void_of, replace_value_of};
 ghost use Rattle.net_value.specs.View.{control_of};
-ghost use Rattle.net_flip_flop.specs.View.{controls_of};
 ghost use Rattle.log_entries.specs.Emission.{run};
 ghost use Rattle.log_entries.specs.View.{lent_of};
 ghost use Rattle.port_transparency.specs.Gave.{Gave};
@@ -19,7 +17,7 @@ ghost use Rattle.fallback_row.specs.Row.{start_if, over, over_if, held_back, hel
 use log_entries::Log;
 use merge_mux::emit::Keys;
 use net_flip_flop::{Controls, FlipFlop};
-use net_value::{ControlNet, Net};
+use net_value::ControlNet;
 
 // A row: its nets as the write ports leave them, and room for muxes. It is lent, so that many rows clear it once.
 #[derive(Drop)]
@@ -59,26 +57,13 @@ pub fn emit_over(log: &mut Log, row: &mut Row, w: usize, mask: &[u32], bits: &[u
     over_row(log, row, w, mask, bits);
 }
 
-// The controls of a plain flip-flop.
-fn plain_controls(clock: ControlNet) -> Controls
-    ensures { controls_of result ≡ plain_controls (control_of clock) }
-{
-    Controls {
-        clock,
-        clear: ControlNet::Pos(Net(0)),
-        reset: ControlNet::Pos(Net(0)),
-        enable: ControlNet::Pos(Net(1)),
-        reset_over_enable: false,
-    }
-}
-
 // The flip-flop of the row, whose results take the place of the first w nets of `q`.
 fn held_row(log: &mut Log, row: &mut Row, w: usize, clock: ControlNet, init: &[u8], q: &[u32])
     requires { (w ≤ max_merge) × (max_merge ≤ length q.now) }
     ensures { lent_of log.new ≡ run (held_back (control_of clock) init.now (take w row.old.nets) (take w q.now)) (lent_of log.old) }
 {
     let f = FlipFlop {
-        controls: plain_controls(clock),
+        controls: Controls::plain(clock),
         bits: &row.nets[..w],
         clear: init,
         reset: init,

@@ -8,7 +8,7 @@ ghost use Rattle.rules.specs.Merge.{spread, add_dedup_mux_of, add_bitwise_mux_of
 ghost use Rattle.rules.specs.Value.{Pos};
 ghost use Rattle.net_value.specs.View.{control_of};
 ghost use Rattle.log_entries.specs.Emission.{is_over, run};
-ghost use Rattle.log_entries.specs.View.{state_of, lent, lent_of};
+ghost use Rattle.log_entries.specs.View.{state_of, lent_of};
 ghost use Rattle.merge_mux.specs.Runs.{run_at, Run, Bits, Within, bits_taken, bitwise_of};
 ghost use Rattle.merge_mux.specs.Results.{limited, results, Found};
 
@@ -182,26 +182,4 @@ pub fn emit_bitwise_mux(
 {
     let n = bits_of(s, a, b);
     mux_runs(log, keys, nets, &s[..n], &a[..n], &b[..n]);
-}
-
-// emit_kept_mux of a log and a state apart, for a caller that is still to do.
-pub fn emit_kept_mux_with(
-    log: &mut [u32],
-    st: LogState,
-    out: &mut [u32],
-    to: usize,
-    select: ControlNet,
-    a: &[u32],
-    b: &[u32],
-    at: &[u32],
-) -> LogState
-    ensures log_after { lent result log.new ≡ run (add_mux_of (control_of select) a.now b.now) (lent st log.old) }
-    ensures out_after { out.new ≡ results (is_over (state_of result)) out.old to (spread at.now (add_mux_of (control_of select) a.now b.now st.next).value) }
-{
-    let mut log = Log {
-        words: log,
-        state: st,
-    };
-    emit_kept_mux(&mut log, out, to, select, a, b, at);
-    log.state
 }

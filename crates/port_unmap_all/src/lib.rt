@@ -7,13 +7,13 @@ ghost use Rattle.std.proofs.Math.Option.{some};
 ghost use Rattle.std.proofs.lemmas.List.Edits.{sets};
 ghost use Rattle.rules.specs.Limits.{max_ports};
 ghost use Rattle.rules.specs.Conditions.{short_ports};
-ghost use Rattle.log_entries.specs.View.{lent, lent_of};
+ghost use Rattle.log_entries.specs.View.{lent_of};
 ghost use Rattle.net_memory.specs.View.{memory_of, read_port};
 ghost use Rattle.port_transparency.specs.Gave.{Gave};
 ghost use Rattle.port_unmap.specs.Ready.{own_flip_flop};
 ghost use Rattle.port_unmap_all.specs.All.{unmapped_of, unmapped_at, unmapped_all};
 
-use log_entries::{Log, LogState};
+use log_entries::Log;
 use net_flip_flop::Controls;
 use net_memory::{Memory, MemoryReadPort};
 use port_transparency::Overlay;
@@ -109,25 +109,4 @@ pub fn emit_unmap_all(
 {
     lists::copy(after, 0, output);
     emit_ports(log, overlay, after, m, nets, trits, output);
-}
-
-// The same of a log and a state apart, for a caller that is still to do.
-pub fn emit_unmap_all_with(
-    log: &mut [u32],
-    st: LogState,
-    overlay: &mut Overlay,
-    after: &mut [u32],
-    m: Memory,
-    nets: &[u32],
-    trits: &[u8],
-    output: &[u32],
-) -> LogState
-    ensures { Gave (unmapped_all (memory_of m nets.now trits.now) output.now (sets after.old 0 output.now)) (lent st log.old) (lent result log.new) after.new }
-{
-    let mut log = Log {
-        words: log,
-        state: st,
-    };
-    emit_unmap_all(&mut log, overlay, after, m, nets, trits, output);
-    log.state
 }

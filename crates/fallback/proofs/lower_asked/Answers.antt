@@ -1,6 +1,10 @@
 -- `fallback::lower_asked` meets its contract.
 use mathlib.Core.Path.{refl, sym, ◌∙◌}
 use lib.ListN.{length}
+use Rattle.std.proofs.Common.{rules}
+use Rattle.rules.specs.Fallback.{lower_fallback}
+use Rattle.net_memory.specs.View.{memory_of}
+use Rattle.log_entries.proofs.Emission.{unnamed, run_name}
 use Rattle.fallback.proofs.Answer.{whole-log, kept}
 use Rattle.fallback.proofs.lower_asked.Goals as goal
 
@@ -21,5 +25,9 @@ returns c =
     record {
       number = sym z;
       refused = λ h. absurd (h refl);
-      accepted = λ h. record { log_is = c.act.ensures.log_after; scratch_kept = c.act.ensures.tables_unchanged };
+      accepted = λ h.
+          let t = lower_fallback (memory_of v.m v.nets.now v.trits.now) v.output.now in
+          let n = run_name t _ _ c.act.ensures.log_after in
+          let e = unnamed t 0 _ _ c.act.ensures.log_after in
+          record { log_is = search rules; scratch_kept = c.act.ensures.tables_unchanged };
     }

@@ -1,5 +1,5 @@
 -- `fallback::plan_number` meets its contract.
-use mathlib.Core.Path.{ap, ◌∙◌}
+use mathlib.Core.Path.{refl, ap, ◌∙◌}
 use lib.ListN.{replicate}
 use Rattle.rules.specs.Limits.{max_row}
 use Rattle.rules.specs.Cell.{Plan}

@@ -14,7 +14,7 @@ use Rattle.fallback_row.proofs.held_row.Goals as goal
 pub returns : goal.returns
 returns c =
     let v = c.args in
-    let k = c.plain_controls in
+    let k = c.plain in
     let row = take v.w v.row.now.nets in
     let q = take v.w v.q.now in
     behind_ran (flip_flop (controls_of k.result) row v.init.now v.init.now v.init.now) q (take v.w c.dff_into.new.out) (lent_of v.log.now) (lent_of c.dff_into.new.log) (lent_of c.emit_replace.new.self) (rw (length-take-le v.w v.row.now.nets (omega arith)) at c.dff_into.ensures) c.emit_replace.ensures
