@@ -53,8 +53,7 @@ pub struct Overlay {
 
 // Void nets, which become the first of `out`.
 pub fn void_into(log: &mut Log, out: &mut [u32], n: u32)
-    requires { n ≤ length out.old }
-    ensures { Gave (add_void_of n) (lent_of log.old) (lent_of log.new) (take n out.new) }
+    ensures { n ≤ length out.old → Gave (add_void_of n) (lent_of log.old) (lent_of log.new) (take n out.new) }
 {
     let first = log.state.next;
     log.emit_void(n);
@@ -63,8 +62,7 @@ pub fn void_into(log: &mut Log, out: &mut [u32], n: u32)
 
 // A flip-flop, whose result nets become the first of `out`.
 pub fn dff_into(log: &mut Log, out: &mut [u32], f: FlipFlop)
-    requires { length f.bits.now ≤ length out.old }
-    ensures { Gave (add_dff_of (flip_flop_of f.entry)) (lent_of log.old) (lent_of log.new) (take (length f.entry.bits.now) out.new) }
+    ensures { length f.entry.bits.now ≤ length out.old → Gave (add_dff_of (flip_flop_of f.entry)) (lent_of log.old) (lent_of log.new) (take (length f.entry.bits.now) out.new) }
 {
     let first = log.state.next;
     log.emit_dff(f);

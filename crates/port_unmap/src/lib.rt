@@ -43,8 +43,7 @@ pub fn emit_port(
     c: Controls,
     output: &[u32],
 ) -> u32
-    requires { (i < min max_ports m.read_count) × (p ≡ read_port m i) }
-    ensures log_after { lent_of log.new ≡ run (port_trace (memory_of m nets.now trits.now) i output.now (own_flip_flop m trits.now i c)) (lent_of log.old) }
+    ensures log_after { i < min max_ports m.read_count → p ≡ read_port m i → lent_of log.new ≡ run (port_trace (memory_of m nets.now trits.now) i output.now (own_flip_flop m trits.now i c)) (lent_of log.old) }
     ensures last_value { p.data_len ≤ max_merge → is_over (state_of log.new.state) ≡ false → result ≡ log.old.state.next + p.data_len }
 {
     let relations = p.relations;

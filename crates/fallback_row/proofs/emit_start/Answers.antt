@@ -10,11 +10,8 @@ returns-then-w-gt-MAX_MERGE c =
     let v = c.args in
     start_many v.w (take v.w v.out.now) (lent_of v.log.now) (omega (arith, c.if-w-gt-MAX_MERGE.true))
 
-pub void_into-requires : goal.void_into-requires
-void_into-requires c = omega (arith, c.if-w-gt-MAX_MERGE.false)
-
 pub returns : goal.returns
 returns c =
     let v = c.args in
     let p = c.void_into in
-    start_few v.w (take v.w v.out.now) (lent_of v.log.now) (lent_of p.new.log) (take v.w p.new.out) (omega (arith, c.if-w-gt-MAX_MERGE.false)) p.ensures
+    start_few v.w (take v.w v.out.now) (lent_of v.log.now) (lent_of p.new.log) (take v.w p.new.out) (omega (arith, c.if-w-gt-MAX_MERGE.false)) (p.ensures (omega (arith, c.if-w-gt-MAX_MERGE.false)))

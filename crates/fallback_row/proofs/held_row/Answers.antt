@@ -17,5 +17,5 @@ returns c =
     let k = c.plain in
     let row = take v.w v.row.now.nets in
     let q = take v.w v.q.now in
-    behind_ran (flip_flop (controls_of k.result) row v.init.now v.init.now v.init.now) q (take v.w c.dff_into.new.out) (lent_of v.log.now) (lent_of c.dff_into.new.log) (lent_of c.emit_replace.new.self) (rw (length-take-le v.w v.row.now.nets (omega arith)) at c.dff_into.ensures) c.emit_replace.ensures
+    behind_ran (flip_flop (controls_of k.result) row v.init.now v.init.now v.init.now) q (take v.w c.dff_into.new.out) (lent_of v.log.now) (lent_of c.dff_into.new.log) (lent_of c.emit_replace.new.self) (rw (length-take-le v.w v.row.now.nets (omega arith)) at (c.dff_into.ensures (omega (arith, length-take-le v.w v.row.now.nets (omega arith))))) c.emit_replace.ensures
     ∙ ap (λ (x : cell.Controls). run (behind (flip_flop x row v.init.now v.init.now v.init.now) q) (lent_of v.log.now)) k.ensures

@@ -13,4 +13,4 @@ returns c =
     let v = c.args in
     let n = length v.bits.now in
     let q = first_filled v.starts.now c.fill.new.to n 2 c.fill.ensures (omega arith) ∙ undef_is n in
-    plain_gave v.bits.now _ _ (control_of v.clock) (controls_of c.plain.result) (lent_of v.log.now) (lent_of c.dff_into.new.log) c.plain.ensures q c.dff_into.ensures
+    plain_gave v.bits.now _ _ (control_of v.clock) (controls_of c.plain.result) (lent_of v.log.now) (lent_of c.dff_into.new.log) c.plain.ensures q (c.dff_into.ensures (omega arith))

@@ -13,4 +13,4 @@ returns c =
     let p = c.dff_into in
     let r = c.emit_replace in
     behind_ran (with_bits v.f (take v.n v.overlay.now.under)) v.f.bits.now (take v.n p.new.out) (lent_of v.log.now) (lent_of p.new.log) (lent_of r.new.self)
-    (rw (length-take-le v.n v.overlay.now.under (omega arith)) at p.ensures) r.ensures
+    (rw (length-take-le v.n v.overlay.now.under (omega arith)) at (p.ensures (omega (arith, length-take-le v.n v.overlay.now.under (omega arith))))) r.ensures

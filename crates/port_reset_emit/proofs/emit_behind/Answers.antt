@@ -26,4 +26,4 @@ returns c =
     let l2 = lent_of p2.new.log in
     let k = take v.n p2.new.overlay.mask in
     behind_gave (with_bits v.f (take v.n s.under)) (mask_of v.f v.n m) v.n v.f.bits.now (lent_of v.log.now) l1 l2 (lent_of p3.new.log) (lent_of p4.new.log) (take v.n p1.new.out) k (take v.n p3.new.out)
-    (rw (length-take-le v.n s.under (omega arith)) at p1.ensures) (mask_initial (controls_of v.f.controls) _ i v.n m k l1 l2 (ap not c.is_undef-initial.ensures) p2.ensures.mask_after) p3.ensures (rw p2.ensures.data_stays at p4.ensures)
+    (rw (length-take-le v.n s.under (omega arith)) at (p1.ensures (omega (arith, length-take-le v.n s.under (omega arith))))) (mask_initial (controls_of v.f.controls) _ i v.n m k l1 l2 (ap not c.is_undef-initial.ensures) p2.ensures.mask_after) (p3.ensures (omega arith)) (rw p2.ensures.data_stays at p4.ensures)

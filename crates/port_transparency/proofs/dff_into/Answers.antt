@@ -8,4 +8,4 @@ pub returns : goal.returns
 returns c =
     let v = c.args in
     let p = c.emit_dff in
-    dff_fresh (flip_flop_of v.f) (lent_of v.log.now) (lent_of p.new.self) v.out.now c.store_run.new.to p.ensures c.store_run.ensures c.requires
+    λ h. dff_fresh (flip_flop_of v.f) (lent_of v.log.now) (lent_of p.new.self) v.out.now c.store_run.new.to p.ensures c.store_run.ensures h

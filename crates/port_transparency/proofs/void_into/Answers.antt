@@ -7,4 +7,4 @@ pub returns : goal.returns
 returns c =
     let v = c.args in
     let p = c.emit_void in
-    void_fresh v.n (lent_of v.log.now) (lent_of p.new.self) v.out.now c.store_run.new.to p.ensures c.store_run.ensures c.requires
+    λ h. void_fresh v.n (lent_of v.log.now) (lent_of p.new.self) v.out.now c.store_run.new.to p.ensures c.store_run.ensures h

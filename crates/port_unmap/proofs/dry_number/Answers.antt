@@ -10,9 +10,6 @@ use Rattle.port_unmap.specs.Trace.{port_trace}
 use Rattle.port_unmap.proofs.Port.{unmap_below, own_ran}
 use Rattle.port_unmap.proofs.dry_number.Goals as goal
 
-pub emit_port-requires : goal.emit_port-requires
-emit_port-requires c = (c.requires.0.port.there, c.requires.1)
-
 pub returns : goal.returns
 returns c =
     let v = c.args in
@@ -20,6 +17,6 @@ returns c =
     let q = c.dry_refusal in
     let s = state_of v.st in
     let f = own_flip_flop v.m v.trits.now v.i v.c in
-    let n = run_name (port_trace (memory_of v.m v.nets.now v.trits.now) v.i v.output.now f) _ _ p.ensures.log_after in
+    let n = run_name (port_trace (memory_of v.m v.nets.now v.trits.now) v.i v.output.now f) _ _ (p.ensures.log_after c.requires.0.port.there c.requires.1) in
     dry_called (unmap_dff (memory_of v.m v.nets.now v.trits.now) v.i v.output.now f) v.room s _ (chains_unmap (memory_of v.m v.nets.now v.trits.now) v.i v.output.now f) (unmap_below v.m v.nets.now v.trits.now v.i v.c c.requires.0 v.output.now s)
-    p.new.log.words.now _ (state_of p.new.log.state) c.number_of.result c.dry_start.ensures (own_ran v.m v.nets.now v.trits.now v.i v.c c.requires.0 0 v.output.now _ _ p.ensures.log_after) (c.number_of.ensures ∙ q.ensures)
+    p.new.log.words.now _ (state_of p.new.log.state) c.number_of.result c.dry_start.ensures (own_ran v.m v.nets.now v.trits.now v.i v.c c.requires.0 0 v.output.now _ _ (p.ensures.log_after c.requires.0.port.there c.requires.1)) (c.number_of.ensures ∙ q.ensures)

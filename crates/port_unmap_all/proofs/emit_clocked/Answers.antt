@@ -15,4 +15,4 @@ pub returns : goal.returns
 returns c =
     let v = c.args in
     let u = c.emit_port-last in
-    clocked_few (memory_of v.m v.nets.now v.trits.now) v.i v.output.now (own_flip_flop v.m v.trits.now v.i v.c) v.after.now v.p.data_len u.result c.output_start.result (lent_of v.log.now) (lent_of u.new.log) c.store_run.new.to (data_is v.m v.nets.now v.trits.now v.i v.c v.p c.requires.0 c.requires.1) c.if-p-gt-MAX_MERGE.false u.ensures.log_after (u.ensures.last_value c.if-p-gt-MAX_MERGE.false) (c.output_start.ensures.by_index v.nets.now v.trits.now) c.store_run.ensures
+    clocked_few (memory_of v.m v.nets.now v.trits.now) v.i v.output.now (own_flip_flop v.m v.trits.now v.i v.c) v.after.now v.p.data_len u.result c.output_start.result (lent_of v.log.now) (lent_of u.new.log) c.store_run.new.to (data_is v.m v.nets.now v.trits.now v.i v.c v.p c.requires.0 c.requires.1) c.if-p-gt-MAX_MERGE.false (u.ensures.log_after c.requires.0 c.requires.1) (u.ensures.last_value c.if-p-gt-MAX_MERGE.false) (c.output_start.ensures.by_index v.nets.now v.trits.now) c.store_run.ensures
