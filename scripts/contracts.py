@@ -9,25 +9,17 @@ import os
 import re
 import sys
 
-# Emissions inside other calls, with scratch that the call clears once: what it holds afterwards is open, and nobody reads it.
-KEYS = ('kx', 'ky', 'at')
-TRITS = ('clears', 'resets', 'inits')
+# Emissions inside other calls, with room that the call clears once: what it holds afterwards is open, and nobody reads it.
 OPEN = {
-    'crates/merge_mux/src/emit.rt emit_dedup_mux_with': KEYS,
-    'crates/merge_mux/src/emit.rt emit_bitwise_mux_with': KEYS,
-    'crates/merge_dff/src/lib.rt emit_dedup_dff_with': ('column',) + KEYS + TRITS,
-    'crates/port_delay/src/lib.rt emit_delayed': ('column',) + KEYS + ('trits',) + TRITS,
-    'crates/port_transparency/src/lib.rt emit_transparency': ('bits', 'mask', 'sel', 'nets') + KEYS,
-    'crates/port_transparency/src/lib.rt emit_transparency_masked': ('bits', 'mask', 'sel', 'nets') + KEYS,
-    'crates/port_overlay/src/lib.rt emit_pair': ('bits', 'mask', 'sel', 'spare') + KEYS,
-    'crates/port_masked/src/lib.rt emit_masked_pair': ('bits', 'mask', 'sel', 'spare') + KEYS,
-    'crates/port_masked/src/lib.rt emit_masked_pairs': ('bits', 'mask', 'sel', 'spare') + KEYS,
-    'crates/port_overlay/src/lib.rt emit_unmap': ('under', 'bits', 'mask', 'sel', 'spare') + KEYS,
-    'crates/port_unmap_all/src/lib.rt emit_unmap_all': ('under', 'bits', 'mask', 'sel', 'spare') + KEYS,
-    'crates/fallback_row/src/lib.rt emit_over': ('spare',) + KEYS,
-    'crates/fallback_row/src/lib.rt emit_held': ('spare',),
+    'crates/merge_mux/src/emit.rt emit_dedup_mux': ('keys',),
+    'crates/merge_mux/src/emit.rt emit_bitwise_mux': ('keys',),
+    'crates/merge_dff/src/lib.rt emit_dedup_dff': ('keys', 'trits', 'column'),
+    'crates/port_overlay/src/lib.rt emit_unmap': ('overlay',),
+    'crates/port_unmap/src/lib.rt emit_port': ('overlay',),
+    'crates/port_unmap_all/src/lib.rt emit_unmap_all': ('overlay',),
+    'crates/port_reset_emit/src/lib.rt emit_reset': ('overlay', 'mask'),
+    'crates/fallback_row/src/lib.rt emit_held': ('row',),
     'crates/fallback_row/src/lib.rt emit_drive': ('spare',),
-    'crates/port_reset_emit/src/lib.rt emit_reset': ('under', 'over', 'bits', 'mask', 'sel', 'spare', 'ones', 'starts') + TRITS + KEYS,
 }
 
 PUBLIC = re.compile(r'\bpub\b(?!\s*\()[^;{}()=]*?\bfn\s+(\w+)')

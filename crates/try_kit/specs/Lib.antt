@@ -4,6 +4,7 @@ pub mod Build
 pub mod Nets
 pub mod Numbered
 pub mod Paint
+pub mod Requests
 pub mod Sums
 pub mod Tally
 pub mod Spoilt

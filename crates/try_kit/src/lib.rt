@@ -7,7 +7,6 @@ pub mod numbered;
 pub mod paint;
 pub mod requests;
 pub mod samples;
-pub mod say;
 pub mod spoilt;
 pub mod sums;
 pub mod tally;

@@ -1,5 +1,11 @@
 // The requests that log entries, and the cases that each is tried in: 720, of five lengths, four rooms and six next free nets; with good values, with a
 // bad net in the first or in the second value, with a bad select or control, with a bad trit code, and with one value a bit longer than the other.
+ghost use Rattle.std.specs.Prelude.{◌≡◌, min, ◌+◌, eqb};
+ghost use Rattle.rules.specs.Answers.{slice_call};
+ghost use Rattle.net_logic.specs.View.{given_part};
+ghost use Rattle.try_kit.specs.Spoilt.{select_in, controls_in};
+ghost use Rattle.try_kit.specs.Requests.{kind_of, words_of, results_of, bad_one_of, sum_of, clear_of, reset_of, init_of};
+
 use crate::borders::{length_at, next_at, room_at};
 use crate::nets::{fill_nets, spoil};
 use crate::numbered;
@@ -10,6 +16,7 @@ use crate::spoilt::{
 use crate::words::plus;
 use net_flip_flop::{Controls, FlipFlop};
 use net_value::ControlNet;
+use std::fmt;
 
 #[derive(Clone, Copy, Debug, PartialEq, Eq)]
 pub enum Request {
@@ -54,8 +61,62 @@ pub const OF_ANY: [Request; 5] = [
 ];
 
 impl Request {
-    pub fn name(self) -> &'static str {
+    // The kind of the one entry that it logs, and 0 where it logs none or more.
+    pub fn kind(self) -> u32
+        ensures { result ≡ kind_of self }
+    {
         match self {
+            Request::Void => 1,
+            Request::Not => 2,
+            Request::And => 3,
+            Request::Or => 4,
+            Request::Mux => 5,
+            Request::Eq => 6,
+            Request::Shl => 7,
+            Request::Ushr => 8,
+            Request::Dff => 9,
+            Request::Replace => 10,
+            Request::IntoPos
+            | Request::Remap
+            | Request::DedupMux
+            | Request::DedupDff
+            | Request::BitwiseMux => 0,
+        }
+    }
+
+    // The words that it logs; of a merge, those where no two bits are equal.
+    pub fn words(self, n: usize, m: usize) -> usize
+        ensures { result ≡ words_of self n m }
+    {
+        match self {
+            Request::Void => 4,
+            Request::Not => plus(4, n),
+            Request::Mux | Request::DedupMux => plus(5, plus(n, m)),
+            Request::Shl | Request::Ushr => plus(6, plus(n, m)),
+            Request::Dff | Request::DedupDff => plus(plus(13, n), plus(n, plus(n, m))),
+            Request::IntoPos => 5,
+            Request::Remap => 11,
+            Request::And | Request::Or | Request::Eq | Request::Replace | Request::BitwiseMux =>
+                plus(4, plus(n, m)),
+        }
+    }
+
+    // The nets that it makes, at the most.
+    pub fn results(self, n: usize) -> usize
+        ensures { result ≡ results_of self n }
+    {
+        match self {
+            Request::Eq | Request::IntoPos => 1,
+            Request::Replace => 0,
+            Request::Remap => 2,
+            _ => n,
+        }
+    }
+}
+
+impl fmt::Display for Request {
+    fn fmt<W: fmt::Write>(&self, f: &mut fmt::Formatter<W>) -> fmt::Result {
+        f.write_str(match self {
             Request::Void => "add_void",
             Request::Not => "add_not",
             Request::And => "add_and",
@@ -71,49 +132,7 @@ impl Request {
             Request::DedupMux => "add_dedup_mux",
             Request::DedupDff => "add_dedup_dff",
             Request::BitwiseMux => "add_bitwise_mux",
-        }
-    }
-
-    // The kind of the one entry that it logs, and 0 where it logs none or more.
-    pub fn kind(self) -> u32 {
-        match self {
-            Request::Void => 1,
-            Request::Not => 2,
-            Request::And => 3,
-            Request::Or => 4,
-            Request::Mux => 5,
-            Request::Eq => 6,
-            Request::Shl => 7,
-            Request::Ushr => 8,
-            Request::Dff => 9,
-            Request::Replace => 10,
-            _ => 0,
-        }
-    }
-
-    // The words that it logs; of a merge, those where no two bits are equal.
-    pub fn words(self, n: usize, m: usize) -> usize {
-        match self {
-            Request::Void => 4,
-            Request::Not => plus(4, n),
-            Request::Mux | Request::DedupMux => plus(5, plus(n, m)),
-            Request::Shl | Request::Ushr => plus(6, plus(n, m)),
-            Request::Dff | Request::DedupDff => plus(plus(13, n), plus(n, plus(n, m))),
-            Request::IntoPos => 5,
-            Request::Remap => 11,
-            Request::And | Request::Or | Request::Eq | Request::Replace | Request::BitwiseMux =>
-                plus(4, plus(n, m)),
-        }
-    }
-
-    // The nets that it makes, at the most.
-    pub fn results(self, n: usize) -> usize {
-        match self {
-            Request::Eq | Request::IntoPos => 1,
-            Request::Replace => 0,
-            Request::Remap => 2,
-            _ => n,
-        }
+        })
     }
 }
 
@@ -155,12 +174,16 @@ impl Case {
         }
     }
 
-    pub fn select(self) -> ControlNet {
+    pub fn select(self) -> ControlNet
+        ensures { result ≡ select_in self.neg (eqb self.bad 3) }
+    {
         select_in(self.neg, self.bad == CONTROL)
     }
 
     // One of the four controls is none where a control is bad.
-    pub fn controls(self) -> Controls {
+    pub fn controls(self) -> Controls
+        ensures { result ≡ controls_in self.neg (bad_one_of self) }
+    {
         let none = if self.bad == CONTROL {
             self.which % 4
         } else {
@@ -190,19 +213,29 @@ pub struct Inputs<'a> {
 
 impl<'a> Inputs<'a> {
     // The trits that a case's flip-flop clears to, resets to and starts from.
-    pub fn clear(self, c: Case) -> &'a [u8] {
+    pub fn clear(self, c: Case) -> &'a [u8]
+        ensures { result.now ≡ clear_of self.entry.trits.now c }
+    {
         net_logic::const_slice(self.trits, 0, c.n)
     }
 
-    pub fn reset(self, c: Case) -> &'a [u8] {
+    pub fn reset(self, c: Case) -> &'a [u8]
+        ensures { result.now ≡ reset_of self.entry.trits.now c }
+    {
         net_logic::const_slice(self.trits, 1, plus(c.n, 1))
     }
 
-    pub fn init(self, c: Case) -> &'a [u8] {
+    pub fn init(self, c: Case) -> &'a [u8]
+        ensures { result.now ≡ init_of self.entry.trits.now c }
+    {
         net_logic::const_slice(self.trits, 2, plus(c.m, 2))
     }
 
-    pub fn flip_flop(self, c: Case) -> FlipFlop<'a> {
+    pub fn flip_flop(self, c: Case) -> FlipFlop<'a>
+        ensures controls { result.controls ≡ controls_in c.neg (bad_one_of c) }
+        ensures bits { result.bits.now ≡ self.entry.a.now }
+        ensures trits { (result.clear.now ≡ clear_of self.entry.trits.now c) × ((result.reset.now ≡ reset_of self.entry.trits.now c) × (result.init.now ≡ init_of self.entry.trits.now c)) }
+    {
         FlipFlop {
             controls: c.controls(),
             bits: self.a,
@@ -215,31 +248,31 @@ impl<'a> Inputs<'a> {
 
 // ---- all the cases of a request
 
-// What is tried of each case.
-pub trait Trial {
-    fn tried(t: Tally, c: Case, x: Inputs<'_>) -> Tally;
-}
-
 // The nets and the trits that a buffer has room for.
 const NETS: usize = 4100;
 
-fn set_and_try<T: Trial>(t: Tally, c: Case) -> Tally {
-    let mut a = [0u32; NETS];
-    let mut b = [0u32; NETS];
-    let mut trits = [0u8; NETS];
-    c.set_inputs(&mut a, &mut b, &mut trits);
-    let inputs = Inputs {
-        a: net_value::value_slice(&a, 0, c.n),
-        b: net_value::value_slice(&b, 0, c.m),
-        trits: &trits,
-    };
-    T::tried(t, c, inputs)
-}
+// What is tried of each case, and then all the cases of a request.
+pub trait Trial {
+    fn tried(t: Tally, c: Case, x: Inputs<'_>) -> Tally;
 
-pub fn try_all<T: Trial>(request: Request) -> Tally {
-    let mut t = numbered::start();
-    for k in 0..CASES {
-        t = set_and_try::<T>(t, Case::at(request, k));
+    final fn try_case(t: Tally, c: Case) -> Tally {
+        let mut a = [0u32; NETS];
+        let mut b = [0u32; NETS];
+        let mut trits = [0u8; NETS];
+        c.set_inputs(&mut a, &mut b, &mut trits);
+        let inputs = Inputs {
+            a: net_value::value_slice(&a, 0, c.n),
+            b: net_value::value_slice(&b, 0, c.m),
+            trits: &trits,
+        };
+        Self::tried(t, c, inputs)
     }
-    t
+
+    final fn try_all(request: Request) -> Tally {
+        let mut t = numbered::start();
+        for k in 0..CASES {
+            t = Self::try_case(t, Case::at(request, k));
+        }
+        t
+    }
 }

@@ -9,10 +9,10 @@ mod got;
 
 use cases::BothWays;
 use std::io;
-use try_kit::requests::{OF_ANY, OF_ONE_ENTRY, Request, try_all};
+use try_kit::requests::{OF_ANY, OF_ONE_ENTRY, Request, Trial};
 
 fn report(rt: &impl Print, request: Request) -> io::Result<()> {
-    println!(rt; "{}: {}", request.name(), try_all::<BothWays>(request))
+    println!(rt; "{request}: {}", BothWays::try_all(request))
 }
 
 fn main(rt: HostRuntime) -> io::Result<()> {

@@ -5,7 +5,6 @@ use record_sizes::Sizes;
 use rules::Refusal;
 use std::io;
 use try_kit::paint::{fill_trits, paint, painted};
-use try_kit::say::{given, say_if};
 use try_kit::sums::sum_of;
 
 // The text that is wanted, or the sum of one that is too long to be written out here.
@@ -13,6 +12,18 @@ use try_kit::sums::sum_of;
 enum Want<'a> {
     Text(&'a [u8]),
     Sum(u64),
+}
+
+fn say_if(rt: &impl Print, test: bool, yes: &str, no: &str) -> io::Result<()> {
+    if test { rt.print(yes) } else { rt.print(no) }
+}
+
+// What a call was given to read is as it was.
+fn given(rt: &impl Print, before: u64, input: &[u8]) -> io::Result<()> {
+    if sum_of(input) != before {
+        rt.print("INPUT CHANGED\n")?;
+    }
+    Ok(())
 }
 
 // The text is the one that is wanted, to its end, and what lies past it is kept.

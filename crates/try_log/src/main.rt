@@ -6,7 +6,7 @@ mod cells;
 
 use cells::OneEntry;
 use std::io;
-use try_kit::requests::{OF_ONE_ENTRY, try_all};
+use try_kit::requests::{OF_ONE_ENTRY, Trial};
 
 // The kinds of entries: void, not, and, or, mux, eq, shl, ushr, flip-flop and replace.
 fn main(rt: HostRuntime) -> io::Result<()> {
@@ -14,7 +14,7 @@ fn main(rt: HostRuntime) -> io::Result<()> {
         println!(rt;
             "kind {}: {}",
             request.kind(),
-            try_all::<OneEntry>(*request)
+            OneEntry::try_all(*request)
         )?;
     }
     Ok(())

@@ -8,10 +8,21 @@ use record_sizes::Sizes;
 use rules::Refusal;
 use std::io;
 use try_kit::paint::{fill_trits, paint, painted};
-use try_kit::say::{given, say_if};
 use try_kit::sums::sum_of;
 
 // ---- answers
+
+fn say_if(rt: &impl Print, test: bool, yes: &str, no: &str) -> io::Result<()> {
+    if test { rt.print(yes) } else { rt.print(no) }
+}
+
+// What a call was given to read is as it was.
+fn given(rt: &impl Print, before: u64, input: &[u8]) -> io::Result<()> {
+    if sum_of(input) != before {
+        rt.print("INPUT CHANGED\n")?;
+    }
+    Ok(())
+}
 
 fn say(rt: &impl Print, text: &str) -> io::Result<()> {
     rt.print(text)
