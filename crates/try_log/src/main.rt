@@ -11,11 +11,7 @@ use try_kit::requests::{OF_ONE_ENTRY, Trial};
 // The kinds of entries: void, not, and, or, mux, eq, shl, ushr, flip-flop and replace.
 fn main(rt: HostRuntime) -> io::Result<()> {
     for request in &OF_ONE_ENTRY {
-        println!(rt;
-            "kind {}: {}",
-            request.kind(),
-            OneEntry::try_all(*request)
-        )?;
+        println!(rt; "kind {}: {}", request.kind(), OneEntry::try_all(*request))?;
     }
     Ok(())
 }
