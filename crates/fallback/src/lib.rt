@@ -9,7 +9,7 @@ ghost use Rattle.rules.specs.Answers.{lower_fallback_call};
 ghost use Rattle.log_entries.specs.Emission.{run};
 ghost use Rattle.log_entries.specs.View.{state_of, lent_of};
 ghost use Rattle.net_memory.specs.View.{memory_of};
-ghost use Rattle.net_memory.specs.Given.{given_of};
+ghost use Rattle.net_memory.specs.Given.{view_given, mem_of};
 ghost use Rattle.swizzle_result.specs.View.{results_of};
 ghost use Rattle.swizzle_counts.specs.Refusal.{rooms_of};
 ghost use Rattle.fallback_bare.specs.Bare.{bare_of};
@@ -20,7 +20,7 @@ ghost use Rattle.fallback.specs.Answer.{lowered_of, Lowers};
 
 use log_entries::{Log, LogState};
 use merge_mux::emit::Keys;
-use net_memory::Memory;
+use net_memory::{Given, Memory};
 use port_transparency::Overlay;
 use swizzle_call::Swizzled;
 use swizzle_counts::SwizzleRooms;
@@ -32,20 +32,18 @@ fn split_rows(
     st: LogState,
     image: &mut [u8],
     tables: &mut [u32],
-    b: Memory,
-    nets: &[u32],
-    trits: &[u8],
+    given: Given<'_>,
     outs: &[u32],
 ) -> Swizzled
-    requires { Passes b nets.now trits.now outs.now st log.old tables.old × (b.width ≤ max_row) × (length image.old ≡ max_bits) }
-    ensures { SplitDone (memory_of b nets.now trits.now) outs.now (fallback_plan (memory_of b nets.now trits.now)) st log.old tables.old result log.new tables.new image.new }
+    requires { Passes given.memory given.nets.now given.trits.now outs.now st log.old tables.old × (given.memory.width ≤ max_row) × (length image.old ≡ max_bits) }
+    ensures { SplitDone (mem_of given.entry) outs.now (fallback_plan (mem_of given.entry)) st log.old tables.old result log.new tables.new image.new }
 {
-    let s = fallback_plan::fallback_swizzle(b, nets);
+    let s = fallback_plan::fallback_swizzle(given.memory, given.nets);
     let mut entries = [0u32; rules::MAX_ROW];
-    lists::store_run(&mut entries, 0, 0, b.width);
+    lists::store_run(&mut entries, 0, 0, given.memory.width);
     let zeros = [0u32; rules::MAX_PORTS];
-    let writes = net_memory::ports_used(b.write_count);
-    let reads = net_memory::ports_used(b.read_count);
+    let writes = net_memory::ports_used(given.memory.write_count);
+    let reads = net_memory::ports_used(given.memory.read_count);
     let mut none = [0u8; 0];
     let mut pieces = [0u32; rules::BITS_ROOM];
     swizzle_call::swizzle(
@@ -55,12 +53,10 @@ fn split_rows(
         tables,
         &mut none,
         &mut pieces,
-        b,
-        nets,
-        trits,
+        given,
         outs,
         s,
-        lists::part(&entries, 0, b.width as usize),
+        lists::part(&entries, 0, given.memory.width as usize),
         lists::part(&zeros, 0, writes),
         lists::part(&zeros, 0, reads),
     )
@@ -75,26 +71,26 @@ fn lower_made(log: &mut Log, g: WideMemory, nets: &[u32], image: &[u8])
 }
 
 // The split and the registers, of a memory that passes the numbers of a fallback; `m` may have flip-flops, which are taken for unmapped.
-fn lower_rows(
-    log: &mut Log,
-    tables: &mut [u32],
-    m: Memory,
-    nets: &[u32],
-    trits: &[u8],
-    outs: &[u32],
-)
-    requires { Ready m nets.now trits.now outs.now log.old.state log.old.words.now tables.old }
-    ensures log_after { lent_of log.new ≡ run (split_lowered (memory_of (bare_of m) nets.now trits.now) outs.now) (lent_of log.old) }
-    ensures tables_unchanged { drop (fallback_scratch (memory_of m nets.now trits.now)) tables.new ≡ drop (fallback_scratch (memory_of m nets.now trits.now)) tables.old }
+fn lower_rows(log: &mut Log, tables: &mut [u32], given: Given<'_>, outs: &[u32])
+    requires { Ready given.memory given.nets.now given.trits.now outs.now log.old.state log.old.words.now tables.old }
+    ensures log_after { lent_of log.new ≡ run (split_lowered (memory_of (bare_of given.entry.memory) given.entry.nets.now given.entry.trits.now) outs.now) (lent_of log.old) }
+    ensures tables_unchanged { drop (fallback_scratch (mem_of given.entry)) tables.new ≡ drop (fallback_scratch (mem_of given.entry)) tables.old }
 {
-    let b = fallback_bare::bare_memory(m);
+    let b = fallback_bare::bare_memory(given.memory);
     let mut image = [0u8; rules::BITS_ROOM];
     let x = split_rows(
-        log.words, log.state, &mut image, tables, b, nets, trits, outs,
+        log.words,
+        log.state,
+        &mut image,
+        tables,
+        b,
+        given.nets,
+        given.trits,
+        outs,
     );
     let made = x.made;
     log.state = made.state;
-    let n = net_memory::init_size(m);
+    let n = net_memory::init_size(given.memory);
     lower_made(
         log,
         made.memory,
@@ -104,17 +100,17 @@ fn lower_rows(
 }
 
 // 1 to 4, 11 and 14.
-fn lower_number(m: Memory, nets: &[u32], trits: &[u8], output: &[u32], next: u32) -> u32
-    ensures { result ≡ lower_fallback_number next (given_of m nets.now trits.now) output.now }
+fn lower_number(given: Given<'_>, output: &[u32], next: u32) -> u32
+    ensures { result ≡ lower_fallback_number next (view_given given.entry) output.now }
 {
-    let n = rules::number_of(port_outputs::driving_refusal(m, nets, trits, output, next, false));
+    let n = rules::number_of(port_outputs::driving_refusal(given, output, next, false));
     if n != 0 {
         return n;
     }
-    if !port_outputs::clocks_same(m) {
+    if !port_outputs::clocks_same(given.memory) {
         return 11;
     }
-    if port_unmap_all::ports_short(m, nets) {
+    if port_unmap_all::ports_short(given.memory, given.nets) {
         return 14;
     }
     0
@@ -134,19 +130,17 @@ fn dry_unmapped(
     st: LogState,
     after: &mut [u32],
     overlay: &mut Overlay,
-    m: Memory,
-    nets: &[u32],
-    trits: &[u8],
+    given: Given<'_>,
     output: &[u32],
 ) -> LogState
-    requires { (lower_fallback_number st.next (given_of m nets.now trits.now) output.now ≡ 0) × (length after.old ≡ max_outputs) }
-    ensures { DryRun (memory_of m nets.now trits.now) output.now (state_of st) (state_of result) }
+    requires { (lower_fallback_number st.next (view_given given) output.now ≡ 0) × (length after.old ≡ max_outputs) }
+    ensures { DryRun (mem_of given.entry) output.now (state_of st) (state_of result) }
 {
     let mut dry = Log {
         words: &mut [],
         state: st.dry_start(),
     };
-    port_unmap_all::emit_unmap_all(&mut dry, overlay, after, m, nets, trits, output);
+    port_unmap_all::emit_unmap_all(&mut dry, overlay, after, given, output);
     dry.state
 }
 
@@ -162,34 +156,24 @@ fn later_net(next: u32, made: usize) -> u32
 }
 
 // The refusal of the split of a memory by the plan of a fallback.
-fn plan_number(
-    r: SwizzleRooms,
-    room: usize,
-    st: LogState,
-    b: Memory,
-    nets: &[u32],
-    trits: &[u8],
-    outs: &[u32],
-) -> u32
-    requires { b.width ≤ max_row }
-    ensures { result ≡ swizzle_refusal (rooms_of r) room (state_of st) (given_of b nets.now trits.now) outs.now (fallback_plan (memory_of b nets.now trits.now)) }
+fn plan_number(r: SwizzleRooms, room: usize, st: LogState, given: Given<'_>, outs: &[u32]) -> u32
+    requires { given.memory.width ≤ max_row }
+    ensures { result ≡ swizzle_refusal (rooms_of r) room (state_of st) (view_given given.entry) outs.now (fallback_plan (mem_of given.entry)) }
 {
-    let s = fallback_plan::fallback_swizzle(b, nets);
+    let s = fallback_plan::fallback_swizzle(given.memory, given.nets);
     let mut entries = [0u32; rules::MAX_ROW];
-    lists::store_run(&mut entries, 0, 0, b.width);
+    lists::store_run(&mut entries, 0, 0, given.memory.width);
     let zeros = [0u32; rules::MAX_PORTS];
-    let writes = net_memory::ports_used(b.write_count);
-    let reads = net_memory::ports_used(b.read_count);
+    let writes = net_memory::ports_used(given.memory.write_count);
+    let reads = net_memory::ports_used(given.memory.read_count);
     rules::number_of(swizzle_refusal::swizzle_refusal(
         r,
         room,
         st,
-        b,
-        nets,
-        trits,
+        given,
         outs,
         s,
-        lists::part(&entries, 0, b.width as usize),
+        lists::part(&entries, 0, given.memory.width as usize),
         lists::part(&zeros, 0, writes),
         lists::part(&zeros, 0, reads),
     ))
@@ -202,13 +186,11 @@ fn split_number(
     words: usize,
     made: usize,
     tables: usize,
-    m: Memory,
-    nets: &[u32],
-    trits: &[u8],
+    given: Given<'_>,
     output: &[u32],
 ) -> u32
-    requires { Asked m nets.now trits.now output.now st tables × HasWidth m }
-    ensures { result ≡ room_refusal room (state_of st) (words + split_words (memory_of m nets.now trits.now)) (made + split_nets (memory_of m nets.now trits.now)) }
+    requires { Asked given.memory given.nets.now given.trits.now output.now st tables × HasWidth given.memory }
+    ensures { result ≡ room_refusal room (state_of st) (words + split_words (mem_of given.entry)) (made + split_nets (mem_of given.entry)) }
 {
     let whole = room.min(rules::MAX_WORDS);
     if whole < words {
@@ -224,8 +206,8 @@ fn split_number(
         trits: 0,
         scratch: rules::BITS_ROOM,
     };
-    let b = fallback_bare::bare_memory(m);
-    plan_number(r, whole - words, later, b, nets, trits, output)
+    let b = fallback_bare::bare_memory(given.memory);
+    plan_number(r, whole - words, later, b, given.nets, given.trits, output)
 }
 
 // 20 and 21 of the whole, by the state after the dry run.
@@ -234,26 +216,24 @@ fn log_number(
     st: LogState,
     dry: LogState,
     tables: usize,
-    m: Memory,
-    nets: &[u32],
-    trits: &[u8],
+    given: Given<'_>,
     output: &[u32],
 ) -> u32
-    requires { Asked m nets.now trits.now output.now st tables × DryRun (memory_of m nets.now trits.now) output.now (state_of st) (state_of dry) }
-    ensures { result ≡ log_refusal room (state_of st) (lower_fallback (memory_of m nets.now trits.now) output.now) }
+    requires { Asked given.memory given.nets.now given.trits.now output.now st tables × DryRun (mem_of given) output.now (state_of st) (state_of dry) }
+    ensures { result ≡ log_refusal room (state_of st) (lower_fallback (mem_of given.entry) output.now) }
 {
     if dry.is_over() {
         return 20;
     }
     let start = st.dry_start();
     let unmapped = dry.next.saturating_sub(start.next) as usize;
-    let rows = fallback_masks::rows_size(m, nets);
+    let rows = fallback_masks::rows_size(given.memory, given.nets);
     let words = dry.used + rows.words;
     let made = unmapped + rows.nets;
-    if m.width == 0 {
+    if given.memory.width == 0 {
         return rules::number_of(st.room_refusal(room, words, made));
     }
-    split_number(room, st, words, made, tables, m, nets, trits, output)
+    split_number(room, st, words, made, tables, given, output)
 }
 
 // The log of a fallback that no number refuses.
@@ -262,21 +242,19 @@ fn act(
     tables: &mut [u32],
     after: &mut [u32],
     overlay: &mut Overlay,
-    m: Memory,
-    nets: &[u32],
-    trits: &[u8],
+    given: Given<'_>,
     output: &[u32],
 )
-    requires { (lower_fallback_refusal (length tables.old) (length log.old.words.now) (state_of log.old.state) (given_of m nets.now trits.now) output.now ≡ 0) × (length after.old ≡ max_outputs) }
-    ensures log_after { lent_of log.new ≡ run (lower_fallback (memory_of m nets.now trits.now) output.now) (lent_of log.old) }
-    ensures tables_unchanged { drop (fallback_scratch (memory_of m nets.now trits.now)) tables.new ≡ drop (fallback_scratch (memory_of m nets.now trits.now)) tables.old }
+    requires { (lower_fallback_refusal (length tables.old) (length log.old.words.now) (state_of log.old.state) (view_given given) output.now ≡ 0) × (length after.old ≡ max_outputs) }
+    ensures log_after { lent_of log.new ≡ run (lower_fallback (mem_of given.entry) output.now) (lent_of log.old) }
+    ensures tables_unchanged { drop (fallback_scratch (mem_of given.entry)) tables.new ≡ drop (fallback_scratch (mem_of given.entry)) tables.old }
 {
-    port_unmap_all::emit_unmap_all(log, overlay, after, m, nets, trits, output);
-    if m.width == 0 {
+    port_unmap_all::emit_unmap_all(log, overlay, after, given, output);
+    if given.memory.width == 0 {
         return;
     }
     let outs = lists::part(after, 0, output.len());
-    lower_rows(log, tables, m, nets, trits, outs);
+    lower_rows(log, tables, given, outs);
 }
 
 // What a fallback gives: the number that refuses it or 0, and the log's state.
@@ -293,16 +271,14 @@ fn lower_asked(
     tables: &mut [u32],
     after: &mut [u32],
     overlay: &mut Overlay,
-    m: Memory,
-    nets: &[u32],
-    trits: &[u8],
+    given: Given<'_>,
     output: &[u32],
 ) -> Lowered
-    requires { Asked m nets.now trits.now output.now st (length tables.old) × (length after.old ≡ max_outputs) }
-    ensures { Lowers m nets.now trits.now output.now st log.old tables.old result log.new tables.new }
+    requires { Asked given.memory given.nets.now given.trits.now output.now st (length tables.old) × (length after.old ≡ max_outputs) }
+    ensures { Lowers given.entry.memory given.entry.nets.now given.entry.trits.now output.now st log.old tables.old result log.new tables.new }
 {
-    let dry = dry_unmapped(st, after, overlay, m, nets, trits, output);
-    let n = log_number(log.len(), st, dry, tables.len(), m, nets, trits, output);
+    let dry = dry_unmapped(st, after, overlay, given, output);
+    let n = log_number(log.len(), st, dry, tables.len(), given, output);
     if n != 0 {
         return Lowered {
             refusal: n,
@@ -313,7 +289,7 @@ fn lower_asked(
         words: log,
         state: st,
     };
-    act(&mut log, tables, after, overlay, m, nets, trits, output);
+    act(&mut log, tables, after, overlay, given, output);
     Lowered {
         refusal: 0,
         state: log.state,
@@ -325,22 +301,20 @@ pub fn lower_fallback(
     log: &mut [u32],
     st: LogState,
     scratch: &mut [u32],
-    m: Memory,
-    nets: &[u32],
-    trits: &[u8],
+    given: Given<'_>,
     output: &[u32],
 ) -> Lowered
-    ensures scratch_after { lowered_of result (fallback_scratch (memory_of m nets.now trits.now)) log.new scratch.new ≡ lower_fallback_call scratch.old log.old (state_of st) (given_of m nets.now trits.now) output.now }
-    ensures lowers { Lowers m nets.now trits.now output.now st log.old scratch.old result log.new scratch.new }
+    ensures scratch_after { lowered_of result (fallback_scratch (mem_of given.entry)) log.new scratch.new ≡ lower_fallback_call scratch.old log.old (state_of st) (view_given given.entry) output.now }
+    ensures lowers { Lowers given.entry.memory given.entry.nets.now given.entry.trits.now output.now st log.old scratch.old result log.new scratch.new }
 {
-    let n = lower_number(m, nets, trits, output, st.next);
+    let n = lower_number(given, output, st.next);
     if n != 0 {
         return Lowered {
             refusal: n,
             state: st,
         };
     }
-    if scratch.len() < scratch_need(m) {
+    if scratch.len() < scratch_need(given.memory) {
         return Lowered {
             refusal: 20,
             state: st,
@@ -359,15 +333,5 @@ pub fn lower_fallback(
             at: [0; rules::MAX_MERGE],
         },
     };
-    lower_asked(
-        log,
-        st,
-        scratch,
-        &mut after,
-        &mut overlay,
-        m,
-        nets,
-        trits,
-        output,
-    )
+    lower_asked(log, st, scratch, &mut after, &mut overlay, given, output)
 }

@@ -8,13 +8,13 @@ ghost use Rattle.rules.specs.Cell.{Mem};
 ghost use Rattle.net_flip_flop.specs.declared.Controls.{Controls};
 ghost use Rattle.rules.specs.Conditions.{too_large, bad_trits, bad_write_shape, bad_write_nets, bad_flip_flop_shape, bad_flip_flop_nets, bad_relation, bad_read_shape, bad_read_nets, bad_shape, bad_depth, bad_nets};
 ghost use Rattle.net_memory.specs.View.{write_by, clocked_by, read_by, writes_of, reads_of, read_ports_of, memory_of};
-ghost use Rattle.net_memory.specs.Given.{too_many_ports, long_relations, bad_lens, given_of};
+ghost use Rattle.net_memory.specs.Given.{too_many_ports, long_relations, bad_lens, view_given, mem_of};
 ghost use Rattle.rules.specs.Refusal.{number_of, number_if};
 ghost use Rattle.rules.specs.Refusals.{mem_number, mem_refusal, number_by_of};
-ghost use Rattle.net_check.specs.Number.{write_number, read_number, ReadsFrom, no_read_of};
+ghost use Rattle.net_check.specs.Number.{write_number, read_number, ReadsFrom, read_of, no_read_of};
 
 use net_flip_flop::Controls;
-use net_memory::{Memory, MemoryReadPort, MemoryWritePort};
+use net_memory::{Given, Memory, MemoryReadPort, MemoryWritePort};
 use rules::Refusal;
 
 fn product(a: u32, b: u32) -> u64
@@ -161,79 +161,77 @@ fn flip_flop_nets_bad(next: u32, f: Controls, p: MemoryReadPort, trits: &[u8]) -
         || relations_bad(p)
 }
 
-// The shape of a read port with these nets and trits is bad, `writes` being the number of write ports.
+// A read port with its own nets and trits.
+#[derive(Clone, Copy)]
+struct Read<'a> {
+    port: MemoryReadPort,
+    nets: &'a [u32],
+    trits: &'a [u8],
+}
+
+// The shape of a read port is bad, `writes` being the number of write ports.
 #[tactic(auto, unfolding(rules::specs::Conditions::bad_read_shape, rules::specs::Conditions::bad_addr_len, rules::specs::Cell::read_wide_log2, rules::specs::Cell::held))]
-fn read_shape_bad(width: u32, writes: usize, p: MemoryReadPort, nets: &[u32], trits: &[u8]) -> bool
-    ensures { (m : Mem) → m.width ≡ width → length m.writes ≡ writes → result ≡ bad_read_shape m (read_by p nets.now trits.now) }
+fn read_shape_bad(width: u32, writes: usize, r: Read<'_>) -> bool
+    ensures { (m : Mem) → m.width ≡ width → length m.writes ≡ writes → result ≡ bad_read_shape m (read_of r.entry) }
 {
-    let len = p.data_len as usize;
-    let addr = net_memory::read_addr_of(p, nets);
+    let len = r.port.data_len as usize;
+    let addr = net_memory::read_addr_of(r.port, r.nets);
     let k = net_memory::wide::wide_log(width, len);
     net_memory::wide::data_len_bad(width, len)
         || (rules::ADDR_BITS as usize) < addr.len() + (k as usize)
-        || p.flip_flop.is_some() && flip_flop_shape_bad(writes, p, trits)
+        || r.port.flip_flop.is_some() && flip_flop_shape_bad(writes, r.port, r.trits)
 }
 
 // A net, a control, a trit or a relation of a read port is bad.
 #[tactic(auto, unfolding(rules::specs::Conditions::bad_read_nets, rules::specs::Conditions::bad_value, rules::specs::Cell::held))]
-fn read_nets_bad(next: u32, p: MemoryReadPort, nets: &[u32], trits: &[u8]) -> bool
-    ensures { result ≡ bad_read_nets next (read_by p nets.now trits.now) }
+fn read_nets_bad(next: u32, r: Read<'_>) -> bool
+    ensures { result ≡ bad_read_nets next (read_of r.entry) }
 {
-    !net_value::value_good(next, net_memory::read_addr_of(p, nets))
-        || p.flip_flop
-            .is_some_and(|c| flip_flop_nets_bad(next, c, p, trits))
+    !net_value::value_good(next, net_memory::read_addr_of(r.port, r.nets))
+        || r.port
+            .flip_flop
+            .is_some_and(|c| flip_flop_nets_bad(next, c, r.port, r.trits))
 }
 
-// By what a read port with these nets and trits is refused.
+// By what a read port is refused.
 #[tactic(auto, unfolding(crate::specs::Number::read_number, rules::specs::Cell::read_wide_log2))]
-fn read_refusal(
-    depth: u32,
-    width: u32,
-    next: u32,
-    writes: usize,
-    p: MemoryReadPort,
-    nets: &[u32],
-    trits: &[u8],
-) -> Option<Refusal>
-    ensures { (m : Mem) → m.depth ≡ depth → m.width ≡ width → length m.writes ≡ writes → number_if result ≡ read_number next m (read_by p nets.now trits.now) }
+fn read_refusal(depth: u32, width: u32, next: u32, writes: usize, r: Read<'_>) -> Option<Refusal>
+    ensures { (m : Mem) → m.depth ≡ depth → m.width ≡ width → length m.writes ≡ writes → number_if result ≡ read_number next m (read_of r.entry) }
 {
-    let k = net_memory::wide::wide_log(width, p.data_len as usize);
-    let shape = read_shape_bad(width, writes, p, nets, trits);
+    let k = net_memory::wide::wide_log(width, r.port.data_len as usize);
+    let shape = read_shape_bad(width, writes, r);
     let rows = net_memory::wide::is_indivisible(depth, k);
-    refusal_by(shape, rows, read_nets_bad(next, p, nets, trits))
+    refusal_by(shape, rows, read_nets_bad(next, r))
 }
 
 // By what read port i is refused, whose nets and trits start at these places.
-fn read_refusal_at(
-    m: Memory,
-    nets: &[u32],
-    trits: &[u8],
-    next: u32,
-    i: usize,
-    at: usize,
-    from: usize,
-) -> Option<Refusal>
-    requires { ReadsFrom m i at from }
-    ensures { number_if result ≡ read_number next (memory_of m nets.now trits.now) (get_or (reads_of m nets.now trits.now) i no_read_of) }
+fn read_refusal_at(given: Given<'_>, next: u32, i: usize, at: usize, from: usize) -> Option<Refusal>
+    requires { ReadsFrom given.memory i at from }
+    ensures { number_if result ≡ read_number next (mem_of given.entry) (get_or (reads_of given.entry.memory given.entry.nets.now given.entry.trits.now) i no_read_of) }
 {
-    let p = m.read_ports[i];
-    let addr = lists::part(nets, at, net_memory::addr_size(p));
-    let values = lists::part(trits, from, net_memory::trit_size(p));
+    let m = given.memory;
+    let port = m.read_ports[i];
+    let r = Read {
+        port,
+        nets: lists::part(given.nets, at, net_memory::addr_size(port)),
+        trits: lists::part(given.trits, from, net_memory::trit_size(port)),
+    };
     let writes = net_memory::ports_used(m.write_count);
-    read_refusal(m.depth, m.width, next, writes, p, addr, values)
+    read_refusal(m.depth, m.width, next, writes, r)
 }
 
 // By what a read port is refused, the lowest of all.
-fn reads_refusal(m: Memory, nets: &[u32], trits: &[u8], next: u32) -> Option<Refusal>
-    ensures { number_if result ≡ least_by (read_number next (memory_of m nets.now trits.now)) (reads_of m nets.now trits.now) }
+fn reads_refusal(given: Given<'_>, next: u32) -> Option<Refusal>
+    ensures { number_if result ≡ least_by (read_number next (mem_of given.entry)) (reads_of given.entry.memory given.entry.nets.now given.entry.trits.now) }
 {
+    let m = given.memory;
     let count = net_memory::ports_used(m.read_count);
     let mut at = net_memory::reads_start(m);
     let mut from = net_memory::init_size(m);
     let mut refusal = None;
     for i in 0..count {
         let p = m.read_ports[i];
-        refusal = lower(refusal, read_refusal_at(m, nets, trits, next, i, at, from));
+        refusal = lower(refusal, read_refusal_at(given, next, i, at, from));
         at += net_memory::addr_size(p);
         from += net_memory::trit_size(p);
     }
@@ -289,49 +287,47 @@ fn any_long_relations(m: Memory) -> bool
 
 // The arrays are not as long as the struct says.
 #[tactic(auto, unfolding(net_memory::specs::Given::bad_lens))]
-fn lens_bad(m: Memory, nets: usize, trits: usize) -> bool
-    ensures { result ≡ bad_lens m nets trits }
+fn lens_bad(given: Given<'_>) -> bool
+    ensures { result ≡ bad_lens given.entry.memory (length given.entry.nets.now) (length given.entry.trits.now) }
 {
-    nets != net_memory::nets_total(m)
-        || trits != net_memory::trits_total(m)
-        || any_long_relations(m)
+    given.nets.len() != net_memory::nets_total(given.memory)
+        || given.trits.len() != net_memory::trits_total(given.memory)
+        || any_long_relations(given.memory)
 }
 
 // By which of 2 to 4 what a memory holds is refused, the lowest of all.
-fn parts_refusal(m: Memory, nets: &[u32], trits: &[u8], next: u32) -> Option<Refusal>
-    ensures { number_if result ≡ number_by_of (bad_shape (memory_of m nets.now trits.now)) (bad_depth (memory_of m nets.now trits.now)) (bad_nets next (memory_of m nets.now trits.now)) }
+fn parts_refusal(given: Given<'_>, next: u32) -> Option<Refusal>
+    ensures { number_if result ≡ number_by_of (bad_shape (mem_of given.entry)) (bad_depth (mem_of given.entry)) (bad_nets next (mem_of given.entry)) }
 {
-    let a = init_refusal(m, trits);
-    let b = writes_refusal(m, nets, next);
-    lower(a, lower(b, reads_refusal(m, nets, trits, next)))
+    let a = init_refusal(given.memory, given.trits);
+    let b = writes_refusal(given.memory, given.nets, next);
+    lower(a, lower(b, reads_refusal(given, next)))
 }
 
 // 1 to 4 of a call over a memory. `one`, `two` and `four` say what else of the call breaks these numbers.
 #[tactic(auto, using(crate::proofs::Sizes::by_one, crate::proofs::Sizes::by_large, crate::proofs::Sizes::by_two, crate::proofs::Sizes::by_lens, crate::proofs::Sizes::by_four, crate::proofs::Sizes::by_parts))]
 pub fn call_refusal(
-    m: Memory,
-    nets: &[u32],
-    trits: &[u8],
+    given: Given<'_>,
     next: u32,
     one: bool,
     two: bool,
     four: bool,
 ) -> Result<(), Refusal>
-    ensures { number_of result ≡ mem_number one two four next (given_of m nets.now trits.now) }
+    ensures { number_of result ≡ mem_number one two four next (view_given given.entry) }
 {
     if one {
         return Err(Refusal::TooLarge);
     }
-    if too_large(m) {
+    if too_large(given.memory) {
         return Err(Refusal::TooLarge);
     }
     if two {
         return Err(Refusal::BadShape);
     }
-    if lens_bad(m, nets.len(), trits.len()) {
+    if lens_bad(given) {
         return Err(Refusal::BadShape);
     }
-    let refusal = parts_refusal(m, nets, trits, next);
+    let refusal = parts_refusal(given, next);
     if four {
         return answer(lower(refusal, Some(Refusal::BadValue)));
     }
@@ -340,8 +336,8 @@ pub fn call_refusal(
 
 // 1 to 4 of a memory by itself, without the log state.
 #[tactic(auto, unfolding(rules::specs::Refusals::mem_refusal))]
-pub fn memory_refusal(m: Memory, nets: &[u32], trits: &[u8]) -> Result<(), Refusal>
-    ensures { number_of result ≡ mem_refusal (given_of m nets.now trits.now) }
+pub fn memory_refusal(given: Given<'_>) -> Result<(), Refusal>
+    ensures { number_of result ≡ mem_refusal (view_given given.entry) }
 {
-    call_refusal(m, nets, trits, rules::MAX_NETS, false, false, false)
+    call_refusal(given, rules::MAX_NETS, false, false, false)
 }

@@ -7,6 +7,7 @@ use Rattle.net_memory.specs.FlipFlop.{MemoryReadFlipFlop}
 use Rattle.std.specs.Prelude.{None, Some}
 use Rattle.net_memory.specs.declared.MemoryReadPort.{MemoryReadPort}
 use Rattle.net_memory.specs.declared.Memory.{Memory}
+use Rattle.net_memory.specs.declared.Given.{Given}
 use Rattle.net_memory.specs.View.{read_ports_of, nets_total, trits_total, memory_of}
 
 -- 1: more ports than there is place for
@@ -27,3 +28,10 @@ bad_lens m nets trits = not (eqb nets (nets_total m)) || (not (eqb trits (trits_
 
 abbrev pub given_of : Memory → List ℕ → List ℕ → rules.Given
 given_of m nets trits = record { mem = memory_of m nets trits; extra_ports = too_many_ports m; wrong_lens = bad_lens m (length nets) (length trits) }
+
+-- the same of the struct that holds all three, and the memory in it
+abbrev pub view_given : Given → rules.Given
+view_given g = given_of g.memory g.nets.now g.trits.now
+
+abbrev pub mem_of : Given → rules.Mem
+mem_of g = memory_of g.memory g.nets.now g.trits.now

@@ -44,6 +44,14 @@ pub struct Memory {
     pub read_ports: [MemoryReadPort; rules::MAX_PORTS],
 }
 
+// A memory as a call is given it: the struct, and the two arrays that it lends.
+#[derive(Clone, Copy)]
+pub struct Given<'a> {
+    pub memory: Memory,
+    pub nets: &'a [u32],
+    pub trits: &'a [u8],
+}
+
 // The ports in use: at most as many as there is place for.
 pub fn ports_used(count: u32) -> usize
     ensures { (result ≡ min max_ports count) × (result ≤ max_ports) }

@@ -9,12 +9,12 @@ ghost use Rattle.rules.specs.Refusal.{number_of};
 ghost use Rattle.rules.specs.Refusals.{log_refusal};
 ghost use Rattle.log_entries.specs.Emission.{run};
 ghost use Rattle.log_entries.specs.View.{state_of, lent, lent_of};
-ghost use Rattle.net_memory.specs.View.{memory_of};
 ghost use Rattle.port_empty.specs.Empty.{emptied_if};
+ghost use Rattle.net_memory.specs.Given.{mem_of};
 
 use log_entries::{Log, LogState};
 use merge_mux::emit::Keys;
-use net_memory::Memory;
+use net_memory::Given;
 use port_transparency::Overlay;
 use rules::Refusal;
 
@@ -32,31 +32,22 @@ fn emit_emptied(
     log: &mut Log,
     overlay: &mut Overlay,
     after: &mut [u32; rules::MAX_OUTPUTS],
-    m: Memory,
-    nets: &[u32],
-    trits: &[u8],
+    given: Given<'_>,
     output: &[u32],
 )
-    ensures { lent_of log.new ≡ run (emptied_if (memory_of m nets.now trits.now) output.now) (lent_of log.old) }
+    ensures { lent_of log.new ≡ run (emptied_if (mem_of given.entry) output.now) (lent_of log.old) }
 {
     let n = output.len();
     if rules::MAX_OUTPUTS < n {
         return;
     }
-    port_unmap_all::emit_unmap_all(log, overlay, after, m, nets, trits, output);
+    port_unmap_all::emit_unmap_all(log, overlay, after, given, output);
     emit_unknown(log, after, n);
 }
 
 // Depth 0 of a swizzle, without its numbers, of a log and a state apart; the same function runs dry on an empty log.
-pub fn emit_empty(
-    log: &mut [u32],
-    st: LogState,
-    m: Memory,
-    nets: &[u32],
-    trits: &[u8],
-    output: &[u32],
-) -> LogState
-    ensures { lent result log.new ≡ run (emptied_if (memory_of m nets.now trits.now) output.now) (lent st log.old) }
+pub fn emit_empty(log: &mut [u32], st: LogState, given: Given<'_>, output: &[u32]) -> LogState
+    ensures { lent result log.new ≡ run (emptied_if (mem_of given.entry) output.now) (lent st log.old) }
 {
     let mut after = [0u32; rules::MAX_OUTPUTS];
     let mut overlay = Overlay {
@@ -75,7 +66,7 @@ pub fn emit_empty(
         words: log,
         state: st,
     };
-    emit_emptied(&mut log, &mut overlay, &mut after, m, nets, trits, output);
+    emit_emptied(&mut log, &mut overlay, &mut after, given, output);
     log.state
 }
 
@@ -83,13 +74,11 @@ pub fn emit_empty(
 pub fn empty_refusal(
     room: usize,
     st: LogState,
-    m: Memory,
-    nets: &[u32],
-    trits: &[u8],
+    given: Given<'_>,
     output: &[u32],
 ) -> Result<(), Refusal>
-    ensures { number_of result ≡ log_refusal room (state_of st) (emptied_if (memory_of m nets.now trits.now) output.now) }
+    ensures { number_of result ≡ log_refusal room (state_of st) (emptied_if (mem_of given.entry) output.now) }
 {
-    let dry = emit_empty(&mut [], st.dry_start(), m, nets, trits, output);
+    let dry = emit_empty(&mut [], st.dry_start(), given, output);
     st.dry_refusal(room, dry)
 }

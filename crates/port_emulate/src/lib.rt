@@ -21,7 +21,7 @@ ghost use Rattle.port_emulate.specs.Delays.{delayed_by, cut_by, delays, Fitting,
 use log_entries::{Log, LogState};
 use merge_dff::Trits;
 use merge_mux::emit::Keys;
-use net_memory::{Memory, MemoryWritePort};
+use net_memory::{Given, Memory, MemoryWritePort};
 use port_delay::Room;
 use port_unmap::Driven;
 
@@ -210,7 +210,12 @@ pub fn emulate_read_before_write(
     ensures log_after { driven_of result nets.new trits.now [] log.new ≡ emulate_call (rooms_of nets.old trits.now) log.old (state_of st) (given_of m nets.old trits.now) }
     ensures emulated { Emulated m st nets.old nets.new result }
 {
-    let n = rules::number_of(port_relations::input_refusal(m, nets, trits, st.next));
+    let given = Given {
+        memory: m,
+        nets,
+        trits,
+    };
+    let n = rules::number_of(port_relations::input_refusal(given, st.next));
     if n != 0 {
         return Driven {
             refusal: n,

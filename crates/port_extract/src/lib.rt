@@ -10,10 +10,10 @@ ghost use Rattle.rules.specs.Refusal.{number_of};
 ghost use Rattle.rules.specs.Refusals.{no_rooms, extract_read_ports_refusal};
 ghost use Rattle.rules.specs.Answers.{extract_read_ports_call};
 ghost use Rattle.net_memory.specs.View.{memory_of, read_nets};
-ghost use Rattle.net_memory.specs.Given.{given_of};
+ghost use Rattle.net_memory.specs.Given.{given_of, view_given};
 ghost use Rattle.port_extract.specs.Extract.{extracted_of, kept_port, kept_trits, with_ports, new_nets, new_trits, extraction_of, new_output, NewStruct, ListedPorts, Ready};
 
-use net_memory::{Memory, MemoryReadPort};
+use net_memory::{Given, Memory, MemoryReadPort};
 use rules::Refusal;
 
 // Port i's part of the outputs.
@@ -146,50 +146,39 @@ fn pick_ports(m: Memory, list: &[u32]) -> Memory
 }
 
 // What is to be stored does not fit its room: a run without room stores nothing that is kept.
-fn rooms_bad(
-    m: Memory,
-    nets: &[u32],
-    trits: &[u8],
-    list: &[u32],
-    output: &[u32],
-    a: usize,
-    b: usize,
-    c: usize,
-) -> bool
-    requires { Ready m nets.now trits.now list.now }
-    ensures { result ≡ no_rooms (record { nets = a; trits = b; output = c }) (extraction_of m nets.entry.now trits.now list.now output.now) }
+fn rooms_bad(given: Given<'_>, list: &[u32], output: &[u32], a: usize, b: usize, c: usize) -> bool
+    requires { Ready given.memory given.nets.now given.trits.now list.now }
+    ensures { result ≡ no_rooms (record { nets = a; trits = b; output = c }) (extraction_of given.entry.memory nets.entry.now given.entry.trits.now list.now output.now) }
 {
     let mut words = [0u32; 1];
     let mut codes = [0u8; 1];
-    if a < put_nets(&mut words, m, nets, list) {
+    if a < put_nets(&mut words, given.memory, given.nets, list) {
         return true;
     }
-    if b < put_trits(&mut codes, m, trits, list) {
+    if b < put_trits(&mut codes, given.memory, given.trits, list) {
         return true;
     }
-    c < put_outputs(&mut words, m, output, list)
+    c < put_outputs(&mut words, given.memory, output, list)
 }
 
 // 1 to 4, 15 and 20 of an extraction with rooms of these lengths.
 #[tactic(auto, using(rules::proofs::Answers::else_err), unfolding(rules::specs::Refusals::extract_read_ports_refusal, rules::specs::Conditions::long_list))]
 fn extract_refusal(
-    m: Memory,
-    nets: &[u32],
-    trits: &[u8],
+    given: Given<'_>,
     list: &[u32],
     output: &[u32],
     a: usize,
     b: usize,
     c: usize,
 ) -> Result<(), Refusal>
-    ensures { number_of result ≡ extract_read_ports_refusal (record { nets = a; trits = b; output = c }) (given_of m nets.entry.now trits.now) list.now output.now }
+    ensures { number_of result ≡ extract_read_ports_refusal (record { nets = a; trits = b; output = c }) (given_of given.entry.memory nets.entry.now given.entry.trits.now) list.now output.now }
 {
     let long = rules::MAX_PORTS < list.len();
-    port_outputs::driving_refusal(m, nets, trits, output, rules::MAX_NETS, long)?;
-    if port_outputs::port_missing(m, list) {
+    port_outputs::driving_refusal(given, output, rules::MAX_NETS, long)?;
+    if port_outputs::port_missing(given.memory, list) {
         return Err(Refusal::OutOfRange);
     }
-    if rooms_bad(m, nets, trits, list, output, a, b, c) {
+    if rooms_bad(given, list, output, a, b, c) {
         return Err(Refusal::NoRoom);
     }
     Ok(())
@@ -200,27 +189,23 @@ pub fn extract_read_ports(
     room_nets: &mut [u32],
     room_trits: &mut [u8],
     room_output: &mut [u32],
-    m: Memory,
-    nets: &[u32],
-    trits: &[u8],
+    given: Given<'_>,
     list: &[u32],
     output: &[u32],
 ) -> Result<Memory, Refusal>
-    ensures room_output_after { extracted_of result room_nets.new room_trits.new room_output.new ≡ extract_read_ports_call room_nets.old room_trits.old room_output.old (given_of m nets.now trits.now) list.now output.now }
-    ensures new_struct { NewStruct m nets.now trits.now list.now output.now result }
+    ensures room_output_after { extracted_of result room_nets.new room_trits.new room_output.new ≡ extract_read_ports_call room_nets.old room_trits.old room_output.old (view_given given.entry) list.now output.now }
+    ensures new_struct { NewStruct given.entry.memory given.entry.nets.now given.entry.trits.now list.now output.now result }
 {
     extract_refusal(
-        m,
-        nets,
-        trits,
+        given,
         list,
         output,
         room_nets.len(),
         room_trits.len(),
         room_output.len(),
     )?;
-    put_nets(room_nets, m, nets, list);
-    put_trits(room_trits, m, trits, list);
-    put_outputs(room_output, m, output, list);
-    Ok(pick_ports(m, list))
+    put_nets(room_nets, given.memory, given.nets, list);
+    put_trits(room_trits, given.memory, given.trits, list);
+    put_outputs(room_output, given.memory, output, list);
+    Ok(pick_ports(given.memory, list))
 }

@@ -13,13 +13,13 @@ ghost use Rattle.rules.specs.Refusals.{log_refusal, overlay_values, bad_overlay_
 ghost use Rattle.rules.specs.Answers.{transparency_mux_call};
 ghost use Rattle.log_entries.specs.View.{state_of, lent_of};
 ghost use Rattle.net_memory.specs.View.{memory_of, read_port};
-ghost use Rattle.net_memory.specs.Given.{given_of};
+ghost use Rattle.net_memory.specs.Given.{view_given, mem_of};
 ghost use Rattle.port_transparency.specs.Gave.{Gave};
 ghost use Rattle.port_mux.specs.Call.{overlay_of, wanted_of, overlaid_of, overlaid, Paired};
 
 use log_entries::{Log, LogState};
 use merge_mux::emit::Keys;
-use net_memory::{Memory, MemoryReadPort};
+use net_memory::{Given, Memory, MemoryReadPort};
 use port_transparency::{Overlay, Reading};
 
 // The number of the refusal, or the state after the request.
@@ -93,9 +93,7 @@ fn pair_number(m: Memory, nets: &[u32], i: usize, j: usize) -> u32
 
 // 1 to 4, 14 and 15, or 0.
 fn mux_number(
-    m: Memory,
-    nets: &[u32],
-    trits: &[u8],
+    given: Given<'_>,
     i: usize,
     j: usize,
     bits: &[u32],
@@ -103,16 +101,16 @@ fn mux_number(
     masked: bool,
     next: u32,
 ) -> u32
-    ensures { result ≡ transparency_mux_number next (given_of m nets.now trits.now) i j (overlay_of masked bits.now mask.now) }
+    ensures { result ≡ transparency_mux_number next (view_given given.entry) i j (overlay_of masked bits.now mask.now) }
 {
     let one = overlay_long(bits, mask, masked);
-    let two = overlay_unlike(m, bits, mask, masked, i);
+    let two = overlay_unlike(given.memory, bits, mask, masked, i);
     let four = overlay_bad(next, bits, mask, masked);
-    let n = rules::number_of(net_check::call_refusal(m, nets, trits, next, one, two, four));
+    let n = rules::number_of(net_check::call_refusal(given, next, one, two, four));
     if n != 0 {
         return n;
     }
-    pair_number(m, nets, i, j)
+    pair_number(given.memory, given.nets, i, j)
 }
 
 // 20 where the data or the mask after, of n nets, do not fit the rooms for them, or 0.
@@ -144,29 +142,27 @@ fn emit_mux<'a>(
     log: &mut Log,
     overlay: &mut Overlay,
     over: &mut [u32; rules::MAX_MERGE],
-    m: Memory,
-    nets: &'a [u32],
-    trits: &[u8],
+    given: Given<'_>,
     i: usize,
     p: MemoryReadPort,
     j: usize,
     o: Asked,
 )
-    requires { Paired m nets.now trits.now i j o.masked o.bits.now o.mask.now × (p ≡ read_port m i) }
-    ensures { Gave (transparency_mux (memory_of m nets.now trits.now) i j (overlay_of o.entry.masked o.entry.bits.now o.entry.mask.now)) (lent_of log.old) (lent_of log.new) (overlay_of o.entry.masked (take p.data_len overlay.new.under) (take p.data_len over.new)) }
+    requires { Paired given.memory given.nets.now given.trits.now i j o.masked o.bits.now o.mask.now × (p ≡ read_port given.memory i) }
+    ensures { Gave (transparency_mux (mem_of given.entry) i j (overlay_of o.entry.masked o.entry.bits.now o.entry.mask.now)) (lent_of log.old) (lent_of log.new) (overlay_of o.entry.masked (take p.data_len overlay.new.under) (take p.data_len over.new)) }
 {
     let count = p.data_len as usize;
     let r = Reading {
-        k: net_memory::wide::wide_log(m.width, count),
-        addr: net_memory::read_nets(m, nets, i),
+        k: net_memory::wide::wide_log(given.memory.width, count),
+        addr: net_memory::read_nets(given.memory, given.nets, i),
         count,
     };
     lists::copy(&mut overlay.under, 0, o.bits);
     if !o.masked {
-        return port_overlay::emit_pair(log, overlay, m, nets, j, r);
+        return port_overlay::emit_pair(log, overlay, given.memory, given.nets, j, r);
     }
     lists::copy(over, 0, o.mask);
-    port_masked::emit_masked_pair(log, overlay, over, m, nets, j, r)
+    port_masked::emit_masked_pair(log, overlay, over, given.memory, given.nets, j, r)
 }
 
 // 20 and 21 of it, by a run without a log.
@@ -175,22 +171,20 @@ fn dry_number(
     st: LogState,
     overlay: &mut Overlay,
     over: &mut [u32; rules::MAX_MERGE],
-    m: Memory,
-    nets: &[u32],
-    trits: &[u8],
+    given: Given<'_>,
     i: usize,
     p: MemoryReadPort,
     j: usize,
     o: Asked,
 ) -> u32
-    requires { Paired m nets.now trits.now i j o.masked o.bits.now o.mask.now × (p ≡ read_port m i) }
-    ensures { result ≡ log_refusal room (state_of st) (transparency_mux (memory_of m nets.now trits.now) i j (overlay_of o.entry.masked o.entry.bits.now o.entry.mask.now)) }
+    requires { Paired given.memory given.nets.now given.trits.now i j o.masked o.bits.now o.mask.now × (p ≡ read_port given.memory i) }
+    ensures { result ≡ log_refusal room (state_of st) (transparency_mux (mem_of given.entry) i j (overlay_of o.entry.masked o.entry.bits.now o.entry.mask.now)) }
 {
     let mut dry = Log {
         words: &mut [],
         state: st.dry_start(),
     };
-    emit_mux(&mut dry, overlay, over, m, nets, trits, i, p, j, o);
+    emit_mux(&mut dry, overlay, over, given, i, p, j, o);
     rules::number_of(st.dry_refusal(room, dry.state))
 }
 
@@ -211,16 +205,14 @@ fn mux_fitting(
     st: LogState,
     bits_to: &mut [u32],
     mask_to: &mut [u32],
-    m: Memory,
-    nets: &[u32],
-    trits: &[u8],
+    given: Given<'_>,
     i: usize,
     p: MemoryReadPort,
     j: usize,
     o: Asked,
 ) -> Answer
-    requires { Paired m nets.now trits.now i j o.masked o.bits.now o.mask.now × (p ≡ read_port m i) × (p.data_len ≤ length bits_to.old) × (o.masked ≡ true → p.data_len ≤ length mask_to.old) }
-    ensures { overlaid_of o.entry.masked (length o.entry.bits.now) result log.new bits_to.new mask_to.new ≡ overlaid (log_refusal (length log.old) (state_of st) (transparency_mux (memory_of m nets.now trits.now) i j (overlay_of o.entry.masked o.entry.bits.now o.entry.mask.now))) bits_to.old mask_to.old log.old (state_of st) (transparency_mux (memory_of m nets.now trits.now) i j (overlay_of o.entry.masked o.entry.bits.now o.entry.mask.now)) }
+    requires { Paired given.memory given.nets.now given.trits.now i j o.masked o.bits.now o.mask.now × (p ≡ read_port given.memory i) × (p.data_len ≤ length bits_to.old) × (o.masked ≡ true → p.data_len ≤ length mask_to.old) }
+    ensures { overlaid_of o.entry.masked (length o.entry.bits.now) result log.new bits_to.new mask_to.new ≡ overlaid (log_refusal (length log.old) (state_of st) (transparency_mux (mem_of given.entry) i j (overlay_of o.entry.masked o.entry.bits.now o.entry.mask.now))) bits_to.old mask_to.old log.old (state_of st) (transparency_mux (mem_of given.entry) i j (overlay_of o.entry.masked o.entry.bits.now o.entry.mask.now)) }
 {
     let mut overlay = Overlay {
         under: [0; rules::MAX_MERGE],
@@ -235,19 +227,7 @@ fn mux_fitting(
         },
     };
     let mut over = [0u32; rules::MAX_MERGE];
-    let k = dry_number(
-        log.len(),
-        st,
-        &mut overlay,
-        &mut over,
-        m,
-        nets,
-        trits,
-        i,
-        p,
-        j,
-        o,
-    );
+    let k = dry_number(log.len(), st, &mut overlay, &mut over, given, i, p, j, o);
     if k != 0 {
         return Answer::Refused(k);
     }
@@ -255,18 +235,7 @@ fn mux_fitting(
         words: log,
         state: st,
     };
-    emit_mux(
-        &mut log,
-        &mut overlay,
-        &mut over,
-        m,
-        nets,
-        trits,
-        i,
-        p,
-        j,
-        o,
-    );
+    emit_mux(&mut log, &mut overlay, &mut over, given, i, p, j, o);
     store(bits_to, &overlay.under, o.bits.len(), true);
     store(mask_to, &over, o.bits.len(), o.masked);
     Answer::Accepted(log.state)
@@ -278,9 +247,7 @@ fn mux_pair(
     st: LogState,
     bits_to: &mut [u32],
     mask_to: &mut [u32],
-    m: Memory,
-    nets: &[u32],
-    trits: &[u8],
+    given: Given<'_>,
     i: usize,
     p: MemoryReadPort,
     j: usize,
@@ -288,15 +255,15 @@ fn mux_pair(
     mask: &[u32],
     masked: bool,
 ) -> Answer
-    requires { (transparency_mux_number st.next (given_of m nets.now trits.now) i j (overlay_of masked bits.now mask.now) ≡ 0) × (p ≡ read_port m i) }
-    ensures { overlaid_of masked (length bits.now) result log.new bits_to.new mask_to.new ≡ transparency_mux_call bits_to.old mask_to.old log.old (state_of st) (given_of m nets.now trits.now) i j (overlay_of masked bits.now mask.now) }
+    requires { (transparency_mux_number st.next (view_given given) i j (overlay_of masked bits.now mask.now) ≡ 0) × (p ≡ read_port given.memory i) }
+    ensures { overlaid_of masked (length bits.now) result log.new bits_to.new mask_to.new ≡ transparency_mux_call bits_to.old mask_to.old log.old (state_of st) (view_given given.entry) i j (overlay_of masked bits.now mask.now) }
 {
     let n = room_number(bits_to.len(), mask_to.len(), bits.len(), masked);
     if n != 0 {
         return Answer::Refused(n);
     }
     let o = Asked { bits, mask, masked };
-    mux_fitting(log, st, bits_to, mask_to, m, nets, trits, i, p, j, o)
+    mux_fitting(log, st, bits_to, mask_to, given, i, p, j, o)
 }
 
 // transparency_mux: the data of write port `write` over `bits`, which read port `read` reads, where the addresses are equal and the mask
@@ -307,23 +274,21 @@ pub fn transparency_mux(
     st: LogState,
     bits_to: &mut [u32],
     mask_to: &mut [u32],
-    m: Memory,
-    nets: &[u32],
-    trits: &[u8],
+    given: Given<'_>,
     read: usize,
     write: usize,
     bits: &[u32],
     mask: &[u32],
     masked: bool,
 ) -> Answer
-    ensures { overlaid_of masked (length bits.now) result log.new bits_to.new mask_to.new ≡ transparency_mux_call bits_to.old mask_to.old log.old (state_of st) (given_of m nets.now trits.now) read write (overlay_of masked bits.now mask.now) }
+    ensures { overlaid_of masked (length bits.now) result log.new bits_to.new mask_to.new ≡ transparency_mux_call bits_to.old mask_to.old log.old (state_of st) (view_given given.entry) read write (overlay_of masked bits.now mask.now) }
 {
-    let n = mux_number(m, nets, trits, read, write, bits, mask, masked, st.next);
+    let n = mux_number(given, read, write, bits, mask, masked, st.next);
     if n != 0 {
         return Answer::Refused(n);
     }
-    let p = m.read_ports[read];
+    let p = given.memory.read_ports[read];
     mux_pair(
-        log, st, bits_to, mask_to, m, nets, trits, read, p, write, bits, mask, masked,
+        log, st, bits_to, mask_to, given, read, p, write, bits, mask, masked,
     )
 }

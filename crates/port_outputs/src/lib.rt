@@ -13,10 +13,10 @@ ghost use Rattle.net_memory.specs.View.{memory_of};
 ghost use Rattle.rules.specs.Refusal.{number_of, answer_by};
 ghost use Rattle.rules.specs.Refusals.{driving_number, output_slice_refusal};
 ghost use Rattle.rules.specs.Answers.{output_len_call, output_slice_call, can_lower_fallback_call};
-ghost use Rattle.net_memory.specs.Given.{given_of};
+ghost use Rattle.net_memory.specs.Given.{view_given};
 ghost use Rattle.port_outputs.specs.View.{slice_of};
 
-use net_memory::{Memory, MemoryWritePort};
+use net_memory::{Given, Memory, MemoryWritePort};
 use net_value::ControlNet;
 use rules::Refusal;
 
@@ -45,36 +45,34 @@ fn output_len_bad(m: Memory, size: usize) -> bool
 // 1 to 4 of a call over a memory and the nets that its outputs drive. `one` says what else of the call breaks 1.
 #[tactic(auto, unfolding(rules::specs::Refusals::driving_number, rules::specs::Conditions::bad_value))]
 pub fn driving_refusal(
-    m: Memory,
-    nets: &[u32],
-    trits: &[u8],
+    given: Given<'_>,
     output: &[u32],
     next: u32,
     one: bool,
 ) -> Result<(), Refusal>
-    ensures { number_of result ≡ driving_number one next (given_of m nets.now trits.now) output.now }
+    ensures { number_of result ≡ driving_number one next (view_given given.entry) output.now }
 {
-    let two = output_len_bad(m, output.len());
+    let two = output_len_bad(given.memory, output.len());
     let good = net_value::value_good(next, output);
-    net_check::call_refusal(m, nets, trits, next, one, two, !good)
+    net_check::call_refusal(given, next, one, two, !good)
 }
 
 // The read ports' data bits in all.
 #[tactic(auto, using(rules::proofs::Answers::answer_err, rules::proofs::Answers::answer_ok), unfolding(rules::specs::Answers::output_len_call))]
-pub fn output_len(m: Memory, nets: &[u32], trits: &[u8]) -> Result<usize, Refusal>
-    ensures { answer_by (λ n. n) result ≡ output_len_call (given_of m nets.now trits.now) }
+pub fn output_len(given: Given<'_>) -> Result<usize, Refusal>
+    ensures { answer_by (λ n. n) result ≡ output_len_call (view_given given.entry) }
 {
-    net_check::memory_refusal(m, nets, trits)?;
-    Ok(outputs_of(m))
+    net_check::memory_refusal(given)?;
+    Ok(outputs_of(given.memory))
 }
 
 // 1 to 4 and 15 of `read_port_output_slice`.
 #[tactic(auto, using(rules::proofs::Answers::else_err), unfolding(rules::specs::Refusals::output_slice_refusal))]
-fn slice_refusal(m: Memory, nets: &[u32], trits: &[u8], port: usize) -> Result<(), Refusal>
-    ensures { number_of result ≡ output_slice_refusal (given_of m nets.now trits.now) port }
+fn slice_refusal(given: Given<'_>, port: usize) -> Result<(), Refusal>
+    ensures { number_of result ≡ output_slice_refusal (view_given given.entry) port }
 {
-    net_check::memory_refusal(m, nets, trits)?;
-    if net_memory::ports_used(m.read_count) <= port {
+    net_check::memory_refusal(given)?;
+    if net_memory::ports_used(given.memory.read_count) <= port {
         return Err(Refusal::OutOfRange);
     }
     Ok(())
@@ -82,18 +80,13 @@ fn slice_refusal(m: Memory, nets: &[u32], trits: &[u8], port: usize) -> Result<(
 
 // Where a port's part of the outputs starts, and how long it is.
 #[tactic(auto, using(rules::proofs::Answers::answer_err, rules::proofs::Answers::answer_ok), unfolding(rules::specs::Answers::output_slice_call))]
-pub fn read_port_output_slice(
-    m: Memory,
-    nets: &[u32],
-    trits: &[u8],
-    port: usize,
-) -> Result<OutputSlice, Refusal>
-    ensures { answer_by slice_of result ≡ output_slice_call (given_of m nets.now trits.now) port }
+pub fn read_port_output_slice(given: Given<'_>, port: usize) -> Result<OutputSlice, Refusal>
+    ensures { answer_by slice_of result ≡ output_slice_call (view_given given.entry) port }
 {
-    slice_refusal(m, nets, trits, port)?;
+    slice_refusal(given, port)?;
     Ok(OutputSlice {
-        start: net_memory::output_start(m, port),
-        size: net_memory::read_data_len(m, port),
+        start: net_memory::output_start(given.memory, port),
+        size: net_memory::read_data_len(given.memory, port),
     })
 }
 
@@ -115,11 +108,11 @@ pub fn clocks_same(m: Memory) -> bool
 
 // A memory is legal for fallback lowering where all write ports have one clock.
 #[tactic(auto, using(rules::proofs::Answers::answer_err, rules::proofs::Answers::answer_ok), unfolding(rules::specs::Answers::can_lower_fallback_call, rules::specs::Refusals::can_lower_fallback_refusal))]
-pub fn can_lower_fallback(m: Memory, nets: &[u32], trits: &[u8]) -> Result<bool, Refusal>
-    ensures { answer_by (λ b. b) result ≡ can_lower_fallback_call (given_of m nets.now trits.now) }
+pub fn can_lower_fallback(given: Given<'_>) -> Result<bool, Refusal>
+    ensures { answer_by (λ b. b) result ≡ can_lower_fallback_call (view_given given.entry) }
 {
-    net_check::memory_refusal(m, nets, trits)?;
-    Ok(clocks_same(m))
+    net_check::memory_refusal(given)?;
+    Ok(clocks_same(given.memory))
 }
 
 // A number of the list is not below the count.

@@ -10,11 +10,10 @@ ghost use Rattle.rules.specs.Refusal.{number_of};
 ghost use Rattle.rules.specs.Refusals.{emulate_number};
 ghost use Rattle.net_value.specs.View.{control_of};
 ghost use Rattle.net_memory.specs.declared.MemoryReadPort.{MemoryReadPort};
-ghost use Rattle.net_memory.specs.View.{memory_of};
-ghost use Rattle.net_memory.specs.Given.{clocked, given_of};
+ghost use Rattle.net_memory.specs.Given.{clocked, view_given, mem_of};
 ghost use Rattle.port_relations.specs.Clocked.{clock_of, port_differs, clocks_differ_of, has_relation, port_relates, mixed_ports, flip_flops_from};
 
-use net_memory::{Memory, MemoryReadPort};
+use net_memory::{Given, Memory, MemoryReadPort};
 use net_value::{ControlNet, Net};
 use rules::Refusal;
 
@@ -126,15 +125,15 @@ fn any_unclocked(ports: &[MemoryReadPort]) -> bool
 }
 
 // 1 to 4, 12, 13 and 22.
-pub fn input_refusal(m: Memory, nets: &[u32], trits: &[u8], next: u32) -> Result<(), Refusal>
-    ensures { number_of result ≡ (emulate_number next (given_of m nets.now trits.now) or_else (when any unclocked (memory_of m nets.now trits.now).reads then 22 else 0)) }
+pub fn input_refusal(given: Given<'_>, next: u32) -> Result<(), Refusal>
+    ensures { number_of result ≡ (emulate_number next (view_given given.entry) or_else (when any unclocked (mem_of given.entry).reads then 22 else 0)) }
 {
-    net_check::call_refusal(m, nets, trits, next, false, false, false)?;
-    let ports = &m.read_ports[..net_memory::ports_used(m.read_count)];
+    net_check::call_refusal(given, next, false, false, false)?;
+    let ports = &given.memory.read_ports[..net_memory::ports_used(given.memory.read_count)];
     if clocks_differ(ports) {
         return Err(Refusal::ReadClocksDiffer);
     }
-    if any_mixed(ports, net_memory::ports_used(m.write_count)) {
+    if any_mixed(ports, net_memory::ports_used(given.memory.write_count)) {
         return Err(Refusal::MixedRelations);
     }
     if any_unclocked(ports) {

@@ -14,7 +14,7 @@ ghost use Rattle.log_entries.specs.Emission.{is_over, run};
 ghost use Rattle.log_entries.specs.View.{state_of, lent_of};
 ghost use Rattle.std.specs.Prelude.{Some};
 ghost use Rattle.net_memory.specs.View.{memory_of, read_port};
-ghost use Rattle.net_memory.specs.Given.{given_of};
+ghost use Rattle.net_memory.specs.Given.{given_of, view_given, mem_of};
 ghost use Rattle.port_unmap.specs.Ready.{own_flip_flop};
 ghost use Rattle.port_unmap.specs.Call.{driving, rooms_of, driven_of};
 ghost use Rattle.port_reset.specs.Ready.{ResetReady};
@@ -24,7 +24,7 @@ use log_entries::{Log, LogState};
 use merge_dff::Trits;
 use merge_mux::emit::Keys;
 use net_flip_flop::{Controls, FlipFlop};
-use net_memory::{Memory, MemoryReadPort};
+use net_memory::{Given, Memory, MemoryReadPort};
 use port_reset_emit::{Mask, ResetNets};
 use port_transparency::{Overlay, Reading};
 use port_unmap::Driven;
@@ -40,25 +40,17 @@ fn wanted_short(m: Memory, nets: &[u32], i: usize, incl: bool) -> bool
 }
 
 // 1 to 4, 14 and 15, or 0.
-fn reset_number(
-    m: Memory,
-    nets: &[u32],
-    trits: &[u8],
-    i: usize,
-    incl: bool,
-    output: &[u32],
-    next: u32,
-) -> u32
-    ensures { result ≡ unmap_reset_number next (given_of m nets.now trits.now) i incl output.now }
+fn reset_number(given: Given<'_>, i: usize, incl: bool, output: &[u32], next: u32) -> u32
+    ensures { result ≡ unmap_reset_number next (view_given given.entry) i incl output.now }
 {
-    let n = rules::number_of(port_outputs::driving_refusal(m, nets, trits, output, next, false));
+    let n = rules::number_of(port_outputs::driving_refusal(given, output, next, false));
     if n != 0 {
         return n;
     }
-    if wanted_short(m, nets, i, incl) {
+    if wanted_short(given.memory, given.nets, i, incl) {
         return 14;
     }
-    if net_memory::ports_used(m.read_count) <= i {
+    if net_memory::ports_used(given.memory.read_count) <= i {
         return 15;
     }
     0
@@ -69,37 +61,35 @@ fn emit_port(
     log: &mut Log,
     overlay: &mut Overlay,
     mask: &mut Mask,
-    m: Memory,
-    nets: &[u32],
-    trits: &[u8],
+    given: Given<'_>,
     i: usize,
     p: MemoryReadPort,
     c: Controls,
     incl: bool,
     output: &[u32],
 ) -> ResetNets
-    requires { ResetReady m nets.now trits.now i c incl × (p ≡ read_port m i) }
-    ensures log_after { lent_of log.new ≡ run (unmap_reset (memory_of m nets.now trits.now) i incl output.now (own_flip_flop m trits.now i c)) (lent_of log.old) }
-    ensures output_value { is_over (state_of log.new.state) ≡ false → with_output (memory_of m nets.now trits.now) i (up_from result.first (result.last - result.first)) output.now ≡ (unmap_reset (memory_of m nets.now trits.now) i incl output.now (own_flip_flop m trits.now i c) log.old.state.next).value.output }
+    requires { ResetReady given.memory given.nets.now given.trits.now i c incl × (p ≡ read_port given.memory i) }
+    ensures log_after { lent_of log.new ≡ run (unmap_reset (mem_of given.entry) i incl output.now (own_flip_flop given.entry.memory given.entry.trits.now i c)) (lent_of log.old) }
+    ensures output_value { is_over (state_of log.new.state) ≡ false → with_output (mem_of given.entry) i (up_from result.first (result.last - result.first)) output.now ≡ (unmap_reset (mem_of given.entry) i incl output.now (own_flip_flop given.entry.memory given.entry.trits.now i c) log.old.state.next).value.output }
 {
     let relations = p.relations;
     let all = lists::part(&relations, 0, p.relations_len as usize);
     let rels = port_unreset::wanted_relations(all, incl);
     let count = p.data_len as usize;
     let r = Reading {
-        k: net_memory::wide::wide_log(m.width, count),
-        addr: net_memory::read_nets(m, nets, i),
+        k: net_memory::wide::wide_log(given.memory.width, count),
+        addr: net_memory::read_nets(given.memory, given.nets, i),
         count,
     };
-    let own = net_memory::read_trits(m, trits, i);
+    let own = net_memory::read_trits(given.memory, given.trits, i);
     let f = FlipFlop {
         controls: c,
-        bits: lists::part(output, net_memory::output_start(m, i), count),
+        bits: lists::part(output, net_memory::output_start(given.memory, i), count),
         clear: net_memory::clear_of(p, own),
         reset: net_memory::reset_of(p, own),
         init: net_memory::init_of(p, own),
     };
-    port_reset_emit::emit_reset(log, overlay, mask, m, nets, rels, r, f)
+    port_reset_emit::emit_reset(log, overlay, mask, given.memory, given.nets, rels, r, f)
 }
 
 // 20 and 21 of it, by a run without a log.
@@ -108,25 +98,21 @@ fn dry_number(
     st: LogState,
     overlay: &mut Overlay,
     mask: &mut Mask,
-    m: Memory,
-    nets: &[u32],
-    trits: &[u8],
+    given: Given<'_>,
     i: usize,
     p: MemoryReadPort,
     c: Controls,
     incl: bool,
     output: &[u32],
 ) -> u32
-    requires { ResetReady m nets.now trits.now i c incl × (p ≡ read_port m i) }
-    ensures { result ≡ log_refusal room (state_of st) (unmap_reset (memory_of m nets.now trits.now) i incl output.now (own_flip_flop m trits.now i c)) }
+    requires { ResetReady given.memory given.nets.now given.trits.now i c incl × (p ≡ read_port given.memory i) }
+    ensures { result ≡ log_refusal room (state_of st) (unmap_reset (mem_of given.entry) i incl output.now (own_flip_flop given.entry.memory given.entry.trits.now i c)) }
 {
     let mut dry = Log {
         words: &mut [],
         state: st.dry_start(),
     };
-    emit_port(
-        &mut dry, overlay, mask, m, nets, trits, i, p, c, incl, output,
-    );
+    emit_port(&mut dry, overlay, mask, given, i, p, c, incl, output);
     rules::number_of(st.dry_refusal(room, dry.state))
 }
 

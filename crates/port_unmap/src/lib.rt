@@ -12,7 +12,7 @@ ghost use Rattle.rules.specs.Ports.{unmap_dff, unmap_read_dff};
 ghost use Rattle.log_entries.specs.Emission.{is_over, run};
 ghost use Rattle.log_entries.specs.View.{state_of, lent_of};
 ghost use Rattle.net_memory.specs.View.{memory_of, read_port};
-ghost use Rattle.net_memory.specs.Given.{given_of};
+ghost use Rattle.net_memory.specs.Given.{view_given, mem_of};
 ghost use Rattle.port_unmap.specs.Ready.{own_flip_flop, Ready};
 ghost use Rattle.port_unmap.specs.Trace.{port_trace};
 ghost use Rattle.port_unmap.specs.Call.{unclocking, driving, rooms_of, driven_of, NewStruct};
@@ -20,7 +20,7 @@ ghost use Rattle.port_unmap.specs.Call.{unclocking, driving, rooms_of, driven_of
 use log_entries::{Log, LogState};
 use merge_mux::emit::Keys;
 use net_flip_flop::{Controls, FlipFlop};
-use net_memory::{Memory, MemoryReadPort};
+use net_memory::{Given, Memory, MemoryReadPort};
 use port_transparency::{Overlay, Reading};
 
 // The number that refuses an unmapping, or 0; the memory and the log's state after it.
@@ -35,34 +35,32 @@ pub struct Driven {
 pub fn emit_port(
     log: &mut Log,
     overlay: &mut Overlay,
-    m: Memory,
-    nets: &[u32],
-    trits: &[u8],
+    given: Given<'_>,
     i: usize,
     p: MemoryReadPort,
     c: Controls,
     output: &[u32],
 ) -> u32
-    ensures log_after { i < min max_ports m.read_count → p ≡ read_port m i → lent_of log.new ≡ run (port_trace (memory_of m nets.now trits.now) i output.now (own_flip_flop m trits.now i c)) (lent_of log.old) }
+    ensures log_after { i < min max_ports given.entry.memory.read_count → p ≡ read_port given.entry.memory i → lent_of log.new ≡ run (port_trace (mem_of given.entry) i output.now (own_flip_flop given.entry.memory given.entry.trits.now i c)) (lent_of log.old) }
     ensures last_value { p.data_len ≤ max_merge → is_over (state_of log.new.state) ≡ false → result ≡ log.old.state.next + p.data_len }
 {
     let relations = p.relations;
     let rels = lists::part(&relations, 0, p.relations_len as usize);
     let count = p.data_len as usize;
     let r = Reading {
-        k: net_memory::wide::wide_log(m.width, count),
-        addr: net_memory::read_nets(m, nets, i),
+        k: net_memory::wide::wide_log(given.memory.width, count),
+        addr: net_memory::read_nets(given.memory, given.nets, i),
         count,
     };
-    let own = net_memory::read_trits(m, trits, i);
+    let own = net_memory::read_trits(given.memory, given.trits, i);
     let f = FlipFlop {
         controls: c,
-        bits: lists::part(output, net_memory::output_start(m, i), count),
+        bits: lists::part(output, net_memory::output_start(given.memory, i), count),
         clear: net_memory::clear_of(p, own),
         reset: net_memory::reset_of(p, own),
         init: net_memory::init_of(p, own),
     };
-    port_overlay::emit_unmap(log, overlay, m, nets, rels, r, f)
+    port_overlay::emit_unmap(log, overlay, given.memory, given.nets, rels, r, f)
 }
 
 // 20 and 21 of it, by a run without a log.
@@ -70,22 +68,20 @@ fn dry_number(
     room: usize,
     st: LogState,
     overlay: &mut Overlay,
-    m: Memory,
-    nets: &[u32],
-    trits: &[u8],
+    given: Given<'_>,
     i: usize,
     p: MemoryReadPort,
     c: Controls,
     output: &[u32],
 ) -> u32
-    requires { Ready m nets.now trits.now i c × (p ≡ read_port m i) }
-    ensures { result ≡ log_refusal room (state_of st) (unmap_dff (memory_of m nets.now trits.now) i output.now (own_flip_flop m trits.now i c)) }
+    requires { Ready given.memory given.nets.now given.trits.now i c × (p ≡ read_port given.memory i) }
+    ensures { result ≡ log_refusal room (state_of st) (unmap_dff (mem_of given.entry) i output.now (own_flip_flop given.entry.memory given.entry.trits.now i c)) }
 {
     let mut dry = Log {
         words: &mut [],
         state: st.dry_start(),
     };
-    emit_port(&mut dry, overlay, m, nets, trits, i, p, c, output);
+    emit_port(&mut dry, overlay, given, i, p, c, output);
     rules::number_of(st.dry_refusal(room, dry.state))
 }
 
@@ -146,17 +142,17 @@ pub fn port_short(m: Memory, nets: &[u32], i: usize) -> bool
 }
 
 // 1 to 4, 14 and 15, or 0.
-fn unmap_number(m: Memory, nets: &[u32], trits: &[u8], i: usize, output: &[u32], next: u32) -> u32
-    ensures { result ≡ unmap_read_dff_number next (given_of m nets.now trits.now) i output.now }
+fn unmap_number(given: Given<'_>, i: usize, output: &[u32], next: u32) -> u32
+    ensures { result ≡ unmap_read_dff_number next (view_given given.entry) i output.now }
 {
-    let n = rules::number_of(port_outputs::driving_refusal(m, nets, trits, output, next, false));
+    let n = rules::number_of(port_outputs::driving_refusal(given, output, next, false));
     if n != 0 {
         return n;
     }
-    if port_short(m, nets, i) {
+    if port_short(given.memory, given.nets, i) {
         return 14;
     }
-    if net_memory::ports_used(m.read_count) <= i {
+    if net_memory::ports_used(given.memory.read_count) <= i {
         return 15;
     }
     0
@@ -188,16 +184,14 @@ fn unmap_clocked(
     log: &mut [u32],
     st: LogState,
     output: &mut [u32],
-    m: Memory,
-    nets: &[u32],
-    trits: &[u8],
+    given: Given<'_>,
     i: usize,
     p: MemoryReadPort,
     c: Controls,
 ) -> Driven
-    requires { Ready m nets.now trits.now i c × (p ≡ read_port m i) }
-    ensures log_after { driven_of result nets.now trits.now output.new log.new ≡ driven (log_refusal (length log.old) (state_of st) (unmap_dff (memory_of m nets.now trits.now) i output.old (own_flip_flop m trits.now i c))) log.old (state_of st) (driving m nets.now trits.now output.old) (unmap_dff (memory_of m nets.now trits.now) i output.old (own_flip_flop m trits.now i c)) }
-    ensures new_struct { NewStruct m st i result }
+    requires { Ready given.memory given.nets.now given.trits.now i c × (p ≡ read_port given.memory i) }
+    ensures log_after { driven_of result given.entry.nets.now given.entry.trits.now output.new log.new ≡ driven (log_refusal (length log.old) (state_of st) (unmap_dff (mem_of given.entry) i output.old (own_flip_flop given.entry.memory given.entry.trits.now i c))) log.old (state_of st) (driving given.entry.memory given.entry.nets.now given.entry.trits.now output.old) (unmap_dff (mem_of given.entry) i output.old (own_flip_flop given.entry.memory given.entry.trits.now i c)) }
+    ensures new_struct { NewStruct given.entry.memory st i result }
 {
     let mut overlay = Overlay {
         under: [0; rules::MAX_MERGE],
@@ -211,11 +205,11 @@ fn unmap_clocked(
             at: [0; rules::MAX_MERGE],
         },
     };
-    let n = dry_number(log.len(), st, &mut overlay, m, nets, trits, i, p, c, output);
+    let n = dry_number(log.len(), st, &mut overlay, given, i, p, c, output);
     if n != 0 {
         return Driven {
             refusal: n,
-            memory: m,
+            memory: given.memory,
             state: st,
         };
     }
@@ -223,10 +217,10 @@ fn unmap_clocked(
         words: log,
         state: st,
     };
-    let last = emit_port(&mut log, &mut overlay, m, nets, trits, i, p, c, output);
-    let start = net_memory::output_start(m, i);
+    let last = emit_port(&mut log, &mut overlay, given, i, p, c, output);
+    let start = net_memory::output_start(given.memory, i);
     lists::store_run(output, start, st.next, last);
-    let memory = unclock(m, i, p);
+    let memory = unclock(given.memory, i, p);
     Driven {
         refusal: 0,
         memory,
@@ -239,25 +233,23 @@ fn unmap_port(
     log: &mut [u32],
     st: LogState,
     output: &mut [u32],
-    m: Memory,
-    nets: &[u32],
-    trits: &[u8],
+    given: Given<'_>,
     i: usize,
     p: MemoryReadPort,
 ) -> Driven
-    requires { (unmap_read_dff_number st.next (given_of m nets.now trits.now) i output.old ≡ 0) × (p ≡ read_port m i) }
-    ensures log_after { driven_of result nets.now trits.now output.new log.new ≡ driven (log_refusal (length log.old) (state_of st) (unmap_read_dff (memory_of m nets.now trits.now) i output.old)) log.old (state_of st) (driving m nets.now trits.now output.old) (unmap_read_dff (memory_of m nets.now trits.now) i output.old) }
-    ensures new_struct { NewStruct m st i result }
+    requires { (unmap_read_dff_number st.next (view_given given) i output.old ≡ 0) × (p ≡ read_port given.memory i) }
+    ensures log_after { driven_of result given.entry.nets.now given.entry.trits.now output.new log.new ≡ driven (log_refusal (length log.old) (state_of st) (unmap_read_dff (mem_of given.entry) i output.old)) log.old (state_of st) (driving given.entry.memory given.entry.nets.now given.entry.trits.now output.old) (unmap_read_dff (mem_of given.entry) i output.old) }
+    ensures new_struct { NewStruct given.entry.memory st i result }
 {
     let f = p.flip_flop;
     let n = rules::number_of(st.room_refusal(log.len(), 0, 0));
     match f {
         None => Driven {
             refusal: n,
-            memory: m,
+            memory: given.memory,
             state: st,
         },
-        Some(c) => unmap_clocked(log, st, output, m, nets, trits, i, p, c),
+        Some(c) => unmap_clocked(log, st, output, given, i, p, c),
     }
 }
 
@@ -267,22 +259,20 @@ pub fn unmap_read_dff(
     log: &mut [u32],
     st: LogState,
     output: &mut [u32],
-    m: Memory,
-    nets: &[u32],
-    trits: &[u8],
+    given: Given<'_>,
     port: usize,
 ) -> Driven
-    ensures log_after { driven_of result nets.now trits.now output.new log.new ≡ unmap_read_dff_call (rooms_of nets.now trits.now output.old) log.old (state_of st) (given_of m nets.now trits.now) port output.old }
-    ensures new_struct { NewStruct m st port result }
+    ensures log_after { driven_of result given.entry.nets.now given.entry.trits.now output.new log.new ≡ unmap_read_dff_call (rooms_of given.entry.nets.now given.entry.trits.now output.old) log.old (state_of st) (view_given given.entry) port output.old }
+    ensures new_struct { NewStruct given.entry.memory st port result }
 {
-    let n = unmap_number(m, nets, trits, port, output, st.next);
+    let n = unmap_number(given, port, output, st.next);
     if n != 0 {
         return Driven {
             refusal: n,
-            memory: m,
+            memory: given.memory,
             state: st,
         };
     }
-    let p = m.read_ports[port];
-    unmap_port(log, st, output, m, nets, trits, port, p)
+    let p = given.memory.read_ports[port];
+    unmap_port(log, st, output, given, port, p)
 }

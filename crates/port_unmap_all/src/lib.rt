@@ -12,10 +12,11 @@ ghost use Rattle.net_memory.specs.View.{memory_of, read_port};
 ghost use Rattle.port_transparency.specs.Gave.{Gave};
 ghost use Rattle.port_unmap.specs.Ready.{own_flip_flop};
 ghost use Rattle.port_unmap_all.specs.All.{unmapped_of, unmapped_at, unmapped_all};
+ghost use Rattle.net_memory.specs.Given.{mem_of};
 
 use log_entries::Log;
 use net_flip_flop::Controls;
-use net_memory::{Memory, MemoryReadPort};
+use net_memory::{Given, Memory, MemoryReadPort};
 use port_transparency::Overlay;
 
 // Some transparent pair of a clocked read port has too few address bits.
@@ -36,23 +37,26 @@ fn emit_clocked(
     log: &mut Log,
     overlay: &mut Overlay,
     after: &mut [u32],
-    m: Memory,
-    nets: &[u32],
-    trits: &[u8],
+    given: Given<'_>,
     i: usize,
     p: MemoryReadPort,
     c: Controls,
     output: &[u32],
 )
-    requires { (i < min max_ports m.read_count) × (p ≡ read_port m i) }
-    ensures { Gave (unmapped_of (some (own_flip_flop m trits.now i c)) (memory_of m nets.now trits.now) i output.now after.old) (lent_of log.old) (lent_of log.new) after.new }
+    requires { (i < min max_ports given.memory.read_count) × (p ≡ read_port given.memory i) }
+    ensures { Gave (unmapped_of (some (own_flip_flop given.entry.memory given.entry.trits.now i c)) (mem_of given.entry) i output.now after.old) (lent_of log.old) (lent_of log.new) after.new }
 {
     if rules::MAX_MERGE < p.data_len as usize {
         return;
     }
     let first = log.state.next;
-    let last = port_unmap::emit_port(log, overlay, m, nets, trits, i, p, c, output);
-    lists::store_run(after, net_memory::output_start(m, i), first, last);
+    let last = port_unmap::emit_port(log, overlay, given, i, p, c, output);
+    lists::store_run(
+        after,
+        net_memory::output_start(given.memory, i),
+        first,
+        last,
+    );
 }
 
 // Port i; without a flip-flop nothing is done.
@@ -60,20 +64,18 @@ fn emit_at(
     log: &mut Log,
     overlay: &mut Overlay,
     after: &mut [u32],
-    m: Memory,
-    nets: &[u32],
-    trits: &[u8],
+    given: Given<'_>,
     i: usize,
     output: &[u32],
 )
-    requires { i < min max_ports m.read_count }
-    ensures { Gave (unmapped_at (memory_of m nets.now trits.now) i output.now after.old) (lent_of log.old) (lent_of log.new) after.new }
+    requires { i < min max_ports given.memory.read_count }
+    ensures { Gave (unmapped_at (mem_of given.entry) i output.now after.old) (lent_of log.old) (lent_of log.new) after.new }
 {
-    let p = m.read_ports[i];
+    let p = given.memory.read_ports[i];
     let f = p.flip_flop;
     match f {
         None => {}
-        Some(c) => emit_clocked(log, overlay, after, m, nets, trits, i, p, c, output),
+        Some(c) => emit_clocked(log, overlay, after, given, i, p, c, output),
     }
 }
 
@@ -82,16 +84,14 @@ fn emit_ports(
     log: &mut Log,
     overlay: &mut Overlay,
     after: &mut [u32],
-    m: Memory,
-    nets: &[u32],
-    trits: &[u8],
+    given: Given<'_>,
     output: &[u32],
 )
-    ensures { Gave (unmapped_all (memory_of m nets.now trits.now) output.now after.old) (lent_of log.old) (lent_of log.new) after.new }
+    ensures { Gave (unmapped_all (mem_of given.entry) output.now after.old) (lent_of log.old) (lent_of log.new) after.new }
 {
-    let count = net_memory::ports_used(m.read_count);
+    let count = net_memory::ports_used(given.memory.read_count);
     for i in 0..count {
-        emit_at(log, overlay, after, m, nets, trits, i, output);
+        emit_at(log, overlay, after, given, i, output);
     }
 }
 
@@ -100,13 +100,11 @@ pub fn emit_unmap_all(
     log: &mut Log,
     overlay: &mut Overlay,
     after: &mut [u32],
-    m: Memory,
-    nets: &[u32],
-    trits: &[u8],
+    given: Given<'_>,
     output: &[u32],
 )
-    ensures { Gave (unmapped_all (memory_of m nets.now trits.now) output.now (sets after.old 0 output.now)) (lent_of log.old) (lent_of log.new) after.new }
+    ensures { Gave (unmapped_all (mem_of given.entry) output.now (sets after.old 0 output.now)) (lent_of log.old) (lent_of log.new) after.new }
 {
     lists::copy(after, 0, output);
-    emit_ports(log, overlay, after, m, nets, trits, output);
+    emit_ports(log, overlay, after, given, output);
 }

@@ -4,11 +4,10 @@
 ghost use Rattle.std.specs.Prelude.{◌≡◌, drop};
 ghost use Rattle.rules.specs.Answers.{swizzle_call};
 ghost use Rattle.log_entries.specs.View.{state_of, lent, lent_of};
-ghost use Rattle.net_memory.specs.Given.{given_of};
+ghost use Rattle.net_memory.specs.Given.{view_given, mem_of};
 ghost use Rattle.rules.specs.Geometry.{layout_of};
 ghost use Rattle.rules.specs.Swizzle.{swizzle, swizzle_scratch};
-ghost use Rattle.net_memory.specs.View.{memory_of};
-ghost use Rattle.swizzle_plan.specs.Calls.{plan_of};
+ghost use Rattle.swizzle_plan.specs.Calls.{view_plan};
 ghost use Rattle.swizzle_reads.specs.Going.{going_of, SameRooms};
 ghost use Rattle.lists.specs.Lists.{part};
 ghost use Rattle.rules.specs.Beside.Shape.{handed_on};
@@ -23,9 +22,9 @@ ghost use Rattle.swizzle_call.specs.Answer.{swizzled_of};
 use image_geometry::{Layout, Params};
 use image_state::{Laid, Sized};
 use log_entries::{Log, LogState};
-use net_memory::Memory;
+use net_memory::{Given, Memory};
 use swizzle_counts::SwizzleRooms;
-use swizzle_plan::MemorySwizzle;
+use swizzle_plan::Plan;
 use swizzle_reads::Reads;
 use swizzle_result::WideMemory;
 
@@ -57,32 +56,39 @@ fn act<'a>(
     log: &mut Log,
     made: &mut Reads,
     scratch: &mut [u32],
-    m: Memory,
-    nets: &'a [u32],
-    trits: &[u8],
+    given: Given<'_>,
     output: &[u32],
-    s: MemorySwizzle,
-    entries: &'a [u32],
-    writes: &[u32],
-    reads: &[u32],
+    plan: Plan<'a>,
 )
-    requires passed { Passed m nets.now trits.now output.now s entries.now writes.now reads.now log.old.state log.old.words.now made.old.nets.now made.old.trits.now scratch.old }
+    requires passed { Passed given.memory given.nets.now given.trits.now output.now plan.swizzle plan.entries.now plan.writes.now plan.reads.now log.old.state log.old.words.now made.old.nets.now made.old.trits.now scratch.old }
     requires none_yet { NoneYet made.old }
-    ensures acted { Acted (memory_of m nets.now trits.now) (layout_of (memory_of m nets.now trits.now) (plan_of s entries.now writes.now reads.now)) (swizzle (memory_of m nets.now trits.now) output.now (plan_of s entries.now writes.now reads.now)) (lent_of log.old) made.old.nets.now made.old.trits.now (going_of log.new made.new) }
-    ensures scratch_unchanged { drop (swizzle_scratch (memory_of m nets.now trits.now) (plan_of s entries.now writes.now reads.now)) scratch.new ≡ drop (swizzle_scratch (memory_of m nets.now trits.now) (plan_of s entries.now writes.now reads.now)) scratch.old }
-    ensures holds_ports { HoldsPorts (memory_of m nets.now trits.now) output.now (plan_of s entries.now writes.now reads.now) log.old.state.next made.new.memory }
+    ensures acted { Acted (mem_of given.entry) (layout_of (mem_of given.entry) (view_plan plan.entry)) (swizzle (mem_of given.entry) output.now (view_plan plan.entry)) (lent_of log.old) made.old.nets.now made.old.trits.now (going_of log.new made.new) }
+    ensures scratch_unchanged { drop (swizzle_scratch (mem_of given.entry) (view_plan plan.entry)) scratch.new ≡ drop (swizzle_scratch (mem_of given.entry) (view_plan plan.entry)) scratch.old }
+    ensures holds_ports { HoldsPorts (mem_of given.entry) output.now (view_plan plan.entry) log.old.state.next made.new.memory }
     ensures same_rooms { SameRooms made.old made.new }
 {
-    if m.width == 0 {
+    if given.memory.width == 0 {
         return;
     }
-    if m.depth == 0 {
-        log.state = port_empty::emit_empty(log.words, log.state, m, nets, trits, output);
+    if given.memory.depth == 0 {
+        log.state = port_empty::emit_empty(log.words, log.state, given, output);
         return;
     }
-    let params = swizzle_plan::params_of(m, s);
-    let q = Layout { params, entries };
-    swizzle_rows::emit_rows(log, made, scratch, q, m, nets, trits, writes, reads, output);
+    let params = swizzle_plan::params_of(given.memory, plan.swizzle);
+    let q = Layout {
+        params,
+        entries: plan.entries,
+    };
+    swizzle_rows::emit_rows(
+        log,
+        made,
+        scratch,
+        q,
+        given,
+        plan.writes,
+        plan.reads,
+        output,
+    );
 }
 
 // The same of a log and its state apart, with rooms of which no part is used yet.
@@ -92,19 +98,14 @@ fn make<'a>(
     nets_to: &mut [u32],
     trits_to: &mut [u8],
     scratch: &mut [u32],
-    m: Memory,
-    nets: &'a [u32],
-    trits: &[u8],
+    given: Given<'_>,
     output: &[u32],
-    s: MemorySwizzle,
-    entries: &'a [u32],
-    writes: &[u32],
-    reads: &[u32],
+    plan: Plan<'a>,
 ) -> Made
-    requires { Passed m nets.now trits.now output.now s entries.now writes.now reads.now st log.old nets_to.old trits_to.old scratch.old }
-    ensures acted { Acted (memory_of m nets.now trits.now) (layout_of (memory_of m nets.now trits.now) (plan_of s entries.now writes.now reads.now)) (swizzle (memory_of m nets.now trits.now) output.now (plan_of s entries.now writes.now reads.now)) (lent st log.old) nets_to.old trits_to.old (made_of result log.new nets_to.new trits_to.new) }
-    ensures scratch_unchanged { drop (swizzle_scratch (memory_of m nets.now trits.now) (plan_of s entries.now writes.now reads.now)) scratch.new ≡ drop (swizzle_scratch (memory_of m nets.now trits.now) (plan_of s entries.now writes.now reads.now)) scratch.old }
-    ensures holds_ports { HoldsPorts (memory_of m nets.now trits.now) output.now (plan_of s entries.now writes.now reads.now) st.next result.memory }
+    requires { Passed given.memory given.nets.now given.trits.now output.now plan.swizzle plan.entries.now plan.writes.now plan.reads.now st log.old nets_to.old trits_to.old scratch.old }
+    ensures acted { Acted (mem_of given.entry) (layout_of (mem_of given.entry) (view_plan plan.entry)) (swizzle (mem_of given.entry) output.now (view_plan plan.entry)) (lent st log.old) nets_to.old trits_to.old (made_of result log.new nets_to.new trits_to.new) }
+    ensures scratch_unchanged { drop (swizzle_scratch (mem_of given.entry) (view_plan plan.entry)) scratch.new ≡ drop (swizzle_scratch (mem_of given.entry) (view_plan plan.entry)) scratch.old }
+    ensures holds_ports { HoldsPorts (mem_of given.entry) output.now (view_plan plan.entry) st.next result.memory }
 {
     let mut log = Log {
         words: log,
@@ -117,9 +118,7 @@ fn make<'a>(
         trits_at: 0,
         memory: swizzle_rows::no_memories(),
     };
-    act(
-        &mut log, &mut made, scratch, m, nets, trits, output, s, entries, writes, reads,
-    );
+    act(&mut log, &mut made, scratch, given, output, plan);
     let memory = made.memory;
     Made {
         state: log.state,
@@ -158,17 +157,12 @@ pub fn swizzle<'a>(
     nets_to: &mut [u32],
     trits_to: &mut [u8],
     scratch: &mut [u32],
-    m: Memory,
-    nets: &'a [u32],
-    trits: &[u8],
+    given: Given<'_>,
     output: &[u32],
-    s: MemorySwizzle,
-    entries: &'a [u32],
-    writes: &[u32],
-    reads: &[u32],
+    plan: Plan<'a>,
 ) -> Swizzled
-    ensures scratch_after { swizzled_of result (swizzle_scratch (memory_of m nets.now trits.now) (plan_of s entries.now writes.now reads.now)) log.new image.exit.now nets_to.new trits_to.new scratch.new ≡ swizzle_call (record { image = image.entry.now; nets = nets_to.old; trits = trits_to.old; scratch = scratch.old }) log.old (state_of st) (given_of m nets.now trits.now) output.now (plan_of s entries.now writes.now reads.now) }
-    ensures swizzles { Swizzles m nets.now trits.now output.now s entries.now writes.now reads.now st log.old image.old nets_to.old trits_to.old scratch.old result log.new image.new nets_to.new trits_to.new scratch.new }
+    ensures scratch_after { swizzled_of result (swizzle_scratch (mem_of given.entry) (view_plan plan.entry)) log.new image.exit.now nets_to.new trits_to.new scratch.new ≡ swizzle_call (record { image = image.entry.now; nets = nets_to.old; trits = trits_to.old; scratch = scratch.old }) log.old (state_of st) (view_given given.entry) output.now (view_plan plan.entry) }
+    ensures swizzles { Swizzles given.entry.memory given.entry.nets.now given.entry.trits.now output.now plan.entry.swizzle plan.entry.entries.now plan.entry.writes.now plan.entry.reads.now st log.old image.old nets_to.old trits_to.old scratch.old result log.new image.new nets_to.new trits_to.new scratch.new }
 {
     let r = SwizzleRooms {
         image: image.len(),
@@ -180,14 +174,9 @@ pub fn swizzle<'a>(
         r,
         log.len(),
         st,
-        m,
-        nets,
-        trits,
+        given,
         output,
-        s,
-        entries,
-        writes,
-        reads,
+        plan,
     ));
     if n != 0 {
         let made = none_yet(st);
@@ -200,11 +189,9 @@ pub fn swizzle<'a>(
             sizes,
         };
     }
-    let made = make(
-        log, st, nets_to, trits_to, scratch, m, nets, trits, output, s, entries, writes, reads,
-    );
-    let p = swizzle_plan::params_of(m, s);
-    let laid = lay(image, m, trits, p, entries);
+    let made = make(log, st, nets_to, trits_to, scratch, given, output, plan);
+    let p = swizzle_plan::params_of(given.memory, plan.swizzle);
+    let laid = lay(image, given.memory, given.trits, p, plan.entries);
     let sizes = laid.sized();
     Swizzled {
         refusal: 0,

@@ -5,16 +5,16 @@ ghost use Rattle.rules.specs.Geometry.{columns};
 ghost use Rattle.rules.specs.Image.{image_size};
 ghost use Rattle.rules.specs.Refusal.{number_of};
 ghost use Rattle.log_entries.specs.View.{state_of};
-ghost use Rattle.net_memory.specs.Given.{given_of};
-ghost use Rattle.swizzle_plan.specs.Calls.{plan_of, params_by};
+ghost use Rattle.net_memory.specs.Given.{view_given};
+ghost use Rattle.swizzle_plan.specs.Calls.{params_by, view_plan};
 ghost use Rattle.swizzle_counts.specs.Needs.{plus_needs, reads_needs, writes_needs};
 ghost use Rattle.swizzle_counts.specs.Refusal.{rooms_of, needs_refusal, rows_refusal, RowsFit};
 
 use crate::{Needs, SwizzleRooms};
 use log_entries::LogState;
-use net_memory::Memory;
+use net_memory::{Given, Memory};
 use rules::Refusal;
-use swizzle_plan::MemorySwizzle;
+use swizzle_plan::Plan;
 
 // 20 and 21 of a swizzle that asks for this, and has an image of so many trits.
 fn needs_refusal(
@@ -39,19 +39,20 @@ fn rows_by_needs(
     st: LogState,
     m: Memory,
     nets: &[u32],
-    s: MemorySwizzle,
-    entries: &[u32],
-    writes: &[u32],
-    reads: &[u32],
+    plan: Plan<'_>,
 ) -> Result<(), Refusal>
-    requires { RowsFit m nets.now s entries.now writes.now reads.now }
-    ensures { number_of result ≡ needs_refusal (rooms_of r) room (state_of st) (plus_needs (writes_needs m nets.now (params_by m s) (columns (layout_by (params_by m s) entries.now)) entries.now writes.now) (reads_needs m nets.now (params_by m s) (columns (layout_by (params_by m s) entries.now)) reads.now)) (image_size (layout_by (params_by m s) entries.now)) }
+    requires { RowsFit m nets.now plan.swizzle plan.entries.now plan.writes.now plan.reads.now }
+    ensures { number_of result ≡ needs_refusal (rooms_of r) room (state_of st) (plus_needs (writes_needs m nets.now (params_by m plan.entry.swizzle) (columns (layout_by (params_by m plan.entry.swizzle) plan.entry.entries.now)) plan.entry.entries.now plan.entry.writes.now) (reads_needs m nets.now (params_by m plan.entry.swizzle) (columns (layout_by (params_by m plan.entry.swizzle) plan.entry.entries.now)) plan.entry.reads.now)) (image_size (layout_by (params_by m plan.entry.swizzle) plan.entry.entries.now)) }
 {
-    let p = swizzle_plan::params_of(m, s);
-    let z = image_geometry::Layout { params: p, entries }.measure()?;
+    let p = swizzle_plan::params_of(m, plan.swizzle);
+    let z = image_geometry::Layout {
+        params: p,
+        entries: plan.entries,
+    }
+    .measure()?;
     let columns = z.columns as usize;
-    let w = crate::writes_needs(m, nets, p, columns, entries, writes);
-    let d = crate::reads_needs(m, nets, p, columns, reads);
+    let w = crate::writes_needs(m, nets, p, columns, plan.entries, plan.writes);
+    let d = crate::reads_needs(m, nets, p, columns, plan.reads);
     needs_refusal(r, room, st, w.plus(d), z.image_size as usize)
 }
 
@@ -62,24 +63,19 @@ pub fn rows_refusal(
     r: SwizzleRooms,
     room: usize,
     st: LogState,
-    m: Memory,
-    nets: &[u32],
-    trits: &[u8],
+    given: Given<'_>,
     output: &[u32],
-    s: MemorySwizzle,
-    entries: &[u32],
-    writes: &[u32],
-    reads: &[u32],
+    plan: Plan<'_>,
 ) -> Result<(), Refusal>
-    ensures { number_of result ≡ rows_refusal (rooms_of r) room (state_of st) (given_of m nets.now trits.now) output.now (plan_of s entries.now writes.now reads.now) }
+    ensures { number_of result ≡ rows_refusal (rooms_of r) room (state_of st) (view_given given.entry) output.now (view_plan plan.entry) }
 {
     let next = st.next;
-    swizzle_plan::plan_refusal(m, nets, trits, output, next, s, entries, writes, reads)?;
-    if m.width == 0 {
+    swizzle_plan::plan_refusal(given, output, next, plan)?;
+    if given.memory.width == 0 {
         return st.room_refusal(room, 0, 0);
     }
-    if m.depth == 0 {
+    if given.memory.depth == 0 {
         return Ok(());
     }
-    rows_by_needs(r, room, st, m, nets, s, entries, writes, reads)
+    rows_by_needs(r, room, st, given.memory, given.nets, plan)
 }

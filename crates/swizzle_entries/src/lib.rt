@@ -13,10 +13,10 @@ ghost use Rattle.net_memory.specs.View.{memory_of, writes_of, write_by};
 ghost use Rattle.rules.specs.Refusal.{number_of};
 ghost use Rattle.rules.specs.Refusals.{make_data_swizzle_refusal};
 ghost use Rattle.rules.specs.Answers.{make_data_swizzle_call};
-ghost use Rattle.net_memory.specs.Given.{given_of};
+ghost use Rattle.net_memory.specs.Given.{view_given};
 ghost use Rattle.swizzle_entries.specs.Calls.{slice, unchanged, listed_of};
 
-use net_memory::Memory;
+use net_memory::{Given, Memory};
 use rules::Refusal;
 
 // The net at a place, X past the end.
@@ -171,20 +171,14 @@ fn granularities_bad(m: Memory, gs: &[u32]) -> bool
 
 // By what the call is refused with a room of this length.
 #[tactic(auto, using(crate::proofs::Entries::memory_err))]
-fn entries_refusal(
-    m: Memory,
-    nets: &[u32],
-    trits: &[u8],
-    gs: &[u32],
-    room: usize,
-) -> Result<(), Refusal>
-    ensures { number_of result ≡ make_data_swizzle_refusal room (given_of m nets.now trits.now) gs.now }
+fn entries_refusal(given: Given<'_>, gs: &[u32], room: usize) -> Result<(), Refusal>
+    ensures { number_of result ≡ make_data_swizzle_refusal room (view_given given.entry) gs.now }
 {
-    net_check::memory_refusal(m, nets, trits)?;
-    if granularities_bad(m, gs) {
+    net_check::memory_refusal(given)?;
+    if granularities_bad(given.memory, gs) {
         return Err(Refusal::BadGranularity);
     }
-    let count = put_entries(&mut [], m, nets, gs);
+    let count = put_entries(&mut [], given.memory, given.nets, gs);
     if rules::MAX_ROW < count {
         return Err(Refusal::RowTooLong);
     }
@@ -198,13 +192,11 @@ fn entries_refusal(
 #[tactic(auto, using(crate::proofs::Answered::entries_err))]
 pub fn make_data_swizzle(
     out: &mut [u32],
-    m: Memory,
-    nets: &[u32],
-    trits: &[u8],
+    given: Given<'_>,
     granularities: &[u32],
 ) -> Result<usize, Refusal>
-    ensures { listed_of result out.new ≡ make_data_swizzle_call out.old (given_of m nets.now trits.now) granularities.now }
+    ensures { listed_of result out.new ≡ make_data_swizzle_call out.old (view_given given.entry) granularities.now }
 {
-    entries_refusal(m, nets, trits, granularities, out.len())?;
-    Ok(put_entries(out, m, nets, granularities))
+    entries_refusal(given, granularities, out.len())?;
+    Ok(put_entries(out, given.memory, given.nets, granularities))
 }

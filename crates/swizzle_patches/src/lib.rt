@@ -2,15 +2,15 @@
 #![tactic(auto)]
 
 ghost use Rattle.log_entries.specs.View.{state_of};
-ghost use Rattle.net_memory.specs.Given.{given_of};
-ghost use Rattle.swizzle_plan.specs.Calls.{plan_of};
+ghost use Rattle.net_memory.specs.Given.{view_given};
+ghost use Rattle.swizzle_plan.specs.Calls.{view_plan};
 ghost use Rattle.image_patches.specs.Calls.{calls_of};
 ghost use Rattle.swizzle_patches.specs.Joined.{Joined, Kept};
 
 use log_entries::LogState;
-use net_memory::Memory;
+use net_memory::Given;
 use swizzle_call::Swizzled;
-use swizzle_plan::MemorySwizzle;
+use swizzle_plan::Plan;
 
 // What the swizzle gives, and the number of the list of calls: 0, 20 where the room for their numbers is short, or the swizzle's.
 #[derive(Clone, Copy)]
@@ -29,23 +29,17 @@ pub fn swizzle_and_patch<'a>(
     trits_to: &mut [u8],
     scratch: &mut [u32],
     numbers: &mut [u32],
-    m: Memory,
-    nets: &'a [u32],
-    trits: &[u8],
+    given: Given<'_>,
     output: &[u32],
-    s: MemorySwizzle,
-    entries: &'a [u32],
-    writes: &[u32],
-    reads: &[u32],
+    plan: Plan<'a>,
     calls: &[u32],
     rows: &[u8],
 ) -> SwizzledPatches
-    ensures joined { Joined (record { image = image.entry.now; nets = nets_to.old; trits = trits_to.old; scratch = scratch.old }) log.old (state_of st) (given_of m nets.now trits.now) output.now (plan_of s entries.now writes.now reads.now) numbers.old (calls_of calls.now rows.now) result log.new image.exit.now nets_to.new trits_to.new scratch.new numbers.new }
+    ensures joined { Joined (record { image = image.entry.now; nets = nets_to.old; trits = trits_to.old; scratch = scratch.old }) log.old (state_of st) (view_given given.entry) output.now (view_plan plan.entry) numbers.old (calls_of calls.now rows.now) result log.new image.exit.now nets_to.new trits_to.new scratch.new numbers.new }
     ensures kept { Kept st log.old image.old nets_to.old trits_to.old scratch.old result log.new image.new nets_to.new trits_to.new scratch.new }
 {
     let swizzled = swizzle_call::swizzle(
-        log, st, image, nets_to, trits_to, scratch, m, nets, trits, output, s, entries, writes,
-        reads,
+        log, st, image, nets_to, trits_to, scratch, given, output, plan,
     );
     let n = swizzled.refusal;
     if n != 0 {

@@ -8,10 +8,10 @@ ghost use Rattle.rules.specs.Conditions.{plan_too_large, bad_layout_sizes};
 ghost use Rattle.net_memory.specs.View.{memory_of};
 ghost use Rattle.rules.specs.Refusals.{plan_number, whole_plan, planned_number, swizzle_plan_number};
 ghost use Rattle.rules.specs.Refusal.{number_of};
-ghost use Rattle.net_memory.specs.Given.{given_of};
-ghost use Rattle.swizzle_plan.specs.Calls.{plan_of, params_by};
+ghost use Rattle.net_memory.specs.Given.{view_given};
+ghost use Rattle.swizzle_plan.specs.Calls.{plan_of, params_by, view_plan};
 
-use net_memory::Memory;
+use net_memory::{Given, Memory};
 use rules::Refusal;
 
 pub mod logs;
@@ -23,6 +23,15 @@ pub struct MemorySwizzle {
     pub soft_addr_bits_mask: u32,
     pub hard_addr_bits: u32,
     pub data_width_unit: u32,
+}
+
+// A whole plan: its numbers, the entries of a row, and the new wide logs of the write ports and of the read ports.
+#[derive(Clone, Copy)]
+pub struct Plan<'a> {
+    pub swizzle: MemorySwizzle,
+    pub entries: &'a [u32],
+    pub writes: &'a [u32],
+    pub reads: &'a [u32],
 }
 
 // The sizes of a memory and a plan.
@@ -47,15 +56,15 @@ fn any_wide(logs: &[u32]) -> bool
 
 // Number 1 of a plan.
 #[tactic(auto, unfolding(rules::specs::Conditions::plan_too_large))]
-pub fn plan_too_large(s: MemorySwizzle, entries: &[u32], writes: &[u32], reads: &[u32]) -> bool
-    ensures { result ≡ plan_too_large (plan_of s entries.now writes.now reads.now) }
+pub fn plan_too_large(plan: Plan<'_>) -> bool
+    ensures { result ≡ plan_too_large (view_plan plan.entry) }
 {
-    rules::MAX_ROW < entries.len()
-        || s.data_width_unit == 0
-        || rules::MAX_UNIT < s.data_width_unit
-        || rules::MAX_HARD < s.hard_addr_bits
-        || any_wide(writes)
-        || any_wide(reads)
+    rules::MAX_ROW < plan.entries.len()
+        || plan.swizzle.data_width_unit == 0
+        || rules::MAX_UNIT < plan.swizzle.data_width_unit
+        || rules::MAX_HARD < plan.swizzle.hard_addr_bits
+        || any_wide(plan.writes)
+        || any_wide(plan.reads)
 }
 
 // 7 and 8 of a plan.
@@ -69,46 +78,30 @@ fn check_parts(m: Memory, s: MemorySwizzle, entries: &[u32]) -> Result<(), Refus
 
 // 1 to 4, 7 and 8 of a memory and a plan; `long` says what else of the call breaks 1.
 #[tactic(auto, using(rules::proofs::Answers::else_err, rules::proofs::Answers::else_ok), unfolding(rules::specs::Refusals::planned_number))]
-pub fn planned_refusal(
-    m: Memory,
-    nets: &[u32],
-    trits: &[u8],
-    s: MemorySwizzle,
-    entries: &[u32],
-    writes: &[u32],
-    reads: &[u32],
-    long: bool,
-) -> Result<(), Refusal>
-    ensures { number_of result ≡ planned_number long (given_of m nets.now trits.now) (plan_of s entries.now writes.now reads.now) }
+pub fn planned_refusal(given: Given<'_>, plan: Plan<'_>, long: bool) -> Result<(), Refusal>
+    ensures { number_of result ≡ planned_number long (view_given given.entry) (view_plan plan.entry) }
 {
-    let one = plan_too_large(s, entries, writes, reads) || long;
-    net_check::call_refusal(m, nets, trits, rules::MAX_NETS, one, false, false)?;
-    check_parts(m, s, entries)
+    let one = plan_too_large(plan) || long;
+    net_check::call_refusal(given, rules::MAX_NETS, one, false, false)?;
+    check_parts(given.memory, plan.swizzle, plan.entries)
 }
 
 // 7, 8, 9 and 10 of a plan whose sizes are within number 1's limits, over a memory whose sizes are.
 #[tactic(auto, using(rules::proofs::Answers::else_err, rules::proofs::Answers::else_ok), unfolding(rules::specs::Refusals::whole_plan, rules::specs::Refusals::wide_number))]
-fn whole_refusal(
-    m: Memory,
-    nets: &[u32],
-    s: MemorySwizzle,
-    entries: &[u32],
-    writes: &[u32],
-    reads: &[u32],
-) -> Result<(), Refusal>
-    requires { bad_layout_sizes m.depth m.width (length entries.now) s.data_width_unit s.hard_addr_bits ≡ false }
-    ensures { (trits : List ℕ) → number_of result ≡ whole_plan (memory_of m nets.now trits) (plan_of s entries.now writes.now reads.now) }
+fn whole_refusal(m: Memory, nets: &[u32], plan: Plan<'_>) -> Result<(), Refusal>
+    requires { bad_layout_sizes m.depth m.width (length plan.entries.now) plan.swizzle.data_width_unit plan.swizzle.hard_addr_bits ≡ false }
+    ensures { (trits : List ℕ) → number_of result ≡ whole_plan (memory_of m nets.now trits) (view_plan plan.entry) }
 {
-    check_parts(m, s, entries)?;
-    if logs::all_logs_bad(m, nets, s, writes, reads) {
+    check_parts(m, plan.swizzle, plan.entries)?;
+    if logs::all_logs_bad(m, nets, plan) {
         return Err(Refusal::BadWideLogs);
     }
     if m.width == 0 {
         return Ok(());
     }
     let layout = image_geometry::Layout {
-        params: params_of(m, s),
-        entries,
+        params: params_of(m, plan.swizzle),
+        entries: plan.entries,
     };
     layout.check_result()
 }
@@ -116,19 +109,14 @@ fn whole_refusal(
 // By what a plan is refused for a memory and the nets that its outputs drive: 1 to 4, then 7, 8, 9 and 10.
 #[tactic(auto, using(rules::proofs::Answers::else_err, rules::proofs::Answers::else_ok), unfolding(rules::specs::Refusals::swizzle_plan_number))]
 pub fn plan_refusal(
-    m: Memory,
-    nets: &[u32],
-    trits: &[u8],
+    given: Given<'_>,
     output: &[u32],
     next: u32,
-    s: MemorySwizzle,
-    entries: &[u32],
-    writes: &[u32],
-    reads: &[u32],
+    plan: Plan<'_>,
 ) -> Result<(), Refusal>
-    ensures { number_of result ≡ swizzle_plan_number next (given_of m nets.now trits.now) output.now (plan_of s entries.now writes.now reads.now) }
+    ensures { number_of result ≡ swizzle_plan_number next (view_given given.entry) output.now (view_plan plan.entry) }
 {
-    let one = plan_too_large(s, entries, writes, reads);
-    port_outputs::driving_refusal(m, nets, trits, output, next, one)?;
-    whole_refusal(m, nets, s, entries, writes, reads)
+    let one = plan_too_large(plan);
+    port_outputs::driving_refusal(given, output, next, one)?;
+    whole_refusal(given.memory, given.nets, plan)
 }

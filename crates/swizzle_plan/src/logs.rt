@@ -4,7 +4,7 @@ ghost use Rattle.lists.specs.Lists.{any, pairs};
 ghost use Rattle.rules.specs.Conditions.{bad_wide, bad_writes, bad_reads, all_reads};
 ghost use Rattle.rules.specs.Cell.{read_wide_log2, read_at_of};
 ghost use Rattle.net_memory.specs.View.{memory_of};
-ghost use Rattle.swizzle_plan.specs.Calls.{plan_of};
+ghost use Rattle.swizzle_plan.specs.Calls.{plan_of, view_plan};
 ghost use Rattle.swizzle_plan.specs.Numbers.{in_eight, write_logs, read_logs};
 
 use crate::MemorySwizzle;
@@ -87,30 +87,24 @@ fn reads_bad(m: Memory, ports: &[u32], s: MemorySwizzle, news: &[u32]) -> bool
 }
 
 // Number 9 of the write ports and the listed read ports.
-pub fn logs_bad(
-    m: Memory,
-    nets: &[u32],
-    ports: &[u32],
-    s: MemorySwizzle,
-    writes: &[u32],
-    reads: &[u32],
-) -> bool
-    ensures { (trits es : List ℕ) → result ≡ (bad_writes (memory_of m nets.now trits) (plan_of s es writes.now reads.now) || bad_reads (memory_of m nets.now trits) ports.now (plan_of s es writes.now reads.now)) }
+pub fn logs_bad(m: Memory, nets: &[u32], ports: &[u32], plan: Plan<'_>) -> bool
+    ensures { (trits : List ℕ) → result ≡ (bad_writes (memory_of m nets.now trits) (view_plan plan.entry) || bad_reads (memory_of m nets.now trits) ports.now (view_plan plan.entry)) }
 {
-    writes_bad(m, nets, s, writes) || reads_bad(m, ports, s, reads)
+    writes_bad(m, nets, plan.swizzle, plan.writes) || reads_bad(m, ports, plan.swizzle, plan.reads)
 }
 
 // Number 9 of the write ports and every read port.
-pub fn all_logs_bad(
-    m: Memory,
-    nets: &[u32],
-    s: MemorySwizzle,
-    writes: &[u32],
-    reads: &[u32],
-) -> bool
-    ensures { (trits es : List ℕ) → result ≡ (bad_writes (memory_of m nets.now trits) (plan_of s es writes.now reads.now) || bad_reads (memory_of m nets.now trits) (all_reads (memory_of m nets.now trits)) (plan_of s es writes.now reads.now)) }
+pub fn all_logs_bad(m: Memory, nets: &[u32], plan: Plan<'_>) -> bool
+    ensures { (trits : List ℕ) → result ≡ (bad_writes (memory_of m nets.now trits) (view_plan plan.entry) || bad_reads (memory_of m nets.now trits) (all_reads (memory_of m nets.now trits)) (view_plan plan.entry)) }
 {
     let ports = [0u32, 1, 2, 3, 4, 5, 6, 7];
     let count = net_memory::ports_used(m.read_count);
-    logs_bad(m, nets, lists::part(&ports, 0, count), s, writes, reads)
+    logs_bad(
+        m,
+        nets,
+        lists::part(&ports, 0, count),
+        plan.swizzle,
+        plan.writes,
+        plan.reads,
+    )
 }

@@ -19,7 +19,7 @@ ghost use Rattle.swizzle_reads.specs.Raw.{numbers_of, wide_by_of, size_by, piece
 use image_geometry::{Layout, Params};
 use log_entries::Log;
 use net_flip_flop::Controls;
-use net_memory::{Memory, MemoryReadPort};
+use net_memory::{Given, MemoryReadPort};
 use net_value::{ControlNet, Net};
 use swizzle_columns::WidePort;
 use swizzle_pieces::Pieces;
@@ -315,23 +315,21 @@ impl Reads<'_> {
         at: usize,
         q: Layout,
         z: Sizes,
-        m: Memory,
-        nets: &[u32],
-        trits: &[u8],
+        given: Given<'_>,
         wide: &[u32],
         output: &[u32],
     )
-        requires { Measures (layout_of q) z × (i < min max_ports m.read_count) }
-        ensures ports_after { going_of log.new self.new ≡ port_if (layout_of q.entry) (length scratch.old) i (port_of m nets.now trits.now i) (get_or wide.now i 0) (part at (read_port m i).data_len output.now) (going_of log.old self.old) }
-        ensures scratch_kept { ScratchKept (layout_of q.entry) (port_of m nets.now trits.now i) (get_or wide.now i 0) scratch.old scratch.new }
+        requires { Measures (layout_of q) z × (i < min max_ports given.memory.read_count) }
+        ensures ports_after { going_of log.new self.new ≡ port_if (layout_of q.entry) (length scratch.old) i (port_of given.entry.memory given.entry.nets.now given.entry.trits.now i) (get_or wide.now i 0) (part at (read_port given.entry.memory i).data_len output.now) (going_of log.old self.old) }
+        ensures scratch_kept { ScratchKept (layout_of q.entry) (port_of given.entry.memory given.entry.nets.now given.entry.trits.now i) (get_or wide.now i 0) scratch.old scratch.new }
         ensures same_rooms { SameRooms self.old self.new }
     {
-        let port = m.read_ports[i];
+        let port = given.memory.read_ports[i];
         let x = Port {
             number: i,
             port,
-            nets: net_memory::read_nets(m, nets, i),
-            trits: net_memory::read_trits(m, trits, i),
+            nets: net_memory::read_nets(given.memory, given.nets, i),
+            trits: net_memory::read_trits(given.memory, given.trits, i),
             wide: wide_at(wide, i),
             output: lists::part(output, at, port.data_len as usize),
         };
@@ -345,21 +343,19 @@ impl Reads<'_> {
         scratch: &mut [u32],
         q: Layout,
         z: Sizes,
-        m: Memory,
-        nets: &[u32],
-        trits: &[u8],
+        given: Given<'_>,
         wide: &[u32],
         output: &[u32],
     )
         requires { Measures (layout_of q) z }
-        ensures ports_after { going_of log.new self.new ≡ ports_from (layout_of q.entry) (length scratch.old) 0 (in_ports m nets.now trits.now) wide.now output.now (going_of log.old self.old) }
-        ensures all_kept { AllKept (layout_of q.entry) (in_ports m nets.now trits.now) wide.now scratch.old scratch.new }
+        ensures ports_after { going_of log.new self.new ≡ ports_from (layout_of q.entry) (length scratch.old) 0 (in_ports given.entry.memory given.entry.nets.now given.entry.trits.now) wide.now output.now (going_of log.old self.old) }
+        ensures all_kept { AllKept (layout_of q.entry) (in_ports given.entry.memory given.entry.nets.now given.entry.trits.now) wide.now scratch.old scratch.new }
         ensures same_rooms { SameRooms self.old self.new }
     {
         let mut at = 0;
-        for i in 0..net_memory::ports_used(m.read_count) {
-            self.port_at(log, scratch, i, at, q, z, m, nets, trits, wide, output);
-            at += net_memory::read_data_len(m, i);
+        for i in 0..net_memory::ports_used(given.memory.read_count) {
+            self.port_at(log, scratch, i, at, q, z, given, wide, output);
+            at += net_memory::read_data_len(given.memory, i);
         }
     }
 
@@ -370,14 +366,12 @@ impl Reads<'_> {
         log: &mut Log,
         scratch: &mut [u32],
         q: Layout,
-        m: Memory,
-        nets: &[u32],
-        trits: &[u8],
+        given: Given<'_>,
         wide: &[u32],
         output: &[u32],
     )
-        ensures ports_after { going_of log.new self.new ≡ reads_if (layout_of q.entry) (length scratch.old) (in_ports m nets.now trits.now) wide.now output.now (going_of log.old self.old) }
-        ensures all_kept { AllKept (layout_of q.entry) (in_ports m nets.now trits.now) wide.now scratch.old scratch.new }
+        ensures ports_after { going_of log.new self.new ≡ reads_if (layout_of q.entry) (length scratch.old) (in_ports given.entry.memory given.entry.nets.now given.entry.trits.now) wide.now output.now (going_of log.old self.old) }
+        ensures all_kept { AllKept (layout_of q.entry) (in_ports given.entry.memory given.entry.nets.now given.entry.trits.now) wide.now scratch.old scratch.new }
         ensures same_rooms { SameRooms self.old self.new }
     {
         let Some(shape) = image_check::check_layout(q) else {
@@ -390,6 +384,6 @@ impl Reads<'_> {
             mems: shape.all_mems as u32,
             columns: shape.columns as u32,
         };
-        self.each_port(log, scratch, q, z, m, nets, trits, wide, output);
+        self.each_port(log, scratch, q, z, given, wide, output);
     }
 }

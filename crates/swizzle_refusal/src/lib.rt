@@ -5,15 +5,15 @@ ghost use Rattle.std.specs.Prelude.{◌≡◌};
 ghost use Rattle.rules.specs.Refusal.{number_of};
 ghost use Rattle.rules.specs.Refusals.{swizzle_refusal};
 ghost use Rattle.log_entries.specs.View.{state_of};
-ghost use Rattle.net_memory.specs.Given.{given_of};
-ghost use Rattle.swizzle_plan.specs.Calls.{plan_of};
+ghost use Rattle.net_memory.specs.Given.{view_given};
+ghost use Rattle.swizzle_plan.specs.Calls.{view_plan};
 ghost use Rattle.swizzle_counts.specs.Refusal.{rooms_of};
 
 use log_entries::LogState;
-use net_memory::Memory;
+use net_memory::Given;
 use rules::Refusal;
 use swizzle_counts::SwizzleRooms;
-use swizzle_plan::MemorySwizzle;
+use swizzle_plan::Plan;
 
 // By what a swizzle is refused.
 #[tactic(auto, using(crate::proofs::Joined::joined_err))]
@@ -21,28 +21,21 @@ pub fn swizzle_refusal(
     r: SwizzleRooms,
     room: usize,
     st: LogState,
-    m: Memory,
-    nets: &[u32],
-    trits: &[u8],
+    given: Given<'_>,
     output: &[u32],
-    s: MemorySwizzle,
-    entries: &[u32],
-    writes: &[u32],
-    reads: &[u32],
+    plan: Plan<'_>,
 ) -> Result<(), Refusal>
-    ensures { number_of result ≡ swizzle_refusal (rooms_of r) room (state_of st) (given_of m nets.now trits.now) output.now (plan_of s entries.now writes.now reads.now) }
+    ensures { number_of result ≡ swizzle_refusal (rooms_of r) room (state_of st) (view_given given.entry) output.now (view_plan plan.entry) }
 {
-    swizzle_counts::refusal::rows_refusal(
-        r, room, st, m, nets, trits, output, s, entries, writes, reads,
-    )?;
-    if m.width == 0 {
+    swizzle_counts::refusal::rows_refusal(r, room, st, given, output, plan)?;
+    if given.memory.width == 0 {
         return Ok(());
     }
-    if m.depth != 0 {
+    if given.memory.depth != 0 {
         return Ok(());
     }
-    if port_unmap_all::ports_short(m, nets) {
+    if port_unmap_all::ports_short(given.memory, given.nets) {
         return Err(Refusal::ShortAddress);
     }
-    port_empty::empty_refusal(room, st, m, nets, trits, output)
+    port_empty::empty_refusal(room, st, given, output)
 }

@@ -11,7 +11,7 @@ ghost use Rattle.swizzle_rows.specs.Rows.{start_memory, no_memories, Measured, R
 
 use image_geometry::{Layout, Shape};
 use log_entries::Log;
-use net_memory::Memory;
+use net_memory::Given;
 use net_value::{ControlNet, Net};
 use swizzle_reads::Reads;
 use swizzle_result::{WideMemory, WideReadPort, WideWritePort};
@@ -79,26 +79,38 @@ fn rows_by<'a>(
     scratch: &mut [u32],
     s: Shape,
     q: Layout<'a>,
-    m: Memory,
-    nets: &'a [u32],
-    trits: &[u8],
+    given: Given<'_>,
     writes: &[u32],
     reads: &[u32],
     output: &[u32],
 )
     requires { Counted s × Measured (layout_of q) s }
-    ensures rows_by { RowsBy (layout_of q.entry) m nets.now trits.now writes.now reads.now output.now (length scratch.old) (lent_of log.old) made.old.nets.now made.old.trits.now (going_of log.new made.new) }
-    ensures all_kept { AllKept (layout_of q.entry) (in_ports m nets.now trits.now) reads.now scratch.old scratch.new }
+    ensures rows_by { RowsBy (layout_of q.entry) given.entry.memory given.entry.nets.now given.entry.trits.now writes.now reads.now output.now (length scratch.old) (lent_of log.old) made.old.nets.now made.old.trits.now (going_of log.new made.new) }
+    ensures all_kept { AllKept (layout_of q.entry) (in_ports given.entry.memory given.entry.nets.now given.entry.trits.now) reads.now scratch.old scratch.new }
     ensures same_rooms { SameRooms made.old made.new }
 {
     let mems = s.all_mems as u32;
-    let w = swizzle_writes::swizzle_writes(log, made.nets, m, nets, q, mems, writes);
+    let w = swizzle_writes::swizzle_writes(
+        log,
+        made.nets,
+        given.memory,
+        given.nets,
+        q,
+        mems,
+        writes,
+    );
     let ports = w.ports;
     let unit = q.params.unit;
-    made.memory = start_memory(s, unit, m.write_count, m.read_count, ports);
+    made.memory = start_memory(
+        s,
+        unit,
+        given.memory.write_count,
+        given.memory.read_count,
+        ports,
+    );
     made.nets_at = w.used;
     made.trits_at = 0;
-    made.emit(log, scratch, q, m, nets, trits, reads, output);
+    made.emit(log, scratch, q, given, reads, output);
 }
 
 // The write ports and the read ports of a swizzle, with the struct of the memories; nothing where the layout is none of an accepted swizzle.
@@ -108,23 +120,19 @@ pub fn emit_rows<'a>(
     made: &mut Reads,
     scratch: &mut [u32],
     q: Layout<'a>,
-    m: Memory,
-    nets: &'a [u32],
-    trits: &[u8],
+    given: Given<'_>,
     writes: &[u32],
     reads: &[u32],
     output: &[u32],
 )
-    ensures rows_ran { RowsRan (layout_of q.entry) m nets.now trits.now writes.now reads.now output.now (length scratch.old) (going_of log.old made.old) (going_of log.new made.new) }
-    ensures all_kept { AllKept (layout_of q.entry) (in_ports m nets.now trits.now) reads.now scratch.old scratch.new }
+    ensures rows_ran { RowsRan (layout_of q.entry) given.entry.memory given.entry.nets.now given.entry.trits.now writes.now reads.now output.now (length scratch.old) (going_of log.old made.old) (going_of log.new made.new) }
+    ensures all_kept { AllKept (layout_of q.entry) (in_ports given.entry.memory given.entry.nets.now given.entry.trits.now) reads.now scratch.old scratch.new }
     ensures same_rooms { SameRooms made.old made.new }
 {
     let Some(s) = image_check::check_layout(q) else {
         return;
     };
     if q.params.width != 0 {
-        rows_by(
-            log, made, scratch, s, q, m, nets, trits, writes, reads, output,
-        );
+        rows_by(log, made, scratch, s, q, given, writes, reads, output);
     }
 }

@@ -7,17 +7,17 @@ ghost use Rattle.lists.specs.Lists.{pairs};
 ghost use Rattle.rules.specs.Geometry.{chunk_mux_bits, soft_bits};
 ghost use Rattle.image_geometry.specs.View.{layout_by};
 ghost use Rattle.net_memory.specs.View.{memory_of};
-ghost use Rattle.swizzle_plan.specs.Calls.{plan_of, params_by};
+ghost use Rattle.swizzle_plan.specs.Calls.{params_by, view_plan};
 ghost use Rattle.swizzle_plan.specs.Numbers.{in_eight, write_logs, read_logs};
 ghost use Rattle.rules.specs.Answers.{swizzle_depths_call, swizzle_mux_bits_call, filled_with};
 ghost use Rattle.rules.specs.Refusal.{number_of, answer_by};
 ghost use Rattle.rules.specs.Refusals.{swizzle_mux_bits_refusal};
-ghost use Rattle.net_memory.specs.Given.{given_of};
+ghost use Rattle.net_memory.specs.Given.{view_given};
 ghost use Rattle.swizzle_sizes.specs.Calls.{bits_of, in_arrays, Countable, SmallLogs};
 
-use net_memory::Memory;
+use net_memory::{Given, Memory};
 use rules::Refusal;
-use swizzle_plan::MemorySwizzle;
+use swizzle_plan::{MemorySwizzle, Plan};
 
 // The mux bits of the write ports and of the listed read ports; 0 past the last.
 #[derive(Clone, Copy, Debug, PartialEq, Eq)]
@@ -40,24 +40,15 @@ fn read_logs(m: Memory, ports: &[u32]) -> [u32; rules::MAX_PORTS]
 
 // By what `swizzle_mux_bits` is refused.
 #[tactic(auto, using(crate::proofs::Refused::planned_err))]
-fn mux_refusal(
-    m: Memory,
-    nets: &[u32],
-    trits: &[u8],
-    ports: &[u32],
-    s: MemorySwizzle,
-    entries: &[u32],
-    writes: &[u32],
-    reads: &[u32],
-) -> Result<(), Refusal>
-    ensures { number_of result ≡ swizzle_mux_bits_refusal (given_of m nets.now trits.now) ports.now (plan_of s entries.now writes.now reads.now) }
+fn mux_refusal(given: Given<'_>, ports: &[u32], plan: Plan<'_>) -> Result<(), Refusal>
+    ensures { number_of result ≡ swizzle_mux_bits_refusal (view_given given.entry) ports.now (view_plan plan.entry) }
 {
     let long = rules::MAX_PORTS < ports.len();
-    swizzle_plan::planned_refusal(m, nets, trits, s, entries, writes, reads, long)?;
-    if swizzle_plan::logs::logs_bad(m, nets, ports, s, writes, reads) {
+    swizzle_plan::planned_refusal(given, plan, long)?;
+    if swizzle_plan::logs::logs_bad(given.memory, given.nets, ports, plan) {
         return Err(Refusal::BadWideLogs);
     }
-    if port_outputs::port_missing(m, ports) {
+    if port_outputs::port_missing(given.memory, ports) {
         return Err(Refusal::OutOfRange);
     }
     Ok(())
@@ -106,44 +97,26 @@ fn shared_bits(m: Memory, s: MemorySwizzle) -> u32
 
 // The mux bits of the write ports and of the listed read ports.
 #[tactic(auto, using(crate::proofs::Answered::bits_err))]
-pub fn swizzle_mux_bits(
-    m: Memory,
-    nets: &[u32],
-    trits: &[u8],
-    ports: &[u32],
-    s: MemorySwizzle,
-    entries: &[u32],
-    writes: &[u32],
-    reads: &[u32],
-) -> Result<MuxBits, Refusal>
-    ensures { answer_by bits_of result ≡ in_arrays (swizzle_mux_bits_call (given_of m nets.now trits.now) ports.now (plan_of s entries.now writes.now reads.now)) }
+pub fn swizzle_mux_bits(given: Given<'_>, ports: &[u32], plan: Plan<'_>) -> Result<MuxBits, Refusal>
+    ensures { answer_by bits_of result ≡ in_arrays (swizzle_mux_bits_call (view_given given.entry) ports.now (view_plan plan.entry)) }
 {
-    mux_refusal(m, nets, trits, ports, s, entries, writes, reads)?;
-    let base = shared_bits(m, s);
+    mux_refusal(given, ports, plan)?;
+    let base = shared_bits(given.memory, plan.swizzle);
     Ok(MuxBits {
-        writes: write_bits(m, nets, base, writes),
-        reads: read_bits(m, ports, base, reads),
+        writes: write_bits(given.memory, given.nets, base, plan.writes),
+        reads: read_bits(given.memory, ports, base, plan.reads),
     })
 }
 
 // The depths of the memories that a swizzle would give, into lent room.
 #[tactic(auto, using(swizzle_plan::proofs::Planned::depths_err, swizzle_plan::proofs::Planned::depths_ten))]
-pub fn swizzle_depths(
-    out: &mut [u32],
-    m: Memory,
-    nets: &[u32],
-    trits: &[u8],
-    s: MemorySwizzle,
-    entries: &[u32],
-    writes: &[u32],
-    reads: &[u32],
-) -> Result<(), Refusal>
-    ensures { filled_with (number_of result) out.new ≡ swizzle_depths_call out.old (given_of m nets.now trits.now) (plan_of s entries.now writes.now reads.now) }
+pub fn swizzle_depths(out: &mut [u32], given: Given<'_>, plan: Plan<'_>) -> Result<(), Refusal>
+    ensures { filled_with (number_of result) out.new ≡ swizzle_depths_call out.old (view_given given.entry) (view_plan plan.entry) }
 {
-    swizzle_plan::planned_refusal(m, nets, trits, s, entries, writes, reads, false)?;
+    swizzle_plan::planned_refusal(given, plan, false)?;
     let layout = image_geometry::Layout {
-        params: swizzle_plan::params_of(m, s),
-        entries,
+        params: swizzle_plan::params_of(given.memory, plan.swizzle),
+        entries: plan.entries,
     };
     layout.check_result()?;
     layout.depths(out)

@@ -15,14 +15,14 @@ pub split_rows-x-requires : goal.split_rows-x-requires
 split_rows-x-requires c =
     let v = c.args in
     let l = v.log.now in
-    (given_passes v.m v.nets.now v.trits.now v.outs.now l.state l.words.now v.tables.now c.requires c.bare_memory-b.result c.bare_memory-b.ensures.value, given_thin v.m v.nets.now v.trits.now v.outs.now l.state l.words.now v.tables.now c.requires c.bare_memory-b.result c.bare_memory-b.ensures.value, refl)
+    (given_passes v.given.memory v.given.nets.now v.given.trits.now v.outs.now l.state l.words.now v.tables.now c.requires c.bare_memory-b.result c.bare_memory-b.ensures.value, given_thin v.given.memory v.given.nets.now v.given.trits.now v.outs.now l.state l.words.now v.tables.now c.requires c.bare_memory-b.result c.bare_memory-b.ensures.value, refl)
 
 pub lower_made-requires : goal.lower_made-requires
 lower_made-requires c =
     let v = c.args in
     let l = v.log.now in
     let s = c.split_rows-x in
-    part_made v.m v.nets.now v.trits.now v.outs.now l.state l.words.now v.tables.now c.requires c.bare_memory-b.result c.bare_memory-b.ensures.value s.result s.new.log s.new.tables s.new.image s.ensures c.init_size-n.result c.init_size-n.ensures.0 c.part.result.now c.part-2.result.now c.part.ensures.part c.part-2.ensures.part
+    part_made v.given.memory v.given.nets.now v.given.trits.now v.outs.now l.state l.words.now v.tables.now c.requires c.bare_memory-b.result c.bare_memory-b.ensures.value s.result s.new.log s.new.tables s.new.image s.ensures c.init_size-n.result c.init_size-n.ensures.0 c.part.result.now c.part-2.result.now c.part.ensures.part c.part-2.ensures.part
 
 pub returns : goal.returns
 returns c =
@@ -31,8 +31,8 @@ returns c =
     let s = c.split_rows-x in
     let p = c.lower_made in
     let t = lower_rows (results_of s.result.made.memory c.part.result.now [] c.part-2.result.now) in
-    let e = split_ran v.m v.nets.now v.trits.now v.outs.now l.state l.words.now v.tables.now c.requires c.bare_memory-b.result c.bare_memory-b.ensures.value s.result s.new.log s.new.tables s.new.image s.ensures c.init_size-n.result c.init_size-n.ensures.0 c.part.result.now c.part-2.result.now c.part.ensures.part c.part-2.ensures.part (named 0 (lent_of p.new.log)) (unnamed t 0 _ _ p.ensures) in
+    let e = split_ran v.given.memory v.given.nets.now v.given.trits.now v.outs.now l.state l.words.now v.tables.now c.requires c.bare_memory-b.result c.bare_memory-b.ensures.value s.result s.new.log s.new.tables s.new.image s.ensures c.init_size-n.result c.init_size-n.ensures.0 c.part.result.now c.part-2.result.now c.part.ensures.part c.part-2.ensures.part (named 0 (lent_of p.new.log)) (unnamed t 0 _ _ p.ensures) in
     record {
-      log_after = renamed (split_lowered (memory_of (bare_of v.m) v.nets.now v.trits.now) v.outs.now) (lent_of l) (lent_of p.new.log) (run_name t _ _ p.ensures) e;
-      tables_unchanged = tables_kept v.m v.nets.now v.trits.now v.outs.now l.state l.words.now v.tables.now c.requires c.bare_memory-b.result c.bare_memory-b.ensures.value s.result s.new.log s.new.tables s.new.image s.ensures;
+      log_after = renamed (split_lowered (memory_of (bare_of v.given.memory) v.given.nets.now v.given.trits.now) v.outs.now) (lent_of l) (lent_of p.new.log) (run_name t _ _ p.ensures) e;
+      tables_unchanged = tables_kept v.given.memory v.given.nets.now v.given.trits.now v.outs.now l.state l.words.now v.tables.now c.requires c.bare_memory-b.result c.bare_memory-b.ensures.value s.result s.new.log s.new.tables s.new.image s.ensures;
     }

@@ -13,17 +13,17 @@ use Rattle.fallback.proofs.split_number.Goals as goal
 pub returns-then-whole-words : goal.returns-then-whole-words
 returns-then-whole-words c =
     let v = c.args in
-    left_none v.room (state_of v.st) v.words v.made (split_words (memory_of v.m v.nets.now v.trits.now)) (split_nets (memory_of v.m v.nets.now v.trits.now)) (omega (arith, c.min-whole.ensures, c.if-whole-words.true))
+    left_none v.room (state_of v.st) v.words v.made (split_words (memory_of v.given.memory v.given.nets.now v.given.trits.now)) (split_nets (memory_of v.given.memory v.given.nets.now v.given.trits.now)) (omega (arith, c.min-whole.ensures, c.if-whole-words.true))
 
 pub plan_number-requires : goal.plan_number-requires
 plan_number-requires c =
     let v = c.args in
-    bare_thin v.m v.nets.now v.trits.now v.output.now v.st v.tables c.requires.0 c.requires.1 c.bare_memory-b.result c.bare_memory-b.ensures.value
+    bare_thin v.given.memory v.given.nets.now v.given.trits.now v.output.now v.st v.tables c.requires.0 c.requires.1 c.bare_memory-b.result c.bare_memory-b.ensures.value
 
 pub returns : goal.returns
 returns c =
     let v = c.args in
     let l : LogState = record { used = v.st.used; next = c.later_net.result } in
-    split_refusal v.m v.nets.now v.trits.now v.output.now v.st v.tables c.requires.0 c.requires.1 (record { image = 32768; nets = v.tables; trits = 0; scratch = 32768 }) refl refl refl (c.min-whole.result - v.words) (record { used = v.st.used; next = c.later_net.result }) (later_grows v.st.next v.made c.later_net.result c.later_net.ensures) c.bare_memory-b.result c.bare_memory-b.ensures.value c.plan_number.result c.plan_number.ensures
-    ∙ ap (λ (k : ℕ). room_refusal (k - v.words) l (split_words (memory_of v.m v.nets.now v.trits.now)) (split_nets (memory_of v.m v.nets.now v.trits.now))) c.min-whole.ensures
-    ∙ left_same v.room (state_of v.st) v.words v.made (split_words (memory_of v.m v.nets.now v.trits.now)) (split_nets (memory_of v.m v.nets.now v.trits.now)) c.later_net.result c.later_net.ensures (omega (arith, c.min-whole.ensures, c.if-whole-words.false))
+    split_refusal v.given.memory v.given.nets.now v.given.trits.now v.output.now v.st v.tables c.requires.0 c.requires.1 (record { image = 32768; nets = v.tables; trits = 0; scratch = 32768 }) refl refl refl (c.min-whole.result - v.words) (record { used = v.st.used; next = c.later_net.result }) (later_grows v.st.next v.made c.later_net.result c.later_net.ensures) c.bare_memory-b.result c.bare_memory-b.ensures.value c.plan_number.result c.plan_number.ensures
+    ∙ ap (λ (k : ℕ). room_refusal (k - v.words) l (split_words (memory_of v.given.memory v.given.nets.now v.given.trits.now)) (split_nets (memory_of v.given.memory v.given.nets.now v.given.trits.now))) c.min-whole.ensures
+    ∙ left_same v.room (state_of v.st) v.words v.made (split_words (memory_of v.given.memory v.given.nets.now v.given.trits.now)) (split_nets (memory_of v.given.memory v.given.nets.now v.given.trits.now)) c.later_net.result c.later_net.ensures (omega (arith, c.min-whole.ensures, c.if-whole-words.false))

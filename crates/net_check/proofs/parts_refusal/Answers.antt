@@ -11,8 +11,8 @@ pub returns : goal.returns
 unfolding memory_of
 returns c =
     let v = c.args in
-    let n : List ℕ = v.nets.now in
-    let t : List ℕ = v.trits.now in
+    let n : List ℕ = v.given.nets.now in
+    let t : List ℕ = v.given.trits.now in
     c.lower-2.ensures
     ∙ (λ k. least (c.init_refusal-a.ensures k) ((c.lower.ensures ∙ (λ j. least (c.writes_refusal-b.ensures t j) (c.reads_refusal.ensures j))) k))
-    ∙ parts_number v.next (memory_of v.m n t)
+    ∙ parts_number v.next (memory_of v.given.memory n t)

@@ -25,19 +25,19 @@ loop-i-preserved c =
     let h = c in
     let v = h.args in
     let l = h.loop-i in
-    let n = reads_length v.m _ h.well_formed.0 v.nets.now v.trits.now in
+    let n = reads_length v.given.memory _ h.well_formed.0.1.1.0 v.given.nets.now v.given.trits.now in
     let q = c.lower-refusal.ensures ∙ ap (least (number_if l.refusal)) c.read_refusal_at.ensures in (
       omega arith,
-      omega (arith, sum_take_more addr_size no_read_port refl v.m.read_ports l.i),
-      omega (arith, sum_take_more trit_size no_read_port refl v.m.read_ports l.i),
+      omega (arith, sum_take_more addr_size no_read_port refl v.given.memory.read_ports l.i),
+      omega (arith, sum_take_more trit_size no_read_port refl v.given.memory.read_ports l.i),
       omega arith,
       omega arith,
-      least_turn (read_number v.next (memory_of v.m v.nets.now v.trits.now)) (reads_of v.m v.nets.now v.trits.now) l.i (number_if l.refusal) (number_if c.lower-refusal.result) no_read_of (omega (arith, n)) q l.invariant.5,
+      least_turn (read_number v.next (memory_of v.given.memory v.given.nets.now v.given.trits.now)) (reads_of v.given.memory v.given.nets.now v.given.trits.now) l.i (number_if l.refusal) (number_if c.lower-refusal.result) no_read_of (omega (arith, n)) q l.invariant.5,
     )
 
 pub returns : goal.returns
 returns c =
     let h = c in
     let v = h.args in
-    let n = reads_length v.m _ h.well_formed.0 v.nets.now v.trits.now in
-    least_end (read_number v.next (memory_of v.m v.nets.now v.trits.now)) (reads_of v.m v.nets.now v.trits.now) h.loop-i.i (number_if h.loop-i.refusal) (omega (arith, n)) h.loop-i.invariant.5
+    let n = reads_length v.given.memory _ h.well_formed.0.1.1.0 v.given.nets.now v.given.trits.now in
+    least_end (read_number v.next (memory_of v.given.memory v.given.nets.now v.given.trits.now)) (reads_of v.given.memory v.given.nets.now v.given.trits.now) h.loop-i.i (number_if h.loop-i.refusal) (omega (arith, n)) h.loop-i.invariant.5

@@ -10,4 +10,4 @@ use Rattle.net_check.specs.Number.{read_number}
 use Rattle.net_check.proofs.reads_refusal.Given as goal
 
 abbrev pub invariant-loop-i : goal.invariant-loop-i
-invariant-loop-i l = (l.i ≤ l.count) × (l.at ≡ reads_start l.m + sum_by addr_size (take l.i l.m.read_ports)) × (l.from ≡ l.m.init_len + sum_by trit_size (take l.i l.m.read_ports)) × (l.at ≤ 0x1800000000 + l.i * 0x100000000) × (l.from ≤ 0x100000000 + l.i * 0x300000000) × (least_by (read_number l.next (memory_of l.m l.nets l.trits)) (reads_of l.m l.nets l.trits) ≡ least (number_if l.refusal) (least_by (read_number l.next (memory_of l.m l.nets l.trits)) (drop l.i (reads_of l.m l.nets l.trits))))
+invariant-loop-i l = (l.i ≤ l.count) × (l.at ≡ reads_start l.fn.given.memory + sum_by addr_size (take l.i l.fn.given.memory.read_ports)) × (l.from ≡ l.fn.given.memory.init_len + sum_by trit_size (take l.i l.fn.given.memory.read_ports)) × (l.at ≤ 0x1800000000 + l.i * 0x100000000) × (l.from ≤ 0x100000000 + l.i * 0x300000000) × (least_by (read_number l.next (memory_of l.fn.given.memory l.fn.given.nets.now l.fn.given.trits.now)) (reads_of l.fn.given.memory l.fn.given.nets.now l.fn.given.trits.now) ≡ least (number_if l.refusal) (least_by (read_number l.next (memory_of l.fn.given.memory l.fn.given.nets.now l.fn.given.trits.now)) (drop l.i (reads_of l.fn.given.memory l.fn.given.nets.now l.fn.given.trits.now))))

@@ -11,7 +11,7 @@ use Rattle.port_empty.proofs.emit_emptied.Goals as goal
 pub returns-then-n-gt-MAX_OUTPUTS : goal.returns-then-n-gt-MAX_OUTPUTS
 returns-then-n-gt-MAX_OUTPUTS c =
     let v = c.args in
-    empty_many (memory_of v.m v.nets.now v.trits.now) v.output.now (lent_of v.log.now) c.if-n-gt-MAX_OUTPUTS.true
+    empty_many (memory_of v.given.memory v.given.nets.now v.given.trits.now) v.output.now (lent_of v.log.now) c.if-n-gt-MAX_OUTPUTS.true
 
 pub returns : goal.returns
 returns c =
@@ -19,4 +19,4 @@ returns c =
     let a = c.emit_unmap_all in
     let u = c.emit_unknown in
     let g : length v.after.now ≡ max_outputs = search rules in
-    empty_ran (memory_of v.m v.nets.now v.trits.now) v.output.now (lent_of v.log.now) v.after.now a.new.after (lent_of a.new.log) (lent_of u.new.log) (length v.output.now) refl c.if-n-gt-MAX_OUTPUTS.false g a.auto.after a.ensures u.ensures
+    empty_ran (memory_of v.given.memory v.given.nets.now v.given.trits.now) v.output.now (lent_of v.log.now) v.after.now a.new.after (lent_of a.new.log) (lent_of u.new.log) (length v.output.now) refl c.if-n-gt-MAX_OUTPUTS.false g a.auto.after a.ensures u.ensures

@@ -8,7 +8,7 @@ use Rattle.port_empty.proofs.emit_empty.Goals as goal
 pub returns : goal.returns
 returns c =
     let v = c.args in
-    let t = emptied_if (memory_of v.m v.nets.now v.trits.now) v.output.now in
+    let t = emptied_if (memory_of v.given.memory v.given.nets.now v.given.trits.now) v.output.now in
     let n = run_name t _ _ c.emit_emptied.ensures in
     let e = unnamed t 0 _ _ c.emit_emptied.ensures in
     search rules

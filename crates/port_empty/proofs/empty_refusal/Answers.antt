@@ -15,7 +15,7 @@ returns c =
     let v = c.args in
     let p = c.emit_empty-dry in
     let q = c.dry_refusal in
-    let w = memory_of v.m v.nets.now v.trits.now in
+    let w = memory_of v.given.memory v.given.nets.now v.given.trits.now in
     let s = state_of v.st in
-    dry_called (emptied_if w v.output.now) v.room s _ (chains_empty w v.output.now) (empty_below w v.output.now (omega (arith, reads_are v.m v.nets.now v.trits.now (reads_length v.m _ c.well_formed.1.1.0 v.nets.now v.trits.now))) s)
+    dry_called (emptied_if w v.output.now) v.room s _ (chains_empty w v.output.now) (empty_below w v.output.now (omega (arith, reads_are v.given.memory v.given.nets.now v.given.trits.now (reads_length v.given.memory _ c.well_formed.1.1.0.1.1.0 v.given.nets.now v.given.trits.now))) s)
     p.new.log _ (state_of p.result) _ c.dry_start.ensures p.ensures q.ensures

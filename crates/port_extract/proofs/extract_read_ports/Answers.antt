@@ -11,39 +11,39 @@ pub returns-in_err-extract_refusal-clause-room_output_after : goal.returns-in_er
 returns-in_err-extract_refusal-clause-room_output_after c =
     let v = c.args in
     let e = err_from_is_err_and c.from_residual.result c.from_residual.ensures.1 in
-    rw (e.1, e.2) (refused v.room_nets.now v.room_trits.now v.room_output.now v.m v.nets.now v.trits.now v.list.now v.output.now _ c.in_err-extract_refusal.ensures)
+    rw (e.1, e.2) (refused v.room_nets.now v.room_trits.now v.room_output.now v.given.memory v.given.nets.now v.given.trits.now v.list.now v.output.now _ c.in_err-extract_refusal.ensures)
 
 pub put_nets-requires : goal.put_nets-requires
 put_nets-requires c =
     let y = c in
     let v = y.args in
-    (good v.m v.nets.now v.trits.now v.list.now v.output.now (record { nets = length v.room_nets.now; trits = length v.room_trits.now; output = length v.room_output.now }) (reads_length v.m _ y.well_formed.1.1.1.0 v.nets.now v.trits.now) (sym c.in_ok-extract_refusal.ensures)).ready_is.listed.few
+    (good v.given.memory v.given.nets.now v.given.trits.now v.list.now v.output.now (record { nets = length v.room_nets.now; trits = length v.room_trits.now; output = length v.room_output.now }) (reads_length v.given.memory _ y.well_formed.1.1.1.0.1.1.0 v.given.nets.now v.given.trits.now) (sym c.in_ok-extract_refusal.ensures)).ready_is.listed.few
 
 pub put_trits-requires : goal.put_trits-requires
 put_trits-requires c =
     let y = c in
     let v = y.args in
-    (good v.m v.nets.now v.trits.now v.list.now v.output.now (record { nets = length v.room_nets.now; trits = length v.room_trits.now; output = length v.room_output.now }) (reads_length v.m _ y.well_formed.1.1.1.0 v.nets.now v.trits.now) (sym c.in_ok-extract_refusal.ensures)).ready_is.listed.few
+    (good v.given.memory v.given.nets.now v.given.trits.now v.list.now v.output.now (record { nets = length v.room_nets.now; trits = length v.room_trits.now; output = length v.room_output.now }) (reads_length v.given.memory _ y.well_formed.1.1.1.0.1.1.0 v.given.nets.now v.given.trits.now) (sym c.in_ok-extract_refusal.ensures)).ready_is.listed.few
 
 pub put_outputs-requires : goal.put_outputs-requires
 put_outputs-requires c =
     let y = c in
     let v = y.args in
-    (good v.m v.nets.now v.trits.now v.list.now v.output.now (record { nets = length v.room_nets.now; trits = length v.room_trits.now; output = length v.room_output.now }) (reads_length v.m _ y.well_formed.1.1.1.0 v.nets.now v.trits.now) (sym c.in_ok-extract_refusal.ensures)).ready_is.listed.few
+    (good v.given.memory v.given.nets.now v.given.trits.now v.list.now v.output.now (record { nets = length v.room_nets.now; trits = length v.room_trits.now; output = length v.room_output.now }) (reads_length v.given.memory _ y.well_formed.1.1.1.0.1.1.0 v.given.nets.now v.given.trits.now) (sym c.in_ok-extract_refusal.ensures)).ready_is.listed.few
 
 pub pick_ports-requires : goal.pick_ports-requires
 pick_ports-requires c =
     let y = c in
     let v = y.args in
-    (good v.m v.nets.now v.trits.now v.list.now v.output.now (record { nets = length v.room_nets.now; trits = length v.room_trits.now; output = length v.room_output.now }) (reads_length v.m _ y.well_formed.1.1.1.0 v.nets.now v.trits.now) (sym c.in_ok-extract_refusal.ensures)).ready_is.listed
+    (good v.given.memory v.given.nets.now v.given.trits.now v.list.now v.output.now (record { nets = length v.room_nets.now; trits = length v.room_trits.now; output = length v.room_output.now }) (reads_length v.given.memory _ y.well_formed.1.1.1.0.1.1.0 v.given.nets.now v.given.trits.now) (sym c.in_ok-extract_refusal.ensures)).ready_is.listed
 
 pub returns : goal.returns
 returns c =
     let y = c in
     let v = y.args in
-    let g = good v.m v.nets.now v.trits.now v.list.now v.output.now (record { nets = length v.room_nets.now; trits = length v.room_trits.now; output = length v.room_output.now }) (reads_length v.m _ y.well_formed.1.1.1.0 v.nets.now v.trits.now) (sym c.in_ok-extract_refusal.ensures) in
-    let eight = read_ports_8 v.m _ y.well_formed.1.1.1.0 in
+    let g = good v.given.memory v.given.nets.now v.given.trits.now v.list.now v.output.now (record { nets = length v.room_nets.now; trits = length v.room_trits.now; output = length v.room_output.now }) (reads_length v.given.memory _ y.well_formed.1.1.1.0.1.1.0 v.given.nets.now v.given.trits.now) (sym c.in_ok-extract_refusal.ensures) in
+    let eight = read_ports_8 v.given.memory _ y.well_formed.1.1.1.0.1.1.0 in
     record {
-      room_output_after = accepted v.room_nets.now v.room_trits.now v.room_output.now v.m v.nets.now v.trits.now v.list.now v.output.now eight g _ _ _ _ c.in_ok-extract_refusal.ensures c.pick_ports.ensures c.put_nets.ensures.room_after c.put_trits.ensures.room_after (c.put_outputs.ensures.by_index_2 v.nets.now v.trits.now);
-      new_struct = newly v.room_nets.now v.room_trits.now v.room_output.now v.m v.nets.now v.trits.now v.list.now v.output.now eight g _ c.pick_ports.ensures;
+      room_output_after = accepted v.room_nets.now v.room_trits.now v.room_output.now v.given.memory v.given.nets.now v.given.trits.now v.list.now v.output.now eight g _ _ _ _ c.in_ok-extract_refusal.ensures c.pick_ports.ensures c.put_nets.ensures.room_after c.put_trits.ensures.room_after (c.put_outputs.ensures.by_index_2 v.given.nets.now v.given.trits.now);
+      new_struct = newly v.room_nets.now v.room_trits.now v.room_output.now v.given.memory v.given.nets.now v.given.trits.now v.list.now v.output.now eight g _ c.pick_ports.ensures;
     }

@@ -15,8 +15,8 @@ returns c =
     let p = c.emit_mux in
     let q = c.dry_refusal in
     let s = state_of v.st in
-    let w = memory_of v.m v.nets.now v.trits.now in
+    let w = memory_of v.given.memory v.given.nets.now v.given.trits.now in
     let o = overlay_of v.o.masked v.o.bits.now v.o.mask.now in
     let n = run_name (transparency_mux w v.i v.j o) _ _ p.ensures.ran in
-    dry_called (transparency_mux w v.i v.j o) v.room s _ (chains_mux_at w v.i v.j o) (mux_below v.m v.nets.now v.trits.now v.i v.j v.o.masked v.o.bits.now v.o.mask.now c.requires.0 s)
+    dry_called (transparency_mux w v.i v.j o) v.room s _ (chains_mux_at w v.i v.j o) (mux_below v.given.memory v.given.nets.now v.given.trits.now v.i v.j v.o.masked v.o.bits.now v.o.mask.now c.requires.0 s)
     p.new.log.words.now _ (state_of p.new.log.state) c.number_of.result c.dry_start.ensures (unnamed (transparency_mux w v.i v.j o) 0 _ _ p.ensures.ran) (c.number_of.ensures ∙ q.ensures)

@@ -17,7 +17,7 @@ use Rattle.port_mux.proofs.mux_fitting.Goals as goal
 pub returns-then-k-ne0 : goal.returns-then-k-ne0
 returns-then-k-ne0 c =
     let v = c.args in
-    let t = transparency_mux (memory_of v.m v.nets.now v.trits.now) v.i v.j (overlay_of v.o.masked v.o.bits.now v.o.mask.now) in
+    let t = transparency_mux (memory_of v.given.memory v.given.nets.now v.given.trits.now) v.i v.j (overlay_of v.o.masked v.o.bits.now v.o.mask.now) in
     overlaid_refused v.o.masked (length v.o.bits.now) (log_refusal (length v.log.now) (state_of v.st) t) c.dry_number-k.result v.bits_to.now v.mask_to.now v.log.now (state_of v.st) t c.dry_number-k.ensures c.if-k-ne0.true
 
 pub emit_mux-requires : goal.emit_mux-requires
@@ -27,10 +27,10 @@ pub returns : goal.returns
 returns c =
     let v = c.args in
     let u = c.emit_mux in
-    let w = memory_of v.m v.nets.now v.trits.now in
+    let w = memory_of v.given.memory v.given.nets.now v.given.trits.now in
     let o = overlay_of v.o.masked v.o.bits.now v.o.mask.now in
-    let e = size_is v.m v.nets.now v.trits.now v.i v.j v.o.masked v.o.bits.now v.o.mask.now c.requires.0 v.p c.requires.1 in
-    let f = data_few v.m v.nets.now v.trits.now v.i v.j v.o.masked v.o.bits.now v.o.mask.now c.requires.0 in
+    let e = size_is v.given.memory v.given.nets.now v.given.trits.now v.i v.j v.o.masked v.o.bits.now v.o.mask.now c.requires.0 v.p c.requires.1 in
+    let f = data_few v.given.memory v.given.nets.now v.given.trits.now v.i v.j v.o.masked v.o.bits.now v.o.mask.now c.requires.0 in
     let b = transparency_mux w v.i v.j o in
     let n = run_name b _ _ u.ensures.ran in
     let g : Gave b (lent v.st v.log.now) (lent u.new.log.state u.new.log.words.now) (overlay_of v.o.masked (take v.p.data_len u.new.overlay.under) (take v.p.data_len u.new.over)) = record { ran = unnamed b 0 _ _ u.ensures.ran; value = u.ensures.value } in

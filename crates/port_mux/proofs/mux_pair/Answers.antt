@@ -13,16 +13,16 @@ use Rattle.port_mux.proofs.mux_pair.Goals as goal
 pub returns-then-n-ne0 : goal.returns-then-n-ne0
 returns-then-n-ne0 c =
     let v = c.args in
-    let g = passed v.st.next v.m v.nets.now v.trits.now v.i v.j v.masked v.bits.now v.mask.now c.requires.0 (reads_length v.m _ c.well_formed.1.1.1.1.0 v.nets.now v.trits.now) in
-    let d = len_is v.m v.nets.now v.trits.now v.i v.j v.masked v.bits.now v.mask.now g in
+    let g = passed v.st.next v.given.memory v.given.nets.now v.given.trits.now v.i v.j v.masked v.bits.now v.mask.now c.requires.0 (reads_length v.given.memory _ c.well_formed.1.1.1.1.0.1.1.0 v.given.nets.now v.given.trits.now) in
+    let d = len_is v.given.memory v.given.nets.now v.given.trits.now v.i v.j v.masked v.bits.now v.mask.now g in
     let r = c.room_number-n.ensures v.bits.now v.mask.now ∙ ap (λ (n : ℕ). overlay_refusal (record { bits = length v.bits_to.now; mask = length v.mask_to.now }) n (overlay_of v.masked v.bits.now v.mask.now)) d in
-    room_refused v.masked v.m v.nets.now v.trits.now v.i v.j v.bits.now v.mask.now v.bits_to.now v.mask_to.now v.log.now v.st c.requires.0 (length v.bits.now) c.room_number-n.result r c.if-n-ne0.true
+    room_refused v.masked v.given.memory v.given.nets.now v.given.trits.now v.i v.j v.bits.now v.mask.now v.bits_to.now v.mask_to.now v.log.now v.st c.requires.0 (length v.bits.now) c.room_number-n.result r c.if-n-ne0.true
 
 pub mux_fitting-requires : goal.mux_fitting-requires
 mux_fitting-requires c =
     let v = c.args in
-    let g = passed v.st.next v.m v.nets.now v.trits.now v.i v.j v.masked v.bits.now v.mask.now c.requires.0 (reads_length v.m _ c.well_formed.1.1.1.1.0 v.nets.now v.trits.now) in
-    let e = size_is v.m v.nets.now v.trits.now v.i v.j v.masked v.bits.now v.mask.now g v.p c.requires.1 in
+    let g = passed v.st.next v.given.memory v.given.nets.now v.given.trits.now v.i v.j v.masked v.bits.now v.mask.now c.requires.0 (reads_length v.given.memory _ c.well_formed.1.1.1.1.0.1.1.0 v.given.nets.now v.given.trits.now) in
+    let e = size_is v.given.memory v.given.nets.now v.given.trits.now v.i v.j v.masked v.bits.now v.mask.now g v.p c.requires.1 in
     let z = sym (c.room_number-n.ensures v.bits.now v.mask.now) ∙ c.if-n-ne0.false in
     let x = length v.bits_to.now in
     let y = length v.mask_to.now in
@@ -31,7 +31,7 @@ mux_fitting-requires c =
 pub returns : goal.returns
 returns c =
     let v = c.args in
-    let g = passed v.st.next v.m v.nets.now v.trits.now v.i v.j v.masked v.bits.now v.mask.now c.requires.0 (reads_length v.m _ c.well_formed.1.1.1.1.0 v.nets.now v.trits.now) in
-    let d = len_is v.m v.nets.now v.trits.now v.i v.j v.masked v.bits.now v.mask.now g in
+    let g = passed v.st.next v.given.memory v.given.nets.now v.given.trits.now v.i v.j v.masked v.bits.now v.mask.now c.requires.0 (reads_length v.given.memory _ c.well_formed.1.1.1.1.0.1.1.0 v.given.nets.now v.given.trits.now) in
+    let d = len_is v.given.memory v.given.nets.now v.given.trits.now v.i v.j v.masked v.bits.now v.mask.now g in
     let r = c.room_number-n.ensures v.bits.now v.mask.now ∙ ap (λ (n : ℕ). overlay_refusal (record { bits = length v.bits_to.now; mask = length v.mask_to.now }) n (overlay_of v.masked v.bits.now v.mask.now)) d in
-    log_last v.masked v.m v.nets.now v.trits.now v.i v.j v.bits.now v.mask.now v.bits_to.now v.mask_to.now v.log.now v.st c.requires.0 _ (sym r ∙ c.if-n-ne0.false) c.mux_fitting.ensures
+    log_last v.masked v.given.memory v.given.nets.now v.given.trits.now v.i v.j v.bits.now v.mask.now v.bits_to.now v.mask_to.now v.log.now v.st c.requires.0 _ (sym r ∙ c.if-n-ne0.false) c.mux_fitting.ensures

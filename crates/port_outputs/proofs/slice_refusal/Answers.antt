@@ -8,9 +8,9 @@ use Rattle.port_outputs.proofs.slice_refusal.Goals as goal
 pub returns-then-ports_used-port : goal.returns-then-ports_used-port
 returns-then-ports_used-port c =
     let v = c.args in
-    port_out v.m v.nets.now v.trits.now v.port (reads_length v.m _ c.well_formed.0 v.nets.now v.trits.now) (sym c.in_ok-memory_refusal.ensures) (omega arith)
+    port_out v.given.memory v.given.nets.now v.given.trits.now v.port (reads_length v.given.memory _ c.well_formed.0.1.1.0 v.given.nets.now v.given.trits.now) (sym c.in_ok-memory_refusal.ensures) (omega arith)
 
 pub returns : goal.returns
 returns c =
     let v = c.args in
-    port_in v.m v.nets.now v.trits.now v.port (reads_length v.m _ c.well_formed.0 v.nets.now v.trits.now) (sym c.in_ok-memory_refusal.ensures) (omega arith)
+    port_in v.given.memory v.given.nets.now v.given.trits.now v.port (reads_length v.given.memory _ c.well_formed.0.1.1.0 v.given.nets.now v.given.trits.now) (sym c.in_ok-memory_refusal.ensures) (omega arith)

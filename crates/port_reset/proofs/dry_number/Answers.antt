@@ -18,7 +18,7 @@ returns c =
     let p = c.emit_port in
     let q = c.dry_refusal in
     let s = state_of v.st in
-    let f = own_flip_flop v.m v.trits.now v.i v.c in
-    let w = memory_of v.m v.nets.now v.trits.now in
+    let f = own_flip_flop v.given.memory v.given.trits.now v.i v.c in
+    let w = memory_of v.given.memory v.given.nets.now v.given.trits.now in
     let n = run_name (unmap_reset w v.i v.incl v.output.now f) _ _ p.ensures.log_after in
-    dry_called (unmap_reset w v.i v.incl v.output.now f) v.room s _ (chains_reset w v.i v.incl v.output.now f) (reset_below v.m v.nets.now v.trits.now v.i v.c v.incl c.requires.0 v.output.now s) p.new.log.words.now _ (state_of p.new.log.state) c.number_of.result c.dry_start.ensures (unnamed (unmap_reset w v.i v.incl v.output.now f) 0 _ _ p.ensures.log_after) (c.number_of.ensures ∙ q.ensures)
+    dry_called (unmap_reset w v.i v.incl v.output.now f) v.room s _ (chains_reset w v.i v.incl v.output.now f) (reset_below v.given.memory v.given.nets.now v.given.trits.now v.i v.c v.incl c.requires.0 v.output.now s) p.new.log.words.now _ (state_of p.new.log.state) c.number_of.result c.dry_start.ensures (unnamed (unmap_reset w v.i v.incl v.output.now f) 0 _ _ p.ensures.log_after) (c.number_of.ensures ∙ q.ensures)

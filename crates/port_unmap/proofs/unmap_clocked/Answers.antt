@@ -12,7 +12,7 @@ use Rattle.port_unmap.proofs.unmap_clocked.Goals as goal
 pub returns-then-n-ne0 : goal.returns-then-n-ne0
 returns-then-n-ne0 c =
     let v = c.args in
-    record { log_after = clocked_refused v.m v.nets.now v.trits.now v.i v.c c.requires.0 v.output.now v.log.now v.st c.dry_number-n.result c.dry_number-n.ensures c.if-n-ne0.true; new_struct = struct_kept v.m v.st v.i c.dry_number-n.result c.if-n-ne0.true }
+    record { log_after = clocked_refused v.given.memory v.given.nets.now v.given.trits.now v.i v.c c.requires.0 v.output.now v.log.now v.st c.dry_number-n.result c.dry_number-n.ensures c.if-n-ne0.true; new_struct = struct_kept v.given.memory v.st v.i c.dry_number-n.result c.if-n-ne0.true }
 
 pub unclock-memory-requires : goal.unclock-memory-requires
 unclock-memory-requires c = (omega (arith, c.requires.0.port.there), c.requires.1)
@@ -22,8 +22,8 @@ returns c =
     let v = c.args in
     let u = c.emit_port-last in
     let g = c.requires.0 in
-    let e = own_ran v.m v.nets.now v.trits.now v.i v.c g 0 v.output.now _ _ (u.ensures.log_after c.requires.0.port.there c.requires.1) in
-    let n = run_name (port_trace (memory_of v.m v.nets.now v.trits.now) v.i v.output.now (own_flip_flop v.m v.trits.now v.i v.c)) _ _ (u.ensures.log_after c.requires.0.port.there c.requires.1) in
-    let w = clocked-done v.m v.nets.now v.trits.now v.i v.c g v.output.now v.log.now v.st c.dry_number-n.result u.result c.output_start-start.result c.unclock-memory.result u.new.log.state c.store_run.new.to u.new.log.words.now c.dry_number-n.ensures c.if-n-ne0.false e
-    (port_few v.m v.nets.now v.trits.now v.i v.c g v.p c.requires.1 _ _ _ u.ensures.last_value) (c.output_start-start.ensures.by_index v.nets.now v.trits.now) c.store_run.ensures c.unclock-memory.ensures in
-    record { log_after = search rules; new_struct = struct_done v.m v.st v.i c.unclock-memory.result u.new.log.state c.unclock-memory.ensures }
+    let e = own_ran v.given.memory v.given.nets.now v.given.trits.now v.i v.c g 0 v.output.now _ _ (u.ensures.log_after c.requires.0.port.there c.requires.1) in
+    let n = run_name (port_trace (memory_of v.given.memory v.given.nets.now v.given.trits.now) v.i v.output.now (own_flip_flop v.given.memory v.given.trits.now v.i v.c)) _ _ (u.ensures.log_after c.requires.0.port.there c.requires.1) in
+    let w = clocked-done v.given.memory v.given.nets.now v.given.trits.now v.i v.c g v.output.now v.log.now v.st c.dry_number-n.result u.result c.output_start-start.result c.unclock-memory.result u.new.log.state c.store_run.new.to u.new.log.words.now c.dry_number-n.ensures c.if-n-ne0.false e
+    (port_few v.given.memory v.given.nets.now v.given.trits.now v.i v.c g v.p c.requires.1 _ _ _ u.ensures.last_value) (c.output_start-start.ensures.by_index v.given.nets.now v.given.trits.now) c.store_run.ensures c.unclock-memory.ensures in
+    record { log_after = search rules; new_struct = struct_done v.given.memory v.st v.i c.unclock-memory.result u.new.log.state c.unclock-memory.ensures }

@@ -14,28 +14,28 @@ use Rattle.port_unmap.proofs.unmap_port.Goals as goal
 pub unmap_clocked-requires : goal.unmap_clocked-requires
 unmap_clocked-requires c =
     let v = c.args in
-    let x = reads_length v.m _ c.well_formed.1.1.1.0 v.nets.now v.trits.now in
-    let y = writes_length v.m _ c.well_formed.1.1.1.0 v.nets.now in
+    let x = reads_length v.given.memory _ c.well_formed.1.1.1.0.1.1.0 v.given.nets.now v.given.trits.now in
+    let y = writes_length v.given.memory _ c.well_formed.1.1.1.0.1.1.0 v.given.nets.now in
     let e = ap (λ (q : MemoryReadPort). q.flip_flop) (sym c.requires.1) ∙ c.in-Some.is in
-    (ready v.st.next v.m v.nets.now v.trits.now v.i v.output.now c.requires.0 x y c.in-Some.c e, c.requires.1)
+    (ready v.st.next v.given.memory v.given.nets.now v.given.trits.now v.i v.output.now c.requires.0 x y c.in-Some.c e, c.requires.1)
 
 pub returns-in-None : goal.returns-in-None
 returns-in-None c =
     let v = c.args in
-    let x = reads_length v.m _ c.well_formed.1.1.1.0 v.nets.now v.trits.now in
-    let y = writes_length v.m _ c.well_formed.1.1.1.0 v.nets.now in
+    let x = reads_length v.given.memory _ c.well_formed.1.1.1.0.1.1.0 v.given.nets.now v.given.trits.now in
+    let y = writes_length v.given.memory _ c.well_formed.1.1.1.0.1.1.0 v.given.nets.now in
     let e = ap (λ (q : MemoryReadPort). q.flip_flop) (sym c.requires.1) ∙ c.in-None.is in
-    let h = is_there_lem v.st.next v.m v.nets.now v.trits.now v.i v.output.now c.requires.0 x y in
-    record { log_after = none_done v.m v.nets.now v.trits.now v.i v.output.now v.log.now v.st c.number_of-n.result (flip_none v.m v.nets.now v.trits.now v.i h e) (c.number_of-n.ensures ∙ c.room_refusal.ensures); new_struct = struct_none v.m v.st v.i c.number_of-n.result e }
+    let h = is_there_lem v.st.next v.given.memory v.given.nets.now v.given.trits.now v.i v.output.now c.requires.0 x y in
+    record { log_after = none_done v.given.memory v.given.nets.now v.given.trits.now v.i v.output.now v.log.now v.st c.number_of-n.result (flip_none v.given.memory v.given.nets.now v.given.trits.now v.i h e) (c.number_of-n.ensures ∙ c.room_refusal.ensures); new_struct = struct_none v.given.memory v.st v.i c.number_of-n.result e }
 
 pub returns-in-Some : goal.returns-in-Some
 returns-in-Some c =
     let v = c.args in
-    let x = reads_length v.m _ c.well_formed.1.1.1.0 v.nets.now v.trits.now in
-    let y = writes_length v.m _ c.well_formed.1.1.1.0 v.nets.now in
+    let x = reads_length v.given.memory _ c.well_formed.1.1.1.0.1.1.0 v.given.nets.now v.given.trits.now in
+    let y = writes_length v.given.memory _ c.well_formed.1.1.1.0.1.1.0 v.given.nets.now in
     let k = c.in-Some.c in
     let e = ap (λ (q : MemoryReadPort). q.flip_flop) (sym c.requires.1) ∙ c.in-Some.is in
-    let h = is_there_lem v.st.next v.m v.nets.now v.trits.now v.i v.output.now c.requires.0 x y in
-    let w = memory_of v.m v.nets.now v.trits.now in
-    let f = own_flip_flop v.m v.trits.now v.i k in
-    record { log_after = driven_as (driving v.m v.nets.now v.trits.now v.output.now) v.log.now (state_of v.st) (length v.log.now) (unmap_dff w v.i v.output.now f) (unmap_read_dff w v.i v.output.now) _ (dff_some w v.i v.output.now f (flip_some v.m v.nets.now v.trits.now v.i h k e)) c.unmap_clocked.ensures.log_after; new_struct = c.unmap_clocked.ensures.new_struct }
+    let h = is_there_lem v.st.next v.given.memory v.given.nets.now v.given.trits.now v.i v.output.now c.requires.0 x y in
+    let w = memory_of v.given.memory v.given.nets.now v.given.trits.now in
+    let f = own_flip_flop v.given.memory v.given.trits.now v.i k in
+    record { log_after = driven_as (driving v.given.memory v.given.nets.now v.given.trits.now v.output.now) v.log.now (state_of v.st) (length v.log.now) (unmap_dff w v.i v.output.now f) (unmap_read_dff w v.i v.output.now) _ (dff_some w v.i v.output.now f (flip_some v.given.memory v.given.nets.now v.given.trits.now v.i h k e)) c.unmap_clocked.ensures.log_after; new_struct = c.unmap_clocked.ensures.new_struct }

@@ -9,11 +9,11 @@ use Rattle.port_unmap_all.proofs.emit_at.Goals as goal
 pub returns-in-None : goal.returns-in-None
 returns-in-None c =
     let v = c.args in
-    at_none (memory_of v.m v.nets.now v.trits.now) v.i v.output.now v.after.now (lent_of v.log.now) (flip_none v.m v.nets.now v.trits.now v.i c.requires c.in-None.is)
+    at_none (memory_of v.given.memory v.given.nets.now v.given.trits.now) v.i v.output.now v.after.now (lent_of v.log.now) (flip_none v.given.memory v.given.nets.now v.given.trits.now v.i c.requires c.in-None.is)
 
 pub returns-in-Some : goal.returns-in-Some
 returns-in-Some c =
     let v = c.args in
     let k = c.in-Some.c in
     let u = c.emit_clocked in
-    at_some (memory_of v.m v.nets.now v.trits.now) v.i v.output.now (own_flip_flop v.m v.trits.now v.i k) v.after.now (lent_of v.log.now) (lent_of u.new.log) u.new.after (flip_some v.m v.nets.now v.trits.now v.i c.requires k c.in-Some.is) u.ensures
+    at_some (memory_of v.given.memory v.given.nets.now v.given.trits.now) v.i v.output.now (own_flip_flop v.given.memory v.given.trits.now v.i k) v.after.now (lent_of v.log.now) (lent_of u.new.log) u.new.after (flip_some v.given.memory v.given.nets.now v.given.trits.now v.i c.requires k c.in-Some.is) u.ensures

@@ -11,7 +11,7 @@ use Rattle.port_unmap_all.proofs.emit_ports.Goals as goal
 pub loop-i-init : goal.loop-i-init
 loop-i-init c =
     let v = c.args in
-    (refl, going_start (memory_of v.m v.nets.now v.trits.now) v.output.now c.ports_used-count.result v.after.now (lent_of v.log.now))
+    (refl, going_start (memory_of v.given.memory v.given.nets.now v.given.trits.now) v.output.now c.ports_used-count.result v.after.now (lent_of v.log.now))
 
 pub emit_at-requires : goal.emit_at-requires
 emit_at-requires c = omega (arith, c.ports_used-count.ensures.0)
@@ -21,7 +21,7 @@ loop-i-preserved c =
     let v = c.args in
     let h = c.loop-i in
     let u = c.emit_at in
-    (u.auto.after ∙ h.invariant.0, going_turn (memory_of v.m v.nets.now v.trits.now) v.output.now c.ports_used-count.result v.after.now (lent_of v.log.now) h.i h.after u.new.after (lent_of h.log) (lent_of u.new.log) (omega arith) h.invariant.1 u.ensures)
+    (u.auto.after ∙ h.invariant.0, going_turn (memory_of v.given.memory v.given.nets.now v.given.trits.now) v.output.now c.ports_used-count.result v.after.now (lent_of v.log.now) h.i h.after u.new.after (lent_of h.log) (lent_of u.new.log) (omega arith) h.invariant.1 u.ensures)
 
 pub shape_of-after : goal.shape_of-after
 shape_of-after c = c.loop-i.invariant.0
@@ -30,4 +30,4 @@ pub returns : goal.returns
 returns c =
     let v = c.args in
     let h = c.loop-i in
-    going_end (memory_of v.m v.nets.now v.trits.now) v.output.now c.ports_used-count.result v.after.now (lent_of v.log.now) h.i h.after (lent_of h.log) (omega arith) (reads_are v.m v.nets.now v.trits.now (reads_length v.m _ c.well_formed.1.1.1.0 v.nets.now v.trits.now) ∙ sym c.ports_used-count.ensures.0) h.invariant.1
+    going_end (memory_of v.given.memory v.given.nets.now v.given.trits.now) v.output.now c.ports_used-count.result v.after.now (lent_of v.log.now) h.i h.after (lent_of h.log) (omega arith) (reads_are v.given.memory v.given.nets.now v.given.trits.now (reads_length v.given.memory _ c.well_formed.1.1.1.0.1.1.0 v.given.nets.now v.given.trits.now) ∙ sym c.ports_used-count.ensures.0) h.invariant.1

@@ -7,4 +7,4 @@ use Rattle.port_unmap_all.proofs.Walk.{Going}
 use Rattle.port_unmap_all.proofs.emit_ports.Given as goal
 
 abbrev pub invariant-loop-i : goal.invariant-loop-i
-invariant-loop-i l = (length l.after ≡ length l.initial.after) × Going (memory_of l.m l.nets l.trits) l.output l.count l.initial.after (lent_of l.initial.log) l.i l.after (lent_of l.log)
+invariant-loop-i l = (length l.after ≡ length l.initial.after) × Going (memory_of l.fn.given.memory l.fn.given.nets.now l.fn.given.trits.now) l.output l.count l.initial.after (lent_of l.initial.log) l.i l.after (lent_of l.log)

@@ -9,4 +9,4 @@ returns c =
     let v = c.args in
     let u = c.emit_ports in
     let k = c.copy in
-    all_from (memory_of v.m v.nets.now v.trits.now) v.output.now v.after.now k.new.to (lent_of v.log.now) (lent_of u.new.log) u.new.after k.ensures u.ensures
+    all_from (memory_of v.given.memory v.given.nets.now v.given.trits.now) v.output.now v.after.now k.new.to (lent_of v.log.now) (lent_of u.new.log) u.new.after k.ensures u.ensures

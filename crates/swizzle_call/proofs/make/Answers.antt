@@ -12,8 +12,8 @@ use Rattle.swizzle_call.proofs.make.Goals as goal
 pub returns-clause-acted : goal.returns-clause-acted
 returns-clause-acted c =
     let v = c.args in
-    let mem = memory_of v.m v.nets.now v.trits.now in
-    let plan = plan_of v.s v.entries.now v.writes.now v.reads.now in
+    let mem = memory_of v.given.memory v.given.nets.now v.given.trits.now in
+    let plan = plan_of v.plan.swizzle v.plan.entries.now v.plan.writes.now v.plan.reads.now in
     let t = swizzle mem v.output.now plan in
     let a = c.act.ensures in
     let n = run_name t _ _ a.acted.log_is in

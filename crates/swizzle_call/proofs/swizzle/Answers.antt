@@ -43,11 +43,11 @@ returns c =
     let a = c.make-made in
     let l = c.lay-laid in
     let p = c.params_of-p in
-    let x = layout_by p.result v.entries.now in
-    let q = ap (λ (y : Params). layout_by y v.entries.now) p.ensures ∙ same_layout v.m v.nets.now v.trits.now v.s v.entries.now v.writes.now v.reads.now in
-    let told = l.ensures.0 ∙ handed (rooms_of (length v.image.now) v.nets_to.now v.trits_to.now v.scratch.now) (length v.log.now) v.st v.m v.nets.now v.trits.now v.output.now (plan_of v.s v.entries.now v.writes.now v.reads.now) z x q in
-    let laid-image = image_laid (rooms_of (length v.image.now) v.nets_to.now v.trits_to.now v.scratch.now) (length v.log.now) v.st v.m v.nets.now v.trits.now v.output.now (plan_of v.s v.entries.now v.writes.now v.reads.now) z v.image.now l.new.image refl x q l.ensures.1 in
-    let after = log-after (rooms_of (length v.image.now) v.nets_to.now v.trits_to.now v.scratch.now) (length v.log.now) v.st v.m v.nets.now v.trits.now v.output.now (plan_of v.s v.entries.now v.writes.now v.reads.now) z v.log.now (lent a.result.state a.new.log) a.ensures.acted.log_is in
+    let x = layout_by p.result v.plan.entries.now in
+    let q = ap (λ (y : Params). layout_by y v.plan.entries.now) p.ensures ∙ same_layout v.given.memory v.given.nets.now v.given.trits.now v.plan.swizzle v.plan.entries.now v.plan.writes.now v.plan.reads.now in
+    let told = l.ensures.0 ∙ handed (rooms_of (length v.image.now) v.nets_to.now v.trits_to.now v.scratch.now) (length v.log.now) v.st v.given.memory v.given.nets.now v.given.trits.now v.output.now (plan_of v.plan.swizzle v.plan.entries.now v.plan.writes.now v.plan.reads.now) z x q in
+    let laid-image = image_laid (rooms_of (length v.image.now) v.nets_to.now v.trits_to.now v.scratch.now) (length v.log.now) v.st v.given.memory v.given.nets.now v.given.trits.now v.output.now (plan_of v.plan.swizzle v.plan.entries.now v.plan.writes.now v.plan.reads.now) z v.image.now l.new.image refl x q l.ensures.1 in
+    let after = log-after (rooms_of (length v.image.now) v.nets_to.now v.trits_to.now v.scratch.now) (length v.log.now) v.st v.given.memory v.given.nets.now v.given.trits.now v.output.now (plan_of v.plan.swizzle v.plan.entries.now v.plan.writes.now v.plan.reads.now) z v.log.now (lent a.result.state a.new.log) a.ensures.acted.log_is in
     let whole = promises (record {
       number = sym z;
       refused = λ h. absurd (h refl);
@@ -56,11 +56,11 @@ returns c =
         log_is = after.0;
         state_is = after.1;
         image_is = laid-image;
-        results-held = results_read (rooms_of (length v.image.now) v.nets_to.now v.trits_to.now v.scratch.now) (length v.log.now) v.st v.m v.nets.now v.trits.now v.output.now (plan_of v.s v.entries.now v.writes.now v.reads.now) z v.log.now v.nets_to.now v.trits_to.now v.image.now l.new.image (made_of a.result a.new.log a.new.nets_to a.new.trits_to) refl refl a.ensures.acted laid-image;
+        results-held = results_read (rooms_of (length v.image.now) v.nets_to.now v.trits_to.now v.scratch.now) (length v.log.now) v.st v.given.memory v.given.nets.now v.given.trits.now v.output.now (plan_of v.plan.swizzle v.plan.entries.now v.plan.writes.now v.plan.reads.now) z v.log.now v.nets_to.now v.trits_to.now v.image.now l.new.image (made_of a.result a.new.log a.new.nets_to a.new.trits_to) refl refl a.ensures.acted laid-image;
         ports_held = a.ensures.holds_ports;
         scratch_kept = a.ensures.scratch_unchanged;
         laid_is = told;
-        sizes_are = c.sized-sizes.ensures.result_value ∙ ap sizes_call told ∙ sizes_told (rooms_of (length v.image.now) v.nets_to.now v.trits_to.now v.scratch.now) (length v.log.now) v.st v.m v.nets.now v.trits.now v.output.now (plan_of v.s v.entries.now v.writes.now v.reads.now) z;
+        sizes_are = c.sized-sizes.ensures.result_value ∙ ap sizes_call told ∙ sizes_told (rooms_of (length v.image.now) v.nets_to.now v.trits_to.now v.scratch.now) (length v.log.now) v.st v.given.memory v.given.nets.now v.given.trits.now v.output.now (plan_of v.plan.swizzle v.plan.entries.now v.plan.writes.now v.plan.reads.now) z;
       };
     }) in
     record { scratch_after = whole.0; swizzles = whole.1 }

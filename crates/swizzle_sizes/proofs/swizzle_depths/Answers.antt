@@ -8,5 +8,5 @@ use Rattle.swizzle_sizes.proofs.swizzle_depths.Goals as goal
 pub returns : goal.returns
 returns c =
     let v = c.args in
-    depths_done v.m v.nets.now v.trits.now v.s v.entries.now v.writes.now v.reads.now v.out.now c.in_ok-planned_refusal.ensures _ _
-    (ap (λ (x : Params). layout_by x v.entries.now) c.params_of.ensures) c.in_ok-check_result.ensures c.depths.ensures
+    depths_done v.given.memory v.given.nets.now v.given.trits.now v.plan.swizzle v.plan.entries.now v.plan.writes.now v.plan.reads.now v.out.now c.in_ok-planned_refusal.ensures _ _
+    (ap (λ (x : Params). layout_by x v.plan.entries.now) c.params_of.ensures) c.in_ok-check_result.ensures c.depths.ensures

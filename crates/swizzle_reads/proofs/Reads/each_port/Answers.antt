@@ -24,18 +24,18 @@ loop-i-preserved c =
     let h = c.loop-i in
     let p = c.port_at in
     let q = layout_of v.q in
-    let xs = in_ports v.m v.nets.now v.trits.now in
-    let x = port_of v.m v.nets.now v.trits.now h.i in
+    let xs = in_ports v.given.memory v.given.nets.now v.given.trits.now in
+    let x = port_of v.given.memory v.given.nets.now v.given.trits.now h.i in
     let d = c.read_data_len-at.result in
-    let n = length_in v.m v.nets.now v.trits.now (read_ports_length v.m _ c.well_formed.1.1.1.1.1.0) in
+    let n = length_in v.given.memory v.given.nets.now v.given.trits.now (read_ports_length v.given.memory _ c.well_formed.1.1.1.1.1.0.1.1.0) in
     let l : h.i < length xs = omega (arith, n, c.ports_used-i-end.ensures.0, c.loop-i-test.true) in
-    let b : h.i < min max_ports v.m.read_count = omega (arith, c.ports_used-i-end.ensures.0, c.loop-i-test.true) in
-    let e = len_at v.m v.nets.now v.trits.now h.i b d (c.read_data_len-at.ensures.by_index v.nets.now v.trits.now) in
+    let b : h.i < min max_ports v.given.memory.read_count = omega (arith, c.ports_used-i-end.ensures.0, c.loop-i-test.true) in
+    let e = len_at v.given.memory v.given.nets.now v.given.trits.now h.i b d (c.read_data_len-at.ensures.by_index v.given.nets.now v.given.trits.now) in
     let turned = p.ensures.ports_after ∙ (λ j. port_if q (h.auto.scratch j) h.i x (get_or v.wide.now h.i 0) (part h.at (sym e j) v.output.now) (going_of h.log h.self)) in
     record {
       in_range = omega (arith, h.invariant.in_range, c.read_data_len-at.ensures.upper_bound);
-      ports = ports_turn q (length v.scratch.now) xs v.wide.now v.output.now h.i h.at (going_of h.log h.self) _ h.invariant.ports x d (going_of p.new.log p.new.self) l (port_in v.m v.nets.now v.trits.now h.i b) e turned;
-      kept = kept_turn q xs v.wide.now h.i x v.scratch.now h.scratch p.new.scratch l (port_in v.m v.nets.now v.trits.now h.i b) h.invariant.kept p.ensures.scratch_kept;
+      ports = ports_turn q (length v.scratch.now) xs v.wide.now v.output.now h.i h.at (going_of h.log h.self) _ h.invariant.ports x d (going_of p.new.log p.new.self) l (port_in v.given.memory v.given.nets.now v.given.trits.now h.i b) e turned;
+      kept = kept_turn q xs v.wide.now h.i x v.scratch.now h.scratch p.new.scratch l (port_in v.given.memory v.given.nets.now v.given.trits.now h.i b) h.invariant.kept p.ensures.scratch_kept;
       rooms = (p.ensures.same_rooms.0 ∙ h.invariant.rooms.0, p.ensures.same_rooms.1 ∙ h.invariant.rooms.1);
     }
 
@@ -43,9 +43,9 @@ pub returns : goal.returns
 returns c =
     let v = c.args in
     let h = c.loop-i in
-    let n = length_in v.m v.nets.now v.trits.now (read_ports_length v.m _ c.well_formed.1.1.1.1.1.0) in
+    let n = length_in v.given.memory v.given.nets.now v.given.trits.now (read_ports_length v.given.memory _ c.well_formed.1.1.1.1.1.0.1.1.0) in
     record {
-      ports_after = ports_end (layout_of v.q) (length v.scratch.now) (in_ports v.m v.nets.now v.trits.now) v.wide.now v.output.now h.i h.at (going_of h.log h.self) _ h.invariant.ports (omega (arith, n, c.ports_used-i-end.ensures.0, c.loop-i-test.false));
+      ports_after = ports_end (layout_of v.q) (length v.scratch.now) (in_ports v.given.memory v.given.nets.now v.given.trits.now) v.wide.now v.output.now h.i h.at (going_of h.log h.self) _ h.invariant.ports (omega (arith, n, c.ports_used-i-end.ensures.0, c.loop-i-test.false));
       all_kept = h.invariant.kept;
       same_rooms = h.invariant.rooms;
     }

@@ -12,14 +12,14 @@ use Rattle.swizzle_reads.proofs.Reads.emit.Goals as goal
 pub returns-in_default-clause-ports_after : goal.returns-in_default-clause-ports_after
 returns-in_default-clause-ports_after c =
     let v = c.args in
-    reads_refused (layout_of v.q) (length v.scratch.now) (in_ports v.m v.nets.now v.trits.now) v.wide.now v.output.now (going_of v.log.now v.self.now) (sym (ap checked_of c.in_default.is) ∙ c.check_layout.ensures)
+    reads_refused (layout_of v.q) (length v.scratch.now) (in_ports v.given.memory v.given.nets.now v.given.trits.now) v.wide.now v.output.now (going_of v.log.now v.self.now) (sym (ap checked_of c.in_default.is) ∙ c.check_layout.ensures)
 
 pub returns-then-q-eq0-clause-ports_after : goal.returns-then-q-eq0-clause-ports_after
 returns-then-q-eq0-clause-ports_after c =
     let v = c.args in
     let s = c.in-Some.shape in
     let t = some_told (layout_of v.q) (shape_by s) (sym (ap checked_of c.in-Some.is) ∙ c.check_layout.ensures) in
-    reads_narrow (layout_of v.q) (length v.scratch.now) (in_ports v.m v.nets.now v.trits.now) v.wide.now v.output.now (going_of v.log.now v.self.now) t.0 c.if-q-eq0.true
+    reads_narrow (layout_of v.q) (length v.scratch.now) (in_ports v.given.memory v.given.nets.now v.given.trits.now) v.wide.now v.output.now (going_of v.log.now v.self.now) t.0 c.if-q-eq0.true
 
 pub overflow_cast-z : goal.overflow_cast-z
 overflow_cast-z c =
@@ -47,4 +47,4 @@ returns-clause-ports_after c =
     let v = c.args in
     let s = c.in-Some.shape in
     let t = some_told (layout_of v.q) (shape_by s) (sym (ap checked_of c.in-Some.is) ∙ c.check_layout.ensures) in
-    reads_are (layout_of v.q) (length v.scratch.now) (in_ports v.m v.nets.now v.trits.now) v.wide.now v.output.now (going_of v.log.now v.self.now) (going_of c.each_port.new.log c.each_port.new.self) t.0 c.if-q-eq0.false c.each_port.ensures.ports_after
+    reads_are (layout_of v.q) (length v.scratch.now) (in_ports v.given.memory v.given.nets.now v.given.trits.now) v.wide.now v.output.now (going_of v.log.now v.self.now) (going_of c.each_port.new.log c.each_port.new.self) t.0 c.if-q-eq0.false c.each_port.ensures.ports_after
