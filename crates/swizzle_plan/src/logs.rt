@@ -7,7 +7,7 @@ ghost use Rattle.net_memory.specs.View.{memory_of};
 ghost use Rattle.swizzle_plan.specs.Calls.{plan_of, view_plan};
 ghost use Rattle.swizzle_plan.specs.Numbers.{in_eight, write_logs, read_logs};
 
-use crate::MemorySwizzle;
+use crate::{MemorySwizzle, Plan};
 use net_memory::Memory;
 
 // A new wide log is above the hard bits, or below the non-soft bits under the old one.
@@ -103,8 +103,6 @@ pub fn all_logs_bad(m: Memory, nets: &[u32], plan: Plan<'_>) -> bool
         m,
         nets,
         lists::part(&ports, 0, count),
-        plan.swizzle,
-        plan.writes,
-        plan.reads,
+        plan,
     )
 }

@@ -14,6 +14,6 @@ pub returns : goal.returns
 returns c =
     let v = c.args in
     let n = c.ports_used-count.ensures in
-    λ trits es. let x = c.part.ensures.part ∙ every_port v.m v.nets.now trits _ (reads_length v.m _ c.well_formed.0 v.nets.now trits ∙ sym n.0) n.1 in
-    let p = plan_of v.plan.swizzle es v.plan.writes.now v.plan.reads.now in
-    c.logs_bad.ensures trits es ∙ ap (λ (l : List ℕ). bad_writes (memory_of v.m v.nets.now trits) p || bad_reads (memory_of v.m v.nets.now trits) l p) x
+    λ trits. let x = c.part.ensures.part ∙ every_port v.m v.nets.now trits _ (reads_length v.m _ c.well_formed.0 v.nets.now trits ∙ sym n.0) n.1 in
+    let p = plan_of v.plan.swizzle v.plan.entries.now v.plan.writes.now v.plan.reads.now in
+    c.logs_bad.ensures trits ∙ ap (λ (l : List ℕ). bad_writes (memory_of v.m v.nets.now trits) p || bad_reads (memory_of v.m v.nets.now trits) l p) x
