@@ -45,7 +45,7 @@ fn mux_refusal(given: Given<'_>, ports: &[u32], plan: Plan<'_>) -> Result<(), Re
 {
     let long = rules::MAX_PORTS < ports.len();
     swizzle_plan::planned_refusal(given, plan, long)?;
-    if swizzle_plan::logs::logs_bad(given.memory, given.nets, ports, plan) {
+    if swizzle_plan::logs::logs_bad(given, ports, plan) {
         return Err(Refusal::BadWideLogs);
     }
     if port_outputs::port_missing(given.memory, ports) {
