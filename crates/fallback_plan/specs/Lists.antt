@@ -1,5 +1,5 @@
 -- The lists of a fallback's plan.
-use Rattle.std.specs.Prelude.{ℕ, replicate}
+use Rattle.std.specs.Prelude.{ℕ, ◌-◌, replicate}
 use Rattle.std.proofs.lemmas.List.Edits.{sets}
 use Rattle.lists.specs.Lists.{up_from}
 use Rattle.rules.specs.Limits.{max_ports, max_row}

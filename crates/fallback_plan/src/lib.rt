@@ -84,7 +84,7 @@ impl Lists {
 
     // The plan of a memory of this width.
     pub fn plan(&self, given: Given<'_>) -> Plan<'_>
-        ensures { self.now ≡ lists_for given.entry.memory.width → given.entry.memory.width ≤ max_row → view_plan result.entry ≡ fallback_plan (mem_of given.entry) }
+        ensures { self.now ≡ lists_for given.entry.memory.width → given.entry.memory.width ≤ max_row → view_plan result ≡ fallback_plan (mem_of given.entry) }
     {
         let m = given.memory;
         Plan {
