@@ -1,7 +1,7 @@
 -- A port's needs by the numbers that the code has.
 use mathlib.Core.Path.{◌≡◌, refl, sym, ap, ◌∙◌, subst}
-use Prim.Native.Nat.{ℕ, ◌+◌, ◌-◌, ◌*◌, ◌^◌, ◌≤◌, ◌<◌, max}
-use native.Mathlib.Nat.{mul-le-mul, pow-le-pow_right, add_assoc, add-zero, zero-add, sub-zero}
+use Prim.Native.Nat.{ℕ, ◌+◌, ◌-◌, ◌*◌, ◌≤◌, ◌<◌, max}
+use native.Mathlib.Nat.{mul-le-mul, add_assoc, add-zero, zero-add, sub-zero}
 use native.Mathlib.Omega.{arith}
 use mathlib.Core.Bool.{Bool, true, false}
 use mathlib.Core.List.{List, [], ◌∷◌, map}
@@ -28,9 +28,6 @@ product_max a b h g = mul-le-mul {n₁ = a} {m₁ = b} {n₂ = 1048576} {m₂ = 
 pub clocked_is : (f : MemoryReadFlipFlop) → is_some f ≡ is_clocked f
 clocked_is None = refl
 clocked_is (Some c) = refl
-
-pub rows_most : (k : ℕ) → k ≤ 4 → 2 ^ k ≤ 16
-rows_most k h = pow-le-pow_right {n = 2} (omega arith) {i = k} {j = 4} h
 
 -- ---- the answer of the split: there is one where the limits are kept
 pub split_or : (q : Layout) (old new : ℕ) (addr hw₀ hw mux₀ mux : Value) (o : Option machine.Split) → Answers q old new addr hw₀ hw mux₀ mux o

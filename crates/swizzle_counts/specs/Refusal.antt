@@ -5,16 +5,19 @@ use Rattle.rules.specs.Value.{Value}
 use Rattle.rules.specs.Cell.{Given, Plan}
 use Rattle.rules.specs.Log.{LogState}
 use Rattle.rules.specs.Geometry.{columns}
+use Rattle.rules.specs.Image.{image_size}
 use Rattle.rules.specs.Conditions.{no_room_of, bad_layout_sizes}
 use Rattle.rules.specs.Refusals as rules
 use Rattle.rules.specs.Refusals.{room_refusal, lent_refusal, swizzle_plan_number, swizzle_refusal}
 use Rattle.net_memory.specs.declared.Memory.{Memory}
+use Rattle.net_memory.specs.declared.Given.{Given as LentGiven}
 use Rattle.image_geometry.specs.View.{layout_by}
 use Rattle.swizzle_plan.specs.declared.MemorySwizzle.{MemorySwizzle}
+use Rattle.swizzle_plan.specs.declared.Plan.{Plan as LentPlan}
 use Rattle.swizzle_plan.specs.Calls.{params_by}
 use Rattle.swizzle_counts.specs.declared.SwizzleRooms.{SwizzleRooms}
 use Rattle.swizzle_counts.specs.declared.Needs.{Needs}
-use Rattle.swizzle_counts.specs.Needs.{ReadsFit, WritesFit}
+use Rattle.swizzle_counts.specs.Needs.{plus_needs, ReadsFit, reads_needs, WritesFit, writes_needs}
 
 abbrev pub rooms_of : SwizzleRooms → rules.SwizzleRooms
 rooms_of r = record { image = r.image; nets = r.nets; trits = r.trits; scratch = r.scratch }
@@ -26,6 +29,16 @@ needs_refusal r room s n image =
     or_else (when no_room_of r.nets n.room || no_room_of r.trits n.trits then 20 else 0)
     or_else lent_refusal r.scratch n.scratch
     or_else room_refusal room s n.words n.nets
+
+-- what a swizzle of rows asks for, and the trits of its image
+abbrev pub asked_needs : LentGiven → LentPlan → Needs
+asked_needs g p =
+    let q = params_by g.memory p.swizzle in
+    let n = columns (layout_by q p.entries.now) in
+    plus_needs (writes_needs g.memory g.nets.now q n p.entries.now p.writes.now) (reads_needs g.memory g.nets.now q n p.reads.now)
+
+abbrev pub asked_image : LentGiven → LentPlan → ℕ
+asked_image g p = image_size (layout_by (params_by g.memory p.swizzle) p.entries.now)
 
 -- the whole refusal, but of depth 0, whose flip-flops are unmapped, only what comes before 14
 unfoldable pub rows_refusal : rules.SwizzleRooms → ℕ → LogState → Given → Value → Plan → ℕ

@@ -64,14 +64,6 @@ impl Needs {
     }
 }
 
-// The rows of a port with this wide log.
-fn rows_of(wide: u32) -> usize
-    requires { wide ≤ max_wide }
-    ensures { (result ≡ 2 ^ wide) × (result ≤ 16) }
-{
-    lists::two_to(wide) as usize
-}
-
 // The numbers of a split; its two parts are not kept.
 fn split_of(p: Params, old: u32, new: u32, addr: &[u32]) -> Split
     ensures { can_split (layout_by p []) old new (length addr.now) ≡ true → Lengths (split_of p old new addr.now) result }
@@ -128,6 +120,7 @@ fn read_by(s: Split, rows: usize, columns: usize, len: usize, clocked: bool) -> 
 }
 
 // Read port i with its new wide log.
+#[tactic(auto, using(swizzle_split::proofs::Rows::rows_are))]
 fn read_needs(m: Memory, nets: &[u32], p: Params, columns: usize, new: u32, i: usize) -> Needs
     requires { ReadFits m nets.now p columns new i }
     ensures { (result ≡ read_needs m nets.now p columns new i) × Most port_most result }
@@ -136,7 +129,8 @@ fn read_needs(m: Memory, nets: &[u32], p: Params, columns: usize, new: u32, i: u
     let len = port.data_len as usize;
     let old = net_memory::wide::wide_log(m.width, len);
     let s = split_of(p, old, new, net_memory::read_nets(m, nets, i));
-    read_by(s, rows_of(new), columns, len, port.flip_flop.is_some())
+    let rows = swizzle_split::rows_of(new) as usize;
+    read_by(s, rows, columns, len, port.flip_flop.is_some())
 }
 
 // All read ports.
@@ -165,22 +159,21 @@ fn mask_count(w: WidePort, n: usize, entries: &[u32], mask: &[u32]) -> usize
     merge_keys::merge(&mut kx, &mut ky, &mut at, &row[..n], &zeros[..n])
 }
 
-// Those of a port with this old wide log.
-fn port_mask_count(width: u32, old: u32, entries: &[u32], mask: &[u32]) -> usize
-    requires { (old ≤ max_wide) × (width ≤ max_width) × (length entries.now ≤ max_row) }
-    ensures { (result ≡ kept_nets (2 ^ old) width entries.now mask.now) × (result ≤ max_merge) }
+// Those of a port with so many old rows.
+fn port_mask_count(width: u32, olds: u32, entries: &[u32], mask: &[u32]) -> usize
+    requires { (olds ≤ 16) × (width ≤ max_width) × (length entries.now ≤ max_row) }
+    ensures { (result ≡ kept_nets olds width entries.now mask.now) × (result ≤ max_merge) }
 {
-    let olds = rows_of(old);
     let w = WidePort {
         mems: 0,
         unit: 0,
         rows: 0,
-        olds: olds as u32,
+        olds,
         width,
         chunks: 0,
         pieces: 0,
     };
-    let n = product(olds, entries.len());
+    let n = product(olds as usize, entries.len());
     mask_count(w, n, entries, mask)
 }
 
@@ -214,6 +207,7 @@ fn write_by(s: Split, rows: usize, columns: usize, kept: usize) -> Needs
 }
 
 // Write port i with its new wide log.
+#[tactic(auto, using(swizzle_split::proofs::Rows::rows_are))]
 fn write_needs(
     m: Memory,
     nets: &[u32],
@@ -230,8 +224,9 @@ fn write_needs(
     let x = net_memory::write_nets(m, nets, i);
     let old = net_memory::wide::wide_log(m.width, net_memory::data_count(port, x));
     let s = split_of(p, old, new, net_memory::addr_of(port, x));
-    let kept = port_mask_count(m.width, old, entries, net_memory::mask_of(port, x));
-    write_by(s, rows_of(new), columns, kept)
+    let olds = swizzle_split::rows_of(old);
+    let kept = port_mask_count(m.width, olds, entries, net_memory::mask_of(port, x));
+    write_by(s, swizzle_split::rows_of(new) as usize, columns, kept)
 }
 
 // All write ports.

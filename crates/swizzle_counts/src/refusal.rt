@@ -1,18 +1,14 @@
 // The refusal of a swizzle: 1 to 4 and 7 to 10, then 20 and 21 by what it asks for.
 ghost use Rattle.std.specs.Prelude.{◌≡◌};
-ghost use Rattle.image_geometry.specs.View.{layout_by};
-ghost use Rattle.rules.specs.Geometry.{columns};
-ghost use Rattle.rules.specs.Image.{image_size};
 ghost use Rattle.rules.specs.Refusal.{number_of};
 ghost use Rattle.log_entries.specs.View.{state_of};
 ghost use Rattle.net_memory.specs.Given.{view_given};
-ghost use Rattle.swizzle_plan.specs.Calls.{params_by, view_plan};
-ghost use Rattle.swizzle_counts.specs.Needs.{plus_needs, reads_needs, writes_needs};
-ghost use Rattle.swizzle_counts.specs.Refusal.{rooms_of, needs_refusal, rows_refusal, RowsFit};
+ghost use Rattle.swizzle_plan.specs.Calls.{view_plan};
+ghost use Rattle.swizzle_counts.specs.Refusal.{rooms_of, needs_refusal, asked_needs, asked_image, rows_refusal, RowsFit};
 
 use crate::{Needs, SwizzleRooms};
 use log_entries::LogState;
-use net_memory::{Given, Memory};
+use net_memory::Given;
 use rules::Refusal;
 use swizzle_plan::Plan;
 
@@ -37,13 +33,13 @@ fn rows_by_needs(
     r: SwizzleRooms,
     room: usize,
     st: LogState,
-    m: Memory,
-    nets: &[u32],
+    given: Given<'_>,
     plan: Plan<'_>,
 ) -> Result<(), Refusal>
-    requires { RowsFit m nets.now plan.swizzle plan.entries.now plan.writes.now plan.reads.now }
-    ensures { number_of result ≡ needs_refusal (rooms_of r) room (state_of st) (plus_needs (writes_needs m nets.now (params_by m plan.entry.swizzle) (columns (layout_by (params_by m plan.entry.swizzle) plan.entry.entries.now)) plan.entry.entries.now plan.entry.writes.now) (reads_needs m nets.now (params_by m plan.entry.swizzle) (columns (layout_by (params_by m plan.entry.swizzle) plan.entry.entries.now)) plan.entry.reads.now)) (image_size (layout_by (params_by m plan.entry.swizzle) plan.entry.entries.now)) }
+    requires { RowsFit given.memory given.nets.now plan.swizzle plan.entries.now plan.writes.now plan.reads.now }
+    ensures { number_of result ≡ needs_refusal (rooms_of r) room (state_of st) (asked_needs given.entry plan.entry) (asked_image given.entry plan.entry) }
 {
+    let m = given.memory;
     let p = swizzle_plan::params_of(m, plan.swizzle);
     let z = image_geometry::Layout {
         params: p,
@@ -51,8 +47,8 @@ fn rows_by_needs(
     }
     .measure()?;
     let columns = z.columns as usize;
-    let w = crate::writes_needs(m, nets, p, columns, plan.entries, plan.writes);
-    let d = crate::reads_needs(m, nets, p, columns, plan.reads);
+    let w = crate::writes_needs(m, given.nets, p, columns, plan.entries, plan.writes);
+    let d = crate::reads_needs(m, given.nets, p, columns, plan.reads);
     needs_refusal(r, room, st, w.plus(d), z.image_size as usize)
 }
 
@@ -77,5 +73,5 @@ pub fn rows_refusal(
     if given.memory.depth == 0 {
         return Ok(());
     }
-    rows_by_needs(r, room, st, given.memory, given.nets, plan)
+    rows_by_needs(r, room, st, given, plan)
 }

@@ -11,9 +11,7 @@ use borrow.Author.Tests.{eq-eqb, ne_eqb}
 use Rattle.lists.specs.Lists.{any, pairs, part}
 use Rattle.lists.proofs.Choice.{or_left}
 use Rattle.rules.specs.Conditions.{bad_wide, bad_writes, bad_reads}
-use Rattle.rules.specs.Cell.{WritePort, wide_log2, write_wide_log2, read_wide_log2, read_at_of}
-use Rattle.swizzle_plan.specs.declared.MemorySwizzle.{MemorySwizzle}
-use Rattle.swizzle_plan.specs.Calls.{plan_of}
+use Rattle.rules.specs.Cell.{Mem, Plan, WritePort, wide_log2, write_wide_log2, read_wide_log2, read_at_of}
 use Rattle.net_memory.specs.declared.Memory.{Memory}
 use Rattle.net_memory.specs.View.{memory_of, writes_of, write_by, write_port, write_start, write_size}
 use Rattle.net_memory.proofs.Ports.{no_write_of, writes_at}
@@ -38,31 +36,31 @@ unfolding read_wide_log2 memory_of
 read_log_is m nets trits k j n e q = ap (wide_log2 m.width) (e ∙ ap (λ (i : ℕ). (read_at_of (memory_of m nets trits) i).data_len) q)
 
 -- ---- number 9, by the old and the new usize-of-u32 logs
-module _ (s : MemorySwizzle) where
-  abbrev bad : List ℕ → List ℕ → List ℕ → ℕ × ℕ → Bool
-  bad es ws rs x = bad_wide (plan_of s es ws rs) x.0 x.1
+module _ (p : Plan) where
+  abbrev bad : ℕ × ℕ → Bool
+  bad x = bad_wide p x.0 x.1
 
-  module _ (m : Memory) (nets trits es ws rs : List ℕ) (n : ℕ) (e : length (writes_of m nets) ≡ n) where
-    writes_form : not (eqb (length ws) n) || any (bad es ws rs) (pairs (write_logs (memory_of m nets trits)) ws) ≡ bad_writes (memory_of m nets trits) (plan_of s es ws rs)
+  module _ (m : Memory) (nets trits : List ℕ) (n : ℕ) (e : length (writes_of m nets) ≡ n) where
+    writes_form : not (eqb (length p.write_wide) n) || any bad (pairs (write_logs (memory_of m nets trits)) p.write_wide) ≡ bad_writes (memory_of m nets trits) p
     unfolding bad_writes memory_of
-    writes_form = λ i. not (eqb (length ws) (sym e i)) || any_first (write_wide_log2 (memory_of m nets trits)) (bad_wide (plan_of s es ws rs)) (writes_of m nets) ws i
+    writes_form = λ i. not (eqb (length p.write_wide) (sym e i)) || any_first (write_wide_log2 (memory_of m nets trits)) (bad_wide p) (writes_of m nets) p.write_wide i
 
-    pub writes_len : length ws ≢ n → true ≡ bad_writes (memory_of m nets trits) (plan_of s es ws rs)
-    writes_len h = sym (or_left _ (ap not (ne_eqb (length ws) n h))) ∙ writes_form
+    pub writes_len : length p.write_wide ≢ n → true ≡ bad_writes (memory_of m nets trits) p
+    writes_len h = sym (or_left _ (ap not (ne_eqb (length p.write_wide) n h))) ∙ writes_form
 
-    pub writes_by_lem : length ws ≡ n → (r : Bool) → r ≡ any (bad es ws rs) (pairs (write_logs (memory_of m nets trits)) ws) → r ≡ bad_writes (memory_of m nets trits) (plan_of s es ws rs)
-    writes_by_lem h r q = q ∙ sym (ap (λ (t : Bool). not t || any (bad es ws rs) (pairs (write_logs (memory_of m nets trits)) ws)) (eq-eqb (length ws) n h)) ∙ writes_form
+    pub writes_by_lem : length p.write_wide ≡ n → (r : Bool) → r ≡ any bad (pairs (write_logs (memory_of m nets trits)) p.write_wide) → r ≡ bad_writes (memory_of m nets trits) p
+    writes_by_lem h r q = q ∙ sym (ap (λ (t : Bool). not t || any bad (pairs (write_logs (memory_of m nets trits)) p.write_wide)) (eq-eqb (length p.write_wide) n h)) ∙ writes_form
 
-  module _ (m : Memory) (nets trits ports es ws rs : List ℕ) where
-    reads_form : not (eqb (length rs) (length ports)) || any (bad es ws rs) (pairs (read_logs (memory_of m nets trits) ports) rs) ≡ bad_reads (memory_of m nets trits) ports (plan_of s es ws rs)
+  module _ (m : Mem) (ports : List ℕ) where
+    reads_form : not (eqb (length p.read_wide_of) (length ports)) || any bad (pairs (read_logs m ports) p.read_wide_of) ≡ bad_reads m ports p
     unfolding bad_reads
-    reads_form = ap (λ (t : Bool). not (eqb (length rs) (length ports)) || t) (any_first (λ (i : ℕ). read_wide_log2 (memory_of m nets trits) (read_at_of (memory_of m nets trits) i)) (bad_wide (plan_of s es ws rs)) ports rs)
+    reads_form = ap (λ (t : Bool). not (eqb (length p.read_wide_of) (length ports)) || t) (any_first (λ (i : ℕ). read_wide_log2 m (read_at_of m i)) (bad_wide p) ports p.read_wide_of)
 
-    pub reads_len : length rs ≢ length ports → true ≡ bad_reads (memory_of m nets trits) ports (plan_of s es ws rs)
-    reads_len h = sym (or_left _ (ap not (ne_eqb (length rs) (length ports) h))) ∙ reads_form
+    pub reads_len : length p.read_wide_of ≢ length ports → true ≡ bad_reads m ports p
+    reads_len h = sym (or_left _ (ap not (ne_eqb (length p.read_wide_of) (length ports) h))) ∙ reads_form
 
-    pub reads_by : length rs ≡ length ports → (r : Bool) → r ≡ any (bad es ws rs) (pairs (read_logs (memory_of m nets trits) ports) rs) → r ≡ bad_reads (memory_of m nets trits) ports (plan_of s es ws rs)
-    reads_by h r q = q ∙ sym (ap (λ (t : Bool). not t || any (bad es ws rs) (pairs (read_logs (memory_of m nets trits) ports) rs)) (eq-eqb (length rs) (length ports) h)) ∙ reads_form
+    pub reads_by : length p.read_wide_of ≡ length ports → (r : Bool) → r ≡ any bad (pairs (read_logs m ports) p.read_wide_of) → r ≡ bad_reads m ports p
+    reads_by h r q = q ∙ sym (ap (λ (t : Bool). not t || any bad (pairs (read_logs m ports) p.read_wide_of)) (eq-eqb (length p.read_wide_of) (length ports) h)) ∙ reads_form
 
 pub logs_length : (m : Memory) (nets trits : List ℕ) → length (write_logs (memory_of m nets trits)) ≡ length (writes_of m nets)
 unfolding memory_of

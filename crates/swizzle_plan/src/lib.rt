@@ -1,15 +1,14 @@
 // memory/src/lib.rs, MemorySwizzle: a plan and its numbers, alone and with those of the memory that it is for.
 #![tactic(auto)]
 
-ghost use Rattle.std.specs.Prelude.{◌≡◌, false, List, ℕ, ltb, length};
+ghost use Rattle.std.specs.Prelude.{◌≡◌, false, ltb, length};
 ghost use Rattle.lists.specs.Lists.{any};
 ghost use Rattle.rules.specs.Limits.{max_wide};
 ghost use Rattle.rules.specs.Conditions.{plan_too_large, bad_layout_sizes};
-ghost use Rattle.net_memory.specs.View.{memory_of};
 ghost use Rattle.rules.specs.Refusals.{plan_number, whole_plan, planned_number, swizzle_plan_number};
 ghost use Rattle.rules.specs.Refusal.{number_of};
-ghost use Rattle.net_memory.specs.Given.{view_given};
-ghost use Rattle.swizzle_plan.specs.Calls.{plan_of, params_by, view_plan};
+ghost use Rattle.net_memory.specs.Given.{view_given, mem_of};
+ghost use Rattle.swizzle_plan.specs.Calls.{params_by, view_plan};
 
 use net_memory::{Given, Memory};
 use rules::Refusal;
@@ -69,11 +68,11 @@ pub fn plan_too_large(plan: Plan<'_>) -> bool
 
 // 7 and 8 of a plan.
 #[tactic(auto, using(crate::proofs::Whole::entries_err, crate::proofs::Whole::entries_ok))]
-fn check_parts(m: Memory, s: MemorySwizzle, entries: &[u32]) -> Result<(), Refusal>
-    ensures { (nets trits ws rs : List ℕ) → number_of result ≡ plan_number (memory_of m nets trits) (plan_of s entries.now ws rs) }
+fn check_parts(given: Given<'_>, plan: Plan<'_>) -> Result<(), Refusal>
+    ensures { number_of result ≡ plan_number (mem_of given.entry) (view_plan plan.entry) }
 {
-    image_check::check_entries(m.width, entries)?;
-    image_geometry::check_soft_mask(m.depth, s.soft_addr_bits_mask)
+    image_check::check_entries(given.memory.width, plan.entries)?;
+    image_geometry::check_soft_mask(given.memory.depth, plan.swizzle.soft_addr_bits_mask)
 }
 
 // 1 to 4, 7 and 8 of a memory and a plan; `long` says what else of the call breaks 1.
@@ -83,24 +82,24 @@ pub fn planned_refusal(given: Given<'_>, plan: Plan<'_>, long: bool) -> Result<(
 {
     let one = plan_too_large(plan) || long;
     net_check::call_refusal(given, rules::MAX_NETS, one, false, false)?;
-    check_parts(given.memory, plan.swizzle, plan.entries)
+    check_parts(given, plan)
 }
 
 // 7, 8, 9 and 10 of a plan whose sizes are within number 1's limits, over a memory whose sizes are.
 #[tactic(auto, using(rules::proofs::Answers::else_err, rules::proofs::Answers::else_ok), unfolding(rules::specs::Refusals::whole_plan, rules::specs::Refusals::wide_number))]
-fn whole_refusal(m: Memory, nets: &[u32], plan: Plan<'_>) -> Result<(), Refusal>
-    requires { bad_layout_sizes m.depth m.width (length plan.entries.now) plan.swizzle.data_width_unit plan.swizzle.hard_addr_bits ≡ false }
-    ensures { (trits : List ℕ) → number_of result ≡ whole_plan (memory_of m nets.now trits) (view_plan plan.entry) }
+fn whole_refusal(given: Given<'_>, plan: Plan<'_>) -> Result<(), Refusal>
+    requires { bad_layout_sizes given.memory.depth given.memory.width (length plan.entries.now) plan.swizzle.data_width_unit plan.swizzle.hard_addr_bits ≡ false }
+    ensures { number_of result ≡ whole_plan (mem_of given.entry) (view_plan plan.entry) }
 {
-    check_parts(m, plan.swizzle, plan.entries)?;
-    if logs::all_logs_bad(m, nets, plan) {
+    check_parts(given, plan)?;
+    if logs::all_logs_bad(given, plan) {
         return Err(Refusal::BadWideLogs);
     }
-    if m.width == 0 {
+    if given.memory.width == 0 {
         return Ok(());
     }
     let layout = image_geometry::Layout {
-        params: params_of(m, plan.swizzle),
+        params: params_of(given.memory, plan.swizzle),
         entries: plan.entries,
     };
     layout.check_result()
@@ -118,5 +117,5 @@ pub fn plan_refusal(
 {
     let one = plan_too_large(plan);
     port_outputs::driving_refusal(given, output, next, one)?;
-    whole_refusal(given.memory, given.nets, plan)
+    whole_refusal(given, plan)
 }

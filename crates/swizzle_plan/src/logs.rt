@@ -3,29 +3,31 @@ ghost use Rattle.std.specs.Prelude.{◌≡◌, ◌||◌, List, ℕ};
 ghost use Rattle.lists.specs.Lists.{any, pairs};
 ghost use Rattle.rules.specs.Conditions.{bad_wide, bad_writes, bad_reads, all_reads};
 ghost use Rattle.rules.specs.Cell.{read_wide_log2, read_at_of};
+ghost use Rattle.net_memory.specs.Given.{mem_of};
 ghost use Rattle.net_memory.specs.View.{memory_of};
-ghost use Rattle.swizzle_plan.specs.Calls.{plan_of, view_plan};
+ghost use Rattle.swizzle_plan.specs.Calls.{view_plan};
 ghost use Rattle.swizzle_plan.specs.Numbers.{in_eight, write_logs, read_logs};
 
-use crate::MemorySwizzle;
-use net_memory::Memory;
+use crate::Plan;
+use net_memory::{Given, Memory};
 
 // A new wide log is above the hard bits, or below the non-soft bits under the old one.
 #[tactic(auto, unfolding(rules::specs::Conditions::bad_wide))]
-fn wide_bad(s: MemorySwizzle, old: u32, new: u32) -> bool
-    ensures { (es ws rs : List ℕ) → result ≡ bad_wide (plan_of s es ws rs) old new }
+fn wide_bad(plan: Plan<'_>, old: u32, new: u32) -> bool
+    ensures { result ≡ bad_wide (view_plan plan.entry) old new }
 {
+    let s = plan.swizzle;
     s.hard_addr_bits < new
         || new < old.saturating_sub(image_geometry::low_softs(old, s.soft_addr_bits_mask))
 }
 
-// One of these is.
-fn wides_bad(s: MemorySwizzle, olds: &[u32], news: &[u32]) -> bool
-    ensures { (es ws rs : List ℕ) → result ≡ any (λ x. bad_wide (plan_of s es ws rs) x.0 x.1) (pairs olds.now news.now) }
+// One of the write ports', over these old ones, is.
+fn wides_bad(olds: &[u32], plan: Plan<'_>) -> bool
+    ensures { result ≡ any (λ x. bad_wide (view_plan plan.entry) x.0 x.1) (pairs olds.now plan.entry.writes.now) }
 {
     olds.iter()
-        .zip(news)
-        .any(|(old, new)| wide_bad(s, *old, *new))
+        .zip(plan.writes)
+        .any(|(old, new)| wide_bad(plan, *old, *new))
 }
 
 // The old wide logs of the write ports.
@@ -45,16 +47,16 @@ pub fn write_logs(m: Memory, nets: &[u32]) -> [u32; rules::MAX_PORTS]
     logs
 }
 
-// Number 9 of the write ports.
-fn writes_bad(m: Memory, nets: &[u32], s: MemorySwizzle, news: &[u32]) -> bool
-    ensures { (trits es rs : List ℕ) → result ≡ bad_writes (memory_of m nets.now trits) (plan_of s es news.now rs) }
+// Number 9 of the write ports: apart from `reads_bad`, as these old wide logs come from the nets.
+fn writes_bad(given: Given<'_>, plan: Plan<'_>) -> bool
+    ensures { result ≡ bad_writes (mem_of given.entry) (view_plan plan.entry) }
 {
-    let count = net_memory::ports_used(m.write_count);
-    if news.len() != count {
+    let count = net_memory::ports_used(given.memory.write_count);
+    if plan.writes.len() != count {
         return true;
     }
-    let logs = write_logs(m, nets);
-    wides_bad(s, lists::part(&logs, 0, count), news)
+    let logs = write_logs(given.memory, given.nets);
+    wides_bad(lists::part(&logs, 0, count), plan)
 }
 
 // The old wide log of a listed read port.
@@ -67,44 +69,38 @@ pub fn read_log(m: Memory, port: u32) -> u32
 }
 
 // One of the listed read ports has a bad new wide log.
-fn listed_bad(m: Memory, ports: &[u32], s: MemorySwizzle, news: &[u32]) -> bool
-    ensures { (nets trits es ws rs : List ℕ) → result ≡ any (λ x. bad_wide (plan_of s es ws rs) x.0 x.1) (pairs (read_logs (memory_of m nets trits) ports.now) news.now) }
+fn listed_bad(given: Given<'_>, ports: &[u32], plan: Plan<'_>) -> bool
+    ensures { result ≡ any (λ x. bad_wide (view_plan plan.entry) x.0 x.1) (pairs (read_logs (mem_of given.entry) ports.now) plan.entry.reads.now) }
 {
-    ports
-        .iter()
-        .zip(news)
-        .any(|(port, new)| wide_bad(s, read_log(m, *port), *new))
+    ports.iter().zip(plan.reads).any(|(port, new)| wide_bad(
+        plan,
+        read_log(given.memory, *port),
+        *new,
+    ))
 }
 
-// Number 9 of the listed read ports.
-fn reads_bad(m: Memory, ports: &[u32], s: MemorySwizzle, news: &[u32]) -> bool
-    ensures { (nets trits es ws : List ℕ) → result ≡ bad_reads (memory_of m nets trits) ports.now (plan_of s es ws news.now) }
+// Number 9 of the listed read ports: apart from `writes_bad`, as these old wide logs come from the struct.
+fn reads_bad(given: Given<'_>, ports: &[u32], plan: Plan<'_>) -> bool
+    ensures { result ≡ bad_reads (mem_of given.entry) ports.now (view_plan plan.entry) }
 {
-    if news.len() != ports.len() {
+    if plan.reads.len() != ports.len() {
         return true;
     }
-    listed_bad(m, ports, s, news)
+    listed_bad(given, ports, plan)
 }
 
 // Number 9 of the write ports and the listed read ports.
-pub fn logs_bad(m: Memory, nets: &[u32], ports: &[u32], plan: Plan<'_>) -> bool
-    ensures { (trits : List ℕ) → result ≡ (bad_writes (memory_of m nets.now trits) (view_plan plan.entry) || bad_reads (memory_of m nets.now trits) ports.now (view_plan plan.entry)) }
+pub fn logs_bad(given: Given<'_>, ports: &[u32], plan: Plan<'_>) -> bool
+    ensures { result ≡ (bad_writes (mem_of given.entry) (view_plan plan.entry) || bad_reads (mem_of given.entry) ports.now (view_plan plan.entry)) }
 {
-    writes_bad(m, nets, plan.swizzle, plan.writes) || reads_bad(m, ports, plan.swizzle, plan.reads)
+    writes_bad(given, plan) || reads_bad(given, ports, plan)
 }
 
 // Number 9 of the write ports and every read port.
-pub fn all_logs_bad(m: Memory, nets: &[u32], plan: Plan<'_>) -> bool
-    ensures { (trits : List ℕ) → result ≡ (bad_writes (memory_of m nets.now trits) (view_plan plan.entry) || bad_reads (memory_of m nets.now trits) (all_reads (memory_of m nets.now trits)) (view_plan plan.entry)) }
+pub fn all_logs_bad(given: Given<'_>, plan: Plan<'_>) -> bool
+    ensures { result ≡ (bad_writes (mem_of given.entry) (view_plan plan.entry) || bad_reads (mem_of given.entry) (all_reads (mem_of given.entry)) (view_plan plan.entry)) }
 {
     let ports = [0u32, 1, 2, 3, 4, 5, 6, 7];
-    let count = net_memory::ports_used(m.read_count);
-    logs_bad(
-        m,
-        nets,
-        lists::part(&ports, 0, count),
-        plan.swizzle,
-        plan.writes,
-        plan.reads,
-    )
+    let count = net_memory::ports_used(given.memory.read_count);
+    logs_bad(given, lists::part(&ports, 0, count), plan)
 }

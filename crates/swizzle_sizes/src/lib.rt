@@ -12,7 +12,7 @@ ghost use Rattle.swizzle_plan.specs.Numbers.{in_eight, write_logs, read_logs};
 ghost use Rattle.rules.specs.Answers.{swizzle_depths_call, swizzle_mux_bits_call, filled_with};
 ghost use Rattle.rules.specs.Refusal.{number_of, answer_by};
 ghost use Rattle.rules.specs.Refusals.{swizzle_mux_bits_refusal};
-ghost use Rattle.net_memory.specs.Given.{view_given};
+ghost use Rattle.net_memory.specs.Given.{view_given, mem_of};
 ghost use Rattle.swizzle_sizes.specs.Calls.{bits_of, in_arrays, Countable, SmallLogs};
 
 use net_memory::{Given, Memory};
@@ -45,7 +45,7 @@ fn mux_refusal(given: Given<'_>, ports: &[u32], plan: Plan<'_>) -> Result<(), Re
 {
     let long = rules::MAX_PORTS < ports.len();
     swizzle_plan::planned_refusal(given, plan, long)?;
-    if swizzle_plan::logs::logs_bad(given.memory, given.nets, ports, plan) {
+    if swizzle_plan::logs::logs_bad(given, ports, plan) {
         return Err(Refusal::BadWideLogs);
     }
     if port_outputs::port_missing(given.memory, ports) {
@@ -67,21 +67,21 @@ fn bits_of(base: u32, olds: &[u32], news: &[u32]) -> [u32; rules::MAX_PORTS]
 }
 
 // The mux bits of the write ports.
-fn write_bits(m: Memory, nets: &[u32], base: u32, news: &[u32]) -> [u32; rules::MAX_PORTS]
+fn write_bits(given: Given<'_>, base: u32, news: &[u32]) -> [u32; rules::MAX_PORTS]
     requires { SmallLogs base news.now }
-    ensures { (trits : List ℕ) → result ≡ in_eight (map (λ x. base + x.1 - x.0) (pairs (write_logs (memory_of m nets.now trits)) news.now)) }
+    ensures { result ≡ in_eight (map (λ x. base + x.1 - x.0) (pairs (write_logs (mem_of given.entry)) news.now)) }
 {
-    let logs = swizzle_plan::logs::write_logs(m, nets);
-    let olds = lists::part(&logs, 0, net_memory::ports_used(m.write_count));
+    let logs = swizzle_plan::logs::write_logs(given.memory, given.nets);
+    let olds = lists::part(&logs, 0, net_memory::ports_used(given.memory.write_count));
     bits_of(base, olds, news)
 }
 
 // The mux bits of the listed read ports.
-fn read_bits(m: Memory, ports: &[u32], base: u32, news: &[u32]) -> [u32; rules::MAX_PORTS]
+fn read_bits(given: Given<'_>, ports: &[u32], base: u32, news: &[u32]) -> [u32; rules::MAX_PORTS]
     requires { (length ports.now ≤ 8) × SmallLogs base news.now }
-    ensures { (nets trits : List ℕ) → result ≡ in_eight (map (λ x. base + x.1 - x.0) (pairs (read_logs (memory_of m nets trits) ports.now) news.now)) }
+    ensures { result ≡ in_eight (map (λ x. base + x.1 - x.0) (pairs (read_logs (mem_of given.entry) ports.now) news.now)) }
 {
-    let logs = read_logs(m, ports);
+    let logs = read_logs(given.memory, ports);
     let olds = lists::part(&logs, 0, ports.len());
     bits_of(base, olds, news)
 }
@@ -103,8 +103,8 @@ pub fn swizzle_mux_bits(given: Given<'_>, ports: &[u32], plan: Plan<'_>) -> Resu
     mux_refusal(given, ports, plan)?;
     let base = shared_bits(given.memory, plan.swizzle);
     Ok(MuxBits {
-        writes: write_bits(given.memory, given.nets, base, plan.writes),
-        reads: read_bits(given.memory, ports, base, plan.reads),
+        writes: write_bits(given, base, plan.writes),
+        reads: read_bits(given, ports, base, plan.reads),
     })
 }
 

@@ -4,6 +4,7 @@
 
 ghost use Rattle.std.specs.Prelude.{◌≡◌, ◌+◌, ◌-◌, ◌*◌, ◌/◌, ◌^◌, ◌<◌, ◌≤◌, length, set, List, ℕ, replicate};
 ghost use Rattle.rules.specs.Swizzle.{role_of};
+ghost use Rattle.swizzle_split.specs.Rows.{rows_of};
 ghost use Rattle.swizzle_split.specs.Steps.{start_by, taken, to_row, to_mux, Roomy, Starts, Took, low_by, Fits, Splits, can_split, Answers};
 ghost use Rattle.rules.specs.Limits.{addr_bits};
 ghost use Rattle.rules.specs.Numbers.{bits_for, softs};
@@ -12,6 +13,15 @@ ghost use Rattle.rules.specs.Geometry.{all_chunks, soft};
 ghost use Rattle.image_geometry.specs.View.{layout_by};
 
 use image_geometry::Params;
+
+// The rows of a port with this wide log, of which the largest has sixteen.
+#[tactic(auto, using(crate::proofs::Rows::rows_by, crate::proofs::Rows::rows_by_most))]
+pub fn rows_of(wide: u32) -> u32
+    ensures value { result ≡ rows_of wide }
+    ensures most { result ≤ 16 }
+{
+    lists::two_to(wide.min(rules::MAX_WIDE)) as u32
+}
 
 // The split of a port with an old and a new wide log: the lengths of the result's address and of the mux address, the pieces, and the bits of a
 // piece's number that are chunk bits.

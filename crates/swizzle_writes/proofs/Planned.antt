@@ -1,8 +1,9 @@
 -- A write port of a plan whose number is 0: what the machine leaves is what the rules give.
 use mathlib.Core.Path.{◌≡◌, refl, sym, ap, ◌∙◌, subst}
-use Prim.Native.Nat.{ℕ, zero, suc, ◌+◌, ◌-◌, ◌*◌, ◌^◌, ◌<◌, ◌≤◌}
+use Prim.Native.Nat.{ℕ, zero, suc, ◌+◌, ◌-◌, ◌*◌, ◌^◌, ◌<◌, ◌≤◌, min}
 use native.Mathlib.Nat.{mul_left_comm, mul-pos}
 use native.Mathlib.Omega.{arith}
+use Rattle.std.proofs.lemmas.Nat.{pow_pos}
 use mathlib.Core.Bool.{true}
 use mathlib.Core.List.{List, ◌++◌, append_assoc}
 use lib.ListN.{length, drop, length-append, length-take, length-drop}
@@ -25,33 +26,17 @@ use Rattle.swizzle_laws.proofs.Places.{Splittable}
 use Rattle.swizzle_laws.proofs.Parts.{length_ordered}
 use Rattle.swizzle_laws.proofs.Whole.{bits_whole}
 use Rattle.swizzle_split.specs.Steps.{can_split}
+use Rattle.swizzle_split.proofs.Rows.{rows_most, rows_are}
 use Rattle.swizzle_columns.specs.declared.WidePort.{WidePort}
 use Rattle.swizzle_columns.specs.Wide.{PortFits, bits_of}
 use Rattle.swizzle_columns.proofs.Fits.{bounded}
 use Rattle.swizzle_columns.proofs.Meaning.{Means}
 use Rattle.swizzle_write.specs.Wide.{masks_of}
 use Rattle.swizzle_write.proofs.Meaning.{write_run, write_mask_lem, write_bits}
-use Rattle.swizzle_writes.specs.Placed.{rows_of, wide_by_of, size_of, nets_of, Placed, roomy, placed, placed_if}
+use Rattle.swizzle_writes.specs.Placed.{wide_by_of, size_of, nets_of, Placed, roomy, placed, placed_if}
 use Rattle.swizzle_writes.specs.Planned.{LayoutPlanned, PortPlanned}
 use Rattle.swizzle_writes.proofs.Short.{addr_short, mux_short}
 use Rattle.swizzle_writes.proofs.Steps.{roomy_fits}
-
--- ---- the rows of a small wide log
-pub rows_are : (k : ℕ) → k ≤ 4 → rows_of k ≡ 2 ^ k
-rows_are zero h = refl
-rows_are (suc zero) h = refl
-rows_are (suc (suc zero)) h = refl
-rows_are (suc (suc (suc zero))) h = refl
-rows_are (suc (suc (suc (suc zero)))) h = refl
-rows_are (suc (suc (suc (suc (suc k))))) h = absurd (omega arith)
-
-rows_low : (k : ℕ) → k ≤ 4 → (0 < rows_of k) × (rows_of k ≤ 16)
-rows_low zero h = (omega arith, omega arith)
-rows_low (suc zero) h = (omega arith, omega arith)
-rows_low (suc (suc zero)) h = (omega arith, omega arith)
-rows_low (suc (suc (suc zero))) h = (omega arith, omega arith)
-rows_low (suc (suc (suc (suc zero)))) h = (omega arith, omega arith)
-rows_low (suc (suc (suc (suc (suc k))))) h = absurd (omega arith)
 
 pub columns_are : (q : Layout) → columns q ≡ all_mems q * q.unit
 unfolding columns
@@ -105,7 +90,7 @@ module _ (q : Layout) (old new : ℕ) (w : WritePort) (lp : LayoutPlanned q) (pp
   ok = record { enough = pp.enough; short = pp.short; unit = lp.unit_pos }
 
   few : 2 ^ old * s.pieces ≤ 2 ^ addr_bits
-  few = omega (arith, bounded (2 ^ old) s.pieces 16 16777216 (omega (arith, sym (rows_are old pp.old_max), (rows_low old pp.old_max).1)) pp.pieces_max)
+  few = omega (arith, bounded (2 ^ old) s.pieces 16 16777216 (omega (arith, rows_are old pp.old_max, rows_most old)) pp.pieces_max)
 
   means : Means q old new w.addr ok p
   means = record {
@@ -121,16 +106,16 @@ module _ (q : Layout) (old new : ℕ) (w : WritePort) (lp : LayoutPlanned q) (pp
   }
 
   some : 0 < size
-  some = mul-pos (rows_low new pp.new_max).0 (omega (arith, columns_are q, lp.some))
+  some = mul-pos (pow_pos (min new max_wide)) (omega (arith, columns_are q, lp.some))
 
   pub port_fits_lem : PortFits p (length q.entries) size
   port_fits_lem = record {
-    rows_max = (rows_low new pp.new_max).1;
+    rows_max = rows_most new;
     columns_max = omega (arith, columns_are q, lp.columns_max);
     some = some;
     size_is = refl;
     len_max = omega (arith, row_len q, lp.row_max);
-    olds_max = (rows_low old pp.old_max).1;
+    olds_max = rows_most old;
     width_max = lp.width_max;
     pieces_max = pp.pieces_max;
   }

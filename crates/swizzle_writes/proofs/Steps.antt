@@ -26,12 +26,13 @@ use Rattle.net_memory.specs.declared.MemoryWritePort.{MemoryWritePort}
 use Rattle.swizzle_laws.specs.Stores.{spill_at, spill_masks, piece_by}
 use Rattle.swizzle_split.specs.declared.Split.{Split}
 use Rattle.std.specs.Prelude.{Option, None, Some}
+use Rattle.swizzle_split.specs.Rows.{rows_of}
 use Rattle.swizzle_split.specs.Steps.{can_split, Answers, Gives, Splits}
 use Rattle.swizzle_columns.specs.declared.WidePort.{WidePort}
 use Rattle.swizzle_columns.specs.Wide.{bits_of}
 use Rattle.swizzle_write.specs.Wide.{can_write, port_masks, masks_of}
 use Rattle.swizzle_write.proofs.Pieces.{chains_piece}
-use Rattle.swizzle_writes.specs.Placed.{addr_room, rows_of, size_of, nets_of, Placed, roomy, wide_by_of, placed, placed_if, placed_at, Filled, filled_by, placed_from}
+use Rattle.swizzle_writes.specs.Placed.{addr_room, size_of, nets_of, Placed, roomy, wide_by_of, placed, placed_if, placed_at, Filled, filled_by, placed_from}
 use Rattle.swizzle_writes.proofs.Rooms.{part_back}
 
 -- ---- the entries are in sequence

@@ -33,7 +33,8 @@ use Rattle.swizzle_laws.proofs.Whole.{mask_whole}
 use Rattle.swizzle_laws.proofs.WriteCounts.{counted_write}
 use Rattle.swizzle_writes.specs.Placed.{size_of, wide_by_of, Placed, placed_if, placed_at, Filled, port_by, filled_by, placed_from, none_filled}
 use Rattle.swizzle_writes.specs.Planned.{LayoutPlanned, PortPlanned, port_nets, total_nets, PortsPlanned, WritePlanned, wide_nets, ports_by, filled_with}
-use Rattle.swizzle_writes.proofs.Planned.{rows_are, new_is, columns_are, done_value, bits_size, planned_run, planned_value}
+use Rattle.swizzle_split.proofs.Rows.{rows_are}
+use Rattle.swizzle_writes.proofs.Planned.{new_is, columns_are, done_value, bits_size, planned_run, planned_value}
 use Rattle.swizzle_writes.proofs.Steps.{chains_placed_at}
 
 -- ---- the next write port

@@ -8,7 +8,8 @@ ghost use Rattle.net_memory.specs.View.{memory_of};
 ghost use Rattle.rules.specs.Limits.{max_ports};
 ghost use Rattle.image_geometry.specs.View.{layout_of};
 ghost use Rattle.port_transparency.specs.Gave.{Gave};
-ghost use Rattle.swizzle_writes.specs.Placed.{rows_of, nets_of, roomy, placed, placed_if, placed_at, placed_from, none_filled};
+ghost use Rattle.swizzle_split.specs.Rows.{rows_of};
+ghost use Rattle.swizzle_writes.specs.Placed.{nets_of, roomy, placed, placed_if, placed_at, placed_from, none_filled};
 
 use image_geometry::{Layout, Params};
 use log_entries::Log;
@@ -34,19 +35,6 @@ struct Placing {
 
 // The nets of an address that there is room for on the way.
 const ADDR_ROOM: usize = 64;
-
-// The rows of a port with this wide log.
-fn rows_of(k: u32) -> u32
-    ensures { result ≡ rows_of k }
-{
-    match k {
-        0 => 1,
-        1 => 2,
-        2 => 4,
-        3 => 8,
-        _ => 16,
-    }
-}
 
 // Whether so many nets hold a port from a place on, whose address has so many, with its data and its mask.
 #[tactic(auto, unfolding(crate::specs::Placed::roomy))]
@@ -115,8 +103,8 @@ fn wide_port(p: Params, mems: u32, s: Split) -> WidePort
     WidePort {
         mems,
         unit: p.unit,
-        rows: rows_of(s.new),
-        olds: rows_of(s.old),
+        rows: swizzle_split::rows_of(s.new),
+        olds: swizzle_split::rows_of(s.old),
         width: p.width,
         chunks: s.mask,
         pieces: s.pieces,

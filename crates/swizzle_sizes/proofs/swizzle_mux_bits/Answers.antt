@@ -24,5 +24,5 @@ returns c =
     let v = c.args in
     let b = c.shared_bits-base.ensures.by_index v.plan.entries.now in
     bits_ok (given_of v.given.memory v.given.nets.now v.given.trits.now) v.ports.now (plan_of v.plan.swizzle v.plan.entries.now v.plan.writes.now v.plan.reads.now) _ _ c.in_ok-mux_refusal.ensures
-    (c.write_bits.ensures v.given.trits.now ∙ ap in_eight (write_bits v.given.memory v.given.nets.now v.given.trits.now v.plan.swizzle v.plan.entries.now v.plan.writes.now v.plan.reads.now _ b))
-    (c.read_bits.ensures v.given.nets.now v.given.trits.now ∙ ap in_eight (read_bits v.given.memory v.given.nets.now v.given.trits.now v.plan.swizzle v.plan.entries.now v.plan.writes.now v.plan.reads.now _ b v.ports.now))
+    (c.write_bits.ensures ∙ ap in_eight (write_bits v.given.memory v.given.nets.now v.given.trits.now v.plan.swizzle v.plan.entries.now v.plan.writes.now v.plan.reads.now _ b))
+    (c.read_bits.ensures ∙ ap in_eight (read_bits v.given.memory v.given.nets.now v.given.trits.now v.plan.swizzle v.plan.entries.now v.plan.writes.now v.plan.reads.now _ b v.ports.now))

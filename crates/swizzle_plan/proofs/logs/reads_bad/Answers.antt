@@ -1,13 +1,11 @@
 -- `swizzle_plan::logs::reads_bad` meets its contract.
+use Rattle.net_memory.specs.Given.{mem_of}
+use Rattle.swizzle_plan.specs.Calls.{view_plan}
 use Rattle.swizzle_plan.proofs.WideLogs.{reads_len, reads_by}
 use Rattle.swizzle_plan.proofs.logs.reads_bad.Goals as goal
 
-pub returns-then-news-ports : goal.returns-then-news-ports
-returns-then-news-ports c =
-    let v = c.args in
-    λ nets trits es ws. reads_len v.s v.m nets trits v.ports.now es ws v.news.now c.if-news-ports.true
+pub returns-then-plan-ports : goal.returns-then-plan-ports
+returns-then-plan-ports c = reads_len (view_plan c.args.plan) (mem_of c.args.given) c.args.ports.now c.if-plan-ports.true
 
 pub returns : goal.returns
-returns c =
-    let v = c.args in
-    λ nets trits es ws. reads_by v.s v.m nets trits v.ports.now es ws v.news.now c.if-news-ports.false _ (c.listed_bad.ensures nets trits es ws v.news.now)
+returns c = reads_by (view_plan c.args.plan) (mem_of c.args.given) c.args.ports.now c.if-plan-ports.false _ c.listed_bad.ensures
