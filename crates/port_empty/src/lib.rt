@@ -13,7 +13,6 @@ ghost use Rattle.port_empty.specs.Empty.{emptied_if};
 ghost use Rattle.net_memory.specs.Given.{mem_of};
 
 use log_entries::{Log, LogState};
-use merge_mux::emit::Keys;
 use net_memory::Given;
 use port_transparency::Overlay;
 use rules::Refusal;
@@ -50,18 +49,7 @@ pub fn emit_empty(log: &mut Log, given: Given<'_>, output: &[u32])
     ensures { lent_of log.new ≡ run (emptied_if (mem_of given.entry) output.now) (lent_of log.old) }
 {
     let mut after = [0u32; rules::MAX_OUTPUTS];
-    let mut overlay = Overlay {
-        under: [0; rules::MAX_MERGE],
-        bits: [0; rules::MAX_MERGE],
-        mask: [0; rules::MAX_MERGE],
-        select: [0; rules::MAX_MERGE],
-        spare: [0; rules::MAX_MERGE],
-        keys: Keys {
-            x: [0; rules::MAX_MERGE],
-            y: [0; rules::MAX_MERGE],
-            at: [0; rules::MAX_MERGE],
-        },
-    };
+    let mut overlay = Overlay::new();
     emit_emptied(log, &mut overlay, &mut after, given, output);
 }
 

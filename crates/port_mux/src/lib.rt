@@ -19,7 +19,6 @@ ghost use Rattle.port_transparency.specs.Gave.{Gave};
 ghost use Rattle.port_mux.specs.Call.{overlay_of, wanted_of, overlaid_of, overlaid, Paired};
 
 use log_entries::{Log, LogState};
-use merge_mux::emit::Keys;
 use net_memory::{Given, Memory, MemoryReadPort};
 use port_transparency::{Overlay, Reading};
 use rules::Refusal;
@@ -192,34 +191,6 @@ fn store(to: &mut [u32], from: &[u32; rules::MAX_MERGE], n: usize, wanted: bool)
 }
 
 // A pair whose data and mask after fit their rooms: 20 and 21 of the log by a dry run, then the same for good.
-fn mux_in(
-    log: &mut [u32],
-    st: LogState,
-    bits_to: &mut [u32],
-    mask_to: &mut [u32],
-    overlay: &mut Overlay,
-    over: &mut [u32; rules::MAX_MERGE],
-    given: Given<'_>,
-    i: usize,
-    p: MemoryReadPort,
-    j: usize,
-    o: Asked,
-) -> Result<LogState, Refusal>
-    requires { Paired given.memory given.nets.now given.trits.now i j o.masked o.bits.now o.mask.now × (p ≡ read_port given.memory i) × (p.data_len ≤ length bits_to.old) × (o.masked ≡ true → p.data_len ≤ length mask_to.old) }
-    ensures { overlaid_of o.entry.masked (length o.entry.bits.now) result log.new bits_to.new mask_to.new ≡ overlaid (log_refusal (length log.old) (state_of st) (transparency_mux (mem_of given.entry) i j (overlay_of o.entry.masked o.entry.bits.now o.entry.mask.now))) bits_to.old mask_to.old log.old (state_of st) (transparency_mux (mem_of given.entry) i j (overlay_of o.entry.masked o.entry.bits.now o.entry.mask.now)) }
-{
-    dry_refusal(log.len(), st, overlay, over, given, i, p, j, o)?;
-    let mut log = Log {
-        words: log,
-        state: st,
-    };
-    emit_mux(&mut log, overlay, over, given, i, p, j, o);
-    store(bits_to, &overlay.under, o.bits.len(), true);
-    store(mask_to, over, o.bits.len(), o.masked);
-    Ok(log.state)
-}
-
-// The same with rooms of its own.
 fn mux_fitting(
     log: &mut [u32],
     st: LogState,
@@ -234,32 +205,17 @@ fn mux_fitting(
     requires { Paired given.memory given.nets.now given.trits.now i j o.masked o.bits.now o.mask.now × (p ≡ read_port given.memory i) × (p.data_len ≤ length bits_to.old) × (o.masked ≡ true → p.data_len ≤ length mask_to.old) }
     ensures { overlaid_of o.entry.masked (length o.entry.bits.now) result log.new bits_to.new mask_to.new ≡ overlaid (log_refusal (length log.old) (state_of st) (transparency_mux (mem_of given.entry) i j (overlay_of o.entry.masked o.entry.bits.now o.entry.mask.now))) bits_to.old mask_to.old log.old (state_of st) (transparency_mux (mem_of given.entry) i j (overlay_of o.entry.masked o.entry.bits.now o.entry.mask.now)) }
 {
-    let mut overlay = Overlay {
-        under: [0; rules::MAX_MERGE],
-        bits: [0; rules::MAX_MERGE],
-        mask: [0; rules::MAX_MERGE],
-        select: [0; rules::MAX_MERGE],
-        spare: [0; rules::MAX_MERGE],
-        keys: Keys {
-            x: [0; rules::MAX_MERGE],
-            y: [0; rules::MAX_MERGE],
-            at: [0; rules::MAX_MERGE],
-        },
-    };
+    let mut overlay = Overlay::new();
     let mut over = [0u32; rules::MAX_MERGE];
-    mux_in(
-        log,
-        st,
-        bits_to,
-        mask_to,
-        &mut overlay,
-        &mut over,
-        given,
-        i,
-        p,
-        j,
-        o,
-    )
+    dry_refusal(log.len(), st, &mut overlay, &mut over, given, i, p, j, o)?;
+    let mut log = Log {
+        words: log,
+        state: st,
+    };
+    emit_mux(&mut log, &mut overlay, &mut over, given, i, p, j, o);
+    store(bits_to, &overlay.under, o.bits.len(), true);
+    store(mask_to, &over, o.bits.len(), o.masked);
+    Ok(log.state)
 }
 
 // A pair that numbers 1 to 4, 14 and 15 pass: the rooms, and then the log.

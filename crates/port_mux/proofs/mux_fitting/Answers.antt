@@ -1,4 +1,4 @@
--- `port_mux::mux_in` meets its contract.
+-- `port_mux::mux_fitting` meets its contract.
 use native.Mathlib.Omega.{arith}
 use lib.ListN.{length}
 use Rattle.std.proofs.lemmas.Result.{err_from_is_err_and}
@@ -13,7 +13,7 @@ use Rattle.port_overlay.proofs.Bounds.{chains_mux_at}
 use Rattle.port_mux.specs.Call.{overlay_of}
 use Rattle.port_mux.proofs.Passed.{size_is, data_few}
 use Rattle.port_mux.proofs.Act.{overlaid_refused, overlaid-done}
-use Rattle.port_mux.proofs.mux_in.Goals as goal
+use Rattle.port_mux.proofs.mux_fitting.Goals as goal
 
 pub returns-in_err-dry_refusal : goal.returns-in_err-dry_refusal
 returns-in_err-dry_refusal c =
