@@ -1,57 +1,84 @@
 -- The struct of an answer that changes a memory says what the library's answer says.
 use mathlib.Core.Path.{◌≡◌, refl, sym, ap, subst, ◌∙◌}
-use mathlib.Core.Bool.{Bool, true, false}
-use mathlib.Core.Logic.{◌≢◌}
+use mathlib.Core.Bool.{Bool}
 use Prim.Native.Nat.{ℕ}
 use mathlib.Core.List.{List}
-use lib.Dec.{eqb}
-use Rattle.lists.specs.Choice.{when◌then◌else◌, leaves}
-use Rattle.lists.proofs.Choice.{leaves_refused, leaves_accepted}
+use Rattle.std.specs.Prelude.{Result, Ok, Err}
+use Rattle.lists.specs.Choice.{leaves}
+use Rattle.lists.proofs.Choice.{leaves_accepted}
+use Rattle.rules.specs.Refusal.{number, number_of}
+use Rattle.rules.specs.declared.numbers.Refusal.{Refusal}
+use Rattle.rules.proofs.Answers.{number_nonzero, answer_refused, answer_accepted, left_err, left_ok}
 use Rattle.log_entries.specs.declared.LogState.{LogState}
+use Rattle.log_entries.specs.View.{state_of}
 use Rattle.net_memory.specs.declared.Memory.{Memory as MachineMemory}
+use Rattle.net_memory.specs.View.{memory_of, read_port}
 use Rattle.port_unmap.specs.declared.Driven.{Driven as MachineDriven}
+use Rattle.port_unmap.specs.Call.{unclocking, memory_left, NewStruct, driven_of as machine_driven_of}
+use Rattle.port_unreset.specs.Struct.{struct_after, trits_after}
+use Rattle.port_reset.specs.Call.{ResetStruct}
 use Rattle.c_memory.specs.declared.Memory.{Memory}
 use Rattle.c_memory.specs.View.{given_memory, memory_struct}
 use Rattle.c_memory.proofs.Back.{memory_back}
 use Rattle.c_port.specs.declared.Driven.{Driven}
-use Rattle.c_port.specs.View.{driven_struct, given_driven, NewMemory}
+use Rattle.c_port.specs.View.{driven_struct, given_driven, driven_of, NewMemory}
 
--- the two structs that the code makes
-pub refused : (m : Memory) (d : MachineDriven) → d.refusal ≢ 0 → ◌≡◌ {A = Driven} (record { number = d.refusal; memory = m; state = d.state }) (driven_struct m d)
-refused m d h = ap (λ (x : Memory). record { number = d.refusal; memory = x; state = d.state }) (sym (leaves_refused d.refusal m (memory_struct d.memory) h))
+-- ---- what the library's answer says of struct and trits, by its number
+pub unmapped_memory : (g : MachineMemory) (i : ℕ) (p : Result MachineDriven Refusal) → NewStruct g i p → memory_left g p ≡ leaves (number_of p) g (unclocking g i)
+unmapped_memory g i (Ok d) h = h ∙ left_ok 0 g (unclocking g i) refl
+unmapped_memory g i (Err e) h = left_err e (number e) g (unclocking g i) refl
 
-pub accepted : (m c : Memory) (d : MachineDriven) → d.refusal ≡ 0 → c ≡ memory_struct d.memory → ◌≡◌ {A = Driven} (record { number = 0; memory = c; state = d.state }) (driven_struct m d)
-accepted m c d z q = λ i. record { number = sym z i; memory = (q ∙ sym (leaves_accepted d.refusal m (memory_struct d.memory) z)) i; state = d.state }
+module _ (g : MachineMemory) (i : ℕ) (incl : Bool) (trits trits' : List ℕ) where
+  pub reset_memory : (p : Result MachineDriven Refusal) → ResetStruct g i incl p trits trits' → memory_left g p ≡ leaves (number_of p) g (struct_after (read_port g i).flip_flop g trits i incl)
+  reset_memory (Ok d) h = h.0 ∙ left_ok 0 g (struct_after (read_port g i).flip_flop g trits i incl) refl
+  reset_memory (Err e) h = left_err e (number e) g (struct_after (read_port g i).flip_flop g trits i incl) refl
 
--- read again: the memory of the library's answer, which is g where the call is refused
-again_by : (b : Bool) (m : Memory) (g w a : MachineMemory) → g ≡ given_memory m → a ≡ when b then w else g → given_memory (when b then memory_struct a else m) ≡ a
-again_by true m g w a same kept = memory_back a
-again_by false m g w a same kept = sym same ∙ sym kept
+  pub reset_trits : (p : Result MachineDriven Refusal) → ResetStruct g i incl p trits trits' → trits' ≡ leaves (number_of p) trits (trits_after (read_port g i).flip_flop g trits i incl)
+  reset_trits (Ok d) h = h.1 ∙ left_ok 0 trits (trits_after (read_port g i).flip_flop g trits i incl) refl
+  reset_trits (Err e) h = h ∙ left_err e (number e) trits (trits_after (read_port g i).flip_flop g trits i incl) refl
 
-again : (n : ℕ) (m : Memory) (g w a : MachineMemory) → g ≡ given_memory m → a ≡ leaves n g w → given_memory (leaves n m (memory_struct a)) ≡ a
-unfolding leaves
-again n m g w a same kept = again_by (eqb n 0) m g w a same kept
+-- ---- the struct of an answer to a call on g, which is the memory that m is
+module _ (m : Memory) (g : MachineMemory) (same : g ≡ given_memory m) (st : LogState) where
+  read_back : (p : Result MachineDriven Refusal) (nets trits output log : List ℕ) → driven_of (given_driven (driven_struct m st p)) nets trits output log ≡ machine_driven_of g p nets trits output log
+  read_back (Ok d) nets trits output log = λ i. record {
+    answer = answer_accepted 0 (state_of d.state) refl i;
+    log = log;
+    memory = memory_of (memory_back d.memory i) nets trits;
+    output = output;
+  }
+  read_back (Err e) nets trits output log = λ i. record {
+    answer = answer_refused (number e) (state_of st) (number_nonzero e) i;
+    log = log;
+    memory = memory_of (sym same i) nets trits;
+    output = output;
+  }
 
-new_by : (b : Bool) (m : Memory) (g w : MachineMemory) → when b then memory_struct (when b then w else g) else m ≡ when b then memory_struct w else m
-new_by true m g w = refl
-new_by false m g w = refl
+  new_by : (w : MachineMemory → MachineMemory) (p : Result MachineDriven Refusal) → memory_left g p ≡ leaves (number_of p) g (w g) → NewMemory m st (w (given_memory m)) (driven_struct m st p)
+  new_by w (Ok d) k = record {
+    struct_is = ap memory_struct (k ∙ leaves_accepted 0 g (w g) refl ∙ ap w same) ∙ left_ok 0 m (memory_struct (w (given_memory m))) refl;
+    state_kept = λ h. absurd (h refl);
+  }
+  new_by w (Err e) k = record {
+    struct_is = left_err e (number e) m (memory_struct (w (given_memory m))) refl;
+    state_kept = λ h. refl;
+  }
 
-new_struct : (n : ℕ) (m : Memory) (g w : MachineMemory) → leaves n m (memory_struct (leaves n g w)) ≡ leaves n m (memory_struct w)
-unfolding leaves
-new_struct n m g w = new_by (eqb n 0) m g w
+  number_is : (p : Result MachineDriven Refusal) → number_of p ≡ (driven_struct m st p).number
+  number_is (Ok d) = refl
+  number_is (Err e) = refl
 
--- d is the library's answer to a call on g, which is the memory that m is; w g is the memory after an accepted call
-module _ (m : Memory) (g : MachineMemory) (same : g ≡ given_memory m) (w : MachineMemory → MachineMemory) (d : MachineDriven) (kept : d.memory ≡ leaves d.refusal g (w g)) (r : Driven) (made : r ≡ driven_struct m d) where
-  -- a struct says what the library's answer says
-  pub given_back : given_driven r ≡ d
-  given_back = ap given_driven made ∙ (λ i. record { refusal = d.refusal; memory = again d.refusal m g (w g) d.memory same kept i; state = d.state })
+  -- p is the library's answer, and r its struct
+  module _ (p : Result MachineDriven Refusal) (r : Driven) (made : r ≡ driven_struct m st p) where
+    pub given_back : (nets trits output log : List ℕ) → driven_of (given_driven r) nets trits output log ≡ machine_driven_of g p nets trits output log
+    given_back nets trits output log = ap (λ (x : Driven). driven_of (given_driven x) nets trits output log) made ∙ read_back p nets trits output log
 
-  pub new_memory : (st : LogState) → (d.refusal ≢ 0 → d.state ≡ st) → NewMemory m st (w (given_memory m)) r
-  new_memory st s = subst (λ (x : Driven). NewMemory m st (w (given_memory m)) x) (sym made) (record {
-    struct_is = ap (λ (x : MachineMemory). leaves d.refusal m (memory_struct x)) kept ∙ new_struct d.refusal m g (w g) ∙ ap (λ (x : MachineMemory). leaves d.refusal m (memory_struct (w x))) same;
-    state_kept = s;
-  })
+    -- w g is the memory after an accepted call
+    pub new_memory : (w : MachineMemory → MachineMemory) → memory_left g p ≡ leaves (number_of p) g (w g) → NewMemory m st (w (given_memory m)) r
+    new_memory w k = subst (λ (x : Driven). NewMemory m st (w (given_memory m)) x) (sym made) (new_by w p k)
 
-  -- a lent array that the call leaves where it is refused, and makes of g where not
-  pub new_array : (l l' : List ℕ) (f : MachineMemory → List ℕ) → l' ≡ leaves d.refusal l (f g) → l' ≡ leaves r.number l (f (given_memory m))
-  new_array l l' f e = e ∙ ap (λ (x : MachineMemory). leaves d.refusal l (f x)) same ∙ ap (λ (x : Driven). leaves x.number l (f (given_memory m))) (sym made)
+    pub same_number : number_of p ≡ r.number
+    same_number = number_is p ∙ ap (λ (x : Driven). x.number) (sym made)
+
+    -- a lent array that the call leaves where it is refused, and makes of g where not
+    pub new_array : (l l' : List ℕ) (f : MachineMemory → List ℕ) → l' ≡ leaves (number_of p) l (f g) → l' ≡ leaves r.number l (f (given_memory m))
+    new_array l l' f e = e ∙ (λ i. leaves (same_number i) l (f (same i)))

@@ -4,10 +4,10 @@ ghost use Rattle.rules.specs.Answers.{unmap_read_dff_call, unmap_reset_call, emu
 ghost use Rattle.log_entries.specs.View.{state_of};
 ghost use Rattle.net_memory.specs.Given.{given_of};
 ghost use Rattle.port_mux.specs.Call.{overlay_of};
-ghost use Rattle.port_unmap.specs.Call.{unclocking, rooms_of, driven_of};
+ghost use Rattle.port_unmap.specs.Call.{unclocking, rooms_of};
 ghost use Rattle.c_memory.specs.View.{given_memory};
 ghost use Rattle.c_port.specs.Overlays.{lent_overlay, overlay_left_by};
-ghost use Rattle.c_port.specs.View.{given_driven, NewMemory, NewTrits, NewNets};
+ghost use Rattle.c_port.specs.View.{given_driven, driven_of, NewMemory, NewTrits, NewNets};
 
 use c_log::Logged;
 use c_memory::Memory;

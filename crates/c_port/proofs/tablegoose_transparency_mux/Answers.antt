@@ -14,12 +14,13 @@ returns c =
     let x = c in
     let v = x.args in
     let d = x.transparency_mux-r in
-    let g = x.memory_of-given in
+    let g = x.given_by-given in
+    let w = g.result in
     let n = length v.bits.now in
-    overlay_left
+    rw (← g.ensures.1, ← g.ensures.2) (overlay_left
     (overlay_of v.masked (take n d.new.bits_to) (take n d.new.mask_to))
     v.st
-    c.mux_struct.result
+    c.answer_struct.result
     d.result
     d.new.log
     d.new.bits_to
@@ -31,5 +32,5 @@ returns c =
     v.read
     v.write
     (overlay_of v.masked v.bits.now v.mask.now)
-    c.mux_struct.ensures
-    (d.ensures ∙ ap (λ (m : MachineMemory). transparency_mux_call v.bits_to.now v.mask_to.now v.log.now (state_of v.st) (given_of m v.nets.now v.trits.now) v.read v.write (overlay_of v.masked v.bits.now v.mask.now)) g.ensures)
+    c.answer_struct.ensures
+    (d.ensures ∙ ap (λ (m : MachineMemory). transparency_mux_call v.bits_to.now v.mask_to.now v.log.now (state_of v.st) (given_of m w.nets.now w.trits.now) v.read v.write (overlay_of v.masked v.bits.now v.mask.now)) g.ensures.0))
