@@ -16,6 +16,7 @@ ghost use Rattle.net_flip_flop.specs.View.{flip_flop_of};
 ghost use Rattle.log_entries.specs.View.{lent_of};
 ghost use Rattle.port_transparency.specs.Gave.{Gave};
 ghost use Rattle.port_transparency.specs.Pairs.{writing, reading, write_of, read_of, plain, with_mask, covered, laid_over, laid_if, like_wide, fitting, Fit};
+ghost use Rattle.port_transparency.specs.Room.{zero_overlay};
 
 use log_entries::Log;
 use merge_mux::emit::Keys;
@@ -215,6 +216,25 @@ fn pair_fits(w: Writing, r: Reading) -> bool
 }
 
 impl Overlay {
+    // A room of zeros.
+    #[tactic(auto, unfolding(crate::specs::Room::zero_overlay))]
+    pub fn new() -> Overlay
+        ensures { result ≡ zero_overlay }
+    {
+        Overlay {
+            under: [0; rules::MAX_MERGE],
+            bits: [0; rules::MAX_MERGE],
+            mask: [0; rules::MAX_MERGE],
+            select: [0; rules::MAX_MERGE],
+            spare: [0; rules::MAX_MERGE],
+            keys: Keys {
+                x: [0; rules::MAX_MERGE],
+                y: [0; rules::MAX_MERGE],
+                at: [0; rules::MAX_MERGE],
+            },
+        }
+    }
+
     // The data where the addresses are equal and the mask is set, by the net of the address test; what else was read stays.
     fn emit_covered(&mut self, log: &mut Log, same: u32, n: usize)
         requires { n ≤ max_merge }

@@ -1,19 +1,18 @@
 -- What is known of a call that numbers 1 to 4, 14 and 15 pass, and the call by its number.
 use mathlib.Core.Path.{◌≡◌, refl, sym, ap, ◌∙◌}
-use mathlib.Core.Logic.{◌≢◌}
 use Prim.Native.Nat.{ℕ, ◌*◌, ◌<◌, min}
 use native.Mathlib.Nat.{add-zero}
 use native.Mathlib.Omega.{arith}
-use mathlib.Core.Bool.{Bool, true, false, not}
+use mathlib.Core.Bool.{Bool, false, not}
 use mathlib.Core.Option.{Option, none, some}
 use mathlib.Core.List.{List}
 use lib.ListN.{length}
 use lib.Seq.{set-get_or}
 use lib.Dec.{eqb, leb}
 use borrow.Author.Tests.{leb-false, eqb-true, not-false}
-use Rattle.lists.specs.Choice.{when◌then◌else◌, leaves}
+use Rattle.lists.specs.Choice.{when◌then◌else◌}
 use Rattle.lists.specs.Lists.{any}
-use Rattle.lists.proofs.Choice.{or_false, refused_not, else_zero, else_first, else_rest}
+use Rattle.lists.proofs.Choice.{or_false, refused_not, else_zero, else_rest}
 use Rattle.lists.proofs.All.{any_at}
 use Rattle.rules.specs.Limits.{max_ports}
 use Rattle.rules.specs.Value.{Value}
@@ -22,7 +21,10 @@ use Rattle.rules.specs.Log.{Trace, done, added, words, LogState, start_net, stat
 use Rattle.rules.specs.Conditions.{bad_write_shape, bad_read_shape, bad_shape, bad_data_len, bad_addr_len, bad_flip_flop_shape, bad_trit_lens, bad_output_len, bad_value, bad_port, not_below, short_pair, short_port}
 use Rattle.rules.specs.Refusals.{port_number, room_refusal, log_refusal, driving_number, driving_refusal, driven_refusal, unmap_read_dff_number, unmap_read_dff_refusal}
 use Rattle.rules.specs.Answers as rules
-use Rattle.rules.specs.Answers.{answer_of, driven, unmap_read_dff_call}
+use Rattle.rules.specs.Answers.{Accepted, driven, unmap_read_dff_call}
+use Rattle.rules.specs.Refusal.{number}
+use Rattle.rules.specs.declared.numbers.Refusal.{Refusal}
+use Rattle.rules.proofs.Answers.{else_err}
 use Rattle.rules.specs.Ports.{Driving, unmap_dff, unmap_read_dff_of, unmap_read_dff}
 use Rattle.rules.proofs.Counted.{counted_done, counted_refusal}
 use Rattle.net_flip_flop.specs.declared.Controls.{Controls}
@@ -30,14 +32,14 @@ use Rattle.log_entries.specs.View.{state_of}
 use Rattle.log_entries.specs.declared.LogState as machine
 use Rattle.net_memory.specs.declared.Memory.{Memory}
 use Rattle.net_memory.specs.declared.MemoryReadPort.{MemoryReadPort}
-use Rattle.std.specs.Prelude.{None, Some}
+use Rattle.std.specs.Prelude.{None, Some, Ok, Err}
 use Rattle.net_memory.specs.View.{no_read_port, with_read_port, memory_of, reads_of, writes_of, read_port, flip_flop_by, read_trits}
 use Rattle.net_memory.proofs.Ports.{read_of_view, reads_at, trits_at}
 use Rattle.net_check.proofs.Accept.{Valid, valid, sizes}
 use Rattle.net_memory.specs.Given.{given_of}
 use Rattle.port_unmap.specs.Ready.{own_flip_flop, PortShape, Ready}
-use Rattle.port_unmap.specs.Call.{without, driving, rooms_of, driven_of, NewStruct}
-use Rattle.port_unmap.proofs.Act.{driven_refused}
+use Rattle.port_unmap.specs.Call.{without, unclocking, driving, rooms_of, driven_of}
+use Rattle.port_unmap.proofs.Act.{driven_err, driven_ok}
 
 module _ (m : Memory) (nets trits : List ℕ) (i : ℕ) (h : i < min max_ports m.read_count) where
   flip_at : (read_at_of (memory_of m nets trits) i).flip_flop ≡ flip_flop_by (read_port m i).flip_flop (read_port m i) (read_trits m trits i)
@@ -151,23 +153,10 @@ dff_none v i output e = ap (λ (o : Option ReadFlipFlop). unmap_read_dff_of o v 
 pub driven_as : (d : Driving) (log : List ℕ) (s : LogState) (room : ℕ) (t u : Trace Driving) (x : rules.Driven) → t ≡ u → x ≡ driven (log_refusal room s t) log s d t → x ≡ driven (log_refusal room s u) log s d u
 driven_as d log s room t u x e q = q ∙ (λ k. driven (log_refusal room s (e k)) log s d (e k))
 
-pub same : {A : Type 0} (n : ℕ) (a : A) → leaves n a a ≡ a
-unfolding leaves
-same n a = on (eqb n 0)
-  where
-    on : (t : Bool) → (when t then a else a) ≡ a
-    on true = refl
-    on false = refl
-
 -- nothing done
-pub done-driven : (n : ℕ) (d : Driving) (log : List ℕ) (s : LogState) → record { answer = answer_of n s; log = log; memory = d.memory; output = d.output } ≡ driven n log s d (done d)
-unfolding driven done log_after state_after added words
-done-driven n d log s = λ k. record {
-  answer = ap (λ (x : ℕ). answer_of n (record { used = x; next = s.next })) (sym (add-zero s.used)) k;
-  log = sym (same n log) k;
-  memory = sym (same n d.memory) k;
-  output = sym (same n d.output) k;
-}
+pub none_ok : (n : ℕ) (d : Driving) (log : List ℕ) (s : LogState) → 0 ≡ n → record { answer = Accepted s; log = log; memory = d.memory; output = d.output } ≡ driven n log s d (done d)
+unfolding done log_after state_after added words
+none_ok n d log s h = driven_ok n d.memory d.output log s (done d) d.memory d.output log s h refl refl refl (λ k. record { used = sym (add-zero s.used) k; next = s.next })
 
 -- a port without a flip-flop stays as it is
 without_same : (p : MemoryReadPort) → p.flip_flop ≡ None → without p ≡ p
@@ -185,11 +174,8 @@ without_same p e = λ k. record {
 port_same : (m : Memory) (i : ℕ) → with_read_port m i (read_port m i) ≡ m
 port_same m i = ap (λ (ps : List MemoryReadPort). record { depth = m.depth; width = m.width; init_len = m.init_len; write_count = m.write_count; read_count = m.read_count; write_ports = m.write_ports; read_ports = ps }) (set-get_or m.read_ports i no_read_port)
 
-pub struct_none : (m : Memory) (st : machine.LogState) (i n : ℕ) → (read_port m i).flip_flop ≡ None → NewStruct m st i (record { refusal = n; memory = m; state = st })
-struct_none m st i n e = record {
-  struct_is = sym (same n m) ∙ ap (leaves n m) (sym (ap (with_read_port m i) (without_same (read_port m i) e) ∙ port_same m i));
-  state_kept = λ _. refl;
-}
+pub struct_none : (m : Memory) (i : ℕ) → (read_port m i).flip_flop ≡ None → m ≡ unclocking m i
+struct_none m i e = sym (ap (with_read_port m i) (without_same (read_port m i) e) ∙ port_same m i)
 
 module _ (m : Memory) (nets trits : List ℕ) (i : ℕ) (output log : List ℕ) (st : machine.LogState) where
   abbrev d : Driving
@@ -198,24 +184,33 @@ module _ (m : Memory) (nets trits : List ℕ) (i : ℕ) (output log : List ℕ) 
   abbrev t : Trace Driving
   t = unmap_read_dff (memory_of m nets trits) i output
 
-  abbrev number : ℕ
-  number = unmap_read_dff_number st.next (given_of m nets trits) i output
+  abbrev number_is : ℕ
+  number_is = unmap_read_dff_number st.next (given_of m nets trits) i output
 
-  pub none_done : (n : ℕ) → (read_at_of (memory_of m nets trits) i).flip_flop ≡ none → n ≡ room_refusal (length log) (state_of st) 0 0
-      → driven_of (record { refusal = n; memory = m; state = st }) nets trits output log ≡ driven (log_refusal (length log) (state_of st) t) log (state_of st) d t
-  none_done n e q =
-      let k : n ≡ log_refusal (length log) (state_of st) (done d) = q ∙ sym (counted_refusal (done d) 0 0 (counted_done d) (length log) (state_of st)) in
-      driven_as d log (state_of st) (length log) (done d) t _ (dff_none (memory_of m nets trits) i output e)
-      (done-driven n d log (state_of st) ∙ ap (λ (x : ℕ). driven x log (state_of st) d (done d)) k)
+  module _ (e : (read_at_of (memory_of m nets trits) i).flip_flop ≡ none) where
+    as_room : (n : ℕ) → n ≡ room_refusal (length log) (state_of st) 0 0 → n ≡ log_refusal (length log) (state_of st) (done d)
+    as_room n q = q ∙ sym (counted_refusal (done d) 0 0 (counted_done d) (length log) (state_of st))
+
+    pub none_refused : (r : Refusal) → number r ≡ room_refusal (length log) (state_of st) 0 0
+        → driven_of m (Err r) nets trits output log ≡ driven (log_refusal (length log) (state_of st) t) log (state_of st) d t
+    none_refused r q =
+        driven_as d log (state_of st) (length log) (done d) t _ (dff_none (memory_of m nets trits) i output e)
+        (driven_err _ (memory_of m nets trits) output log (state_of st) (done d) r (as_room (number r) q))
+
+    pub none_done : 0 ≡ room_refusal (length log) (state_of st) 0 0
+        → driven_of m (Ok (record { memory = m; state = st })) nets trits output log ≡ driven (log_refusal (length log) (state_of st) t) log (state_of st) d t
+    none_done q =
+        driven_as d log (state_of st) (length log) (done d) t _ (dff_none (memory_of m nets trits) i output e)
+        (none_ok _ d log (state_of st) (as_room 0 q))
 
   -- ---- the call
-  pub call_refused : (n : ℕ) → n ≡ number → n ≢ 0
-      → driven_of (record { refusal = n; memory = m; state = st }) nets trits output log ≡ unmap_read_dff_call (rooms_of nets trits output) log (state_of st) (given_of m nets trits) i output
+  pub call_refused : (r : Refusal) → number r ≡ number_is
+      → driven_of m (Err r) nets trits output log ≡ unmap_read_dff_call (rooms_of nets trits output) log (state_of st) (given_of m nets trits) i output
   unfolding unmap_read_dff_call unmap_read_dff_refusal
-  call_refused n e h = driven_refused _ (memory_of m nets trits) output log (state_of st) t n (state_of st) (e ∙ sym (else_first number _ (λ z. h (e ∙ z)))) h
+  call_refused r e = driven_err _ (memory_of m nets trits) output log (state_of st) t r (else_err r number_is _ e)
 
-  pub call_passed : (x : rules.Driven) → number ≡ 0 → driving_refusal (rooms_of nets trits output) (t (start_net (state_of st))).value ≡ 0
+  pub call_passed : (x : rules.Driven) → number_is ≡ 0 → driving_refusal (rooms_of nets trits output) (t (start_net (state_of st))).value ≡ 0
       → x ≡ driven (log_refusal (length log) (state_of st) t) log (state_of st) d t
       → x ≡ unmap_read_dff_call (rooms_of nets trits output) log (state_of st) (given_of m nets trits) i output
   unfolding unmap_read_dff_call unmap_read_dff_refusal driven_refusal
-  call_passed x z f q = q ∙ ap (λ (n : ℕ). driven n log (state_of st) d t) (sym (else_rest number _ z ∙ else_rest (driving_refusal (rooms_of nets trits output) (t (start_net (state_of st))).value) _ f))
+  call_passed x z f q = q ∙ ap (λ (n : ℕ). driven n log (state_of st) d t) (sym (else_rest number_is _ z ∙ else_rest (driving_refusal (rooms_of nets trits output) (t (start_net (state_of st))).value) _ f))

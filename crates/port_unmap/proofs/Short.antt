@@ -3,16 +3,16 @@ use mathlib.Core.Path.{◌≡◌, refl, sym, ap, ◌∙◌}
 use mathlib.Core.Logic.{◌≢◌}
 use Prim.Native.Nat.{ℕ, suc, ◌+◌, ◌<◌, ◌≤◌, min}
 use native.Mathlib.Numerals.{add-one}
-use mathlib.Core.Bool.{Bool, true, false, not, ◌&&◌, ◌||◌}
+use mathlib.Core.Bool.{Bool, true, false, ◌&&◌, ◌||◌}
 use mathlib.Core.Option.{none, some}
 use mathlib.Core.List.{List, ◌∷◌}
 use lib.ListN.{length, drop, get_or, drop_of_length-le}
 use lib.Seq.{drop-cons}
-use lib.Dec.{eqb, leb}
+use lib.Dec.{leb}
 use borrow.Author.Tests.{le-leb, lt-leb, ne_eqb, eq-eqb}
 use Rattle.lists.specs.Choice.{when◌then◌else◌}
 use Rattle.lists.specs.Lists.{any, part}
-use Rattle.lists.proofs.Choice.{else_first, else_rest, hit, miss}
+use Rattle.lists.proofs.Choice.{else_rest, hit, miss}
 use Rattle.rules.specs.Limits.{max_ports}
 use Rattle.rules.specs.Value.{Value}
 use Rattle.rules.specs.Cell.{ReadPort, ReadFlipFlop, Mem, wide_log2, write_wide_log2, read_wide_log2, write_at, read_at_of, is_transparent, transparent_from, transparent_ports, held}
@@ -23,21 +23,28 @@ use native.Mathlib.Nat.{le_refl}
 use lib.Seq.{take-take}
 use Rattle.net_flip_flop.specs.declared.Controls.{Controls}
 use Rattle.net_memory.specs.declared.MemoryReadPort.{MemoryReadPort}
-use Rattle.std.specs.Prelude.{None, Some}
+use Rattle.std.specs.Prelude.{None, Some, Result, Ok, Err}
+use Rattle.std.specs.Result.{is_err}
+use Rattle.rules.specs.Refusal.{number_of}
+use Rattle.rules.specs.declared.numbers.Refusal.{Refusal}
+use Rattle.rules.proofs.Answers.{number_nonzero}
+use native.Mathlib.Omega.{arith}
 use Rattle.net_memory.specs.View.{memory_of, reads_of, read_port, read_by, flip_flop_by, clocked_by, read_start, trit_start, addr_size, trit_size, read_nets}
 use Rattle.net_memory.proofs.Ports.{read_of_view, reads_none, reads_at, nets_at}
 use Rattle.net_memory.specs.Given.{given_of}
 
--- a number that is 0 where a test fails
-test_is : (t : Bool) → not (eqb (when t then 14 else 0) 0) ≡ t
-test_is true = refl
-test_is false = refl
+-- a refusal by a test that is none where the test fails
+refused_is : (t : Bool) (n : Result Unit Refusal) → number_of n ≡ (when t then 14 else 0) → is_err n ≡ t
+refused_is true (Ok x) e = absurd (omega (arith, e))
+refused_is false (Ok x) e = refl
+refused_is true (Err x) e = refl
+refused_is false (Err x) e = absurd (number_nonzero x e)
 
-pub short_is : (m : Mem) (r : ReadPort) (kw kr j n : ℕ) (waddr raddr : Value) → n ≡ narrower_select_refusal kw kr waddr raddr → kw ≡ write_wide_log2 m (write_at m j)
-    → waddr ≡ (write_at m j).addr → kr ≡ read_wide_log2 m r → raddr ≡ r.addr → not (eqb n 0) ≡ short_pair m r j
+pub short_is : (m : Mem) (r : ReadPort) (kw kr j : ℕ) (n : Result Unit Refusal) (waddr raddr : Value) → number_of n ≡ narrower_select_refusal kw kr waddr raddr → kw ≡ write_wide_log2 m (write_at m j)
+    → waddr ≡ (write_at m j).addr → kr ≡ read_wide_log2 m r → raddr ≡ r.addr → is_err n ≡ short_pair m r j
 unfolding narrower_select_refusal short_pair
 short_is m r kw kr j n waddr raddr en ek ea er eq =
-    ap (λ (x : ℕ). not (eqb x 0)) en ∙ test_is (too_few_bits kw kr waddr raddr) ∙ (λ i. too_few_bits (ek i) (er i) (ea i) (eq i))
+    refused_is (too_few_bits kw kr waddr raddr) n en ∙ (λ i. too_few_bits (ek i) (er i) (ea i) (eq i))
 
 -- by the relation
 pub rel_not : (x : ℕ) (b : Bool) → x ≢ 2 → false ≡ (is_transparent x && b)
@@ -142,10 +149,6 @@ module _ (next : ℕ) (m : Memory) (nets trits : List ℕ) (i : ℕ) (output : L
 
   abbrev S : Bool
   S = short_port (memory_of m nets trits) (read_at_of (memory_of m nets trits) i)
-
-  pub num_first : (n : ℕ) → n ≡ D → n ≢ 0 → n ≡ unmap_read_dff_number next (given_of m nets trits) i output
-  unfolding unmap_read_dff_number
-  num_first n e h = e ∙ sym (else_first D _ (λ z. h (e ∙ z)))
 
   module _ (z : D ≡ 0) where
     pub num_14 : S ≡ true → 14 ≡ unmap_read_dff_number next (given_of m nets trits) i output

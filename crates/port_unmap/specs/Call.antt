@@ -1,12 +1,11 @@
 -- `unmap_read_dff` on a machine's memory: the struct after it, and its whole answer as the rules have it.
-use Rattle.std.specs.Prelude.{◌≡◌, ◌≢◌, ℕ, List, length}
-use Rattle.lists.specs.Choice.{leaves}
+use Rattle.std.specs.Prelude.{◌≡◌, ℕ, List, length, None, Result, Ok, Err, ⊤}
 use Rattle.rules.specs.Ports.{Driving}
 use Rattle.rules.specs.Refusals.{Rooms}
+use Rattle.rules.specs.Refusal.{answer_by}
+use Rattle.rules.specs.declared.numbers.Refusal.{Refusal}
 use Rattle.rules.specs.Answers as rules
-use Rattle.log_entries.specs.declared.LogState.{LogState}
 use Rattle.log_entries.specs.View.{state_of}
-use Rattle.std.specs.Prelude.{None}
 use Rattle.net_memory.specs.declared.MemoryReadPort.{MemoryReadPort}
 use Rattle.net_memory.specs.declared.Memory.{Memory}
 use Rattle.net_memory.specs.View.{memory_of, read_port, with_read_port}
@@ -36,16 +35,21 @@ driving m nets trits output = record { memory = memory_of m nets trits; output =
 abbrev pub rooms_of : List ℕ → List ℕ → List ℕ → Rooms
 rooms_of nets trits output = record { nets = length nets; trits = length trits; output = length output }
 
--- the machine's answer, and what it left
-abbrev pub driven_of : Driven → List ℕ → List ℕ → List ℕ → List ℕ → rules.Driven
-driven_of r nets trits output log = record {
-  answer = rules.answer_of r.refusal (state_of r.state);
+-- the struct after a call: a refused one leaves it as it was
+abbrev pub memory_left : Memory → Result Driven Refusal → Memory
+memory_left m (Ok d) = d.memory
+memory_left m (Err e) = m
+
+-- the machine's answer, and what it left of a memory: the arrays are those after the call
+abbrev pub driven_of : Memory → Result Driven Refusal → List ℕ → List ℕ → List ℕ → List ℕ → rules.Driven
+driven_of m r nets trits output log = record {
+  answer = answer_by (λ (d : Driven). state_of d.state) r;
   log = log;
-  memory = memory_of r.memory nets trits;
+  memory = memory_of (memory_left m r) nets trits;
   output = output;
 }
 
--- the struct itself: nothing but the port's flip-flop changes; a refused call gives memory and state back as they were
-pub record NewStruct (m : Memory) (st : LogState) (i : ℕ) (r : Driven) : Type 0 where
-  pub struct_is : r.memory ≡ leaves r.refusal m (unclocking m i)
-  pub state_kept : r.refusal ≢ 0 → r.state ≡ st
+-- the struct of an accepted call: nothing but the port's flip-flop is gone
+abbrev pub NewStruct : Memory → ℕ → Result Driven Refusal → Type 0
+NewStruct m i (Ok d) = d.memory ≡ unclocking m i
+NewStruct m i (Err e) = ⊤

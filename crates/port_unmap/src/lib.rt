@@ -6,6 +6,7 @@ ghost use Rattle.lists.specs.Lists.{any};
 ghost use Rattle.rules.specs.Limits.{max_ports, max_merge};
 ghost use Rattle.rules.specs.Cell.{ReadPort, read_at_of, read_wide_log2, is_transparent, transparent_from};
 ghost use Rattle.rules.specs.Conditions.{short_pair, short_port};
+ghost use Rattle.rules.specs.Refusal.{number_of};
 ghost use Rattle.rules.specs.Refusals.{log_refusal, unmap_read_dff_number};
 ghost use Rattle.rules.specs.Answers.{driven, unmap_read_dff_call};
 ghost use Rattle.rules.specs.Ports.{unmap_dff, unmap_read_dff};
@@ -18,15 +19,14 @@ ghost use Rattle.port_unmap.specs.Trace.{port_trace};
 ghost use Rattle.port_unmap.specs.Call.{unclocking, driving, rooms_of, driven_of, NewStruct};
 
 use log_entries::{Log, LogState};
-use merge_mux::emit::Keys;
 use net_flip_flop::{Controls, FlipFlop};
 use net_memory::{Given, Memory, MemoryReadPort};
 use port_transparency::{Overlay, Reading};
+use rules::Refusal;
 
-// The number that refuses an unmapping, or 0; the memory and the log's state after it.
+// The memory and the log's state after a call that drives nets.
 #[derive(Clone, Copy)]
 pub struct Driven {
-    pub refusal: u32,
     pub memory: Memory,
     pub state: LogState,
 }
@@ -64,7 +64,7 @@ pub fn emit_port(
 }
 
 // 20 and 21 of it, by a run without a log.
-fn dry_number(
+fn dry_refusal(
     room: usize,
     st: LogState,
     overlay: &mut Overlay,
@@ -73,16 +73,16 @@ fn dry_number(
     p: MemoryReadPort,
     c: Controls,
     output: &[u32],
-) -> u32
+) -> Result<(), Refusal>
     requires { Ready given.memory given.nets.now given.trits.now i c × (p ≡ read_port given.memory i) }
-    ensures { result ≡ log_refusal room (state_of st) (unmap_dff (mem_of given.entry) i output.now (own_flip_flop given.entry.memory given.entry.trits.now i c)) }
+    ensures { number_of result ≡ log_refusal room (state_of st) (unmap_dff (mem_of given.entry) i output.now (own_flip_flop given.entry.memory given.entry.trits.now i c)) }
 {
     let mut dry = Log {
         words: &mut [],
         state: st.dry_start(),
     };
     emit_port(&mut dry, overlay, given, i, p, c, output);
-    rules::number_of(st.dry_refusal(room, dry.state))
+    st.dry_refusal(room, dry.state)
 }
 
 // The pair of a read port of this k and address and write port j has too few address bits.
@@ -90,7 +90,7 @@ pub fn pair_short(m: Memory, nets: &[u32], raddr: &[u32], kr: u32, j: usize) -> 
     ensures { (trits : List ℕ) (r : ReadPort) → kr ≡ read_wide_log2 (memory_of m nets.now trits) r → raddr.now ≡ r.addr → result ≡ short_pair (memory_of m nets.now trits) r j }
 {
     let w = port_overlay::writing(m, nets, j);
-    rules::number_of(net_value::narrower_select_refusal(w.addr, raddr, w.k, kr)) != 0
+    net_value::narrower_select_refusal(w.addr, raddr, w.k, kr).is_err()
 }
 
 // The same where the relation to it is Transparent.
@@ -141,21 +141,19 @@ pub fn port_short(m: Memory, nets: &[u32], i: usize) -> bool
     port_short_at(m, nets, i, p)
 }
 
-// 1 to 4, 14 and 15, or 0.
-fn unmap_number(given: Given<'_>, i: usize, output: &[u32], next: u32) -> u32
-    ensures { result ≡ unmap_read_dff_number next (view_given given.entry) i output.now }
+// 1 to 4, 14 and 15.
+#[tactic(auto, using(rules::proofs::Answers::else_err), unfolding(rules::specs::Refusals::unmap_read_dff_number))]
+fn unmap_refusal(given: Given<'_>, i: usize, output: &[u32], next: u32) -> Result<(), Refusal>
+    ensures { number_of result ≡ unmap_read_dff_number next (view_given given.entry) i output.now }
 {
-    let n = rules::number_of(port_outputs::driving_refusal(given, output, next, false));
-    if n != 0 {
-        return n;
-    }
+    port_outputs::driving_refusal(given, output, next, false)?;
     if port_short(given.memory, given.nets, i) {
-        return 14;
+        return Err(Refusal::ShortAddress);
     }
     if net_memory::ports_used(given.memory.read_count) <= i {
-        return 15;
+        return Err(Refusal::OutOfRange);
     }
-    0
+    Ok(())
 }
 
 // The memory whose port i has no flip-flop.
@@ -188,31 +186,13 @@ fn unmap_clocked(
     i: usize,
     p: MemoryReadPort,
     c: Controls,
-) -> Driven
+) -> Result<Driven, Refusal>
     requires { Ready given.memory given.nets.now given.trits.now i c × (p ≡ read_port given.memory i) }
-    ensures log_after { driven_of result given.entry.nets.now given.entry.trits.now output.new log.new ≡ driven (log_refusal (length log.old) (state_of st) (unmap_dff (mem_of given.entry) i output.old (own_flip_flop given.entry.memory given.entry.trits.now i c))) log.old (state_of st) (driving given.entry.memory given.entry.nets.now given.entry.trits.now output.old) (unmap_dff (mem_of given.entry) i output.old (own_flip_flop given.entry.memory given.entry.trits.now i c)) }
-    ensures new_struct { NewStruct given.entry.memory st i result }
+    ensures log_after { driven_of given.entry.memory result given.entry.nets.now given.entry.trits.now output.new log.new ≡ driven (log_refusal (length log.old) (state_of st) (unmap_dff (mem_of given.entry) i output.old (own_flip_flop given.entry.memory given.entry.trits.now i c))) log.old (state_of st) (driving given.entry.memory given.entry.nets.now given.entry.trits.now output.old) (unmap_dff (mem_of given.entry) i output.old (own_flip_flop given.entry.memory given.entry.trits.now i c)) }
+    ensures new_struct { NewStruct given.entry.memory i result }
 {
-    let mut overlay = Overlay {
-        under: [0; rules::MAX_MERGE],
-        bits: [0; rules::MAX_MERGE],
-        mask: [0; rules::MAX_MERGE],
-        select: [0; rules::MAX_MERGE],
-        spare: [0; rules::MAX_MERGE],
-        keys: Keys {
-            x: [0; rules::MAX_MERGE],
-            y: [0; rules::MAX_MERGE],
-            at: [0; rules::MAX_MERGE],
-        },
-    };
-    let n = dry_number(log.len(), st, &mut overlay, given, i, p, c, output);
-    if n != 0 {
-        return Driven {
-            refusal: n,
-            memory: given.memory,
-            state: st,
-        };
-    }
+    let mut overlay = Overlay::new();
+    dry_refusal(log.len(), st, &mut overlay, given, i, p, c, output)?;
     let mut log = Log {
         words: log,
         state: st,
@@ -220,12 +200,10 @@ fn unmap_clocked(
     let last = emit_port(&mut log, &mut overlay, given, i, p, c, output);
     let start = net_memory::output_start(given.memory, i);
     lists::store_run(output, start, st.next, last);
-    let memory = unclock(given.memory, i, p);
-    Driven {
-        refusal: 0,
-        memory,
+    Ok(Driven {
+        memory: unclock(given.memory, i, p),
         state: log.state,
-    }
+    })
 }
 
 // A port that numbers 1 to 4, 14 and 15 pass; without a flip-flop nothing is done.
@@ -236,19 +214,20 @@ fn unmap_port(
     given: Given<'_>,
     i: usize,
     p: MemoryReadPort,
-) -> Driven
+) -> Result<Driven, Refusal>
     requires { (unmap_read_dff_number st.next (view_given given) i output.old ≡ 0) × (p ≡ read_port given.memory i) }
-    ensures log_after { driven_of result given.entry.nets.now given.entry.trits.now output.new log.new ≡ driven (log_refusal (length log.old) (state_of st) (unmap_read_dff (mem_of given.entry) i output.old)) log.old (state_of st) (driving given.entry.memory given.entry.nets.now given.entry.trits.now output.old) (unmap_read_dff (mem_of given.entry) i output.old) }
-    ensures new_struct { NewStruct given.entry.memory st i result }
+    ensures log_after { driven_of given.entry.memory result given.entry.nets.now given.entry.trits.now output.new log.new ≡ driven (log_refusal (length log.old) (state_of st) (unmap_read_dff (mem_of given.entry) i output.old)) log.old (state_of st) (driving given.entry.memory given.entry.nets.now given.entry.trits.now output.old) (unmap_read_dff (mem_of given.entry) i output.old) }
+    ensures new_struct { NewStruct given.entry.memory i result }
 {
     let f = p.flip_flop;
-    let n = rules::number_of(st.room_refusal(log.len(), 0, 0));
     match f {
-        None => Driven {
-            refusal: n,
-            memory: given.memory,
-            state: st,
-        },
+        None => {
+            st.room_refusal(log.len(), 0, 0)?;
+            Ok(Driven {
+                memory: given.memory,
+                state: st,
+            })
+        }
         Some(c) => unmap_clocked(log, st, output, given, i, p, c),
     }
 }
@@ -261,18 +240,11 @@ pub fn unmap_read_dff(
     output: &mut [u32],
     given: Given<'_>,
     port: usize,
-) -> Driven
-    ensures log_after { driven_of result given.entry.nets.now given.entry.trits.now output.new log.new ≡ unmap_read_dff_call (rooms_of given.entry.nets.now given.entry.trits.now output.old) log.old (state_of st) (view_given given.entry) port output.old }
-    ensures new_struct { NewStruct given.entry.memory st port result }
+) -> Result<Driven, Refusal>
+    ensures log_after { driven_of given.entry.memory result given.entry.nets.now given.entry.trits.now output.new log.new ≡ unmap_read_dff_call (rooms_of given.entry.nets.now given.entry.trits.now output.old) log.old (state_of st) (view_given given.entry) port output.old }
+    ensures new_struct { NewStruct given.entry.memory port result }
 {
-    let n = unmap_number(given, port, output, st.next);
-    if n != 0 {
-        return Driven {
-            refusal: n,
-            memory: given.memory,
-            state: st,
-        };
-    }
+    unmap_refusal(given, port, output, st.next)?;
     let p = given.memory.read_ports[port];
     unmap_port(log, st, output, given, port, p)
 }

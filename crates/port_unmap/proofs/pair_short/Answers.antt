@@ -9,4 +9,5 @@ pub returns : goal.returns
 returns c =
     let v = c.args in
     let w = c.writing-w in
-    λ trits r e q. short_is (memory_of v.m v.nets.now trits) r w.result.k v.kr v.j c.number_of.result w.result.addr.now v.raddr.now (c.number_of.ensures ∙ c.narrower_select_refusal.ensures) (w.ensures.k_value trits) (ap (λ (x : WritePort). x.addr) (w.ensures.port trits)) e q
+    let n = c.narrower_select_refusal in
+    λ trits r e q. c.is_err.ensures.value ∙ short_is (memory_of v.m v.nets.now trits) r w.result.k v.kr v.j n.result w.result.addr.now v.raddr.now n.ensures (w.ensures.k_value trits) (ap (λ (x : WritePort). x.addr) (w.ensures.port trits)) e q

@@ -1,6 +1,7 @@
 -- `port_unmap::unmap_port` meets its contract.
 use mathlib.Core.Path.{sym, ap, ◌∙◌}
 use lib.ListN.{length}
+use Rattle.std.proofs.lemmas.Result.{err_from_is_err_and}
 use Rattle.log_entries.specs.View.{state_of}
 use Rattle.net_memory.specs.View.{memory_of}
 use Rattle.net_memory.specs.declared.MemoryReadPort.{MemoryReadPort}
@@ -8,7 +9,7 @@ use Rattle.net_memory.proofs.Sized.{reads_length, writes_length}
 use Rattle.rules.specs.Ports.{unmap_dff, unmap_read_dff}
 use Rattle.port_unmap.specs.Ready.{own_flip_flop}
 use Rattle.port_unmap.specs.Call.{driving}
-use Rattle.port_unmap.proofs.Passed.{is_there_lem, ready, flip_none, flip_some, dff_some, driven_as, none_done, struct_none}
+use Rattle.port_unmap.proofs.Passed.{is_there_lem, ready, flip_none, flip_some, dff_some, driven_as, none_refused, none_done, struct_none}
 use Rattle.port_unmap.proofs.unmap_port.Goals as goal
 
 pub unmap_clocked-requires : goal.unmap_clocked-requires
@@ -19,14 +20,24 @@ unmap_clocked-requires c =
     let e = ap (λ (q : MemoryReadPort). q.flip_flop) (sym c.requires.1) ∙ c.in-Some.is in
     (ready v.st.next v.given.memory v.given.nets.now v.given.trits.now v.i v.output.now c.requires.0 x y c.in-Some.c e, c.requires.1)
 
-pub returns-in-None : goal.returns-in-None
-returns-in-None c =
+pub returns-in_err-room_refusal-in-None : goal.returns-in_err-room_refusal-in-None
+returns-in_err-room_refusal-in-None c =
     let v = c.args in
     let x = reads_length v.given.memory _ c.well_formed.1.1.1.0.1.1.0 v.given.nets.now v.given.trits.now in
     let y = writes_length v.given.memory _ c.well_formed.1.1.1.0.1.1.0 v.given.nets.now in
-    let e = ap (λ (q : MemoryReadPort). q.flip_flop) (sym c.requires.1) ∙ c.in-None.is in
+    let q = ap (λ (q : MemoryReadPort). q.flip_flop) (sym c.requires.1) ∙ c.in-None.is in
     let h = is_there_lem v.st.next v.given.memory v.given.nets.now v.given.trits.now v.i v.output.now c.requires.0 x y in
-    record { log_after = none_done v.given.memory v.given.nets.now v.given.trits.now v.i v.output.now v.log.now v.st c.number_of-n.result (flip_none v.given.memory v.given.nets.now v.given.trits.now v.i h e) (c.number_of-n.ensures ∙ c.room_refusal.ensures); new_struct = struct_none v.given.memory v.st v.i c.number_of-n.result e }
+    let e = err_from_is_err_and c.from_residual.result c.from_residual.ensures.1 in
+    rw (e.1, e.2) (record { log_after = none_refused v.given.memory v.given.nets.now v.given.trits.now v.i v.output.now v.log.now v.st (flip_none v.given.memory v.given.nets.now v.given.trits.now v.i h q) _ c.in_err-room_refusal-in-None.ensures; new_struct = tt })
+
+pub returns-in_ok-room_refusal-in-None : goal.returns-in_ok-room_refusal-in-None
+returns-in_ok-room_refusal-in-None c =
+    let v = c.args in
+    let x = reads_length v.given.memory _ c.well_formed.1.1.1.0.1.1.0 v.given.nets.now v.given.trits.now in
+    let y = writes_length v.given.memory _ c.well_formed.1.1.1.0.1.1.0 v.given.nets.now in
+    let q = ap (λ (q : MemoryReadPort). q.flip_flop) (sym c.requires.1) ∙ c.in-None.is in
+    let h = is_there_lem v.st.next v.given.memory v.given.nets.now v.given.trits.now v.i v.output.now c.requires.0 x y in
+    record { log_after = none_done v.given.memory v.given.nets.now v.given.trits.now v.i v.output.now v.log.now v.st (flip_none v.given.memory v.given.nets.now v.given.trits.now v.i h q) c.in_ok-room_refusal-in-None.ensures; new_struct = struct_none v.given.memory v.i q }
 
 pub returns-in-Some : goal.returns-in-Some
 returns-in-Some c =
