@@ -12,6 +12,7 @@ ghost use Rattle.c_memory.specs.View.{given_memory, memory_struct, zero_memory};
 ghost use Rattle.c_memory.specs.Calls.{slice_result, extracted_struct, extracted_of, NewMemory};
 
 use c_net::{Control, Count};
+use net_memory::Given;
 use port_outputs::OutputSlice;
 use rules::Refusal;
 
@@ -100,6 +101,17 @@ pub fn memory_of(m: Memory) -> net_memory::Memory
     }
 }
 
+// The library's memory with the arrays that it is lent in.
+pub fn given_by<'a>(m: Memory, nets: &'a [u32], trits: &'a [u8]) -> Given<'a>
+    ensures { (result.memory ≡ given_memory m) × (result.nets.now ≡ nets.now) × (result.trits.now ≡ trits.now) }
+{
+    Given {
+        memory: memory_of(m),
+        nets,
+        trits,
+    }
+}
+
 // The struct of a library's memory, which read again is that memory.
 #[tactic(auto, using(crate::proofs::Back::memory_back), unfolding(crate::specs::View::memory_struct))]
 pub fn memory_struct(m: net_memory::Memory) -> Memory
@@ -164,13 +176,13 @@ pub fn tablegoose_wide_log2(width: u32, size: usize) -> c_net::Result
 pub fn tablegoose_memory_refusal(m: Memory, nets: &[u32], trits: &[u8]) -> u32
     ensures { result ≡ mem_refusal (given_of (given_memory m) nets.now trits.now) }
 {
-    rules::number_of(net_check::memory_refusal(memory_of(m), nets, trits))
+    rules::number_of(net_check::memory_refusal(given_by(m, nets, trits)))
 }
 
 pub fn tablegoose_output_len(m: Memory, nets: &[u32], trits: &[u8]) -> Count
     ensures { result ≡ count_struct (output_len_call (given_of (given_memory m) nets.now trits.now)) }
 {
-    c_net::count_result(port_outputs::output_len(memory_of(m), nets, trits))
+    c_net::count_result(port_outputs::output_len(given_by(m, nets, trits)))
 }
 
 pub fn tablegoose_read_port_output_slice(
@@ -181,14 +193,14 @@ pub fn tablegoose_read_port_output_slice(
 ) -> Slice
     ensures { result ≡ slice_result (output_slice_call (given_of (given_memory m) nets.now trits.now) port) }
 {
-    slice_result(port_outputs::read_port_output_slice(memory_of(m), nets, trits, port))
+    slice_result(port_outputs::read_port_output_slice(given_by(m, nets, trits), port))
 }
 
 // The value is 1 where all write ports have one clock.
 pub fn tablegoose_can_lower_fallback(m: Memory, nets: &[u32], trits: &[u8]) -> c_net::Result
     ensures { result ≡ flag_result (can_lower_fallback_call (given_of (given_memory m) nets.now trits.now)) }
 {
-    c_net::flag_result(port_outputs::can_lower_fallback(memory_of(m), nets, trits))
+    c_net::flag_result(port_outputs::can_lower_fallback(given_by(m, nets, trits)))
 }
 
 pub fn tablegoose_extract_read_ports(
@@ -208,9 +220,7 @@ pub fn tablegoose_extract_read_ports(
         room_nets,
         room_trits,
         room_output,
-        memory_of(m),
-        nets,
-        trits,
+        given_by(m, nets, trits),
         list,
         output,
     ))

@@ -28,9 +28,8 @@ use Rattle.net_memory.specs.declared.Memory.{Memory}
 use Rattle.net_memory.specs.View.{memory_of}
 use Rattle.net_memory.specs.Given.{given_of}
 use Rattle.fallback_pass.proofs.Number as pass
-use Rattle.fallback.specs.declared.Lowered.{Lowered}
 use Rattle.fallback.specs.Refusal.{Asked}
-use Rattle.fallback.specs.Answer.{lowered_of, Unchanged, Changed, Lowers}
+use Rattle.fallback.specs.Answer.{Left, lowered_of, Unchanged, Changed, Lowers}
 use Rattle.fallback.proofs.Total.{wide_rest, flat_rest, chains_whole}
 use Rattle.fallback.proofs.Acts as acts
 
@@ -70,7 +69,7 @@ module _ (m : Memory) (nets trits output : List ℕ) (st : LogState) (room table
   whole-log z h n e = e ∙ sym (else_rest number _ z ∙ else_rest (lent_refusal tables need) _ (long_room h))
 
 -- ---- the one equation
-module _ (m : Memory) (nets trits output : List ℕ) (st : LogState) (log scratch : List ℕ) (x : Lowered) (log' scratch' : List ℕ) where
+module _ (m : Memory) (nets trits output : List ℕ) (st : LogState) (log scratch : List ℕ) (x : Left) (log' scratch' : List ℕ) where
   abbrev M : Mem
   M = memory_of m nets trits
 
@@ -125,7 +124,7 @@ module _ (m : Memory) (nets trits output : List ℕ) (st : LogState) (log scratc
       ∙ sym call_is
 
 -- both promises of the call
-pub promises : {m : Memory} {nets trits output : List ℕ} {st : LogState} {log scratch : List ℕ} {x : Lowered} {log' scratch' : List ℕ} → Lowers m nets trits output st log scratch x log' scratch'
+pub promises : {m : Memory} {nets trits output : List ℕ} {st : LogState} {log scratch : List ℕ} {x : Left} {log' scratch' : List ℕ} → Lowers m nets trits output st log scratch x log' scratch'
     → (lowered_of x (fallback_scratch (memory_of m nets trits)) log' scratch' ≡ lower_fallback_call scratch log (state_of st) (given_of m nets trits) output)
     × Lowers m nets trits output st log scratch x log' scratch'
 promises {m = m} {nets = nets} {trits = trits} {output = output} {st = st} {log = log} {scratch = scratch} {x = x} {log' = log'} {scratch' = scratch'} h =

@@ -28,29 +28,6 @@ use Rattle.swizzle_call.specs.declared.Swizzled.{Swizzled}
 use Rattle.swizzle_call.specs.Whole.{Changed, Swizzles}
 use Rattle.fallback.specs.Split.{rooms, Passes, SplitDone}
 
--- ---- the plan
-entries_are : (w : ℕ) (room es : List ℕ) → w ≤ length room → es ≡ sets room 0 (up_from 0 (w - 0)) → part 0 w es ≡ up_from 0 w
-entries_are w room es h e =
-    let k : w - 0 ≡ w = omega arith in
-    take_stored room es (up_from 0 w) w (e ∙ ap (λ (n : ℕ). sets room 0 (up_from 0 n)) k) (sym (length_up 0 w)) h
-
-abbrev zeros : List ℕ
-zeros = replicate max_ports 0
-
-zeros_are : (n : ℕ) → n ≤ max_ports → part 0 n zeros ≡ replicate n 0
-zeros_are n h = part_replicate 0 n max_ports 0 (omega arith)
-
-module _ (b : Memory) (nets trits : List ℕ) (s : MemorySwizzle)
-    (p : plan_of s (up_from 0 b.width) (replicate (min max_ports b.write_count) 0) (replicate (min max_ports b.read_count) 0) ≡ fallback_plan (memory_of b nets trits)) where
-  pub plan-given : (es ws rs : List ℕ) (wn rn w : ℕ) (room l : List ℕ) → b.width ≤ length room → l ≡ sets room 0 (up_from 0 (b.width - 0)) → w ≡ b.width → es ≡ part 0 w l
-      → wn ≡ min max_ports b.write_count → ws ≡ part 0 wn zeros → rn ≡ min max_ports b.read_count → rs ≡ part 0 rn zeros
-      → plan_of s es ws rs ≡ fallback_plan (memory_of b nets trits)
-  plan-given es ws rs wn rn w room l h el ew ee en ews er ers =
-      (λ i. plan_of s ((ee ∙ ap (λ (k : ℕ). part 0 k l) ew ∙ entries_are b.width room l h el) i)
-      ((ews ∙ ap (λ (k : ℕ). part 0 k zeros) en ∙ zeros_are (min max_ports b.write_count) (omega arith)) i)
-      ((ers ∙ ap (λ (k : ℕ). part 0 k zeros) er ∙ zeros_are (min max_ports b.read_count) (omega arith)) i))
-      ∙ p
-
 -- ---- what the swizzle leaves
 none_left : (l : List ℕ) → length l ≡ 0 → l ≡ []
 none_left [] e = refl

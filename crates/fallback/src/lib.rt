@@ -6,6 +6,7 @@ ghost use Rattle.rules.specs.Limits.{max_bits, max_outputs, max_ports, max_row};
 ghost use Rattle.rules.specs.Fallback.{fallback_plan, lower_rows, lower_fallback, fallback_scratch};
 ghost use Rattle.rules.specs.Refusals.{room_refusal, log_refusal, swizzle_refusal, lower_fallback_number, lower_fallback_refusal};
 ghost use Rattle.rules.specs.Answers.{lower_fallback_call};
+ghost use Rattle.rules.specs.Refusal.{number_of};
 ghost use Rattle.log_entries.specs.Emission.{run};
 ghost use Rattle.log_entries.specs.View.{state_of, lent_of};
 ghost use Rattle.net_memory.specs.View.{memory_of};
@@ -16,12 +17,14 @@ ghost use Rattle.fallback_bare.specs.Bare.{bare_of};
 ghost use Rattle.fallback_pass.specs.Split.{split_words, split_nets};
 ghost use Rattle.fallback.specs.Split.{Passes, SplitDone, Prepared, Ready, split_lowered};
 ghost use Rattle.fallback.specs.Refusal.{Later, Asked, HasWidth, DryRun};
-ghost use Rattle.fallback.specs.Answer.{lowered_of, Lowers};
+ghost use Rattle.fallback.specs.Answer.{left_by, lowered_of, Lowers};
 
+use fallback_plan::Lists;
 use log_entries::{Log, LogState};
 use merge_mux::emit::Keys;
 use net_memory::{Given, Memory};
 use port_transparency::Overlay;
+use rules::Refusal;
 use swizzle_call::Swizzled;
 use swizzle_counts::SwizzleRooms;
 use swizzle_result::WideMemory;
@@ -38,12 +41,7 @@ fn split_rows(
     requires { Passes given.memory given.nets.now given.trits.now outs.now st log.old tables.old × (given.memory.width ≤ max_row) × (length image.old ≡ max_bits) }
     ensures { SplitDone (mem_of given.entry) outs.now (fallback_plan (mem_of given.entry)) st log.old tables.old result log.new tables.new image.new }
 {
-    let s = fallback_plan::fallback_swizzle(given.memory, given.nets);
-    let mut entries = [0u32; rules::MAX_ROW];
-    lists::store_run(&mut entries, 0, 0, given.memory.width);
-    let zeros = [0u32; rules::MAX_PORTS];
-    let writes = net_memory::ports_used(given.memory.write_count);
-    let reads = net_memory::ports_used(given.memory.read_count);
+    let lists = Lists::of(given.memory.width);
     let mut none = [0u8; 0];
     let mut pieces = [0u32; rules::BITS_ROOM];
     swizzle_call::swizzle(
@@ -55,10 +53,7 @@ fn split_rows(
         &mut pieces,
         given,
         outs,
-        s,
-        lists::part(&entries, 0, given.memory.width as usize),
-        lists::part(&zeros, 0, writes),
-        lists::part(&zeros, 0, reads),
+        lists.plan(given),
     )
 }
 
@@ -70,24 +65,18 @@ fn lower_made(log: &mut Log, g: WideMemory, nets: &[u32], image: &[u8])
     fallback_rows::emit_lowered(log, g, nets, image);
 }
 
-// The split and the registers, of a memory that passes the numbers of a fallback; `m` may have flip-flops, which are taken for unmapped.
+// The split and the registers, of a memory that passes the numbers of a fallback; it may have flip-flops, which are taken for unmapped.
 fn lower_rows(log: &mut Log, tables: &mut [u32], given: Given<'_>, outs: &[u32])
     requires { Ready given.memory given.nets.now given.trits.now outs.now log.old.state log.old.words.now tables.old }
     ensures log_after { lent_of log.new ≡ run (split_lowered (memory_of (bare_of given.entry.memory) given.entry.nets.now given.entry.trits.now) outs.now) (lent_of log.old) }
     ensures tables_unchanged { drop (fallback_scratch (mem_of given.entry)) tables.new ≡ drop (fallback_scratch (mem_of given.entry)) tables.old }
 {
-    let b = fallback_bare::bare_memory(given.memory);
+    let bare = Given {
+        memory: fallback_bare::bare_memory(given.memory),
+        ..given
+    };
     let mut image = [0u8; rules::BITS_ROOM];
-    let x = split_rows(
-        log.words,
-        log.state,
-        &mut image,
-        tables,
-        b,
-        given.nets,
-        given.trits,
-        outs,
-    );
+    let x = split_rows(log.words, log.state, &mut image, tables, bare, outs);
     let made = x.made;
     log.state = made.state;
     let n = net_memory::init_size(given.memory);
@@ -100,20 +89,18 @@ fn lower_rows(log: &mut Log, tables: &mut [u32], given: Given<'_>, outs: &[u32])
 }
 
 // 1 to 4, 11 and 14.
-fn lower_number(given: Given<'_>, output: &[u32], next: u32) -> u32
-    ensures { result ≡ lower_fallback_number next (view_given given.entry) output.now }
+#[tactic(auto, using(rules::proofs::Answers::else_err, rules::proofs::Answers::else_ok), unfolding(rules::specs::Refusals::lower_fallback_number, rules::specs::Conditions::write_clocks_differ))]
+fn lower_refusal(given: Given<'_>, output: &[u32], next: u32) -> Result<(), Refusal>
+    ensures { number_of result ≡ lower_fallback_number next (view_given given.entry) output.now }
 {
-    let n = rules::number_of(port_outputs::driving_refusal(given, output, next, false));
-    if n != 0 {
-        return n;
-    }
+    port_outputs::driving_refusal(given, output, next, false)?;
     if !port_outputs::clocks_same(given.memory) {
-        return 11;
+        return Err(Refusal::WriteClocksDiffer);
     }
     if port_unmap_all::ports_short(given.memory, given.nets) {
-        return 14;
+        return Err(Refusal::ShortAddress);
     }
-    0
+    Ok(())
 }
 
 // The nets of scratch: data and mask of each write port for all rows.
@@ -156,31 +143,22 @@ fn later_net(next: u32, made: usize) -> u32
 }
 
 // The refusal of the split of a memory by the plan of a fallback.
-fn plan_number(r: SwizzleRooms, room: usize, st: LogState, given: Given<'_>, outs: &[u32]) -> u32
+fn plan_refusal(
+    r: SwizzleRooms,
+    room: usize,
+    st: LogState,
+    given: Given<'_>,
+    outs: &[u32],
+) -> Result<(), Refusal>
     requires { given.memory.width ≤ max_row }
-    ensures { result ≡ swizzle_refusal (rooms_of r) room (state_of st) (view_given given.entry) outs.now (fallback_plan (mem_of given.entry)) }
+    ensures { number_of result ≡ swizzle_refusal (rooms_of r) room (state_of st) (view_given given.entry) outs.now (fallback_plan (mem_of given.entry)) }
 {
-    let s = fallback_plan::fallback_swizzle(given.memory, given.nets);
-    let mut entries = [0u32; rules::MAX_ROW];
-    lists::store_run(&mut entries, 0, 0, given.memory.width);
-    let zeros = [0u32; rules::MAX_PORTS];
-    let writes = net_memory::ports_used(given.memory.write_count);
-    let reads = net_memory::ports_used(given.memory.read_count);
-    rules::number_of(swizzle_refusal::swizzle_refusal(
-        r,
-        room,
-        st,
-        given,
-        outs,
-        s,
-        lists::part(&entries, 0, given.memory.width as usize),
-        lists::part(&zeros, 0, writes),
-        lists::part(&zeros, 0, reads),
-    ))
+    let lists = Lists::of(given.memory.width);
+    swizzle_refusal::swizzle_refusal(r, room, st, given, outs, lists.plan(given))
 }
 
 // 20 and 21 of so many words and nets and the split's, which are counted by its refusal in what the others leave.
-fn split_number(
+fn split_refusal(
     room: usize,
     st: LogState,
     words: usize,
@@ -188,13 +166,13 @@ fn split_number(
     tables: usize,
     given: Given<'_>,
     output: &[u32],
-) -> u32
+) -> Result<(), Refusal>
     requires { Asked given.memory given.nets.now given.trits.now output.now st tables × HasWidth given.memory }
-    ensures { result ≡ room_refusal room (state_of st) (words + split_words (mem_of given.entry)) (made + split_nets (mem_of given.entry)) }
+    ensures { number_of result ≡ room_refusal room (state_of st) (words + split_words (mem_of given.entry)) (made + split_nets (mem_of given.entry)) }
 {
     let whole = room.min(rules::MAX_WORDS);
     if whole < words {
-        return 20;
+        return Err(Refusal::NoRoom);
     }
     let later = LogState {
         used: st.used,
@@ -206,24 +184,27 @@ fn split_number(
         trits: 0,
         scratch: rules::BITS_ROOM,
     };
-    let b = fallback_bare::bare_memory(given.memory);
-    plan_number(r, whole - words, later, b, given.nets, given.trits, output)
+    let bare = Given {
+        memory: fallback_bare::bare_memory(given.memory),
+        ..given
+    };
+    plan_refusal(r, whole - words, later, bare, output)
 }
 
 // 20 and 21 of the whole, by the state after the dry run.
-fn log_number(
+fn log_refusal(
     room: usize,
     st: LogState,
     dry: LogState,
     tables: usize,
     given: Given<'_>,
     output: &[u32],
-) -> u32
+) -> Result<(), Refusal>
     requires { Asked given.memory given.nets.now given.trits.now output.now st tables × DryRun (mem_of given) output.now (state_of st) (state_of dry) }
-    ensures { result ≡ log_refusal room (state_of st) (lower_fallback (mem_of given.entry) output.now) }
+    ensures { number_of result ≡ log_refusal room (state_of st) (lower_fallback (mem_of given.entry) output.now) }
 {
     if dry.is_over() {
-        return 20;
+        return Err(Refusal::NoRoom);
     }
     let start = st.dry_start();
     let unmapped = dry.next.saturating_sub(start.next) as usize;
@@ -231,9 +212,9 @@ fn log_number(
     let words = dry.used + rows.words;
     let made = unmapped + rows.nets;
     if given.memory.width == 0 {
-        return rules::number_of(st.room_refusal(room, words, made));
+        return st.room_refusal(room, words, made);
     }
-    split_number(room, st, words, made, tables, given, output)
+    split_refusal(room, st, words, made, tables, given, output)
 }
 
 // The log of a fallback that no number refuses.
@@ -257,13 +238,6 @@ fn act(
     lower_rows(log, tables, given, outs);
 }
 
-// What a fallback gives: the number that refuses it or 0, and the log's state.
-#[derive(Clone, Copy)]
-pub struct Lowered {
-    pub refusal: u32,
-    pub state: LogState,
-}
-
 // With the room for the unmappings; no number of the input refuses it, and the scratch is long enough.
 fn lower_asked(
     log: &mut [u32],
@@ -273,27 +247,18 @@ fn lower_asked(
     overlay: &mut Overlay,
     given: Given<'_>,
     output: &[u32],
-) -> Lowered
+) -> Result<LogState, Refusal>
     requires { Asked given.memory given.nets.now given.trits.now output.now st (length tables.old) × (length after.old ≡ max_outputs) }
-    ensures { Lowers given.entry.memory given.entry.nets.now given.entry.trits.now output.now st log.old tables.old result log.new tables.new }
+    ensures { Lowers given.entry.memory given.entry.nets.now given.entry.trits.now output.now st log.old tables.old (left_by st result) log.new tables.new }
 {
     let dry = dry_unmapped(st, after, overlay, given, output);
-    let n = log_number(log.len(), st, dry, tables.len(), given, output);
-    if n != 0 {
-        return Lowered {
-            refusal: n,
-            state: st,
-        };
-    }
+    log_refusal(log.len(), st, dry, tables.len(), given, output)?;
     let mut log = Log {
         words: log,
         state: st,
     };
     act(&mut log, tables, after, overlay, given, output);
-    Lowered {
-        refusal: 0,
-        state: log.state,
-    }
+    Ok(log.state)
 }
 
 // A memory lowered to registers and muxes. Refused: the log, its state and the scratch are as they were. Accepted: the scratch past its need is.
@@ -303,22 +268,13 @@ pub fn lower_fallback(
     scratch: &mut [u32],
     given: Given<'_>,
     output: &[u32],
-) -> Lowered
-    ensures scratch_after { lowered_of result (fallback_scratch (mem_of given.entry)) log.new scratch.new ≡ lower_fallback_call scratch.old log.old (state_of st) (view_given given.entry) output.now }
-    ensures lowers { Lowers given.entry.memory given.entry.nets.now given.entry.trits.now output.now st log.old scratch.old result log.new scratch.new }
+) -> Result<LogState, Refusal>
+    ensures scratch_after { lowered_of (left_by st result) (fallback_scratch (mem_of given.entry)) log.new scratch.new ≡ lower_fallback_call scratch.old log.old (state_of st) (view_given given.entry) output.now }
+    ensures lowers { Lowers given.entry.memory given.entry.nets.now given.entry.trits.now output.now st log.old scratch.old (left_by st result) log.new scratch.new }
 {
-    let n = lower_number(given, output, st.next);
-    if n != 0 {
-        return Lowered {
-            refusal: n,
-            state: st,
-        };
-    }
+    lower_refusal(given, output, st.next)?;
     if scratch.len() < scratch_need(given.memory) {
-        return Lowered {
-            refusal: 20,
-            state: st,
-        };
+        return Err(Refusal::NoRoom);
     }
     let mut after = [0u32; rules::MAX_OUTPUTS];
     let mut overlay = Overlay {

@@ -4,3 +4,4 @@ pub mod Numbers
 pub mod Spots
 pub mod Pieces
 pub mod Needs
+pub mod Listed

@@ -1,1 +1,2 @@
--- The contracts of fallback_plan cite definitions of other crates alone.
+-- The definitions that the contracts of fallback_plan cite.
+pub mod Lists

@@ -4,7 +4,9 @@ use mathlib.Core.Path.{◌≡◌, ap, ◌∙◌}
 use mathlib.Core.Bool.{false}
 use mathlib.Core.Option.{none, some}
 use mathlib.Core.List.{List}
+use lib.ListN.{length}
 use native.Mathlib.Omega.{arith}
+use Rattle.rules.specs.Limits.{max_row}
 use Rattle.rules.specs.Geometry.{row_len_of, full_mems, full_depth_of, part_depth_of}
 use Rattle.rules.specs.Image.{image_size}
 use Rattle.rules.specs.Beside.Shape as sizes
@@ -14,10 +16,11 @@ use Rattle.rules.proofs.GoodLayouts.{layout_too_large, good, handed_none, handed
 use Rattle.rules.proofs.Extents.{deep_max, part_max}
 use Rattle.rules.proofs.Shaping.{shape_small}
 use Rattle.image_geometry.specs.declared.Params.{Params}
+use Rattle.image_geometry.specs.declared.Layout as lent
 use Rattle.image_geometry.specs.declared.Shape.{Shape}
 use Rattle.image_geometry.specs.View.{layout_by, shape_by}
 use Rattle.image_rows.specs.declared.Steps.{Steps}
-use Rattle.image_rows.specs.Steps.{steps_by, Ready}
+use Rattle.image_rows.specs.Steps.{steps_by, Ready, ReadyRows}
 
 -- ---- the sizes of a layout within number 1's limits
 module _ (p : Params) (es : List ℕ) (s : Shape) (b : layout_too_large (layout_by p es) ≡ false) (h : shape_by s ≡ shape_of (layout_by p es)) where
@@ -72,3 +75,8 @@ module _ (p : Params) (es : List ℕ) (s : Shape) (h : some (shape_by s) ≡ lai
 -- one that does not
 pub not_passed : (p : Params) (es : List ℕ) → none ≡ laid_shape (layout_by p es) → handed_on (layout_by p es) ≡ none
 not_passed p es h = handed_none (layout_by p es) (none_told (layout_by p es) h)
+
+-- the row of a struct that is ready has no more entries than a layout may have
+pub few : {l : lent.Layout} {g : Steps} {n : ℕ} → ReadyRows l g n → length l.entries.now ≤ max_row
+unfolding row_len_of
+few {l = l} r = (shape_small (layout_by l.params l.entries.now) r.ready.sizes).len_max

@@ -7,11 +7,11 @@ use Rattle.rules.specs.Image.{place_of, flat_at, put, put_row}
 use Rattle.rules.specs.Conditions.{bad_layout_sizes}
 use Rattle.image_geometry.specs.declared.Params.{Params}
 use Rattle.image_geometry.specs.declared.Shape.{Shape}
+use Rattle.image_geometry.specs.declared.Layout as lent
 use Rattle.image_geometry.specs.View.{layout_by}
 use Rattle.image_rows.specs.declared.Steps.{Steps}
 use Rattle.image_rows.specs.declared.Cursor.{Cursor}
 use Rattle.image_rows.specs.declared.Line.{Line}
-use Rattle.image_rows.specs.declared.Rows.{Rows}
 
 abbrev pub steps_of : Layout → Steps
 steps_of q = record { full = full_mems q; full_step = full_depth_of q * q.unit; part_step = part_depth_of q * q.unit; unit = q.unit }
@@ -25,10 +25,10 @@ pub record Ready (p : Params) (g : Steps) (es : List ℕ) : Type 0 where
   pub sizes : bad_layout_sizes p.depth p.width (row_len_of (layout_by p es)) p.unit p.hard ≡ false
   pub steps : g ≡ steps_of (layout_by p es)
 
--- the same of the struct that holds all three, and the plain entries that it says
-pub record ReadyRows (r : Rows) : Type 0 where
-  pub ready : Ready r.layout.params r.steps r.layout.entries.now
-  pub plain : (i : ℕ) → i < r.plain → get_or r.layout.entries.now i 0 ≡ i
+-- the same of a layout and its steps, and so many plain entries
+pub record ReadyRows (l : lent.Layout) (g : Steps) (plain : ℕ) : Type 0 where
+  pub ready : Ready l.params g l.entries.now
+  pub plain_are : (i : ℕ) → i < plain → get_or l.entries.now i 0 ≡ i
 
 -- the spot of the row's number
 abbrev pub OnSpot : Params → Line → Type 0

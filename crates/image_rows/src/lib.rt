@@ -60,6 +60,7 @@ struct Rows<'a> {
     layout: Layout<'a>,
     steps: Steps,
     plain: usize,
+    ghost ready: { ReadyRows layout steps plain },
 }
 
 impl Line {
@@ -188,7 +189,6 @@ fn take_entries(room: &mut [u8], first: Cursor, g: Steps, entries: &[u32], image
 impl<'a> Rows<'a> {
     // The cursor at entry number `entry` of a row: the one division of a row's places.
     fn cursor_at(self, line: Line, entry: usize) -> Cursor
-        requires ready { ReadyRows self }
         requires number_lt_depth { (line.number < self.layout.params.depth) × (entry ≤ length self.layout.entries.now) × OnSpot self.layout.params line }
         ensures { At (layout_of self.entry.layout) line.number entry result }
     {
@@ -208,7 +208,6 @@ impl<'a> Rows<'a> {
     // Writes the trits of the entries from number `from` to below `to` to the places from `at` on.
     fn put_run(self, image: &mut [u8], at: u64, from: usize, to: usize, trits: &[u8])
         requires run_of { RunOf at from to self.layout.entries.now }
-        requires plain { Plain self.layout.entries.now self.plain }
         ensures { PutRun at self.entry.layout.entries.now from to trits.now image.old image.new }
     {
         if to <= self.plain && to <= trits.len() {
@@ -221,7 +220,6 @@ impl<'a> Rows<'a> {
     // Writes the trits of a row to its places, from the first entry's on: a run of places that follow each other at a time.
     fn put_entries(self, image: &mut [u8], first: Cursor, trits: &[u8])
         requires lows { Lows first self.steps (length self.layout.entries.now) }
-        requires entries_len_bound { (length self.layout.entries.now ≤ max_row) × Plain self.layout.entries.now self.plain }
         ensures { image.new ≡ put_row (index_from self.entry.steps first) self.entry.layout.entries.now 0 trits.now image.old }
     {
         let len = self.layout.entries.len();
@@ -239,7 +237,6 @@ impl<'a> Rows<'a> {
 
     // Writes one row.
     fn write_row(self, image: &mut [u8], line: Line, trits: &[u8])
-        requires ready { ReadyRows self }
         requires number_lt_depth { (line.number < self.layout.params.depth) × OnSpot self.layout.params line }
         ensures { image.new ≡ write_row (layout_of self.entry.layout) line.number trits.now image.old }
     {
@@ -249,7 +246,6 @@ impl<'a> Rows<'a> {
 
     // Writes every row, row 0 first, and goes from row to row.
     fn write_rows(self, image: &mut [u8], rows: &[u8])
-        requires ready { ReadyRows self }
         requires rows_len { length rows.now ≡ self.layout.params.depth * self.layout.params.width }
         ensures { image.new ≡ write_rows (layout_of self.entry.layout) rows.now self.entry.layout.params.depth image.old }
     {
@@ -265,7 +261,6 @@ impl<'a> Rows<'a> {
 
     // Takes one row.
     fn take_row(self, room: &mut [u8], row: u32, image: &[u8])
-        requires ready { ReadyRows self }
         requires row_lt_depth { row < self.layout.params.depth }
         ensures { room.new ≡ take_row (index_of (layout_of self.entry.layout) row) self.entry.layout.entries.now 0 image.now room.old }
     {

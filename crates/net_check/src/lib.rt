@@ -23,7 +23,7 @@ fn product(a: u32, b: u32) -> u64
     u64::from(a) * u64::from(b)
 }
 
-// The lower of two refusals by their numbers.
+// The lower of two refusals by their numbers. (`min` of Option would take none for the lowest.)
 fn lower(a: Option<Refusal>, b: Option<Refusal>) -> Option<Refusal>
     ensures { number_if result ≡ least (number_if a) (number_if b) }
 {

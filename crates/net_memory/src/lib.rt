@@ -20,7 +20,8 @@ pub struct MemoryWritePort {
     pub clock: ControlNet,
 }
 
-// The flip-flop is none where the port has no clock. The relations are codes: 0 Undefined, 1 ReadBeforeWrite, 2 Transparent.
+// The flip-flop is none where the port has no clock. The relations are codes: 0 Undefined, 1 ReadBeforeWrite, 2 Transparent; without a heap
+// they stand in an array with their number beside it, as the ports of a memory do. Past that number anything may stand.
 #[derive(Clone, Copy)]
 pub struct MemoryReadPort {
     pub addr_len: u32,

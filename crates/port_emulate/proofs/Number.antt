@@ -1,6 +1,5 @@
 -- The number of an emulation: the input's, then those of the log.
 use mathlib.Core.Path.{◌≡◌, refl, sym, ap, ◌∙◌}
-use mathlib.Core.Logic.{◌≢◌}
 use Prim.Native.Nat.{ℕ, zero, suc, ◌≤◌, min}
 use native.Mathlib.Omega.{arith}
 use mathlib.Core.Bool.{Bool}
@@ -16,6 +15,9 @@ use Rattle.rules.specs.Log.{Trace, LogState, start_net}
 use Rattle.rules.specs.Conditions.{unclocked}
 use Rattle.rules.specs.Ports.{relates_to, emulate_read_before_write}
 use Rattle.rules.specs.Refusals.{emulate_number, driving_refusal, log_refusal, alone, emulate_read_before_write_refusal}
+use Rattle.rules.specs.Refusal.{number}
+use Rattle.rules.specs.declared.numbers.Refusal.{Refusal}
+use Rattle.rules.proofs.Answers.{else_err}
 use Rattle.net_memory.specs.declared.Memory.{Memory}
 use Rattle.net_memory.specs.Given.{given_of}
 use Rattle.net_memory.specs.View.{writes_of, memory_of}
@@ -45,8 +47,8 @@ module _ (m : Memory) (nets trits : List ℕ) (room : ℕ) (s : LogState) where
   unfolding emulate_read_before_write_refusal
   whole_is = else_assoc (emulate_number s.next (given_of m nets trits)) (when any unclocked (memory_of m nets trits).reads then 22 else 0) rest
 
-  pub refused_input : (n : ℕ) → n ≡ input → n ≢ 0 → n ≡ emulate_read_before_write_refusal (rooms_of nets trits) room s (given_of m nets trits)
-  refused_input n e h = e ∙ sym (else_first input rest (λ z. h (e ∙ z))) ∙ whole_is
+  pub refused_input : (e : Refusal) → number e ≡ input → number e ≡ emulate_read_before_write_refusal (rooms_of nets trits) room s (given_of m nets trits)
+  refused_input e h = else_err e input rest h ∙ whole_is
 
   pub refused_log : (n : ℕ) → input ≡ 0 → n ≡ log_refusal room s (emulate_read_before_write (memory_of m nets trits)) → n ≡ emulate_read_before_write_refusal (rooms_of nets trits) room s (given_of m nets trits)
   refused_log n z e = e ∙ sym (else_rest _ _ (emulate_fits m nets trits (start_net s))) ∙ sym (else_rest input rest z) ∙ whole_is

@@ -1,5 +1,5 @@
 -- The write ports delayed one after the other, by the test of each and by whether the image is all X.
-use Rattle.std.specs.Prelude.{◌≡◌, ◌≢◌, ℕ, suc, ◌<◌, ◌≤◌, min, Bool, List, [], ◌∷◌, length, get_or, set}
+use Rattle.std.specs.Prelude.{◌≡◌, ◌≢◌, ℕ, suc, ◌<◌, ◌≤◌, min, Bool, List, [], ◌∷◌, length, get_or, set, Result}
 use Rattle.lists.specs.Choice.{when◌then◌else◌, leaves, ◌or_else◌}
 use Rattle.lists.specs.Lists.{any}
 use Rattle.rules.specs.Limits.{max_ports}
@@ -8,16 +8,18 @@ use Rattle.rules.specs.Log.{Trace, ◌>>=◌, done}
 use Rattle.rules.specs.Ports.{delayed}
 use Rattle.rules.specs.Conditions.{unclocked}
 use Rattle.rules.specs.Refusals.{Rooms, emulate_number}
+use Rattle.rules.specs.Refusal.{number_of}
+use Rattle.rules.specs.declared.numbers.Refusal.{Refusal}
 use Rattle.net_memory.specs.declared.MemoryWritePort.{MemoryWritePort}
 use Rattle.net_memory.specs.declared.Memory.{Memory}
 use Rattle.net_memory.specs.Given.{given_of}
 use Rattle.net_memory.specs.View.{no_write_port, write_port, write_start, reads_start, writes_of, memory_of, write_by}
-use Rattle.log_entries.specs.declared.LogState.{LogState}
 use Rattle.log_entries.specs.Emission.{Lent}
 use Rattle.port_transparency.specs.Gave.{Gave}
 use Rattle.port_delay.specs.Delay.{cut, delayed_if, Delayable}
 use Rattle.port_settle.specs.Settled.{is_read, turned_by, turned_from, settled_memory}
 use Rattle.port_unmap.specs.declared.Driven.{Driven}
+use Rattle.port_unmap.specs.Call.{memory_left}
 
 -- one port by this test; q is what its scratch holds
 abbrev pub delayed_by : Bool → Bool → WritePort → WritePort → Trace WritePort
@@ -79,9 +81,8 @@ pub record PortsDone (m : Memory) (allX : Bool) (nets nets' : List ℕ) (l l1 : 
 abbrev pub input_number : ℕ → Memory → List ℕ → List ℕ → ℕ
 input_number next m nets trits = emulate_number next (given_of m nets trits) or_else (when any unclocked (memory_of m nets trits).reads then 22 else 0)
 
--- the struct and the nets themselves: a refused call gives both, and the state, back as they were
-pub record Emulated (m : Memory) (st : LogState) (nets nets' : List ℕ) (r : Driven) : Type 0 where
-  pub struct_is : (x y : List ℕ) → r.memory ≡ leaves r.refusal m (settled_memory (is_read m x y) m)
-  pub nets_kept : r.refusal ≢ 0 → nets' ≡ nets
-  pub state_kept : r.refusal ≢ 0 → r.state ≡ st
+-- the struct and the nets themselves: a refused call leaves both as they were
+pub record Emulated (m : Memory) (nets nets' : List ℕ) (r : Result Driven Refusal) : Type 0 where
+  pub struct_is : (x y : List ℕ) → memory_left m r ≡ leaves (number_of r) m (settled_memory (is_read m x y) m)
+  pub nets_kept : number_of r ≢ 0 → nets' ≡ nets
   pub size : length nets' ≡ length nets

@@ -5,6 +5,7 @@ ghost use Rattle.std.specs.Prelude.{◌≡◌, List, [], ◌++◌, ℕ, ◌≤�
 ghost use Rattle.std.proofs.lemmas.List.Edits.{sets};
 ghost use Rattle.rules.specs.Limits.{max_merge};
 ghost use Rattle.rules.specs.Ports.{emulate_read_before_write};
+ghost use Rattle.rules.specs.Refusal.{number_of};
 ghost use Rattle.rules.specs.Refusals.{log_refusal};
 ghost use Rattle.rules.specs.Logic.{is_undef};
 ghost use Rattle.rules.specs.Answers.{emulate_call};
@@ -24,6 +25,7 @@ use merge_mux::emit::Keys;
 use net_memory::{Given, Memory, MemoryWritePort};
 use port_delay::Room;
 use port_unmap::Driven;
+use rules::Refusal;
 
 // Write port j with these nets, delayed where a read port reads before it writes; the results are the first nets of the room's `addr`, `bits` and `mask`.
 fn emit_port(
@@ -109,26 +111,27 @@ fn emit_ports(log: &mut Log, delay: &mut Room, all_x: bool, m: Memory, nets: &[u
 }
 
 // 20 and 21, by a run without a log.
-fn log_number(
+fn dry_refusal(
     room: usize,
     st: LogState,
     delay: &mut Room,
     all_x: bool,
     m: Memory,
     nets: &[u32],
-) -> u32
+) -> Result<(), Refusal>
     requires { Fitting (writes_of m nets.now) }
-    ensures { (trits : List ℕ) → input_number st.next m nets.now trits ≡ 0 → all_x ≡ is_undef (memory_of m nets.now trits).init → result ≡ log_refusal room (state_of st) (emulate_read_before_write (memory_of m nets.now trits)) }
+    ensures { (trits : List ℕ) → input_number st.next m nets.now trits ≡ 0 → all_x ≡ is_undef (memory_of m nets.now trits).init → number_of result ≡ log_refusal room (state_of st) (emulate_read_before_write (memory_of m nets.now trits)) }
 {
     let mut dry = Log {
         words: &mut [],
         state: st.dry_start(),
     };
     emit_ports(&mut dry, delay, all_x, m, nets);
-    rules::number_of(st.dry_refusal(room, dry.state))
+    st.dry_refusal(room, dry.state)
 }
 
-// A memory without a number of its own: 20 and 21 by a dry run, then the same for good. The room serves both.
+// A memory without a number of its own: 20 and 21 by a dry run, then the same for good. The room serves both. The call writes the nets, so it takes
+// them apart from the memory and its trits.
 fn emulate_in(
     log: &mut [u32],
     st: LogState,
@@ -136,20 +139,13 @@ fn emulate_in(
     delay: &mut Room,
     m: Memory,
     trits: &[u8],
-) -> Driven
+) -> Result<Driven, Refusal>
     requires { input_number st.next m nets.old trits.now ≡ 0 }
-    ensures log_after { driven_of result nets.new trits.now [] log.new ≡ emulate_call (rooms_of nets.old trits.now) log.old (state_of st) (given_of m nets.old trits.now) }
-    ensures emulated { Emulated m st nets.old nets.new result }
+    ensures log_after { driven_of m result nets.new trits.now [] log.new ≡ emulate_call (rooms_of nets.old trits.now) log.old (state_of st) (given_of m nets.old trits.now) }
+    ensures emulated { Emulated m nets.old nets.new result }
 {
     let all_x = net_logic::is_undef(lists::part(trits, 0, net_memory::init_size(m)));
-    let n = log_number(log.len(), st, delay, all_x, m, nets);
-    if n != 0 {
-        return Driven {
-            refusal: n,
-            memory: m,
-            state: st,
-        };
-    }
+    dry_refusal(log.len(), st, delay, all_x, m, nets)?;
     let turned = port_settle::turn_clocks(m);
     // The flip-flops run by the clocks as they were.
     let clocked = m;
@@ -158,12 +154,10 @@ fn emulate_in(
         state: st,
     };
     delay_ports(&mut log, nets, delay, all_x, clocked);
-    let memory = port_settle::settle_relations(m, turned);
-    Driven {
-        refusal: 0,
-        memory,
+    Ok(Driven {
+        memory: port_settle::settle_relations(m, turned),
         state: log.state,
-    }
+    })
 }
 
 // The same with a room of its own.
@@ -173,10 +167,10 @@ fn emulate_passed(
     nets: &mut [u32],
     m: Memory,
     trits: &[u8],
-) -> Driven
+) -> Result<Driven, Refusal>
     requires { input_number st.next m nets.old trits.now ≡ 0 }
-    ensures log_after { driven_of result nets.new trits.now [] log.new ≡ emulate_call (rooms_of nets.old trits.now) log.old (state_of st) (given_of m nets.old trits.now) }
-    ensures emulated { Emulated m st nets.old nets.new result }
+    ensures log_after { driven_of m result nets.new trits.now [] log.new ≡ emulate_call (rooms_of nets.old trits.now) log.old (state_of st) (given_of m nets.old trits.now) }
+    ensures emulated { Emulated m nets.old nets.new result }
 {
     let mut delay = Room {
         addr: [0; rules::MAX_MERGE],
@@ -206,22 +200,15 @@ pub fn emulate_read_before_write(
     nets: &mut [u32],
     m: Memory,
     trits: &[u8],
-) -> Driven
-    ensures log_after { driven_of result nets.new trits.now [] log.new ≡ emulate_call (rooms_of nets.old trits.now) log.old (state_of st) (given_of m nets.old trits.now) }
-    ensures emulated { Emulated m st nets.old nets.new result }
+) -> Result<Driven, Refusal>
+    ensures log_after { driven_of m result nets.new trits.now [] log.new ≡ emulate_call (rooms_of nets.old trits.now) log.old (state_of st) (given_of m nets.old trits.now) }
+    ensures emulated { Emulated m nets.old nets.new result }
 {
     let given = Given {
         memory: m,
         nets,
         trits,
     };
-    let n = rules::number_of(port_relations::input_refusal(given, st.next));
-    if n != 0 {
-        return Driven {
-            refusal: n,
-            memory: m,
-            state: st,
-        };
-    }
+    port_relations::input_refusal(given, st.next)?;
     emulate_passed(log, st, nets, m, trits)
 }

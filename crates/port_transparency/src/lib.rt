@@ -32,7 +32,7 @@ pub struct Writing<'a> {
     pub mask: &'a [u32],
 }
 
-// A read port that reads so many nets.
+// A read port that reads so many nets: data nets, not those of its address.
 #[derive(Clone, Copy)]
 pub struct Reading<'a> {
     pub k: u32,

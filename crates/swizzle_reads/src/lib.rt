@@ -59,26 +59,12 @@ struct Port<'a> {
     output: &'a [u32],
 }
 
-// 2^k, for a wide log.
-fn two_to(k: u32) -> u32
-    requires { k ≤ max_wide }
-    ensures { (result ≡ 2 ^ k) × (result ≤ 16) }
-{
-    match k {
-        0 => 1,
-        1 => 2,
-        2 => 4,
-        3 => 8,
-        _ => 16,
-    }
-}
-
 // The nets of a piece.
 fn piece_of(p: Params, s: Split) -> u32
     requires { (s.old ≤ max_wide) × (p.width ≤ max_width) }
     ensures { (result ≡ piece_by p s) × (result ≤ 2048) }
 {
-    two_to(s.old) * p.width
+    swizzle_split::rows_of(s.old) * p.width
 }
 
 // The columns of all new rows.
@@ -86,7 +72,7 @@ fn size_of(z: Sizes, s: Split) -> u32
     requires { (s.new ≤ max_wide) × (z.columns ≤ max_columns) }
     ensures { (result ≡ size_by z s) × (result ≤ 524288) }
 {
-    two_to(s.new) * z.columns
+    swizzle_split::rows_of(s.new) * z.columns
 }
 
 // The clock and enable of a port with this flip-flop.
@@ -128,13 +114,13 @@ fn emit_port(
         width: q.params.width,
         columns: z.columns,
         mask: s.mask,
-        rows: two_to(s.old),
+        rows: swizzle_split::rows_of(s.old),
         count: s.pieces,
     };
     let port = ReadPort {
         pieces,
         width: piece_of(q.params, s),
-        voids: two_to(s.new),
+        voids: swizzle_split::rows_of(s.new),
         clocking,
         mux,
         entries: q.entries,
@@ -162,8 +148,8 @@ fn put_clock(
     let w = WidePort {
         mems: z.mems,
         unit: q.params.unit,
-        rows: two_to(s.new),
-        olds: two_to(s.old),
+        rows: swizzle_split::rows_of(s.new),
+        olds: swizzle_split::rows_of(s.old),
         width: q.params.width,
         chunks: s.mask,
         pieces: s.pieces,

@@ -15,7 +15,8 @@ pub struct WideWritePort {
     pub clock: ControlNet,
 }
 
-// A read port of all memories, with the first of its output nets; these stand row after row, column after column.
+// A read port of all memories, with the first of its output nets; these stand row after row, column after column. Without a heap the relations, and
+// the ports of the memories, stand in arrays with their numbers beside them.
 #[derive(Clone, Copy)]
 pub struct WideReadPort {
     pub addr_len: u32,

@@ -23,7 +23,7 @@ const MAX_WORDS: usize = 261;
 // The trits of a table.
 pub const MAX_TRITS: usize = rules::MAX_BITS as usize;
 
-// Entries of a row, of which the first `len` are in use.
+// Entries of a row, of which the first `len` are in use: there is no heap.
 #[derive(Clone, Copy, Debug, PartialEq, Eq)]
 pub struct Entries {
     pub len: u32,

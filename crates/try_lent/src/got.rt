@@ -5,7 +5,7 @@ use net_flip_flop::Controls;
 use net_value::Net;
 use rules::Refusal;
 
-// What a request made: its first net and how many nets, and the words of its controls, 0 where it gives none.
+// What a request made: its first net and how many nets follow from it, and the words of its controls, 0 where it gives none.
 #[derive(Clone, Copy, Debug, PartialEq, Eq)]
 pub(crate) struct Made {
     first: u32,

@@ -1,8 +1,9 @@
-// Calls with their answers: one that unmaps, one of a port without a flip-flop, and refused ones, which leave everything as it was.
+// Calls with their answers: one that unmaps, one of a port without a flip-flop, and refused ones, which leave every lent word as it was.
 use crate::sample;
 use log_entries::LogState;
-use net_memory::Memory;
+use net_memory::{Given, Memory};
 use port_unmap::Driven;
+use rules::Refusal;
 use try_kit::tally::Tally;
 use try_kit::{paint, samples, tally};
 
@@ -13,8 +14,8 @@ fn state_is(st: LogState, used: usize, next: u32) -> bool {
     st.used == used && st.next == next
 }
 
-// The sizes are the sample's, and its read port has a flip-flop or not.
-fn memory_is(m: Memory, clocked: bool) -> bool {
+// The sizes are the sample's, and its read port has no flip-flop.
+fn memory_is(m: Memory) -> bool {
     let p = m.read_ports[0];
     if m.depth != 2 || m.width != 1 || m.init_len != 2 || m.write_count != 1 || m.read_count != 1 {
         return false;
@@ -22,14 +23,23 @@ fn memory_is(m: Memory, clocked: bool) -> bool {
     if p.addr_len != 1 || p.data_len != 1 || p.init_len != 1 || p.relations_len != 1 {
         return false;
     }
-    sample::is_clocked(p) == clocked
+    p.flip_flop.is_none()
 }
 
-// The answer has this number and state, and this memory.
-fn answer_is(r: Driven, number: u32, used: usize, next: u32, clocked: bool) -> bool {
-    let m = r.memory;
-    let st = r.state;
-    r.refusal == number && state_is(st, used, next) && memory_is(m, clocked)
+// The call is accepted, with this state, and the sample's memory without the flip-flop.
+fn unmapped(r: Result<Driven, Refusal>, used: usize, next: u32) -> bool {
+    match r {
+        Err(_) => false,
+        Ok(driven) => state_is(driven.state, used, next) && memory_is(driven.memory),
+    }
+}
+
+// The call is refused by this number.
+fn refused_as(r: Result<Driven, Refusal>, number: u32) -> bool {
+    match r {
+        Err(refusal) => refusal.number() == number,
+        Ok(_) => false,
+    }
 }
 
 // The read port's flip-flop becomes a cell behind it.
@@ -40,16 +50,13 @@ pub(crate) fn accepted(t: Tally) -> Tally {
     let nets = sample::nets();
     let trits = sample::trits();
     let st = LogState { used: 0, next: 200 };
-    let r = port_unmap::unmap_read_dff(
-        &mut log,
-        st,
-        &mut output,
-        sample::memory(),
-        &nets,
-        &trits,
-        0,
-    );
-    let t = tally::add(t, answer_is(r, 0, sample::WORDS, 200 + sample::NETS, false));
+    let given = Given {
+        memory: sample::memory(),
+        nets: &nets,
+        trits: &trits,
+    };
+    let r = port_unmap::unmap_read_dff(&mut log, st, &mut output, given, 0);
+    let t = tally::add(t, unmapped(r, sample::WORDS, 200 + sample::NETS));
     let words = sample::log();
     let t = tally::add(t, log.starts_with(&words));
     let t = tally::add(t, paint::painted(&log, sample::WORDS));
@@ -66,31 +73,32 @@ pub(crate) fn unclocked(t: Tally) -> Tally {
     let m = sample::memory();
     let plain = samples::read_by(1, 1, 1, 1, 1, 1, [2u8, 0, 0, 0, 0, 0, 0, 0], None);
     let st = LogState { used: 7, next: 200 };
-    let r = port_unmap::unmap_read_dff(
-        &mut log,
-        st,
-        &mut output,
-        samples::with_read(m, 0, plain),
-        &nets,
-        &trits,
-        0,
-    );
-    let t = tally::add(t, answer_is(r, 0, 7, 200, false));
+    let given = Given {
+        memory: samples::with_read(m, 0, plain),
+        nets: &nets,
+        trits: &trits,
+    };
+    let r = port_unmap::unmap_read_dff(&mut log, st, &mut output, given, 0);
+    let t = tally::add(t, unmapped(r, 7, 200));
     let t = tally::add(t, paint::painted(&log, 0));
     tally::add(t, output[0] == 80)
 }
 
-// One refused call: the number, and all as it was. So many words of the log are used, and the outputs are net `out`.
+// One refused call: the number, and every lent word as it was. So many words of the log are used, and the outputs are net `out`.
 fn refused_by(t: Tally, number: u32, used: usize, next: u32, out: u32, port: usize) -> Tally {
     let mut log = [0u32; ROOM];
     paint::paint(&mut log);
     let mut output = [out];
     let nets = sample::nets();
     let trits = sample::trits();
-    let m = sample::memory();
     let st = LogState { used, next };
-    let r = port_unmap::unmap_read_dff(&mut log, st, &mut output, m, &nets, &trits, port);
-    let t = tally::add(t, answer_is(r, number, used, next, true));
+    let given = Given {
+        memory: sample::memory(),
+        nets: &nets,
+        trits: &trits,
+    };
+    let r = port_unmap::unmap_read_dff(&mut log, st, &mut output, given, port);
+    let t = tally::add(t, refused_as(r, number));
     let t = tally::add(t, paint::painted(&log, 0));
     tally::add(t, output[0] == out)
 }

@@ -1,6 +1,6 @@
 // A memory of the oracle's stored calls, its arrays, and the log that the Rust makes of it.
 use net_flip_flop::Controls;
-use net_memory::{Memory, MemoryReadPort};
+use net_memory::Memory;
 use net_value::{ControlNet, Net};
 use try_kit::samples;
 
@@ -31,15 +31,6 @@ pub(crate) fn nets() -> [u32; 5] {
 // Its trits: the initial ones, and clear, reset and init.
 pub(crate) fn trits() -> [u8; 5] {
     [1u8, 0, 2, 2, 2]
-}
-
-// Whether a port has a flip-flop.
-pub(crate) fn is_clocked(p: MemoryReadPort) -> bool {
-    let f = p.flip_flop;
-    match f {
-        None => false,
-        Some(_) => true,
-    }
 }
 
 // The log where the next free net is 200 and the outputs are net 80: void, two shifts, eq, select mux, data mux, flip-flop, replace.

@@ -27,6 +27,9 @@ returns-in_err-check_fill c =
 pub of-requires : goal.of-requires
 of-requires c = shallow c.args.layout.params c.args.layout.entries.now c.in-Some.s c.in-Some.ensures
 
+pub invariant_of-lines : goal.invariant_of-lines
+invariant_of-lines c = record { ready = record { ready = ready c.args.layout.params c.args.layout.entries.now c.in-Some.s c.in-Some.ensures _ c.of.ensures; plain_are = c.plain_entries.ensures } }
+
 pub write_rows-requires : goal.write_rows-requires
 write_rows-requires c =
     let q = layout_of c.args.layout in
@@ -34,7 +37,6 @@ write_rows-requires c =
     let es = c.args.layout.entries.now in
     let accepted : fill_refusal_of q (length c.args.image.now) c.args.rows.now ≡ 0 = sym (c.in_ok-check_fill.ensures ∙ fill_refusal_is q _ _ _ (size_is p es c.in-Some.s c.in-Some.ensures)) in
     record {
-      ready = record { ready = ready p es c.in-Some.s c.in-Some.ensures _ c.of.ensures; plain = c.plain_entries.ensures };
       rows_len = (fills q _ _ accepted).0;
     }
 

@@ -30,6 +30,9 @@ returns-in_err-check_patch c =
 pub of-requires : goal.of-requires
 of-requires c = shallow c.args.layout.params c.args.layout.entries.now c.in-Some.s c.in-Some.ensures
 
+pub invariant_of-rows : goal.invariant_of-rows
+invariant_of-rows c = record { ready = record { ready = ready c.args.layout.params c.args.layout.entries.now c.in-Some.s c.in-Some.ensures _ c.of.ensures; plain_are = λ i l. absurd (omega arith) } }
+
 pub write_row-requires : goal.write_row-requires
 write_row-requires c =
     let q = layout_of c.args.layout in
@@ -37,7 +40,6 @@ write_row-requires c =
     let es = c.args.layout.entries.now in
     let accepted : patch_refusal_of q (record { row = c.args.row; trits = c.args.trits.now; room = length c.args.image.now }) ≡ 0 = sym (c.in_ok-check_patch.ensures ∙ number_is q _ _ _ _ (size_is p es c.in-Some.s c.in-Some.ensures)) in
     record {
-      ready = record { ready = ready p es c.in-Some.s c.in-Some.ensures _ c.of.ensures; plain = λ i l. absurd (omega arith) };
       number_lt_depth = (omega (arith, c.at.ensures.0, (taken _ _ accepted).inside), c.at.ensures.1);
     }
 

@@ -40,12 +40,16 @@ of-requires c =
     let t = shape_told (layout_of c.args.layout) (shape_by c.in_ok-s.s) c.in_ok-s.ensures in
     shape_shallow c.args.layout.params c.args.layout.entries.now c.in_ok-s.s t.0 t.1
 
+pub invariant_of-rows : goal.invariant_of-rows
+invariant_of-rows c =
+    let t = shape_told (layout_of c.args.layout) (shape_by c.in_ok-s.s) c.in_ok-s.ensures in
+    record { ready = record { ready = shape_ready c.args.layout.params c.args.layout.entries.now c.in_ok-s.s t.0 t.1 _ c.of.ensures; plain_are = λ i l. absurd (omega arith) } }
+
 pub cursor_at-c-requires : goal.cursor_at-c-requires
 cursor_at-c-requires c =
     let t = shape_told (layout_of c.args.layout) (shape_by c.in_ok-s.s) c.in_ok-s.ensures in
     let under : c.at-line.result.number < c.args.layout.params.depth = omega (arith, c.at-line.ensures.0, c.if-p-row.false) in
     record {
-      ready = record { ready = shape_ready c.args.layout.params c.args.layout.entries.now c.in_ok-s.s t.0 t.1 _ c.of.ensures; plain = λ i l. absurd (omega arith) };
       number_lt_depth = (under, le_of_lt c.if-layout-entry.false, c.at-line.ensures.1);
     }
 

@@ -28,13 +28,16 @@ returns-in_err-check_read c =
 pub of-requires : goal.of-requires
 of-requires c = shallow c.args.layout.params c.args.layout.entries.now c.in-Some.s c.in-Some.ensures
 
+pub invariant_of-rows : goal.invariant_of-rows
+invariant_of-rows c = record { ready = record { ready = ready c.args.layout.params c.args.layout.entries.now c.in-Some.s c.in-Some.ensures _ c.of.ensures; plain_are = λ i l. absurd (omega arith) } }
+
 pub take_row-requires : goal.take_row-requires
 take_row-requires c =
     let q = layout_of c.args.layout in
     let p = c.args.layout.params in
     let es = c.args.layout.entries.now in
     let accepted : read_row_refusal_of q (length c.args.room.now) (length c.args.image.now) c.args.row ≡ 0 = sym (c.in_ok-check_read.ensures ∙ read_refusal_is q _ _ _ _ (size_is p es c.in-Some.s c.in-Some.ensures)) in
-    record { ready = record { ready = ready p es c.in-Some.s c.in-Some.ensures _ c.of.ensures; plain = λ i l. absurd (omega arith) }; row_lt_depth = (reads q _ _ _ accepted).0 }
+    record { row_lt_depth = (reads q _ _ _ accepted).0 }
 
 pub returns : goal.returns
 returns c =

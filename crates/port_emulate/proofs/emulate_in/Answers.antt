@@ -1,28 +1,28 @@
 -- `port_emulate::emulate_in` meets its contract.
 use Rattle.std.proofs.Common.{rules}
-use mathlib.Core.Path.{sym, ◌∙◌}
 use lib.ListN.{length}
+use Rattle.std.proofs.lemmas.Result.{err_from_is_err_and}
 use Rattle.log_entries.specs.View.{state_of}
 use Rattle.port_emulate.proofs.Bounds.{fits_all, nets_there}
 use Rattle.port_emulate.proofs.Number.{all_x_is, refused_log}
 use Rattle.port_emulate.proofs.Call.{call_refused, call_done, all-kept, all_new, log_name, done_unnamed}
 use Rattle.port_emulate.proofs.emulate_in.Goals as goal
 
-pub log_number-n-requires : goal.log_number-n-requires
-log_number-n-requires c =
+pub dry_refusal-requires : goal.dry_refusal-requires
+dry_refusal-requires c =
     let v = c.args in
     fits_all v.st.next v.m v.nets.now v.trits.now c.requires
 
-pub returns-then-n-ne0 : goal.returns-then-n-ne0
-returns-then-n-ne0 c =
+pub returns-in_err-dry_refusal : goal.returns-in_err-dry_refusal
+returns-in_err-dry_refusal c =
     let v = c.args in
     let m = v.m in
     let x = v.nets.now in
     let y = v.trits.now in
     let b = all_x_is m x y c.init_size.result c.part.result.now c.is_undef-all_x.result c.init_size.ensures.0 c.part.ensures.part c.is_undef-all_x.ensures in
-    let n = c.log_number-n.result in
-    let e = refused_log m x y (length v.log.now) (state_of v.st) n c.requires (c.log_number-n.ensures y c.requires b) in
-    record { log_after = call_refused m x y v.log.now v.st n e c.if-n-ne0.true; emulated = all-kept m v.st x n c.if-n-ne0.true }
+    let n = refused_log m x y (length v.log.now) (state_of v.st) _ c.requires (c.in_err-dry_refusal.ensures y c.requires b) in
+    let e = err_from_is_err_and c.from_residual.result c.from_residual.ensures.1 in
+    rw (e.1, e.2) (record { log_after = call_refused m x y v.log.now v.st _ n; emulated = all-kept m x _ })
 
 pub delay_ports-requires : goal.delay_ports-requires
 delay_ports-requires c =
@@ -37,12 +37,11 @@ returns c =
     let y = v.trits.now in
     let log = v.log.now in
     let b = all_x_is m x y c.init_size.result c.part.result.now c.is_undef-all_x.result c.init_size.ensures.0 c.part.ensures.part c.is_undef-all_x.ensures in
-    let n = c.log_number-n.result in
-    let z = c.log_number-n.ensures y c.requires b in
-    let e = refused_log m x y (length log) (state_of v.st) n c.requires z in
+    let z = c.in_ok-dry_refusal.ensures y c.requires b in
+    let n = refused_log m x y (length log) (state_of v.st) 0 c.requires z in
     let d = c.delay_ports in
     let t = c.turn_clocks-turned in
-    let w = c.settle_relations-memory in
+    let w = c.settle_relations in
     let u = log_name m x c.is_undef-all_x.result d.new.nets _ _ d.ensures in
-    let k = call_done m x y log v.st c.is_undef-all_x.result d.new.nets d.new.log.words.now d.new.log.state b (sym z ∙ c.if-n-ne0.false) (done_unnamed m c.is_undef-all_x.result x d.new.nets _ _ d.ensures) t.result w.result (sym e ∙ c.if-n-ne0.false) (t.ensures.by_index x d.new.nets y) (w.ensures.by_index x d.new.nets y) in
-    record { log_after = search rules; emulated = all_new m v.st x d.new.nets t.result w.result d.new.log.state t.ensures.by_index_2 w.ensures.by_index_2 d.ensures.size }
+    let k = call_done m x y log v.st c.is_undef-all_x.result d.new.nets d.new.log.words.now d.new.log.state b z (done_unnamed m c.is_undef-all_x.result x d.new.nets _ _ d.ensures) t.result w.result n (t.ensures.by_index x d.new.nets y) (w.ensures.by_index x d.new.nets y) in
+    record { log_after = search rules; emulated = all_new m x d.new.nets t.result w.result d.new.log.state t.ensures.by_index_2 w.ensures.by_index_2 d.ensures.size }

@@ -30,7 +30,7 @@ returns-then-m-eq0-2-clause-acted c =
     let v = c.args in
     let mem = memory_of v.given.memory v.given.nets.now v.given.trits.now in
     let plan = plan_of v.plan.swizzle v.plan.entries.now v.plan.writes.now v.plan.reads.now in
-    empty_acted (rooms_of c.requires.passed.image v.made.now.given.nets.now v.made.now.given.trits.now v.scratch.now) (length v.log.now.words.now) v.log.now.state v.given.memory v.given.nets.now v.given.trits.now v.output.now plan c.requires.passed.zero (layout_of mem plan) (λ f. c.if-m-eq0.false (sym (mem_width v.given.memory v.given.nets.now v.given.trits.now) ∙ f)) (mem_depth_lem v.given.memory v.given.nets.now v.given.trits.now ∙ c.if-m-eq0-2.true) v.made.now c.requires.none_yet v.log.now.words.now v.log.now.words.ghost_name (record { words = set_vals c.emit_empty-log.new.log v.log.now.words; state = c.emit_empty-log.result }) c.emit_empty-log.ensures refl
+    empty_acted (rooms_of c.requires.passed.image v.made.now.nets.now v.made.now.trits.now v.scratch.now) (length v.log.now.words.now) v.log.now.state v.given.memory v.given.nets.now v.given.trits.now v.output.now plan c.requires.passed.zero (layout_of mem plan) (λ f. c.if-m-eq0.false (sym (mem_width v.given.memory v.given.nets.now v.given.trits.now) ∙ f)) (mem_depth_lem v.given.memory v.given.nets.now v.given.trits.now ∙ c.if-m-eq0-2.true) v.made.now c.requires.none_yet v.log.now.words.now v.log.now.words.ghost_name (record { words = set_vals c.emit_empty-log.new.log v.log.now.words; state = c.emit_empty-log.result }) c.emit_empty-log.ensures refl
 
 pub returns-then-m-eq0-2-clause-holds_ports : goal.returns-then-m-eq0-2-clause-holds_ports
 returns-then-m-eq0-2-clause-holds_ports c =
@@ -46,7 +46,7 @@ returns-clause-acted c =
     let p = c.params_of-params in
     let x = layout_by p.result v.plan.entries.now in
     let q = ap (λ (y : Params). layout_by y v.plan.entries.now) p.ensures ∙ same_layout v.given.memory v.given.nets.now v.given.trits.now v.plan.swizzle v.plan.entries.now v.plan.writes.now v.plan.reads.now in
-    ran_acted (rooms_of c.requires.passed.image v.made.now.given.nets.now v.made.now.given.trits.now v.scratch.now) (length v.log.now.words.now) v.log.now.state v.given.memory v.given.nets.now v.given.trits.now v.output.now plan c.requires.passed.zero (λ f. c.if-m-eq0.false (sym (mem_width v.given.memory v.given.nets.now v.given.trits.now) ∙ f)) (λ f. c.if-m-eq0-2.false (sym (mem_depth_lem v.given.memory v.given.nets.now v.given.trits.now) ∙ f)) (writes_length v.given.memory _ c.well_formed.1.1.1.0.1.1.0 v.given.nets.now) (reads_length v.given.memory _ c.well_formed.1.1.1.0.1.1.0 v.given.nets.now v.given.trits.now) v.log.now.words.now v.made.now.given.nets.now v.made.now.given.trits.now v.log.now.words.ghost_name refl refl (length v.scratch.now) refl v.made.now.nets_at v.made.now.trits_at v.made.now.memory (going_of e.new.log e.new.made) x q e.ensures.rows_ran
+    ran_acted (rooms_of c.requires.passed.image v.made.now.nets.now v.made.now.trits.now v.scratch.now) (length v.log.now.words.now) v.log.now.state v.given.memory v.given.nets.now v.given.trits.now v.output.now plan c.requires.passed.zero (λ f. c.if-m-eq0.false (sym (mem_width v.given.memory v.given.nets.now v.given.trits.now) ∙ f)) (λ f. c.if-m-eq0-2.false (sym (mem_depth_lem v.given.memory v.given.nets.now v.given.trits.now) ∙ f)) (writes_length v.given.memory _ c.well_formed.1.1.1.0.1.1.0 v.given.nets.now) (reads_length v.given.memory _ c.well_formed.1.1.1.0.1.1.0 v.given.nets.now v.given.trits.now) v.log.now.words.now v.made.now.nets.now v.made.now.trits.now v.log.now.words.ghost_name refl refl (length v.scratch.now) refl v.made.now.nets_at v.made.now.trits_at v.made.now.memory (going_of e.new.log e.new.made) x q e.ensures.rows_ran
 
 pub returns-clause-scratch_unchanged : goal.returns-clause-scratch_unchanged
 returns-clause-scratch_unchanged c =
@@ -57,7 +57,7 @@ returns-clause-scratch_unchanged c =
     let p = c.params_of-params in
     let x = layout_by p.result v.plan.entries.now in
     let q = ap (λ (y : Params). layout_by y v.plan.entries.now) p.ensures ∙ same_layout v.given.memory v.given.nets.now v.given.trits.now v.plan.swizzle v.plan.entries.now v.plan.writes.now v.plan.reads.now in
-    scratch_kept (rooms_of c.requires.passed.image v.made.now.given.nets.now v.made.now.given.trits.now v.scratch.now) (length v.log.now.words.now) v.log.now.state v.given.memory v.given.nets.now v.given.trits.now v.output.now plan c.requires.passed.zero (λ f. c.if-m-eq0.false (sym (mem_width v.given.memory v.given.nets.now v.given.trits.now) ∙ f)) (λ f. c.if-m-eq0-2.false (sym (mem_depth_lem v.given.memory v.given.nets.now v.given.trits.now) ∙ f)) (writes_length v.given.memory _ c.well_formed.1.1.1.0.1.1.0 v.given.nets.now) (reads_length v.given.memory _ c.well_formed.1.1.1.0.1.1.0 v.given.nets.now v.given.trits.now) x q v.scratch.now e.new.scratch e.ensures.all_kept
+    scratch_kept (rooms_of c.requires.passed.image v.made.now.nets.now v.made.now.trits.now v.scratch.now) (length v.log.now.words.now) v.log.now.state v.given.memory v.given.nets.now v.given.trits.now v.output.now plan c.requires.passed.zero (λ f. c.if-m-eq0.false (sym (mem_width v.given.memory v.given.nets.now v.given.trits.now) ∙ f)) (λ f. c.if-m-eq0-2.false (sym (mem_depth_lem v.given.memory v.given.nets.now v.given.trits.now) ∙ f)) (writes_length v.given.memory _ c.well_formed.1.1.1.0.1.1.0 v.given.nets.now) (reads_length v.given.memory _ c.well_formed.1.1.1.0.1.1.0 v.given.nets.now v.given.trits.now) x q v.scratch.now e.new.scratch e.ensures.all_kept
 
 pub returns-clause-holds_ports : goal.returns-clause-holds_ports
 returns-clause-holds_ports c =
@@ -68,4 +68,4 @@ returns-clause-holds_ports c =
     let p = c.params_of-params in
     let x = layout_by p.result v.plan.entries.now in
     let q = ap (λ (y : Params). layout_by y v.plan.entries.now) p.ensures ∙ same_layout v.given.memory v.given.nets.now v.given.trits.now v.plan.swizzle v.plan.entries.now v.plan.writes.now v.plan.reads.now in
-    λ w d. ran_ports (rooms_of c.requires.passed.image v.made.now.given.nets.now v.made.now.given.trits.now v.scratch.now) (length v.log.now.words.now) v.log.now.state v.given.memory v.given.nets.now v.given.trits.now v.output.now plan c.requires.passed.zero (λ f. c.if-m-eq0.false (sym (mem_width v.given.memory v.given.nets.now v.given.trits.now) ∙ f)) (λ f. c.if-m-eq0-2.false (sym (mem_depth_lem v.given.memory v.given.nets.now v.given.trits.now) ∙ f)) (writes_length v.given.memory _ c.well_formed.1.1.1.0.1.1.0 v.given.nets.now) (reads_length v.given.memory _ c.well_formed.1.1.1.0.1.1.0 v.given.nets.now v.given.trits.now) v.log.now.words.now v.made.now.given.nets.now v.made.now.given.trits.now v.log.now.words.ghost_name refl refl (length v.scratch.now) refl v.made.now.nets_at v.made.now.trits_at v.made.now.memory (going_of e.new.log e.new.made) x q e.ensures.rows_ran
+    λ w d. ran_ports (rooms_of c.requires.passed.image v.made.now.nets.now v.made.now.trits.now v.scratch.now) (length v.log.now.words.now) v.log.now.state v.given.memory v.given.nets.now v.given.trits.now v.output.now plan c.requires.passed.zero (λ f. c.if-m-eq0.false (sym (mem_width v.given.memory v.given.nets.now v.given.trits.now) ∙ f)) (λ f. c.if-m-eq0-2.false (sym (mem_depth_lem v.given.memory v.given.nets.now v.given.trits.now) ∙ f)) (writes_length v.given.memory _ c.well_formed.1.1.1.0.1.1.0 v.given.nets.now) (reads_length v.given.memory _ c.well_formed.1.1.1.0.1.1.0 v.given.nets.now v.given.trits.now) v.log.now.words.now v.made.now.nets.now v.made.now.trits.now v.log.now.words.ghost_name refl refl (length v.scratch.now) refl v.made.now.nets_at v.made.now.trits_at v.made.now.memory (going_of e.new.log e.new.made) x q e.ensures.rows_ran

@@ -5,6 +5,7 @@ use native.Mathlib.Nat.{le_of_lt}
 use Rattle.rules.proofs.Writes.{row_end}
 use Rattle.image_rows.specs.Steps.{Low, index_from}
 use Rattle.image_rows.specs.declared.Cursor.{Cursor}
+use Rattle.image_rows.proofs.Sizing.{few}
 use Rattle.image_rows.proofs.Cursors.{after_zero}
 use Rattle.image_rows.proofs.Runs.{run_next, follows_to}
 use Rattle.image_rows.proofs.Rows.put_entries.Goals as goal
@@ -18,7 +19,7 @@ run_length-count-requires c =
     (low.bit_under, omega (arith, c.loop-i-test.true))
 
 pub overflow_add-to : goal.overflow_add-to
-overflow_add-to c = omega (arith, c.run_length-count.ensures.1, c.loop-i-test.true, c.requires.entries_len_bound.0)
+overflow_add-to c = omega (arith, c.run_length-count.ensures.1, c.loop-i-test.true, few c.args.self.ready)
 
 pub overflow_add-c : goal.overflow_add-c
 overflow_add-c c =
@@ -33,9 +34,8 @@ put_run-requires c =
         place_max = omega (arith, low.start_max, low.bit_under, low.unit_max);
         forward = omega arith;
         within = omega (arith, c.run_length-count.ensures.1, c.loop-i-test.true);
-        short = c.requires.entries_len_bound.0;
+        short = few c.args.self.ready;
       };
-      plain = c.requires.entries_len_bound.1;
     }
 
 pub after_run-c-requires : goal.after_run-c-requires

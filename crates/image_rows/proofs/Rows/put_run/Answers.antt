@@ -6,4 +6,4 @@ pub returns-then-to-trits : goal.returns-then-to-trits
 returns-then-to-trits c =
     let a = c.args in
     let r = c.requires.run_of in
-    put_copy a.trits.now a.self.layout.entries.now a.at a.from a.to a.self.plain a.image.now _ c.requires.plain c.if-to-self.true r.forward r.within r.short c.if-to-trits.true c.copy.ensures
+    put_copy a.trits.now a.self.layout.entries.now a.at a.from a.to a.self.plain a.image.now _ c.args.self.ready.plain_are c.if-to-self.true r.forward r.within r.short c.if-to-trits.true c.copy.ensures

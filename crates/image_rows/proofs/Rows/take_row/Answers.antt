@@ -12,7 +12,7 @@ pub take_entries-requires : goal.take_entries-requires
 unfolding row_len_of
 take_entries-requires c =
     let a = c.args in
-    let r = c.requires.ready in
+    let r = c.args.self.ready in
     let q = layout_of a.self.layout in
     let at_row : At q a.row 0 c.cursor_at-first.result = subst (λ (n : ℕ). At q n 0 c.cursor_at-first.result) c.at.ensures.0 c.cursor_at-first.ensures in
     lows q (shape_small q r.ready.sizes) a.self.steps r.ready.steps a.row _ at_row c.requires.row_lt_depth
@@ -20,7 +20,7 @@ take_entries-requires c =
 pub returns : goal.returns
 returns c =
     let a = c.args in
-    let r = c.requires.ready in
+    let r = c.args.self.ready in
     let q = layout_of a.self.layout in
     let at_row : At q a.row 0 c.cursor_at-first.result = subst (λ (n : ℕ). At q n 0 c.cursor_at-first.result) c.at.ensures.0 c.cursor_at-first.ensures in
     c.take_entries.ensures

@@ -12,16 +12,16 @@ pub put_entries-requires : goal.put_entries-requires
 unfolding row_len_of
 put_entries-requires c =
     let a = c.args in
-    let r = c.requires.ready in
+    let r = c.args.self.ready in
     let q = layout_of a.self.layout in
     let z = shape_small q r.ready.sizes in
-    record { lows = lows q z a.self.steps r.ready.steps a.line.number _ c.cursor_at-first.ensures c.requires.number_lt_depth.0; entries_len_bound = (z.len_max, r.plain) }
+    record { lows = lows q z a.self.steps r.ready.steps a.line.number _ c.cursor_at-first.ensures c.requires.number_lt_depth.0 }
 
 pub returns : goal.returns
 unfolding write_row
 returns c =
     let a = c.args in
-    let r = c.requires.ready in
+    let r = c.args.self.ready in
     let q = layout_of a.self.layout in
     c.put_entries.ensures
     ∙ ap (λ (f : ℕ → ℕ). put_row f a.self.layout.entries.now 0 a.trits.now a.image.now) (indexes q (shape_small q r.ready.sizes) a.self.steps r.ready.steps a.line.number _ c.cursor_at-first.ensures)

@@ -1,5 +1,4 @@
--- `port_emulate::log_number` meets its contract.
-use mathlib.Core.Path.{◌∙◌}
+-- `port_emulate::dry_refusal` meets its contract.
 use Rattle.rules.specs.Ports.{emulate_read_before_write}
 use Rattle.log_entries.specs.View.{state_of}
 use Rattle.log_entries.proofs.Emission.{dry_called, unnamed, run_name}
@@ -8,7 +7,7 @@ use Rattle.net_memory.proofs.Sized.{writes_length}
 use Rattle.port_emulate.proofs.Delays.{chains_emulate}
 use Rattle.port_emulate.proofs.Bounds.{below, thin_is, shapes}
 use Rattle.port_emulate.proofs.Number.{dry_run, few_writes}
-use Rattle.port_emulate.proofs.log_number.Goals as goal
+use Rattle.port_emulate.proofs.dry_refusal.Goals as goal
 
 pub emit_ports-requires : goal.emit_ports-requires
 emit_ports-requires c = c.requires
@@ -26,4 +25,4 @@ returns c =
     let e = dry_run m x y v.all_x _ _ b (p.ensures x y) in
     let n = run_name (emulate_read_before_write M) _ _ e in
     dry_called (emulate_read_before_write M) v.room (state_of v.st) _ (chains_emulate M) (below M (thin_is v.st.next m x y z) (shapes v.st.next m x y z) f (state_of v.st))
-    p.new.log.words.now _ (state_of p.new.log.state) c.number_of.result c.dry_start.ensures (unnamed (emulate_read_before_write M) 0 _ _ e) (c.number_of.ensures ∙ q.ensures)
+    p.new.log.words.now _ (state_of p.new.log.state) _ c.dry_start.ensures (unnamed (emulate_read_before_write M) 0 _ _ e) q.ensures
