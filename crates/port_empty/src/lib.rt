@@ -8,12 +8,11 @@ ghost use Rattle.rules.specs.Log.{replace_value_of};
 ghost use Rattle.rules.specs.Refusal.{number_of};
 ghost use Rattle.rules.specs.Refusals.{log_refusal};
 ghost use Rattle.log_entries.specs.Emission.{run};
-ghost use Rattle.log_entries.specs.View.{state_of, lent, lent_of};
+ghost use Rattle.log_entries.specs.View.{state_of, lent_of};
 ghost use Rattle.port_empty.specs.Empty.{emptied_if};
 ghost use Rattle.net_memory.specs.Given.{mem_of};
 
 use log_entries::{Log, LogState};
-use merge_mux::emit::Keys;
 use net_memory::Given;
 use port_transparency::Overlay;
 use rules::Refusal;
@@ -45,29 +44,13 @@ fn emit_emptied(
     emit_unknown(log, after, n);
 }
 
-// Depth 0 of a swizzle, without its numbers, of a log and a state apart; the same function runs dry on an empty log.
-pub fn emit_empty(log: &mut [u32], st: LogState, given: Given<'_>, output: &[u32]) -> LogState
-    ensures { lent result log.new ≡ run (emptied_if (mem_of given.entry) output.now) (lent st log.old) }
+// Depth 0 of a swizzle, without its numbers; the same function runs dry on an empty log.
+pub fn emit_empty(log: &mut Log, given: Given<'_>, output: &[u32])
+    ensures { lent_of log.new ≡ run (emptied_if (mem_of given.entry) output.now) (lent_of log.old) }
 {
     let mut after = [0u32; rules::MAX_OUTPUTS];
-    let mut overlay = Overlay {
-        under: [0; rules::MAX_MERGE],
-        bits: [0; rules::MAX_MERGE],
-        mask: [0; rules::MAX_MERGE],
-        select: [0; rules::MAX_MERGE],
-        spare: [0; rules::MAX_MERGE],
-        keys: Keys {
-            x: [0; rules::MAX_MERGE],
-            y: [0; rules::MAX_MERGE],
-            at: [0; rules::MAX_MERGE],
-        },
-    };
-    let mut log = Log {
-        words: log,
-        state: st,
-    };
-    emit_emptied(&mut log, &mut overlay, &mut after, given, output);
-    log.state
+    let mut overlay = Overlay::new();
+    emit_emptied(log, &mut overlay, &mut after, given, output);
 }
 
 // 20 and 21 of it, by a run without a log.
@@ -79,6 +62,10 @@ pub fn empty_refusal(
 ) -> Result<(), Refusal>
     ensures { number_of result ≡ log_refusal room (state_of st) (emptied_if (mem_of given.entry) output.now) }
 {
-    let dry = emit_empty(&mut [], st.dry_start(), given, output);
-    st.dry_refusal(room, dry)
+    let mut dry = Log {
+        words: &mut [],
+        state: st.dry_start(),
+    };
+    emit_empty(&mut dry, given, output);
+    st.dry_refusal(room, dry.state)
 }

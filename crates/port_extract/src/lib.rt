@@ -10,7 +10,7 @@ ghost use Rattle.rules.specs.Refusal.{number_of};
 ghost use Rattle.rules.specs.Refusals.{no_rooms, extract_read_ports_refusal};
 ghost use Rattle.rules.specs.Answers.{extract_read_ports_call};
 ghost use Rattle.net_memory.specs.View.{memory_of, read_nets};
-ghost use Rattle.net_memory.specs.Given.{given_of, view_given};
+ghost use Rattle.net_memory.specs.Given.{view_given};
 ghost use Rattle.port_extract.specs.Extract.{extracted_of, kept_port, kept_trits, with_ports, new_nets, new_trits, extraction_of, new_output, NewStruct, ListedPorts, Ready};
 
 use net_memory::{Given, Memory, MemoryReadPort};
@@ -46,6 +46,9 @@ fn clocked_trits(m: Memory, trits: &[u8], i: usize) -> &[u8]
 }
 
 // Stores the addresses of the listed ports from `start` on, and says where they end.
+//
+// `put_values` and `put_outputs` have the same loop over other arrays, of other items and by other starts and sizes: one loop over a closure would be
+// no plainer.
 fn put_addrs(room: &mut [u32], start: usize, m: Memory, nets: &[u32], list: &[u32]) -> usize
     requires { (start ≤ 0x1800000000) × (length list.now ≤ max_ports) }
     ensures value { result ≡ start + length (concat_map (read_nets m nets.now) list.now) }
@@ -148,7 +151,7 @@ fn pick_ports(m: Memory, list: &[u32]) -> Memory
 // What is to be stored does not fit its room: a run without room stores nothing that is kept.
 fn rooms_bad(given: Given<'_>, list: &[u32], output: &[u32], a: usize, b: usize, c: usize) -> bool
     requires { Ready given.memory given.nets.now given.trits.now list.now }
-    ensures { result ≡ no_rooms (record { nets = a; trits = b; output = c }) (extraction_of given.entry.memory nets.entry.now given.entry.trits.now list.now output.now) }
+    ensures { result ≡ no_rooms (record { nets = a; trits = b; output = c }) (extraction_of given.entry.memory given.entry.nets.now given.entry.trits.now list.now output.now) }
 {
     let mut words = [0u32; 1];
     let mut codes = [0u8; 1];
@@ -171,7 +174,7 @@ fn extract_refusal(
     b: usize,
     c: usize,
 ) -> Result<(), Refusal>
-    ensures { number_of result ≡ extract_read_ports_refusal (record { nets = a; trits = b; output = c }) (given_of given.entry.memory nets.entry.now given.entry.trits.now) list.now output.now }
+    ensures { number_of result ≡ extract_read_ports_refusal (record { nets = a; trits = b; output = c }) (view_given given.entry) list.now output.now }
 {
     let long = rules::MAX_PORTS < list.len();
     port_outputs::driving_refusal(given, output, rules::MAX_NETS, long)?;

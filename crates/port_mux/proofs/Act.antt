@@ -1,4 +1,5 @@
 -- How the numbers, the log, the state and the rooms join to the whole answer.
+use Rattle.std.specs.Prelude.{Ok, Err}
 use mathlib.Core.Path.{◌≡◌, refl, sym, ap, ◌∙◌}
 use mathlib.Core.Logic.{◌≢◌}
 use Prim.Native.Nat.{ℕ, ◌≤◌}
@@ -21,7 +22,9 @@ use Rattle.log_entries.specs.Emission.{Lent, is_over}
 use Rattle.log_entries.specs.View.{state_of, lent}
 use Rattle.log_entries.specs.declared.LogState as machine
 use Rattle.log_entries.proofs.Emission.{accepted_run, accepted_held}
-use Rattle.port_mux.specs.declared.Answer.TheVariants.{Refused, Accepted}
+use Rattle.rules.specs.declared.numbers.Refusal.{Refusal}
+use Rattle.rules.specs.Refusal.{number}
+use Rattle.rules.proofs.Answers.{number_nonzero, refused_by}
 use Rattle.rules.specs.Log.{state_after, log_after}
 use borrow.Author.Tests.{ne_eqb}
 use Rattle.lists.specs.Choice.{leaves}
@@ -34,23 +37,23 @@ use Rattle.port_mux.specs.Call.{overlay_of, wanted_of, logged_of, overlaid_of, o
 -- ---- the two ways an answer is made
 module _ {A : Type 0} (v : A) (N : ℕ) (log : List ℕ) (s : LogState) (t : Trace A) where
   -- a refused call
-  pub refused : (n : ℕ) → n ≡ N → n ≢ 0 → logged_of v (Refused n) log ≡ rules.logged N log s t
+  pub refused : (e : Refusal) → number e ≡ N → logged_of v (Err e) log ≡ rules.logged N log s t
   unfolding rules.logged rules.answer_of leaves
-  refused n e h = rw (← e, ne_eqb n 0 h)
+  refused e h = rw (← h, ne_eqb (number e) 0 (number_nonzero e))
 
   -- an accepted one
   pub accepted : (after : List ℕ) (r : machine.LogState) → N ≡ 0 → v ≡ (t s.next).value → state_of r ≡ state_after s (t s.next) → after ≡ log_after log s (t s.next)
-      → logged_of v (Accepted r) after ≡ rules.logged N log s t
+      → logged_of v (Ok r) after ≡ rules.logged N log s t
   unfolding rules.logged rules.answer_of rules.after leaves
   accepted after r z e f g = rw z (λ i. record { answer = rules.Accepted (record { value = e i; state = f i }); log = g i })
 
-pub overlaid_refused : (masked : Bool) (k N n : ℕ) (bits mask log : List ℕ) (s : LogState) (t : Trace Overlay) → n ≡ N → n ≢ 0
-    → overlaid_of masked k (Refused n) log bits mask ≡ overlaid N bits mask log s t
+pub overlaid_refused : (masked : Bool) (k N : ℕ) (e : Refusal) (bits mask log : List ℕ) (s : LogState) (t : Trace Overlay) → number e ≡ N
+    → overlaid_of masked k (Err e) log bits mask ≡ overlaid N bits mask log s t
 unfolding overlaid
-overlaid_refused masked k N n bits mask log s t e h =
-    let z : N ≢ 0 = λ q. h (e ∙ q) in
+overlaid_refused masked k N e bits mask log s t h =
+    let z = refused_by e N h in
     λ i. record {
-      logged = refused (overlay_of masked (take k bits) (take k mask)) N log s t n e h i;
+      logged = refused (overlay_of masked (take k bits) (take k mask)) N log s t e h i;
       bits = sym (leaves_refused N bits (sets bits 0 (t s.next).value.bits) z) i;
       mask = sym (leaves_refused N mask (sets mask 0 (or_empty (t s.next).value.mask)) z) i;
     }
@@ -70,15 +73,15 @@ unfolding or_empty
 wanted_is true a b = refl
 wanted_is false a b = refl
 
-module _ (masked : Bool) (k : ℕ) (bits bits' mask mask' under over log log' : List ℕ) (st st' : machine.LogState) (t : Trace Overlay) (c : Chains t) (n : ℕ) where
-  pub overlaid-done : (d : ℕ) → d ≡ k → n ≡ log_refusal (length log) (state_of st) t → n ≡ 0 → Gave t (lent st log) (lent st' log') (overlay_of masked (take d under) (take d over))
+module _ (masked : Bool) (k : ℕ) (bits bits' mask mask' under over log log' : List ℕ) (st st' : machine.LogState) (t : Trace Overlay) (c : Chains t) where
+  pub overlaid-done : (d : ℕ) → d ≡ k → 0 ≡ log_refusal (length log) (state_of st) t → Gave t (lent st log) (lent st' log') (overlay_of masked (take d under) (take d over))
       → bits' ≡ sets bits 0 (take k under) → mask' ≡ sets mask 0 (wanted_of masked (take k over))
       → k ≤ length bits → (masked ≡ true → k ≤ length mask) → k ≤ length under → k ≤ length over
-      → overlaid_of masked k (Accepted st') log' bits' mask' ≡ overlaid (log_refusal (length log) (state_of st) t) bits mask log (state_of st) t
+      → overlaid_of masked k (Ok st') log' bits' mask' ≡ overlaid (log_refusal (length log) (state_of st) t) bits mask log (state_of st) t
   unfolding overlaid
-  overlaid-done d ed e z g eb em hb hm gu go =
+  overlaid-done d ed e g eb em hb hm gu go =
       let s = state_of st in
-      let y = sym e ∙ z in
+      let y = sym e in
       let q = g.ran ∙ accepted_run t (length log) s log c y in
       let o = ap (λ (x : Lent). is_over x.state) g.ran ∙ accepted_held t (length log) s log c y in
       let v = ap (λ (x : ℕ). overlay_of masked (take x under) (take x over)) (sym ed) ∙ g.value o in
@@ -116,16 +119,16 @@ module _ (masked : Bool) (m : Memory) (nets trits : List ℕ) (i j : ℕ) (bits 
   unfolding transparency_mux_refusal
   first h = else_first input _ h
 
-  pub input_refused : (k n : ℕ) → n ≡ input → n ≢ 0 → overlaid_of masked k (Refused n) log bits-to mask-to ≡ call
-  input_refused k n e h = overlaid_refused masked k whole n bits-to mask-to log (state_of st) T (e ∙ sym (first (λ z. h (e ∙ z)))) h ∙ call_is
+  pub input_refused : (k : ℕ) (e : Refusal) → number e ≡ input → overlaid_of masked k (Err e) log bits-to mask-to ≡ call
+  input_refused k e h = overlaid_refused masked k whole e bits-to mask-to log (state_of st) T (h ∙ sym (first (refused_by e input h))) ∙ call_is
 
   module _ (z : input ≡ 0) where
     rest : whole ≡ (room or_else log_refusal (length log) (state_of st) T)
     unfolding transparency_mux_refusal
     rest = else_rest input _ z
 
-    pub room_refused : (k n : ℕ) → n ≡ room → n ≢ 0 → overlaid_of masked k (Refused n) log bits-to mask-to ≡ call
-    room_refused k n e h = overlaid_refused masked k whole n bits-to mask-to log (state_of st) T (e ∙ sym (rest ∙ else_first room _ (λ q. h (e ∙ q)))) h ∙ call_is
+    pub room_refused : (k : ℕ) (e : Refusal) → number e ≡ room → overlaid_of masked k (Err e) log bits-to mask-to ≡ call
+    room_refused k e h = overlaid_refused masked k whole e bits-to mask-to log (state_of st) T (h ∙ sym (rest ∙ else_first room _ (refused_by e room h))) ∙ call_is
 
     pub log_last : (x : rules.Overlaid) → room ≡ 0 → x ≡ overlaid (log_refusal (length log) (state_of st) T) bits-to mask-to log (state_of st) T → x ≡ call
     log_last x q e = e ∙ ap (λ (n : ℕ). overlaid n bits-to mask-to log (state_of st) T) (sym (rest ∙ else_rest room _ q)) ∙ call_is

@@ -1,6 +1,5 @@
 -- The tests of an overlay and of a pair of ports, and the numbers in their order.
 use mathlib.Core.Path.{◌≡◌, refl, sym, ap, ◌∙◌}
-use mathlib.Core.Logic.{◌≢◌}
 use Prim.Native.Nat.{ℕ, ◌<◌, ◌≤◌, min}
 use mathlib.Core.Bool.{Bool, true, false, not, ◌&&◌, ◌||◌}
 use mathlib.Core.List.{List}
@@ -9,7 +8,9 @@ use lib.Dec.{eqb, ltb, leb}
 use borrow.Author.Tests.{le-leb, lt-leb, lt-ltb, le-ltb}
 use Rattle.lists.specs.Choice.{when◌then◌else◌}
 use Rattle.lists.specs.Lists.{any}
-use Rattle.lists.proofs.Choice.{else_first, else_rest}
+use Rattle.rules.specs.declared.numbers.Refusal.{Refusal}
+use Rattle.rules.specs.Refusal.{number}
+use Rattle.rules.proofs.Answers.{else_err, else_ok}
 use Rattle.rules.specs.Limits.{max_ports}
 use Rattle.rules.specs.Value.{Value}
 use Rattle.rules.specs.Cell.{ReadPort, Mem, wide_log2, read_wide_log2, read_at_of, held}
@@ -121,19 +122,18 @@ module _ (m : Memory) (nets trits : List ℕ) (i : ℕ) (rl : length (reads_of m
       pair_0 e = λ k. when not (sym both_there k) && e k then 14 else when sym both_there k then 15 else 0
 
 -- ---- the numbers
-module _ (next : ℕ) (m : Memory) (nets trits : List ℕ) (i j : ℕ) (o : Overlay) (one two four : Bool) (n : ℕ)
-    (e1 : one ≡ any long_value (overlay_values o)) (e2 : two ≡ bad_overlay_lens (memory_of m nets trits) i o) (e4 : four ≡ any (bad_value next) (overlay_values o))
-    (e : n ≡ mem_number one two four next (given_of m nets trits)) where
-  first_is : n ≡ mem_number (any long_value (overlay_values o)) (bad_overlay_lens (memory_of m nets trits) i o) (any (bad_value next) (overlay_values o)) next (given_of m nets trits)
-  first_is = e ∙ (λ k. mem_number (e1 k) (e2 k) (e4 k) next (given_of m nets trits))
+module _ (next : ℕ) (m : Memory) (nets trits : List ℕ) (i j : ℕ) (o : Overlay) (one two four : Bool)
+    (e1 : one ≡ any long_value (overlay_values o)) (e2 : two ≡ bad_overlay_lens (memory_of m nets trits) i o) (e4 : four ≡ any (bad_value next) (overlay_values o)) where
+  first_is : mem_number one two four next (given_of m nets trits) ≡ mem_number (any long_value (overlay_values o)) (bad_overlay_lens (memory_of m nets trits) i o) (any (bad_value next) (overlay_values o)) next (given_of m nets trits)
+  first_is = λ k. mem_number (e1 k) (e2 k) (e4 k) next (given_of m nets trits)
 
-  pub num_first : n ≢ 0 → n ≡ transparency_mux_number next (given_of m nets trits) i j o
+  pub num_first : (e : Refusal) → number e ≡ mem_number one two four next (given_of m nets trits) → number e ≡ transparency_mux_number next (given_of m nets trits) i j o
   unfolding transparency_mux_number
-  num_first h = first_is ∙ sym (else_first _ _ (λ z. h (first_is ∙ z)))
+  num_first e h = else_err e _ _ (h ∙ first_is)
 
-  pub num_rest : n ≡ 0 → (r : ℕ) → r ≡ pair_ports_number (memory_of m nets trits) i j → r ≡ transparency_mux_number next (given_of m nets trits) i j o
+  pub num_rest : 0 ≡ mem_number one two four next (given_of m nets trits) → (r : ℕ) → r ≡ pair_ports_number (memory_of m nets trits) i j → r ≡ transparency_mux_number next (given_of m nets trits) i j o
   unfolding transparency_mux_number
-  num_rest z r q = q ∙ sym (else_rest _ _ (sym first_is ∙ z))
+  num_rest z r q = else_ok _ _ r (z ∙ first_is) q
 
 -- ---- the rooms
 module _ (bits mask n : ℕ) (masked : Bool) (b k : Value) where

@@ -1,5 +1,5 @@
 -- `transparency_mux` on a machine's memory: the overlay, the whole answer as the rules have it, and what numbers 1 to 4, 14 and 15 leave true.
-use Rattle.std.specs.Prelude.{◌≡◌, ℕ, ◌<◌, ◌≤◌, min, Bool, true, false, List, [], length, take}
+use Rattle.std.specs.Prelude.{◌≡◌, ℕ, ◌<◌, ◌≤◌, min, Bool, true, false, List, [], length, take, Result}
 use Rattle.std.proofs.Math.Option.{none, some}
 use Rattle.std.proofs.lemmas.List.Edits.{sets}
 use Rattle.lists.specs.Choice.{when◌then◌else◌, leaves}
@@ -12,9 +12,10 @@ use Rattle.rules.specs.Conditions.{bad_write_shape, bad_read_shape, short_pair}
 use Rattle.rules.specs.Ports.{Overlay}
 use Rattle.rules.specs.Answers.{Overlaid, logged}
 use Rattle.rules.specs.Answers as rules
+use Rattle.rules.specs.declared.numbers.Refusal.{Refusal}
+use Rattle.rules.specs.Refusal.{answer_by}
+use Rattle.log_entries.specs.declared.LogState as machine
 use Rattle.log_entries.specs.View.{state_of}
-use Rattle.port_mux.specs.declared.Answer.{Answer}
-use Rattle.port_mux.specs.declared.Answer.TheVariants.{Refused, Accepted}
 use Rattle.net_memory.specs.declared.Memory.{Memory}
 use Rattle.net_memory.specs.View.{memory_of, read_port}
 
@@ -28,15 +29,14 @@ wanted_of wanted v = when wanted then v else []
 
 module _ {A : Type 0} where
   -- v is the value of an accepted call
-  abbrev pub request_of : A → Answer → rules.Answer (rules.After A)
-  request_of v (Refused n) = rules.Refused n
-  request_of v (Accepted s) = rules.Accepted (record { value = v; state = state_of s })
+  abbrev pub request_of : A → Result machine.LogState Refusal → rules.Answer (rules.After A)
+  request_of v r = answer_by (λ s. record { value = v; state = state_of s }) r
 
-  abbrev pub logged_of : A → Answer → List ℕ → rules.Logged A
+  abbrev pub logged_of : A → Result machine.LogState Refusal → List ℕ → rules.Logged A
   logged_of v r log = record { answer = request_of v r; log = log }
 
 -- the machine's answer: the first n nets of the rooms are the overlay after
-abbrev pub overlaid_of : Bool → ℕ → Answer → List ℕ → List ℕ → List ℕ → Overlaid
+abbrev pub overlaid_of : Bool → ℕ → Result machine.LogState Refusal → List ℕ → List ℕ → List ℕ → Overlaid
 overlaid_of masked n r log bits mask = record { logged = logged_of (overlay_of masked (take n bits) (take n mask)) r log; bits = bits; mask = mask }
 
 -- the answer of a call by its number and its trace

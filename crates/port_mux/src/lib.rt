@@ -9,6 +9,7 @@ ghost use Rattle.lists.specs.Lists.{any};
 ghost use Rattle.rules.specs.Limits.{max_merge};
 ghost use Rattle.rules.specs.Conditions.{long_value, bad_value};
 ghost use Rattle.rules.specs.Ports.{transparency_mux};
+ghost use Rattle.rules.specs.Refusal.{number_of};
 ghost use Rattle.rules.specs.Refusals.{log_refusal, overlay_values, bad_overlay_lens, pair_ports_number, transparency_mux_number, overlay_refusal};
 ghost use Rattle.rules.specs.Answers.{transparency_mux_call};
 ghost use Rattle.log_entries.specs.View.{state_of, lent_of};
@@ -18,16 +19,9 @@ ghost use Rattle.port_transparency.specs.Gave.{Gave};
 ghost use Rattle.port_mux.specs.Call.{overlay_of, wanted_of, overlaid_of, overlaid, Paired};
 
 use log_entries::{Log, LogState};
-use merge_mux::emit::Keys;
 use net_memory::{Given, Memory, MemoryReadPort};
 use port_transparency::{Overlay, Reading};
-
-// The number of the refusal, or the state after the request.
-#[derive(Clone, Copy)]
-pub enum Answer {
-    Refused(u32),
-    Accepted(LogState),
-}
+use rules::Refusal;
 
 // A value has more nets than a merge takes.
 fn overlay_long(bits: &[u32], mask: &[u32], masked: bool) -> bool
@@ -73,26 +67,26 @@ fn overlay_bad(next: u32, bits: &[u32], mask: &[u32], masked: bool) -> bool
     !net_value::value_good(next, mask)
 }
 
-// 14 and 15 of a pair of ports, or 0.
-fn pair_number(m: Memory, nets: &[u32], i: usize, j: usize) -> u32
-    ensures { (trits : List ℕ) → result ≡ pair_ports_number (memory_of m nets.now trits) i j }
+// 14 and 15 of a pair of ports.
+fn pair_refusal(m: Memory, nets: &[u32], i: usize, j: usize) -> Result<(), Refusal>
+    ensures { (trits : List ℕ) → number_of result ≡ pair_ports_number (memory_of m nets.now trits) i j }
 {
     if net_memory::ports_used(m.read_count) <= i {
-        return 15;
+        return Err(Refusal::OutOfRange);
     }
     if net_memory::ports_used(m.write_count) <= j {
-        return 15;
+        return Err(Refusal::OutOfRange);
     }
     let p = m.read_ports[i];
     let kr = net_memory::wide::wide_log(m.width, p.data_len as usize);
     if port_unmap::pair_short(m, nets, net_memory::read_nets(m, nets, i), kr, j) {
-        return 14;
+        return Err(Refusal::ShortAddress);
     }
-    0
+    Ok(())
 }
 
-// 1 to 4, 14 and 15, or 0.
-fn mux_number(
+// 1 to 4, 14 and 15.
+fn mux_refusal(
     given: Given<'_>,
     i: usize,
     j: usize,
@@ -100,33 +94,30 @@ fn mux_number(
     mask: &[u32],
     masked: bool,
     next: u32,
-) -> u32
-    ensures { result ≡ transparency_mux_number next (view_given given.entry) i j (overlay_of masked bits.now mask.now) }
+) -> Result<(), Refusal>
+    ensures { number_of result ≡ transparency_mux_number next (view_given given.entry) i j (overlay_of masked bits.now mask.now) }
 {
     let one = overlay_long(bits, mask, masked);
     let two = overlay_unlike(given.memory, bits, mask, masked, i);
     let four = overlay_bad(next, bits, mask, masked);
-    let n = rules::number_of(net_check::call_refusal(given, next, one, two, four));
-    if n != 0 {
-        return n;
-    }
-    pair_number(given.memory, given.nets, i, j)
+    net_check::call_refusal(given, next, one, two, four)?;
+    pair_refusal(given.memory, given.nets, i, j)
 }
 
-// 20 where the data or the mask after, of n nets, do not fit the rooms for them, or 0.
-fn room_number(data_room: usize, mask_room: usize, n: usize, masked: bool) -> u32
-    ensures { (b k : List ℕ) → result ≡ overlay_refusal (record { bits = data_room; mask = mask_room }) n (overlay_of masked b k) }
+// 20 where the data or the mask after, of n nets, do not fit the rooms for them.
+fn room_refusal(data_room: usize, mask_room: usize, n: usize, masked: bool) -> Result<(), Refusal>
+    ensures { (b k : List ℕ) → number_of result ≡ overlay_refusal (record { bits = data_room; mask = mask_room }) n (overlay_of masked b k) }
 {
     if data_room < n {
-        return 20;
+        return Err(Refusal::NoRoom);
     }
     if !masked {
-        return 0;
+        return Ok(());
     }
     if mask_room < n {
-        return 20;
+        return Err(Refusal::NoRoom);
     }
-    0
+    Ok(())
 }
 
 // What a call is asked for: data, and a mask where `masked` says so.
@@ -166,7 +157,7 @@ fn emit_mux<'a>(
 }
 
 // 20 and 21 of it, by a run without a log.
-fn dry_number(
+fn dry_refusal(
     room: usize,
     st: LogState,
     overlay: &mut Overlay,
@@ -176,16 +167,16 @@ fn dry_number(
     p: MemoryReadPort,
     j: usize,
     o: Asked,
-) -> u32
+) -> Result<(), Refusal>
     requires { Paired given.memory given.nets.now given.trits.now i j o.masked o.bits.now o.mask.now × (p ≡ read_port given.memory i) }
-    ensures { result ≡ log_refusal room (state_of st) (transparency_mux (mem_of given.entry) i j (overlay_of o.entry.masked o.entry.bits.now o.entry.mask.now)) }
+    ensures { number_of result ≡ log_refusal room (state_of st) (transparency_mux (mem_of given.entry) i j (overlay_of o.entry.masked o.entry.bits.now o.entry.mask.now)) }
 {
     let mut dry = Log {
         words: &mut [],
         state: st.dry_start(),
     };
     emit_mux(&mut dry, overlay, over, given, i, p, j, o);
-    rules::number_of(st.dry_refusal(room, dry.state))
+    st.dry_refusal(room, dry.state)
 }
 
 // The first n nets of `from`, where they are wanted, into lent room.
@@ -210,27 +201,13 @@ fn mux_fitting(
     p: MemoryReadPort,
     j: usize,
     o: Asked,
-) -> Answer
+) -> Result<LogState, Refusal>
     requires { Paired given.memory given.nets.now given.trits.now i j o.masked o.bits.now o.mask.now × (p ≡ read_port given.memory i) × (p.data_len ≤ length bits_to.old) × (o.masked ≡ true → p.data_len ≤ length mask_to.old) }
     ensures { overlaid_of o.entry.masked (length o.entry.bits.now) result log.new bits_to.new mask_to.new ≡ overlaid (log_refusal (length log.old) (state_of st) (transparency_mux (mem_of given.entry) i j (overlay_of o.entry.masked o.entry.bits.now o.entry.mask.now))) bits_to.old mask_to.old log.old (state_of st) (transparency_mux (mem_of given.entry) i j (overlay_of o.entry.masked o.entry.bits.now o.entry.mask.now)) }
 {
-    let mut overlay = Overlay {
-        under: [0; rules::MAX_MERGE],
-        bits: [0; rules::MAX_MERGE],
-        mask: [0; rules::MAX_MERGE],
-        select: [0; rules::MAX_MERGE],
-        spare: [0; rules::MAX_MERGE],
-        keys: Keys {
-            x: [0; rules::MAX_MERGE],
-            y: [0; rules::MAX_MERGE],
-            at: [0; rules::MAX_MERGE],
-        },
-    };
+    let mut overlay = Overlay::new();
     let mut over = [0u32; rules::MAX_MERGE];
-    let k = dry_number(log.len(), st, &mut overlay, &mut over, given, i, p, j, o);
-    if k != 0 {
-        return Answer::Refused(k);
-    }
+    dry_refusal(log.len(), st, &mut overlay, &mut over, given, i, p, j, o)?;
     let mut log = Log {
         words: log,
         state: st,
@@ -238,7 +215,7 @@ fn mux_fitting(
     emit_mux(&mut log, &mut overlay, &mut over, given, i, p, j, o);
     store(bits_to, &overlay.under, o.bits.len(), true);
     store(mask_to, &over, o.bits.len(), o.masked);
-    Answer::Accepted(log.state)
+    Ok(log.state)
 }
 
 // A pair that numbers 1 to 4, 14 and 15 pass: the rooms, and then the log.
@@ -254,14 +231,11 @@ fn mux_pair(
     bits: &[u32],
     mask: &[u32],
     masked: bool,
-) -> Answer
+) -> Result<LogState, Refusal>
     requires { (transparency_mux_number st.next (view_given given) i j (overlay_of masked bits.now mask.now) ≡ 0) × (p ≡ read_port given.memory i) }
     ensures { overlaid_of masked (length bits.now) result log.new bits_to.new mask_to.new ≡ transparency_mux_call bits_to.old mask_to.old log.old (state_of st) (view_given given.entry) i j (overlay_of masked bits.now mask.now) }
 {
-    let n = room_number(bits_to.len(), mask_to.len(), bits.len(), masked);
-    if n != 0 {
-        return Answer::Refused(n);
-    }
+    room_refusal(bits_to.len(), mask_to.len(), bits.len(), masked)?;
     let o = Asked { bits, mask, masked };
     mux_fitting(log, st, bits_to, mask_to, given, i, p, j, o)
 }
@@ -280,14 +254,12 @@ pub fn transparency_mux(
     bits: &[u32],
     mask: &[u32],
     masked: bool,
-) -> Answer
+) -> Result<LogState, Refusal>
     ensures { overlaid_of masked (length bits.now) result log.new bits_to.new mask_to.new ≡ transparency_mux_call bits_to.old mask_to.old log.old (state_of st) (view_given given.entry) read write (overlay_of masked bits.now mask.now) }
 {
-    let n = mux_number(given, read, write, bits, mask, masked, st.next);
-    if n != 0 {
-        return Answer::Refused(n);
-    }
-    let p = given.memory.read_ports[read];
+    mux_refusal(given, read, write, bits, mask, masked, st.next)?;
+    let m = given.memory;
+    let p = m.read_ports[read];
     mux_pair(
         log, st, bits_to, mask_to, given, read, p, write, bits, mask, masked,
     )

@@ -1,2 +1,3 @@
 -- The definitions that the contracts of port_reset_emit cite.
 pub mod Behind
+pub mod Room

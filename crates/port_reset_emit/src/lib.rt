@@ -13,6 +13,7 @@ ghost use Rattle.port_transparency.specs.Gave.{Gave};
 ghost use Rattle.port_transparency.specs.Pairs.{read_of};
 ghost use Rattle.port_overlay.specs.Laid.{with_bits};
 ghost use Rattle.port_reset_emit.specs.Behind.{start_trit, mask_behind, mask_of, choice, reset_behind, reset_laid, reset_if};
+ghost use Rattle.port_reset_emit.specs.Room.{zero_mask};
 
 use log_entries::Log;
 use merge_dff::Trits;
@@ -27,6 +28,25 @@ pub struct Mask {
     pub trits: Trits,
     pub ones: [u8; rules::MAX_MERGE],
     pub starts: [u8; rules::MAX_MERGE],
+}
+
+impl Mask {
+    // A room of zeros.
+    #[tactic(auto, unfolding(crate::specs::Room::zero_mask))]
+    pub fn new() -> Mask
+        ensures { result ≡ zero_mask }
+    {
+        Mask {
+            over: [0; rules::MAX_MERGE],
+            trits: Trits {
+                clear: [0; rules::MAX_MERGE],
+                reset: [0; rules::MAX_MERGE],
+                init: [0; rules::MAX_MERGE],
+            },
+            ones: [0; rules::MAX_MERGE],
+            starts: [0; rules::MAX_MERGE],
+        }
+    }
 }
 
 // The void nets of an unmapping: from `first` on, `last` is the net after them.

@@ -13,8 +13,9 @@ use Rattle.rules.specs.Log.{Entry, Void, Dff, Trace, ◌>>=◌, done, request, a
 use Rattle.rules.proofs.Chain.{chains_void, chains_dff}
 use Rattle.rules.specs.Beside.Chain.{Chains}
 use Rattle.rules.proofs.Traces.{bind_value}
+use Rattle.std.specs.Borrow.{GName}
 use Rattle.log_entries.specs.Emission.{Lent, is_over, emit, run}
-use Rattle.log_entries.proofs.Emission.{run-done, run_then, run_next, run-held}
+use Rattle.log_entries.proofs.Emission.{named, unnamed, run-done, run_then, run_next, run-held}
 use Rattle.merge_mux.proofs.Nets.{request_nets}
 use Rattle.port_transparency.specs.Gave.{Gave}
 
@@ -30,6 +31,10 @@ module _ {A : Type 0} where
   -- it did not start so
   pub gave_held : (t : Trace A) (l l1 : Lent) → l1 ≡ run t l → is_over l1.state ≡ false → is_over l.state ≡ false
   gave_held t l l1 e o = run-held t l (sym (ap (λ (x : Lent). is_over x.state) e) ∙ o)
+
+  -- what ran on a log, ran on its words and state
+  pub gave_unnamed : (n : GName) (t : Trace A) (l k : Lent) (v : A) → Gave t l k v → Gave t (named n l) (named n k) v
+  gave_unnamed n t l k v g = record { ran = unnamed t n l k g.ran; value = g.value }
 
 -- one trace and then the trace of its value
 module _ {A B : Type 0} (t : Trace A) (f : A → Trace B) (l l1 l2 : Lent) (v : A) (w : B) where

@@ -11,7 +11,7 @@ use Rattle.port_extract.proofs.extract_refusal.Goals as goal
 pub returns-then-port_missing : goal.returns-then-port_missing
 returns-then-port_missing c =
     let v = c.args in
-    by_port v.given.memory v.given.nets.now v.given.trits.now v.list.now v.output.now (record { nets = v.a; trits = v.given.memory; output = v.c }) (sym (c.in_ok-driving_refusal.ensures ∙ ap (λ (t : Bool). driving_number t max_nets (given_of v.given.memory v.given.nets.now v.given.trits.now) v.output.now) (long_by v.list.now))) (sym (c.port_missing.ensures v.given.nets.now v.given.trits.now) ∙ c.if-port_missing.true)
+    by_port v.given.memory v.given.nets.now v.given.trits.now v.list.now v.output.now (record { nets = v.a; trits = v.b; output = v.c }) (sym (c.in_ok-driving_refusal.ensures ∙ ap (λ (t : Bool). driving_number t max_nets (given_of v.given.memory v.given.nets.now v.given.trits.now) v.output.now) (long_by v.list.now))) (sym (c.port_missing.ensures v.given.nets.now v.given.trits.now) ∙ c.if-port_missing.true)
 
 pub rooms_bad-requires : goal.rooms_bad-requires
 rooms_bad-requires c =
@@ -22,9 +22,9 @@ rooms_bad-requires c =
 pub returns-then-rooms_bad : goal.returns-then-rooms_bad
 returns-then-rooms_bad c =
     let v = c.args in
-    by_room v.given.memory v.given.nets.now v.given.trits.now v.list.now v.output.now (record { nets = v.a; trits = v.given.memory; output = v.c }) (sym (c.in_ok-driving_refusal.ensures ∙ ap (λ (t : Bool). driving_number t max_nets (given_of v.given.memory v.given.nets.now v.given.trits.now) v.output.now) (long_by v.list.now))) (sym (c.port_missing.ensures v.given.nets.now v.given.trits.now) ∙ c.if-port_missing.false) (sym c.rooms_bad.ensures ∙ c.if-rooms_bad.true)
+    by_room v.given.memory v.given.nets.now v.given.trits.now v.list.now v.output.now (record { nets = v.a; trits = v.b; output = v.c }) (sym (c.in_ok-driving_refusal.ensures ∙ ap (λ (t : Bool). driving_number t max_nets (given_of v.given.memory v.given.nets.now v.given.trits.now) v.output.now) (long_by v.list.now))) (sym (c.port_missing.ensures v.given.nets.now v.given.trits.now) ∙ c.if-port_missing.false) (sym c.rooms_bad.ensures ∙ c.if-rooms_bad.true)
 
 pub returns : goal.returns
 returns c =
     let v = c.args in
-    by_none v.given.memory v.given.nets.now v.given.trits.now v.list.now v.output.now (record { nets = v.a; trits = v.given.memory; output = v.c }) (sym (c.in_ok-driving_refusal.ensures ∙ ap (λ (t : Bool). driving_number t max_nets (given_of v.given.memory v.given.nets.now v.given.trits.now) v.output.now) (long_by v.list.now))) (sym (c.port_missing.ensures v.given.nets.now v.given.trits.now) ∙ c.if-port_missing.false) (sym c.rooms_bad.ensures ∙ c.if-rooms_bad.false)
+    by_none v.given.memory v.given.nets.now v.given.trits.now v.list.now v.output.now (record { nets = v.a; trits = v.b; output = v.c }) (sym (c.in_ok-driving_refusal.ensures ∙ ap (λ (t : Bool). driving_number t max_nets (given_of v.given.memory v.given.nets.now v.given.trits.now) v.output.now) (long_by v.list.now))) (sym (c.port_missing.ensures v.given.nets.now v.given.trits.now) ∙ c.if-port_missing.false) (sym c.rooms_bad.ensures ∙ c.if-rooms_bad.false)

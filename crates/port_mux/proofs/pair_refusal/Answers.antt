@@ -1,4 +1,4 @@
--- `port_mux::pair_number` meets its contract.
+-- `port_mux::pair_refusal` meets its contract.
 use mathlib.Core.Path.{refl, sym, ◌∙◌}
 use native.Mathlib.Omega.{arith}
 use Prim.Native.Nat.{◌<◌, min}
@@ -7,7 +7,7 @@ use Rattle.rules.specs.Cell.{read_at_of}
 use Rattle.net_memory.specs.View.{memory_of, read_port}
 use Rattle.net_memory.proofs.Sized.{reads_length, writes_length}
 use Rattle.port_mux.proofs.Numbers.{addr_at, wide_at, no_read, no_write, pair_14, pair_0}
-use Rattle.port_mux.proofs.pair_number.Goals as goal
+use Rattle.port_mux.proofs.pair_refusal.Goals as goal
 
 pub returns-then-ports_used-i : goal.returns-then-ports_used-i
 returns-then-ports_used-i c =

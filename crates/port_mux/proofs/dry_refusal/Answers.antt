@@ -1,5 +1,4 @@
--- `port_mux::dry_number` meets its contract.
-use mathlib.Core.Path.{◌∙◌}
+-- `port_mux::dry_refusal` meets its contract.
 use Rattle.rules.specs.Ports.{transparency_mux}
 use Rattle.log_entries.specs.View.{state_of}
 use Rattle.log_entries.proofs.Emission.{dry_called, unnamed, run_name}
@@ -7,7 +6,7 @@ use Rattle.net_memory.specs.View.{memory_of}
 use Rattle.port_overlay.proofs.Bounds.{chains_mux_at}
 use Rattle.port_mux.specs.Call.{overlay_of}
 use Rattle.port_mux.proofs.Passed.{mux_below}
-use Rattle.port_mux.proofs.dry_number.Goals as goal
+use Rattle.port_mux.proofs.dry_refusal.Goals as goal
 
 pub returns : goal.returns
 returns c =
@@ -19,4 +18,4 @@ returns c =
     let o = overlay_of v.o.masked v.o.bits.now v.o.mask.now in
     let n = run_name (transparency_mux w v.i v.j o) _ _ p.ensures.ran in
     dry_called (transparency_mux w v.i v.j o) v.room s _ (chains_mux_at w v.i v.j o) (mux_below v.given.memory v.given.nets.now v.given.trits.now v.i v.j v.o.masked v.o.bits.now v.o.mask.now c.requires.0 s)
-    p.new.log.words.now _ (state_of p.new.log.state) c.number_of.result c.dry_start.ensures (unnamed (transparency_mux w v.i v.j o) 0 _ _ p.ensures.ran) (c.number_of.ensures ∙ q.ensures)
+    p.new.log.words.now _ (state_of p.new.log.state) _ c.dry_start.ensures (unnamed (transparency_mux w v.i v.j o) 0 _ _ p.ensures.ran) q.ensures

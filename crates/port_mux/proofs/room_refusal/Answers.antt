@@ -1,9 +1,9 @@
--- `port_mux::room_number` meets its contract.
+-- `port_mux::room_refusal` meets its contract.
 use borrow.Author.Tests.{not-true, not-false}
 use Rattle.port_mux.proofs.Numbers.{room_bits, room-plain, room_mask, room_both}
 use mathlib.Core.Path.{ap}
 use mathlib.Core.Bool.{not}
-use Rattle.port_mux.proofs.room_number.Goals as goal
+use Rattle.port_mux.proofs.room_refusal.Goals as goal
 
 pub returns-then-data_room-n : goal.returns-then-data_room-n
 returns-then-data_room-n c =
