@@ -1,11 +1,10 @@
 -- The numbers in their order.
 use mathlib.Core.Path.{◌≡◌, sym, ap, ◌∙◌}
-use mathlib.Core.Logic.{◌≢◌}
 use Prim.Native.Nat.{ℕ, ◌<◌, ◌≤◌, min}
 use mathlib.Core.Bool.{Bool, true, false, ◌&&◌}
 use mathlib.Core.List.{List}
 use lib.ListN.{length}
-use Rattle.lists.proofs.Choice.{else_first, else_rest, hit, miss}
+use Rattle.lists.proofs.Choice.{else_rest, hit, miss}
 use Rattle.rules.specs.Limits.{max_ports}
 use Rattle.rules.specs.Cell.{read_at_of}
 use Rattle.rules.specs.Conditions.{short_port}
@@ -27,10 +26,6 @@ module _ (next : ℕ) (m : Memory) (nets trits : List ℕ) (i : ℕ) (incl : Boo
 
   abbrev S : Bool
   S = incl && short_port (memory_of m nets trits) (read_at_of (memory_of m nets trits) i)
-
-  pub num_first : (n : ℕ) → n ≡ D → n ≢ 0 → n ≡ unmap_reset_number next (given_of m nets trits) i incl output
-  unfolding unmap_reset_number
-  num_first n e h = e ∙ sym (else_first D _ (λ z. h (e ∙ z)))
 
   module _ (z : D ≡ 0) where
     pub num_14 : S ≡ true → 14 ≡ unmap_reset_number next (given_of m nets trits) i incl output

@@ -1,6 +1,5 @@
 -- What is known of a call that numbers 1 to 4, 14 and 15 pass, and the call by its number.
 use mathlib.Core.Path.{◌≡◌, refl, sym, ap, ◌∙◌}
-use mathlib.Core.Logic.{◌≢◌}
 use Prim.Native.Nat.{ℕ, ◌<◌, min}
 use native.Mathlib.Nat.{le_refl}
 use native.Mathlib.Omega.{arith}
@@ -8,9 +7,9 @@ use mathlib.Core.Bool.{Bool, true, false, not, ◌&&◌}
 use mathlib.Core.Option.{Option, none, some}
 use mathlib.Core.List.{List}
 use lib.ListN.{length}
-use Rattle.lists.specs.Choice.{when◌then◌else◌, ◌or_else◌, leaves}
+use Rattle.lists.specs.Choice.{when◌then◌else◌, ◌or_else◌}
 use Rattle.lists.specs.Lists.{any}
-use Rattle.lists.proofs.Choice.{refused_not, else_zero, else_first, else_rest, if_true, if_false, leaves_refused}
+use Rattle.lists.proofs.Choice.{refused_not, else_zero, else_rest, if_true, if_false}
 use Rattle.rules.specs.Limits.{max_ports}
 use Rattle.rules.specs.Value.{Value}
 use Rattle.rules.specs.Cell.{ReadFlipFlop, ReadPort, Mem, read_at_of, is_some}
@@ -26,7 +25,11 @@ use Rattle.log_entries.specs.View.{state_of}
 use Rattle.log_entries.specs.declared.LogState as machine
 use Rattle.net_memory.specs.declared.Memory.{Memory}
 use Rattle.net_memory.specs.FlipFlop.{MemoryReadFlipFlop}
-use Rattle.std.specs.Prelude.{Some}
+use Rattle.std.specs.Prelude.{Some, Result, Ok, Err}
+use Rattle.rules.specs.Refusal.{number}
+use Rattle.rules.specs.declared.numbers.Refusal.{Refusal}
+use Rattle.rules.specs.declared.numbers.Refusal.TheVariants.{Unclocked}
+use Rattle.rules.proofs.Answers.{else_err}
 use Rattle.net_memory.specs.View.{memory_of, reads_of, writes_of, read_port}
 use Rattle.net_memory.specs.Given.{given_of}
 use Rattle.net_memory.proofs.Fits.{nets_fit, trits_fit}
@@ -35,8 +38,8 @@ use Rattle.net_check.proofs.Accept.{exact}
 use Rattle.port_unmap.specs.Ready.{own_flip_flop}
 use Rattle.port_unmap.specs.Call.{driving, rooms_of, driven_of}
 use Rattle.port_unmap.specs.declared.Driven.{Driven}
-use Rattle.port_unmap.proofs.Act.{driven_refused}
-use Rattle.port_unmap.proofs.Passed.{flip_some, port_there, good, own_shape, shaped, long_by, driven_as, done-driven, same}
+use Rattle.port_unmap.proofs.Act.{driven_err}
+use Rattle.port_unmap.proofs.Passed.{flip_some, port_there, good, own_shape, shaped, long_by, driven_as, none_ok}
 use Rattle.port_reset.specs.Ready.{ResetReady}
 use Rattle.port_unreset.specs.Struct.{struct_after, trits_after, unreset, blanked}
 use Rattle.port_reset.specs.Call.{Acted, ResetStruct}
@@ -95,9 +98,6 @@ done_value : (d : Driving) (k : ℕ) → (done d k).value ≡ d
 unfolding done
 done_value d k = refl
 
-pub not_zero : ◌≢◌ {A = ℕ} 22 0
-not_zero e = absurd (omega arith)
-
 module _ (m : Memory) (nets trits : List ℕ) (i : ℕ) (incl : Bool) (output log : List ℕ) (st : machine.LogState) where
   abbrev Mv : Mem
   Mv = memory_of m nets trits
@@ -119,22 +119,30 @@ module _ (m : Memory) (nets trits : List ℕ) (i : ℕ) (incl : Bool) (output lo
   unfolding driven_refusal
   late_is a b = sym (else_rest (flip_flop_refusal (read_at_of Mv i)) _ a ∙ else_rest (driving_refusal r (t (start_net (state_of st))).value) _ b)
 
-  late_22 : (read_at_of Mv i).flip_flop ≡ none → 22 ≡ late
-  late_22 e = let q = flip_22 (read_at_of Mv i) e in sym q ∙ sym (else_first (flip_flop_refusal (read_at_of Mv i)) _ (λ z. not_zero (sym q ∙ z)))
+  late_22 : (read_at_of Mv i).flip_flop ≡ none → number Unclocked ≡ late
+  late_22 e = else_err Unclocked (flip_flop_refusal (read_at_of Mv i)) _ (sym (flip_22 (read_at_of Mv i) e))
 
-  pub none_refused : (read_at_of Mv i).flip_flop ≡ none → driven_of (record { refusal = 22; memory = m; state = st }) nets trits output log ≡ driven late log (state_of st) d t
-  none_refused e = driven_refused late Mv output log (state_of st) t 22 (state_of st) (late_22 e) not_zero
+  pub none_refused : (read_at_of Mv i).flip_flop ≡ none → driven_of m (Err Unclocked) nets trits output log ≡ driven late log (state_of st) d t
+  none_refused e = driven_err late Mv output log (state_of st) t Unclocked (late_22 e)
 
-  pub plain_done : (n : ℕ) (f : ReadFlipFlop) → (read_at_of Mv i).flip_flop ≡ some f → is_plain incl f ≡ true → n ≡ room_refusal (length log) (state_of st) 0 0
-      → driven_of (record { refusal = n; memory = m; state = st }) nets trits output log ≡ driven late log (state_of st) d t
-  plain_done n f e h q =
-      let k : n ≡ log_refusal (length log) (state_of st) (done d) = q ∙ sym (counted_refusal (done d) 0 0 (counted_done d) (length log) (state_of st)) in
-      let a = as_plain Mv i incl output f e h in
-      let b = ap (λ (u : Trace Driving). driving_refusal r (u (start_net (state_of st))).value) (sym a) ∙ ap (driving_refusal r) (done_value d (start_net (state_of st)))
-      ∙ enough r d (nets_fit m nets trits) (trits_fit m nets trits) (le_refl (length output)) in
-      driven_as d log (state_of st) (length log) (done d) t _ a
-      (done-driven n d log (state_of st) ∙ ap (λ (x : ℕ). driven x log (state_of st) d (done d)) k)
-      ∙ ap (λ (x : ℕ). driven x log (state_of st) d t) (late_is (flip_0 (read_at_of Mv i) f e) b)
+  -- where nothing is done
+  module _ (f : ReadFlipFlop) (e : (read_at_of Mv i).flip_flop ≡ some f) (h : is_plain incl f ≡ true) where
+    as_room : (n : ℕ) → n ≡ room_refusal (length log) (state_of st) 0 0 → n ≡ log_refusal (length log) (state_of st) (done d)
+    as_room n q = q ∙ sym (counted_refusal (done d) 0 0 (counted_done d) (length log) (state_of st))
+
+    plain_as : (x : rules.Driven) → x ≡ driven (log_refusal (length log) (state_of st) (done d)) log (state_of st) d (done d) → x ≡ driven late log (state_of st) d t
+    plain_as x q =
+        let a = as_plain Mv i incl output f e h in
+        let b = ap (λ (u : Trace Driving). driving_refusal r (u (start_net (state_of st))).value) (sym a) ∙ ap (driving_refusal r) (done_value d (start_net (state_of st)))
+        ∙ enough r d (nets_fit m nets trits) (trits_fit m nets trits) (le_refl (length output)) in
+        driven_as d log (state_of st) (length log) (done d) t x a q
+        ∙ ap (λ (y : ℕ). driven y log (state_of st) d t) (late_is (flip_0 (read_at_of Mv i) f e) b)
+
+    pub plain_refused : (k : Refusal) → number k ≡ room_refusal (length log) (state_of st) 0 0 → driven_of m (Err k) nets trits output log ≡ driven late log (state_of st) d t
+    plain_refused k q = plain_as _ (driven_err _ Mv output log (state_of st) (done d) k (as_room (number k) q))
+
+    pub plain_done : 0 ≡ room_refusal (length log) (state_of st) 0 0 → driven_of m (Ok (record { memory = m; state = st })) nets trits output log ≡ driven late log (state_of st) d t
+    plain_done q = plain_as _ (none_ok _ d log (state_of st) (as_room 0 q))
 
   pub some_done : (c : Controls) (x : rules.Driven) → ResetReady m nets trits i c incl → (read_at_of Mv i).flip_flop ≡ some (own_flip_flop m trits i c) → is_plain incl (own_flip_flop m trits i c) ≡ false
       → x ≡ driven (log_refusal (length log) (state_of st) (unmap_reset Mv i incl output (own_flip_flop m trits i c))) log (state_of st) d (unmap_reset Mv i incl output (own_flip_flop m trits i c))
@@ -147,40 +155,32 @@ module _ (m : Memory) (nets trits : List ℕ) (i : ℕ) (incl : Bool) (output lo
       ∙ ap (λ (y : ℕ). driven y log (state_of st) d t) (late_is (flip_0 (read_at_of Mv i) f e) b)
 
   -- ---- the call
-  abbrev number : ℕ
-  number = unmap_reset_number st.next (given_of m nets trits) i incl output
+  abbrev number_is : ℕ
+  number_is = unmap_reset_number st.next (given_of m nets trits) i incl output
 
-  pub call_refused : (n : ℕ) → n ≡ number → n ≢ 0 → driven_of (record { refusal = n; memory = m; state = st }) nets trits output log ≡ unmap_reset_call r log (state_of st) (given_of m nets trits) i incl output
+  pub call_refused : (k : Refusal) → number k ≡ number_is → driven_of m (Err k) nets trits output log ≡ unmap_reset_call r log (state_of st) (given_of m nets trits) i incl output
   unfolding unmap_reset_call unmap_read_init_reset_transparency_refusal
-  call_refused n e h = driven_refused _ Mv output log (state_of st) t n (state_of st) (e ∙ sym (else_first number _ (λ z. h (e ∙ z)))) h
+  call_refused k e = driven_err _ Mv output log (state_of st) t k (else_err k number_is _ e)
 
-  pub call_passed : (x : rules.Driven) → number ≡ 0 → x ≡ driven late log (state_of st) d t → x ≡ unmap_reset_call r log (state_of st) (given_of m nets trits) i incl output
+  pub call_passed : (x : rules.Driven) → number_is ≡ 0 → x ≡ driven late log (state_of st) d t → x ≡ unmap_reset_call r log (state_of st) (given_of m nets trits) i incl output
   unfolding unmap_reset_call unmap_read_init_reset_transparency_refusal
-  call_passed x z q = q ∙ ap (λ (n : ℕ). driven n log (state_of st) d t) (sym (else_rest number _ z))
+  call_passed x z q = q ∙ ap (λ (n : ℕ). driven n log (state_of st) d t) (sym (else_rest number_is _ z))
 
 -- ---- the struct and the trits
-module _ (m : Memory) (st : machine.LogState) (i : ℕ) (incl : Bool) (trits : List ℕ) where
+module _ (m : Memory) (i : ℕ) (incl : Bool) (trits : List ℕ) where
   abbrev own : MemoryReadFlipFlop
   own = (read_port m i).flip_flop
 
-  pub struct_kept : (n : ℕ) → n ≢ 0 → ResetStruct m st i incl (record { refusal = n; memory = m; state = st }) trits trits
-  struct_kept n h = record {
-    struct_is = sym (leaves_refused n m (struct_after own m trits i incl) h);
-    trits_are = sym (leaves_refused n trits (trits_after own m trits i incl) h);
-    state_kept = λ _. refl;
-  }
-
   module _ (c : Controls) (e : own ≡ Some c) where
-    pub struct_plain : (n : ℕ) → is_plain incl (own_flip_flop m trits i c) ≡ true → ResetStruct m st i incl (record { refusal = n; memory = m; state = st }) trits trits
-    struct_plain n h = record {
-      struct_is = sym (same n m) ∙ ap (leaves n m) (sym (ap (λ (f : MemoryReadFlipFlop). struct_after f m trits i incl) e ∙ if_true (is_plain incl (own_flip_flop m trits i c)) m (unreset m i c incl) h));
-      trits_are = sym (same n trits) ∙ ap (leaves n trits) (sym (ap (λ (f : MemoryReadFlipFlop). trits_after f m trits i incl) e ∙ if_true (is_plain incl (own_flip_flop m trits i c)) trits (blanked m i trits) h));
-      state_kept = λ _. refl;
-    }
+    pub struct_plain : is_plain incl (own_flip_flop m trits i c) ≡ true → (m ≡ struct_after own m trits i incl) × (trits ≡ trits_after own m trits i incl)
+    struct_plain h = (
+      sym (ap (λ (f : MemoryReadFlipFlop). struct_after f m trits i incl) e ∙ if_true (is_plain incl (own_flip_flop m trits i c)) m (unreset m i c incl) h),
+      sym (ap (λ (f : MemoryReadFlipFlop). trits_after f m trits i incl) e ∙ if_true (is_plain incl (own_flip_flop m trits i c)) trits (blanked m i trits) h),
+    )
 
-    pub struct_some : (x : Driven) (trits' : List ℕ) → is_plain incl (own_flip_flop m trits i c) ≡ false → Acted m st i c incl x trits trits' → ResetStruct m st i incl x trits trits'
-    struct_some x trits' h a = record {
-      struct_is = a.struct_is ∙ ap (leaves x.refusal m) (sym (ap (λ (f : MemoryReadFlipFlop). struct_after f m trits i incl) e ∙ if_false (is_plain incl (own_flip_flop m trits i c)) m (unreset m i c incl) h));
-      trits_are = a.trits_are ∙ ap (leaves x.refusal trits) (sym (ap (λ (f : MemoryReadFlipFlop). trits_after f m trits i incl) e ∙ if_false (is_plain incl (own_flip_flop m trits i c)) trits (blanked m i trits) h));
-      state_kept = a.state_kept;
-    }
+    pub struct_some : (x : Result Driven Refusal) (trits' : List ℕ) → is_plain incl (own_flip_flop m trits i c) ≡ false → Acted m i c incl x trits trits' → ResetStruct m i incl x trits trits'
+    struct_some (Err k) trits' h a = a
+    struct_some (Ok x) trits' h a = (
+      a.0 ∙ sym (ap (λ (f : MemoryReadFlipFlop). struct_after f m trits i incl) e ∙ if_false (is_plain incl (own_flip_flop m trits i c)) m (unreset m i c incl) h),
+      a.1 ∙ sym (ap (λ (f : MemoryReadFlipFlop). trits_after f m trits i incl) e ∙ if_false (is_plain incl (own_flip_flop m trits i c)) trits (blanked m i trits) h),
+    )

@@ -8,6 +8,7 @@ ghost use Rattle.lists.specs.Lists.{up_from};
 ghost use Rattle.rules.specs.Cell.{read_at_of, with_output};
 ghost use Rattle.rules.specs.Conditions.{short_port};
 ghost use Rattle.rules.specs.Ports.{unmap_reset, unmap_read_init_reset_transparency};
+ghost use Rattle.rules.specs.Refusal.{number_of};
 ghost use Rattle.rules.specs.Refusals.{flip_flop_refusal, log_refusal, driven_refusal, unmap_reset_number};
 ghost use Rattle.rules.specs.Answers.{driven, unmap_reset_call};
 ghost use Rattle.log_entries.specs.Emission.{is_over, run};
@@ -21,13 +22,19 @@ ghost use Rattle.port_reset.specs.Ready.{ResetReady};
 ghost use Rattle.port_reset.specs.Call.{Acted, ResetStruct};
 
 use log_entries::{Log, LogState};
-use merge_dff::Trits;
-use merge_mux::emit::Keys;
 use net_flip_flop::{Controls, FlipFlop};
 use net_memory::{Given, Memory, MemoryReadPort};
 use port_reset_emit::{Mask, ResetNets};
 use port_transparency::{Overlay, Reading};
 use port_unmap::Driven;
+use rules::Refusal;
+
+// Room for an unmapping: what is laid over the port's nets, and the mask. The dry run and the run for good share it.
+#[derive(Drop)]
+struct Room {
+    overlay: Overlay,
+    mask: Mask,
+}
 
 // 14, where Transparent relations are to go.
 fn wanted_short(m: Memory, nets: &[u32], i: usize, incl: bool) -> bool
@@ -39,28 +46,31 @@ fn wanted_short(m: Memory, nets: &[u32], i: usize, incl: bool) -> bool
     port_unmap::port_short(m, nets, i)
 }
 
-// 1 to 4, 14 and 15, or 0.
-fn reset_number(given: Given<'_>, i: usize, incl: bool, output: &[u32], next: u32) -> u32
-    ensures { result ≡ unmap_reset_number next (view_given given.entry) i incl output.now }
+// 1 to 4, 14 and 15.
+#[tactic(auto, using(rules::proofs::Answers::else_err), unfolding(rules::specs::Refusals::unmap_reset_number))]
+fn reset_refusal(
+    given: Given<'_>,
+    i: usize,
+    incl: bool,
+    output: &[u32],
+    next: u32,
+) -> Result<(), Refusal>
+    ensures { number_of result ≡ unmap_reset_number next (view_given given.entry) i incl output.now }
 {
-    let n = rules::number_of(port_outputs::driving_refusal(given, output, next, false));
-    if n != 0 {
-        return n;
-    }
+    port_outputs::driving_refusal(given, output, next, false)?;
     if wanted_short(given.memory, given.nets, i, incl) {
-        return 14;
+        return Err(Refusal::ShortAddress);
     }
     if net_memory::ports_used(given.memory.read_count) <= i {
-        return 15;
+        return Err(Refusal::OutOfRange);
     }
-    0
+    Ok(())
 }
 
 // Port i, whose controls are c, unmapped: the same function runs dry on an empty log.
 fn emit_port(
     log: &mut Log,
-    overlay: &mut Overlay,
-    mask: &mut Mask,
+    room: &mut Room,
     given: Given<'_>,
     i: usize,
     p: MemoryReadPort,
@@ -89,92 +99,34 @@ fn emit_port(
         reset: net_memory::reset_of(p, own),
         init: net_memory::init_of(p, own),
     };
+    let Room { overlay, mask } = room;
     port_reset_emit::emit_reset(log, overlay, mask, given.memory, given.nets, rels, r, f)
 }
 
 // 20 and 21 of it, by a run without a log.
-fn dry_number(
-    room: usize,
+fn dry_refusal(
+    size: usize,
     st: LogState,
-    overlay: &mut Overlay,
-    mask: &mut Mask,
+    room: &mut Room,
     given: Given<'_>,
     i: usize,
     p: MemoryReadPort,
     c: Controls,
     incl: bool,
     output: &[u32],
-) -> u32
+) -> Result<(), Refusal>
     requires { ResetReady given.memory given.nets.now given.trits.now i c incl × (p ≡ read_port given.memory i) }
-    ensures { result ≡ log_refusal room (state_of st) (unmap_reset (mem_of given.entry) i incl output.now (own_flip_flop given.entry.memory given.entry.trits.now i c)) }
+    ensures { number_of result ≡ log_refusal size (state_of st) (unmap_reset (mem_of given.entry) i incl output.now (own_flip_flop given.entry.memory given.entry.trits.now i c)) }
 {
     let mut dry = Log {
         words: &mut [],
         state: st.dry_start(),
     };
-    emit_port(&mut dry, overlay, mask, given, i, p, c, incl, output);
-    rules::number_of(st.dry_refusal(room, dry.state))
+    emit_port(&mut dry, room, given, i, p, c, incl, output);
+    st.dry_refusal(size, dry.state)
 }
 
 // 20 and 21 by a dry run, then the same for good; the void nets become the port's outputs.
-fn unmap_with(
-    log: &mut [u32],
-    st: LogState,
-    output: &mut [u32],
-    trits: &mut [u8],
-    overlay: &mut Overlay,
-    mask: &mut Mask,
-    m: Memory,
-    nets: &[u32],
-    i: usize,
-    p: MemoryReadPort,
-    c: Controls,
-    incl: bool,
-) -> Driven
-    requires { ResetReady m nets.now trits.old i c incl × (p ≡ read_port m i) }
-    ensures log_after { driven_of result nets.now trits.new output.new log.new ≡ driven (log_refusal (length log.old) (state_of st) (unmap_reset (memory_of m nets.now trits.old) i incl output.old (own_flip_flop m trits.old i c))) log.old (state_of st) (driving m nets.now trits.old output.old) (unmap_reset (memory_of m nets.now trits.old) i incl output.old (own_flip_flop m trits.old i c)) }
-    ensures acted { Acted m st i c incl result trits.old trits.new }
-{
-    let n = dry_number(
-        log.len(),
-        st,
-        overlay,
-        mask,
-        m,
-        nets,
-        trits,
-        i,
-        p,
-        c,
-        incl,
-        output,
-    );
-    if n != 0 {
-        return Driven {
-            refusal: n,
-            memory: m,
-            state: st,
-        };
-    }
-    let mut log = Log {
-        words: log,
-        state: st,
-    };
-    let done = emit_port(
-        &mut log, overlay, mask, m, nets, trits, i, p, c, incl, output,
-    );
-    let start = net_memory::output_start(m, i);
-    lists::store_run(output, start, done.first, done.last);
-    port_unreset::blank(trits, m, i);
-    let memory = port_unreset::unreset(m, i, c, incl);
-    Driven {
-        refusal: 0,
-        memory,
-        state: log.state,
-    }
-}
-
-// The same with its rooms.
 fn unmap_clocked(
     log: &mut [u32],
     st: LogState,
@@ -186,47 +138,33 @@ fn unmap_clocked(
     p: MemoryReadPort,
     c: Controls,
     incl: bool,
-) -> Driven
+) -> Result<Driven, Refusal>
     requires { ResetReady m nets.now trits.old i c incl × (p ≡ read_port m i) }
-    ensures log_after { driven_of result nets.now trits.new output.new log.new ≡ driven (log_refusal (length log.old) (state_of st) (unmap_reset (memory_of m nets.now trits.old) i incl output.old (own_flip_flop m trits.old i c))) log.old (state_of st) (driving m nets.now trits.old output.old) (unmap_reset (memory_of m nets.now trits.old) i incl output.old (own_flip_flop m trits.old i c)) }
-    ensures acted { Acted m st i c incl result trits.old trits.new }
+    ensures log_after { driven_of m result nets.now trits.new output.new log.new ≡ driven (log_refusal (length log.old) (state_of st) (unmap_reset (memory_of m nets.now trits.old) i incl output.old (own_flip_flop m trits.old i c))) log.old (state_of st) (driving m nets.now trits.old output.old) (unmap_reset (memory_of m nets.now trits.old) i incl output.old (own_flip_flop m trits.old i c)) }
+    ensures acted { Acted m i c incl result trits.old trits.new }
 {
-    let mut overlay = Overlay {
-        under: [0; rules::MAX_MERGE],
-        bits: [0; rules::MAX_MERGE],
-        mask: [0; rules::MAX_MERGE],
-        select: [0; rules::MAX_MERGE],
-        spare: [0; rules::MAX_MERGE],
-        keys: Keys {
-            x: [0; rules::MAX_MERGE],
-            y: [0; rules::MAX_MERGE],
-            at: [0; rules::MAX_MERGE],
-        },
+    let mut room = Room {
+        overlay: Overlay::new(),
+        mask: Mask::new(),
     };
-    let mut mask = Mask {
-        over: [0; rules::MAX_MERGE],
-        trits: Trits {
-            clear: [0; rules::MAX_MERGE],
-            reset: [0; rules::MAX_MERGE],
-            init: [0; rules::MAX_MERGE],
-        },
-        ones: [0; rules::MAX_MERGE],
-        starts: [0; rules::MAX_MERGE],
-    };
-    unmap_with(
-        log,
-        st,
-        output,
-        trits,
-        &mut overlay,
-        &mut mask,
-        m,
+    let given = Given {
+        memory: m,
         nets,
-        i,
-        p,
-        c,
-        incl,
-    )
+        trits,
+    };
+    dry_refusal(log.len(), st, &mut room, given, i, p, c, incl, output)?;
+    let mut log = Log {
+        words: log,
+        state: st,
+    };
+    let done = emit_port(&mut log, &mut room, given, i, p, c, incl, output);
+    let start = net_memory::output_start(m, i);
+    lists::store_run(output, start, done.first, done.last);
+    port_unreset::blank(trits, m, i);
+    Ok(Driven {
+        memory: port_unreset::unreset(m, i, c, incl),
+        state: log.state,
+    })
 }
 
 // A clocked port that numbers 1 to 4, 14 and 15 pass: where there is nothing to unmap, nothing is done.
@@ -241,18 +179,17 @@ fn unmap_some(
     p: MemoryReadPort,
     c: Controls,
     incl: bool,
-) -> Driven
+) -> Result<Driven, Refusal>
     requires { ((read_port m i).flip_flop ≡ Some c) × (unmap_reset_number st.next (given_of m nets.now trits.old) i incl output.old ≡ 0) × (p ≡ read_port m i) }
-    ensures log_after { driven_of result nets.now trits.new output.new log.new ≡ driven (flip_flop_refusal (read_at_of (memory_of m nets.now trits.old) i) or_else driven_refusal (rooms_of nets.now trits.old output.old) (length log.old) (state_of st) (unmap_read_init_reset_transparency (memory_of m nets.now trits.old) i incl output.old)) log.old (state_of st) (driving m nets.now trits.old output.old) (unmap_read_init_reset_transparency (memory_of m nets.now trits.old) i incl output.old) }
-    ensures reset_struct { ResetStruct m st i incl result trits.old trits.new }
+    ensures log_after { driven_of m result nets.now trits.new output.new log.new ≡ driven (flip_flop_refusal (read_at_of (memory_of m nets.now trits.old) i) or_else driven_refusal (rooms_of nets.now trits.old output.old) (length log.old) (state_of st) (unmap_read_init_reset_transparency (memory_of m nets.now trits.old) i incl output.old)) log.old (state_of st) (driving m nets.now trits.old output.old) (unmap_read_init_reset_transparency (memory_of m nets.now trits.old) i incl output.old) }
+    ensures reset_struct { ResetStruct m i incl result trits.old trits.new }
 {
     if port_unreset::port_plain(m, trits, i, p, c, incl) {
-        let n = rules::number_of(st.room_refusal(log.len(), 0, 0));
-        return Driven {
-            refusal: n,
+        st.room_refusal(log.len(), 0, 0)?;
+        return Ok(Driven {
             memory: m,
             state: st,
-        };
+        });
     }
     unmap_clocked(log, st, output, trits, m, nets, i, p, c, incl)
 }
@@ -268,19 +205,15 @@ fn unmap_port(
     i: usize,
     p: MemoryReadPort,
     incl: bool,
-) -> Driven
+) -> Result<Driven, Refusal>
     requires { (unmap_reset_number st.next (given_of m nets.now trits.old) i incl output.old ≡ 0) × (p ≡ read_port m i) }
-    ensures log_after { driven_of result nets.now trits.new output.new log.new ≡ driven (flip_flop_refusal (read_at_of (memory_of m nets.now trits.old) i) or_else driven_refusal (rooms_of nets.now trits.old output.old) (length log.old) (state_of st) (unmap_read_init_reset_transparency (memory_of m nets.now trits.old) i incl output.old)) log.old (state_of st) (driving m nets.now trits.old output.old) (unmap_read_init_reset_transparency (memory_of m nets.now trits.old) i incl output.old) }
-    ensures reset_struct { ResetStruct m st i incl result trits.old trits.new }
+    ensures log_after { driven_of m result nets.now trits.new output.new log.new ≡ driven (flip_flop_refusal (read_at_of (memory_of m nets.now trits.old) i) or_else driven_refusal (rooms_of nets.now trits.old output.old) (length log.old) (state_of st) (unmap_read_init_reset_transparency (memory_of m nets.now trits.old) i incl output.old)) log.old (state_of st) (driving m nets.now trits.old output.old) (unmap_read_init_reset_transparency (memory_of m nets.now trits.old) i incl output.old) }
+    ensures reset_struct { ResetStruct m i incl result trits.old trits.new }
 {
     let f = p.flip_flop;
     match f {
-        None => Driven {
-            refusal: 22,
-            memory: m,
-            state: st,
-        },
-        Some(c) => { unmap_some(log, st, output, trits, m, nets, i, p, c, incl) }
+        None => Err(Refusal::Unclocked),
+        Some(c) => unmap_some(log, st, output, trits, m, nets, i, p, c, incl),
     }
 }
 
@@ -296,18 +229,16 @@ pub fn unmap_read_init_reset_transparency(
     nets: &[u32],
     port: usize,
     incl: bool,
-) -> Driven
-    ensures log_after { driven_of result nets.now trits.new output.new log.new ≡ unmap_reset_call (rooms_of nets.now trits.old output.old) log.old (state_of st) (given_of m nets.now trits.old) port incl output.old }
-    ensures reset_struct { ResetStruct m st port incl result trits.old trits.new }
+) -> Result<Driven, Refusal>
+    ensures log_after { driven_of m result nets.now trits.new output.new log.new ≡ unmap_reset_call (rooms_of nets.now trits.old output.old) log.old (state_of st) (given_of m nets.now trits.old) port incl output.old }
+    ensures reset_struct { ResetStruct m port incl result trits.old trits.new }
 {
-    let n = reset_number(m, nets, trits, port, incl, output, st.next);
-    if n != 0 {
-        return Driven {
-            refusal: n,
-            memory: m,
-            state: st,
-        };
-    }
+    let given = Given {
+        memory: m,
+        nets,
+        trits,
+    };
+    reset_refusal(given, port, incl, output, st.next)?;
     let p = m.read_ports[port];
     unmap_port(log, st, output, trits, m, nets, port, p, incl)
 }

@@ -9,7 +9,7 @@ use Rattle.port_reset.proofs.Port.{port_ran, port_output}
 use Rattle.port_reset.proofs.emit_port.Goals as goal
 
 pub slice_bounds-part-end : goal.slice_bounds-part-end
-slice_bounds-part-end c = sym (relations_8 c.args.p _ c.well_formed.1.1.1.1.1.1.1.0.1.1.0)
+slice_bounds-part-end c = sym (relations_8 c.args.p _ c.well_formed.1.1.1.1.0)
 
 pub returns : goal.returns
 returns c =

@@ -1,9 +1,9 @@
 -- `port_reset::unmap_port` meets its contract.
-use mathlib.Core.Path.{sym, ap, ◌∙◌}
+use mathlib.Core.Path.{refl, sym, ap, ◌∙◌}
 use Rattle.net_memory.specs.declared.MemoryReadPort.{MemoryReadPort}
 use Rattle.net_memory.proofs.Sized.{reads_length, writes_length}
 use Rattle.port_unmap.proofs.Passed.{flip_none}
-use Rattle.port_reset.proofs.Passed.{is_there_lem, not_zero, none_refused, struct_kept}
+use Rattle.port_reset.proofs.Passed.{is_there_lem, none_refused}
 use Rattle.port_reset.proofs.unmap_port.Goals as goal
 
 pub unmap_some-requires : goal.unmap_some-requires
@@ -16,7 +16,7 @@ returns-in-None c =
     let y = writes_length v.m _ c.well_formed.1.1.1.1.0 v.nets.now in
     let h = is_there_lem v.st.next v.m v.nets.now v.trits.now v.i v.incl v.output.now c.requires.0 x y in
     let e = ap (λ (q : MemoryReadPort). q.flip_flop) (sym c.requires.1) ∙ c.in-None.is in
-    record { log_after = none_refused v.m v.nets.now v.trits.now v.i v.incl v.output.now v.log.now v.st (flip_none v.m v.nets.now v.trits.now v.i h e); reset_struct = struct_kept v.m v.st v.i v.incl v.trits.now 22 not_zero }
+    record { log_after = none_refused v.m v.nets.now v.trits.now v.i v.incl v.output.now v.log.now v.st (flip_none v.m v.nets.now v.trits.now v.i h e); reset_struct = refl }
 
 pub shape_of-log : goal.shape_of-log
 shape_of-log c = c.unmap_some.auto.log

@@ -1,29 +1,30 @@
 -- `port_reset::unmap_read_init_reset_transparency` meets its contract.
-use mathlib.Core.Path.{sym, ◌∙◌}
+use mathlib.Core.Path.{refl, sym}
+use Rattle.std.proofs.lemmas.Result.{err_from_is_err_and}
 use native.Mathlib.Omega.{arith}
 use Rattle.net_memory.proofs.Sized.{reads_length, writes_length}
-use Rattle.port_reset.proofs.Passed.{is_there_lem, call_refused, call_passed, struct_kept}
+use Rattle.port_reset.proofs.Passed.{is_there_lem, call_refused, call_passed}
 use Rattle.port_reset.proofs.unmap_read_init_reset_transparency.Goals as goal
 
-pub returns-then-n-ne0 : goal.returns-then-n-ne0
-returns-then-n-ne0 c =
+pub returns-in_err-reset_refusal : goal.returns-in_err-reset_refusal
+returns-in_err-reset_refusal c =
     let v = c.args in
-    let n = c.reset_number-n in
-    record { log_after = call_refused v.m v.nets.now v.trits.now v.port v.incl v.output.now v.log.now v.st n.result n.ensures c.if-n-ne0.true; reset_struct = struct_kept v.m v.st v.port v.incl v.trits.now n.result c.if-n-ne0.true }
+    let e = err_from_is_err_and c.from_residual.result c.from_residual.ensures.1 in
+    rw (e.1, e.2) (record { log_after = call_refused v.m v.nets.now v.trits.now v.port v.incl v.output.now v.log.now v.st _ c.in_err-reset_refusal.ensures; reset_struct = refl })
 
 pub offset_bounds-m-port : goal.offset_bounds-m-port
 offset_bounds-m-port c =
     let v = c.args in
     let x = reads_length v.m _ c.well_formed.1.1.1.1.0 v.nets.now v.trits.now in
     let y = writes_length v.m _ c.well_formed.1.1.1.1.0 v.nets.now in
-    omega (arith, is_there_lem v.st.next v.m v.nets.now v.trits.now v.port v.incl v.output.now (sym c.reset_number-n.ensures ∙ c.if-n-ne0.false) x y)
+    omega (arith, is_there_lem v.st.next v.m v.nets.now v.trits.now v.port v.incl v.output.now (sym c.in_ok-reset_refusal.ensures) x y)
 
 pub bounds-m-port : goal.bounds-m-port
 bounds-m-port c =
     let v = c.args in
     let x = reads_length v.m _ c.well_formed.1.1.1.1.0 v.nets.now v.trits.now in
     let y = writes_length v.m _ c.well_formed.1.1.1.1.0 v.nets.now in
-    omega (arith, is_there_lem v.st.next v.m v.nets.now v.trits.now v.port v.incl v.output.now (sym c.reset_number-n.ensures ∙ c.if-n-ne0.false) x y)
+    omega (arith, is_there_lem v.st.next v.m v.nets.now v.trits.now v.port v.incl v.output.now (sym c.in_ok-reset_refusal.ensures) x y)
 
 pub shape_of-log : goal.shape_of-log
 shape_of-log c = c.unmap_port.auto.log
@@ -37,5 +38,5 @@ shape_of-trits c = c.unmap_port.auto.trits
 pub returns : goal.returns
 returns c =
     let v = c.args in
-    let z = sym c.reset_number-n.ensures ∙ c.if-n-ne0.false in
+    let z = sym c.in_ok-reset_refusal.ensures in
     record { log_after = call_passed v.m v.nets.now v.trits.now v.port v.incl v.output.now v.log.now v.st _ z c.unmap_port.ensures.log_after; reset_struct = c.unmap_port.ensures.reset_struct }
