@@ -2,18 +2,18 @@
 use mathlib.Core.Path.{◌≡◌, ap}
 use Prim.Native.Nat.{ℕ}
 use mathlib.Core.List.{List}
+use Rattle.std.specs.Prelude.{Result}
 use Rattle.rules.specs.Ports.{Overlay}
 use Rattle.rules.specs.Cell.{Given}
 use Rattle.rules.specs.Answers as rules
 use Rattle.rules.specs.Answers.{transparency_mux_call}
 use Rattle.log_entries.specs.declared.LogState as machine
 use Rattle.log_entries.specs.View.{state_of}
-use Rattle.port_mux.specs.Call.{logged_of}
-use Rattle.std.specs.Prelude.{Result}
+use Rattle.log_requests.specs.Answers.{logged_of}
 use Rattle.rules.specs.declared.numbers.Refusal.{Refusal}
-use Rattle.c_log.proofs.Left.{left}
 use Rattle.c_log.specs.declared.Logged.{Logged}
 use Rattle.c_log.specs.View.{logged_struct}
+use Rattle.c_log.proofs.Left.{left}
 use Rattle.c_port.specs.Overlays.{lent_overlay, overlay_left_by}
 
 -- r is the struct of the library's answer p, which gives v

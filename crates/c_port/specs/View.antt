@@ -1,4 +1,4 @@
--- The struct of a library's answer, the library's answer that a struct is, and the memory after a call.
+-- The struct of a library's answer, what a struct says of a call, and the memory after it.
 use Rattle.std.specs.Prelude.{◌≡◌, ◌≢◌, ℕ, Bool, List, length, Result, Ok, Err}
 use Rattle.lists.specs.Choice.{leaves}
 use Rattle.rules.specs.Answers as rules
@@ -17,24 +17,15 @@ use Rattle.c_port.specs.declared.Driven.{Driven}
 
 -- the struct of an answer to a call on m and st, which a refused call gives back
 abbrev pub driven_struct : Memory → LogState → Result MachineDriven Refusal → Driven
-driven_struct m st (Err e) = record { number = number e; memory = m; state = st }
 driven_struct m st (Ok d) = record { number = 0; memory = memory_struct d.memory; state = d.state }
+driven_struct m st (Err e) = record { number = number e; memory = m; state = st }
 
--- a struct read again, with the library's memory
-pub record Given : Type 0 where
-  pub refusal : ℕ
-  pub memory : MachineMemory
-  pub state : LogState
-
-abbrev pub given_driven : Driven → Given
-given_driven r = record { refusal = r.number; memory = given_memory r.memory; state = r.state }
-
--- the answer that it is, and what the call left: the arrays are those after it
-abbrev pub driven_of : Given → List ℕ → List ℕ → List ℕ → List ℕ → rules.Driven
-driven_of r nets trits output log = record {
-  answer = rules.answer_of r.refusal (state_of r.state);
+-- what a struct says, and what the call left of the memory: the arrays are those after the call
+abbrev pub driven_by : Driven → List ℕ → List ℕ → List ℕ → List ℕ → rules.Driven
+driven_by r nets trits output log = record {
+  answer = rules.answer_of r.number (state_of r.state);
   log = log;
-  memory = memory_of r.memory nets trits;
+  memory = memory_of (given_memory r.memory) nets trits;
   output = output;
 }
 
