@@ -92,7 +92,7 @@ def by_hand():
     return out
 
 
-GROUPS = [('log', 'st'), ('clear', 'reset', 'init'), ('nets', 'trits'), ('entries',), ('waddr', 'raddr', 'kw', 'kr')]
+GROUPS = [('log', 'st'), ('clear', 'reset', 'init'), ('nets', 'trits'), ('entries', 'writes', 'reads')]
 
 
 def together():
@@ -100,7 +100,7 @@ def together():
     out = []
     for file, name, params, result, head in functions():
         names = re.findall(r'(\w+):', params)
-        for group in GROUPS[:3]:
+        for group in GROUPS:
             if all(g in names for g in group):
                 out.append(f'{file}: fn {name} takes {", ".join(group)}')
     facts = collections.defaultdict(list)

@@ -9,7 +9,7 @@ ghost use Rattle.rules.specs.Beside.Shape.{handed_on, shape_call, place_call};
 ghost use Rattle.rules.specs.Beside.Layouts.{fill_call, fill_and_patch_call, read_row_call};
 ghost use Rattle.image_geometry.specs.View.{layout_by, measured_of};
 ghost use Rattle.image_rows.specs.View.{placed_of};
-ghost use Rattle.image_state.specs.View.{laid_of, unset_laid, laid_by, sized_of};
+ghost use Rattle.image_state.specs.View.{laid_of, unset_laid, laid_by, sizes_answer};
 ghost use Rattle.image_patches.specs.Calls.{calls_of, patched_to};
 ghost use Rattle.c_record.specs.View.{head_struct};
 ghost use Rattle.c_image.specs.View.{measured_struct, placed_struct};
@@ -18,7 +18,7 @@ use c_record::Head;
 use image_geometry::{Layout, Params, Shape};
 use image_patches::Calls;
 use image_rows::Place;
-use image_state::{Laid, Sized};
+use image_state::Laid;
 use record_sizes::Sizes;
 use rules::{Refusal, number_of};
 
@@ -75,12 +75,12 @@ fn placed_result(answer: Result<Place, Refusal>) -> PlacedResult
     }
 }
 
-pub fn sizes_result(a: Sized) -> Head
-    ensures { result ≡ head_struct (sized_of a) }
+pub fn sizes_result(answer: Result<Sizes, Refusal>) -> Head
+    ensures { result ≡ head_struct (sizes_answer answer) }
 {
-    match a {
-        Sized::Refused(n) => Head {
-            number: n,
+    match answer {
+        Err(refusal) => Head {
+            number: refusal.number(),
             sizes: Sizes {
                 unit: 0,
                 full: 0,
@@ -89,7 +89,7 @@ pub fn sizes_result(a: Sized) -> Head
                 partial_depth: 0,
             },
         },
-        Sized::Accepted(sizes) => Head { number: 0, sizes },
+        Ok(sizes) => Head { number: 0, sizes },
     }
 }
 
@@ -263,5 +263,5 @@ pub fn tablegoose_fill_and_patch(
 pub fn tablegoose_sizes_of(laid: Laid) -> Head
     ensures { result ≡ head_struct (sizes_call (laid_of laid)) }
 {
-    sizes_result(laid.sized())
+    sizes_result(laid.sizes())
 }

@@ -14,7 +14,7 @@ ghost use Rattle.c_plan.specs.View.{bits_struct, mux_bits_struct};
 use c_memory::Memory;
 use c_net::Count;
 use rules::Refusal;
-use swizzle_plan::MemorySwizzle;
+use swizzle_plan::{MemorySwizzle, Plan};
 
 // The number that refuses `swizzle_mux_bits`, or 0, and the mux bits of the write ports and of the listed read ports.
 #[repr(C)]
@@ -57,8 +57,8 @@ pub fn tablegoose_make_data_swizzle(
     ensures value { result ≡ count_struct (make_data_swizzle_call out.old (given_of (given_memory m) nets.now trits.now) granularities.now).answer }
     ensures out_after { out.new ≡ (make_data_swizzle_call out.old (given_of (given_memory m) nets.now trits.now) granularities.now).out }
 {
-    let g = c_memory::memory_of(m);
-    c_net::count_result(swizzle_entries::make_data_swizzle(out, g, nets, trits, granularities))
+    let given = c_memory::given_by(m, nets, trits);
+    c_net::count_result(swizzle_entries::make_data_swizzle(out, given, granularities))
 }
 
 pub fn tablegoose_swizzle_depths(
@@ -73,9 +73,14 @@ pub fn tablegoose_swizzle_depths(
 ) -> u32
     ensures { filled_with result out.new ≡ swizzle_depths_call out.old (given_of (given_memory m) nets.now trits.now) (plan_of s entries.now writes.now reads.now) }
 {
-    let g = c_memory::memory_of(m);
-    let r = swizzle_sizes::swizzle_depths(out, g, nets, trits, s, entries, writes, reads);
-    rules::number_of(r)
+    let given = c_memory::given_by(m, nets, trits);
+    let plan = Plan {
+        swizzle: s,
+        entries,
+        writes,
+        reads,
+    };
+    rules::number_of(swizzle_sizes::swizzle_depths(out, given, plan))
 }
 
 pub fn tablegoose_swizzle_mux_bits(
@@ -90,7 +95,12 @@ pub fn tablegoose_swizzle_mux_bits(
 ) -> MuxBits
     ensures { result ≡ mux_bits_struct (swizzle_mux_bits_call (given_of (given_memory m) nets.now trits.now) ports.now (plan_of s entries.now writes.now reads.now)) }
 {
-    let g = c_memory::memory_of(m);
-    let r = swizzle_sizes::swizzle_mux_bits(g, nets, trits, ports, s, entries, writes, reads);
-    mux_bits_result(r)
+    let given = c_memory::given_by(m, nets, trits);
+    let plan = Plan {
+        swizzle: s,
+        entries,
+        writes,
+        reads,
+    };
+    mux_bits_result(swizzle_sizes::swizzle_mux_bits(given, ports, plan))
 }

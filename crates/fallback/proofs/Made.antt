@@ -39,7 +39,7 @@ use Rattle.swizzle_facts.proofs.Counting.{reads_readable}
 use Rattle.swizzle_laws.proofs.ReadsCounts.{Readables}
 use Rattle.swizzle_result.specs.declared.WideMemory.{WideMemory}
 use Rattle.swizzle_result.specs.View.{result_of, results_of}
-use Rattle.swizzle_call.specs.declared.Swizzled.{Swizzled}
+use Rattle.swizzle_call.specs.Told.{Told}
 use Rattle.swizzle_call.specs.Acted.{PortsHeld}
 use Rattle.swizzle_call.proofs.Logs.{log_0}
 use Rattle.fallback_bare.specs.Bare.{bare_of}
@@ -173,7 +173,7 @@ module _ (m : Memory) (nets trits outs : List ℕ) (st : LogState) (log tables :
     few_unit : Q.unit ≤ max_unit
     few_unit = omega (arith, unit_is B, pass.bare_width r.next m nets trits r.output r.number, (pass.sized r.next m nets trits r.output r.number).width_ok)
 
-  module _ (x : Swizzled) (log' tables' image' : List ℕ) (s : SplitDone B outs (fallback_plan B) st log tables x log' tables' image') (k : ℕ) (size : k ≡ image_size Q) where
+  module _ (x : Told) (log' tables' image' : List ℕ) (s : SplitDone B outs (fallback_plan B) st log tables x log' tables' image') (k : ℕ) (size : k ≡ image_size Q) where
     abbrev g : WideMemory
     g = x.made.memory
 
@@ -231,7 +231,7 @@ module _ (m : Memory) (nets trits outs : List ℕ) (st : LogState) (log tables :
   pub given_thin : b.width ≤ max_row
   given_thin = omega (arith, ap (λ (x : Memory). x.width) e, (pass.sized r.next m nets trits r.output r.number).width_ok)
 
-  module _ (x : Swizzled) (log' tables' image' : List ℕ) (s : SplitDone (memory_of b nets trits) outs (fallback_plan (memory_of b nets trits)) st log tables x log' tables' image') where
+  module _ (x : Told) (log' tables' image' : List ℕ) (s : SplitDone (memory_of b nets trits) outs (fallback_plan (memory_of b nets trits)) st log tables x log' tables' image') where
     split_bare : SplitDone (memory_of (bare_of m) nets trits) outs (fallback_plan (memory_of (bare_of m) nets trits)) st log tables x log' tables' image'
     split_bare = subst (λ (y : Memory). SplitDone (memory_of y nets trits) outs (fallback_plan (memory_of y nets trits)) st log tables x log' tables' image') e s
 

@@ -43,30 +43,6 @@ use Rattle.fallback_pass.proofs.Counts.{swizzle_counted}
 use Rattle.fallback.specs.Refusal.{Later, Asked, DryRun}
 use Rattle.fallback.proofs.Total.{wide_rest, flat_rest, whole_refusal}
 
--- ---- 1 to 4, 11 and 14
-module _ (next : ℕ) (g : Given) (output : Value) (n : ℕ) (e : n ≡ driving_number false next g output) where
-  pub number_first : n ≢ 0 → n ≡ lower_fallback_number next g output
-  unfolding lower_fallback_number
-  number_first h = e ∙ sym (else_first (driving_number false next g output) _ (λ z. h (e ∙ z)))
-
-  number_rest : n ≡ 0 → lower_fallback_number next g output ≡ (when write_clocks_differ g.mem then 11 else when short_ports g.mem then 14 else 0)
-  unfolding lower_fallback_number
-  number_rest z = else_rest (driving_number false next g output) _ (sym e ∙ z)
-
-  module _ (z : n ≡ 0) (same : Bool) (s : same ≡ can_lower_fallback g.mem) where
-    differ : (b : Bool) → not same ≡ b → write_clocks_differ g.mem ≡ b
-    unfolding write_clocks_differ
-    differ b q = ap not (sym s) ∙ q
-
-    pub number_11 : not same ≡ true → 11 ≡ lower_fallback_number next g output
-    number_11 q = hit 11 _ (differ true q) ∙ sym (number_rest z)
-
-    pub number_14 : not same ≡ false → short_ports g.mem ≡ true → 14 ≡ lower_fallback_number next g output
-    number_14 q h = miss 11 _ 14 (differ false q) (hit 14 0 h) ∙ sym (number_rest z)
-
-    pub number_0 : not same ≡ false → short_ports g.mem ≡ false → 0 ≡ lower_fallback_number next g output
-    number_0 q h = miss 11 _ 0 (differ false q) (miss 14 0 0 h refl) ∙ sym (number_rest z)
-
 -- ---- scratch
 pub need_small : (p c : ℕ) → p ≤ max_ports → c ≤ max_bits → 2 * p * c ≤ 524288
 need_small p c h k =

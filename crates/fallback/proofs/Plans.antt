@@ -24,7 +24,7 @@ use Rattle.net_memory.specs.Given.{given_of}
 use Rattle.swizzle_plan.specs.declared.MemorySwizzle.{MemorySwizzle}
 use Rattle.swizzle_plan.specs.Calls.{plan_of}
 use Rattle.swizzle_result.specs.View.{results_of}
-use Rattle.swizzle_call.specs.declared.Swizzled.{Swizzled}
+use Rattle.swizzle_call.specs.Told.{Told}
 use Rattle.swizzle_call.specs.Whole.{Changed, Swizzles}
 use Rattle.fallback.specs.Split.{rooms, Passes, SplitDone}
 
@@ -36,7 +36,7 @@ none_left (a ∷ l) e = absurd (omega (arith, e))
 take_none : (n : ℕ) (l : List ℕ) → length l ≡ 0 → take n l ≡ []
 take_none n l e = none_left (take n l) (omega (arith, length-take n l, e))
 
-module _ (b : Memory) (nets trits outs : List ℕ) (s : MemorySwizzle) (es ws rs : List ℕ) (st : LogState) (log image tables kinds pieces : List ℕ) (x : Swizzled)
+module _ (b : Memory) (nets trits outs : List ℕ) (s : MemorySwizzle) (es ws rs : List ℕ) (st : LogState) (log image tables kinds pieces : List ℕ) (x : Told)
     (log' image' tables' kinds' pieces' : List ℕ) (si : length image ≡ max_bits) (sk : length kinds ≡ 0) (sp : length pieces ≡ max_bits) where
   abbrev B : Mem
   B = memory_of b nets trits
@@ -52,8 +52,9 @@ module _ (b : Memory) (nets trits outs : List ℕ) (s : MemorySwizzle) (es ws rs
   number_0 e z =
       (λ i. swizzle_refusal (record { image = si i; nets = length tables; trits = sk i; scratch = sp i }) (length log) (state_of st) (given_of b nets trits) outs (e i)) ∙ z
 
-  done_by : Changed B outs P st log image tables kinds pieces x log' image' tables' kinds' pieces' → Done P
-  done_by c = record {
+  done_by : x.refusal ≡ 0 → Changed B outs P st log image tables kinds pieces x log' image' tables' kinds' pieces' → Done P
+  done_by z c = record {
+    passed = z;
     log_is = c.acted.log_is;
     tables_are = c.acted.nets_are;
     results_are =
@@ -66,4 +67,4 @@ module _ (b : Memory) (nets trits outs : List ℕ) (s : MemorySwizzle) (es ws rs
   -- of the split by the plan of a fallback, which no number refuses
   pub split_done : P ≡ fallback_plan B → Passes b nets trits outs st log tables
       → Swizzles b nets trits outs s es ws rs st log image tables kinds pieces x log' image' tables' kinds' pieces' → Done (fallback_plan B)
-  split_done e z h = subst Done e (done_by (h.accepted (h.number ∙ number_0 e z)))
+  split_done e z h = subst Done e (done_by (h.number ∙ number_0 e z) (h.accepted (h.number ∙ number_0 e z)))

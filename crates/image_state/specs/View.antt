@@ -8,7 +8,7 @@ use Rattle.rules.specs.Geometry.{Layout}
 use Rattle.rules.specs.Image as rules
 use Rattle.rules.specs.Beside.Shape.{handed_on}
 use Rattle.rules.specs.Record as record-rules
-use Rattle.rules.specs.Answers.{Answer, Refused, Accepted}
+use Rattle.rules.specs.Answers.{Answer}
 use Rattle.rules.specs.Refusal.{answer_by}
 use Rattle.rules.specs.declared.numbers.Refusal.{Refusal}
 use Rattle.record_sizes.specs.declared.Sizes.{Sizes}
@@ -16,8 +16,6 @@ use Rattle.record_sizes.specs.View.{view_sizes}
 use Rattle.image_geometry.specs.declared.Params.{Params}
 use Rattle.image_geometry.specs.View.{layout_by}
 use Rattle.image_state.specs.declared.Laid.{Laid}
-use Rattle.image_state.specs.declared.Sized as sizes
-use Rattle.image_state.specs.declared.Sized.{Sized}
 
 abbrev pub params_of : Laid → Params
 params_of l = record { depth = l.depth; width = l.width; soft_mask = l.soft_mask; hard = l.hard; unit = l.unit }
@@ -55,9 +53,5 @@ laid_by p es =
     }
 
 -- the record's sizes, or a number
-abbrev pub sized_of : Sized → Answer record-rules.Sizes
-sized_of (sizes.TheVariants.Refused n) = Refused n
-sized_of (sizes.TheVariants.Accepted z) = Accepted (view_sizes z)
-
 abbrev pub sizes_answer : Result Sizes Refusal → Answer record-rules.Sizes
 sizes_answer = answer_by view_sizes

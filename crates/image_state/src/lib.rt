@@ -11,7 +11,7 @@ ghost use Rattle.rules.specs.Answers.{Accepted, patch_call, sizes_call, filled_w
 ghost use Rattle.rules.specs.Refusal.{number_of};
 ghost use Rattle.record_sizes.specs.View.{view_sizes};
 ghost use Rattle.image_geometry.specs.View.{layout_by, layout_of, shape_by};
-ghost use Rattle.image_state.specs.View.{laid_of, unset_laid, laid_by, sized_of, sizes_answer};
+ghost use Rattle.image_state.specs.View.{laid_of, unset_laid, laid_by, sizes_answer};
 ghost use Rattle.image_state.specs.Counts.{Counted};
 
 use image_check::check_layout;
@@ -30,13 +30,6 @@ pub struct Laid {
     pub unit: u32,
     pub len: u32,
     pub entries: [u32; rules::MAX_ROW],
-}
-
-// The record's sizes with the number of any call that refuses them: a swizzle's answer holds them so, and its number is a word.
-#[derive(Clone, Copy)]
-pub enum Sized {
-    Refused(u32),
-    Accepted(record_sizes::Sizes),
 }
 
 impl Laid {
@@ -124,17 +117,6 @@ impl Laid {
         ensures z_value { (z : Sizes) → sizes_answer result ≡ Accepted z → bad_sizes z ≡ false }
     {
         sizes_by(self.layout())
-    }
-
-    // The same, or the number.
-    pub fn sized(&self) -> Sized
-        ensures result_value { sized_of result ≡ sizes_call (laid_of self.now) }
-        ensures z_value { (z : Sizes) → sized_of result ≡ Accepted z → bad_sizes z ≡ false }
-    {
-        match self.sizes() {
-            Ok(sizes) => Sized::Accepted(sizes),
-            Err(refusal) => Sized::Refused(refusal.number()),
-        }
     }
 }
 

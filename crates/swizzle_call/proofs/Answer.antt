@@ -19,7 +19,10 @@ use Rattle.rules.specs.Swizzle.{swizzle, swizzle_laid, swizzle_scratch, shared_n
 use Rattle.rules.specs.Refusals.{swizzle_refusal}
 use Rattle.rules.specs.Answers.{Answer, Refused, Accepted, answer_of, After, Logged, after, logged, SwizzleLent, rooms_of, swizzle_call}
 use Rattle.rules.specs.Answers as answers
-use Rattle.rules.proofs.Answers.{answer_refused, answer_accepted}
+use Rattle.std.specs.Prelude.{Err}
+use Rattle.rules.specs.Refusal.{number}
+use Rattle.rules.specs.declared.numbers.Refusal.{Refusal}
+use Rattle.rules.proofs.Answers.{answer_refused, answer_accepted, number_nonzero}
 use Rattle.log_entries.specs.declared.LogState.{LogState}
 use Rattle.log_entries.specs.View.{state_of}
 use Rattle.net_memory.specs.declared.Memory.{Memory}
@@ -30,7 +33,7 @@ use Rattle.swizzle_plan.specs.declared.MemorySwizzle.{MemorySwizzle}
 use Rattle.swizzle_plan.specs.Calls.{plan_of}
 use Rattle.swizzle_result.specs.View.{results_of}
 use Rattle.swizzle_reads.specs.Going.{Going}
-use Rattle.swizzle_call.specs.declared.Swizzled.{Swizzled}
+use Rattle.swizzle_call.specs.Told.{Told, told}
 use Rattle.swizzle_call.specs.Whole.{Unchanged, Changed, Swizzles}
 use Rattle.swizzle_call.specs.Answer as view
 use Rattle.swizzle_call.specs.Answer.{held_by_of, swizzled_of}
@@ -39,7 +42,7 @@ by_number : {P : Type 0} (n : ℕ) → (n ≡ 0 → P) → (n ≢ 0 → P) → P
 by_number zero f g = f refl
 by_number (suc n) f g = g (λ e. omega arith)
 
-module _ (m : Memory) (nets trits output : List ℕ) (s : MemorySwizzle) (es ws rs : List ℕ) (st : LogState) (log image to kinds scratch : List ℕ) (x : Swizzled) (log' image' to' kinds' scratch' : List ℕ) where
+module _ (m : Memory) (nets trits output : List ℕ) (s : MemorySwizzle) (es ws rs : List ℕ) (st : LogState) (log image to kinds scratch : List ℕ) (x : Told) (log' image' to' kinds' scratch' : List ℕ) where
   abbrev M : Mem
   M = memory_of m nets trits
 
@@ -114,10 +117,24 @@ module _ (m : Memory) (nets trits output : List ℕ) (s : MemorySwizzle) (es ws 
       ∙ sym call_is
 
 -- both promises of the call
-pub promises : {m : Memory} {nets trits output : List ℕ} {s : MemorySwizzle} {es ws rs : List ℕ} {st : LogState} {log image to kinds scratch : List ℕ} {x : Swizzled} {log' image' to' kinds' scratch' : List ℕ}
+pub promises : {m : Memory} {nets trits output : List ℕ} {s : MemorySwizzle} {es ws rs : List ℕ} {st : LogState} {log image to kinds scratch : List ℕ} {x : Told} {log' image' to' kinds' scratch' : List ℕ}
     → Swizzles m nets trits output s es ws rs st log image to kinds scratch x log' image' to' kinds' scratch'
     → (swizzled_of x (swizzle_scratch (memory_of m nets trits) (plan_of s es ws rs)) log' image' to' kinds' scratch'
     ≡ swizzle_call (record { image = image; nets = to; trits = kinds; scratch = scratch }) log (state_of st) (given_of m nets trits) output (plan_of s es ws rs))
     × Swizzles m nets trits output s es ws rs st log image to kinds scratch x log' image' to' kinds' scratch'
 promises {m} {nets} {trits} {output} {s} {es} {ws} {rs} {st} {log} {image} {to} {kinds} {scratch} {x} {log'} {image'} {to'} {kinds'} {scratch'} h =
     (whole_answer m nets trits output s es ws rs st log image to kinds scratch x log' image' to' kinds' scratch' h, h)
+
+-- a call that is refused, with everything as it was
+module _ (m : Memory) (nets trits output : List ℕ) (s : MemorySwizzle) (es ws rs : List ℕ) (st : LogState) (log image to kinds scratch : List ℕ) (e : Refusal)
+    (h : number e ≡ swizzle_refusal (record { image = length image; nets = length to; trits = length kinds; scratch = length scratch }) (length log) (state_of st) (given_of m nets trits) output (plan_of s es ws rs)) where
+  refused_swizzles : Swizzles m nets trits output s es ws rs st log image to kinds scratch (told st (Err e)) log image to kinds scratch
+  refused_swizzles = record {
+    number = h;
+    refused = λ z. record { made_is = refl; image_is = refl; scratch_is = refl; laid_is = refl; sizes_are = refl };
+    accepted = λ z. absurd (number_nonzero e z);
+  }
+
+  pub refused_answer : swizzled_of (told st (Err e)) (swizzle_scratch (memory_of m nets trits) (plan_of s es ws rs)) log image to kinds scratch
+      ≡ swizzle_call (record { image = image; nets = to; trits = kinds; scratch = scratch }) log (state_of st) (given_of m nets trits) output (plan_of s es ws rs)
+  refused_answer = (promises refused_swizzles).0

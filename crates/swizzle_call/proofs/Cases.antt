@@ -35,6 +35,7 @@ use Rattle.net_check.proofs.Accept.{valid}
 use Rattle.port_unmap_all.proofs.Rules.{all_ready}
 use Rattle.port_empty.specs.Empty.{emptied_if}
 use Rattle.port_empty.proofs.Empty.{rules_run}
+use Rattle.image_geometry.specs.declared.Params.{Params}
 use Rattle.image_geometry.specs.View.{layout_by}
 use Rattle.swizzle_plan.specs.declared.MemorySwizzle.{MemorySwizzle}
 use Rattle.swizzle_plan.specs.Calls.{plan_of, params_by}
@@ -145,20 +146,17 @@ module _ (r : rules.SwizzleRooms) (room : ℕ) (st : LogState) (m : Memory) (net
   pub long : M.depth ≡ 0 → short_ports M ≡ false
   long d = sym (ap (λ (b : Bool). b && short_ports M) (eq-eqb M.depth 0 d)) ∙ not_14 _ short
 
-  pub empty_acted : (q : Layout) → M.width ≢ 0 → M.depth ≡ 0 → (made : Reads) → NoneYet made → (log : List ℕ) (name : GName) (after : Log) → lent after.state after.words.now ≡ run (emptied_if M output) (lent st log)
-      → after.words.ghost_name ≡ name → Acted M q (swizzle M output p) (named name (lent st log)) made.nets.now made.trits.now (going_of after made)
-  empty_acted q w d made y log name after e f =
+  pub empty_acted : (q : Layout) → M.width ≢ 0 → M.depth ≡ 0 → (made : Reads) → NoneYet made → (l : Lent) (after : Log) → lent_of after ≡ run (emptied_if M output) l
+      → Acted M q (swizzle M output p) l made.nets.now made.trits.now (going_of after made)
+  empty_acted q w d made y l after e =
       let t = empty_trace M output p w d in
-      let h = long d in
-      let l = lent st log in
-      none_acted M q (swizzle M output p) (named name l) (ap (λ (u : Trace (List Driving)). (u st.next).value) t ∙ empty_value M output st.next) made y after
-      (ap (λ (n : GName). named n (lent after.state after.words.now)) f ∙ unnamed (swizzle M output p) name l (lent after.state after.words.now)
-      (e ∙ rules_run M (all_ready (plan_too_large p) st.next m nets trits output driving h) output outputs l ∙ ap (λ (u : Trace (List Driving)). run u l) (sym t)))
+      none_acted M q (swizzle M output p) l (ap (λ (u : Trace (List Driving)). (u l.state.next).value) t ∙ empty_value M output l.state.next) made y after
+      (e ∙ rules_run M (all_ready (plan_too_large p) st.next m nets trits output driving (long d)) output outputs l ∙ ap (λ (u : Trace (List Driving)). run u l) (sym t))
 
 -- ---- rows
-pub same_layout : (m : Memory) (nets trits : List ℕ) (s : MemorySwizzle) (es ws rs : List ℕ) → layout_by (params_by m s) es ≡ layout_of (memory_of m nets trits) (plan_of s es ws rs)
+pub same_layout : (m : Memory) (nets trits : List ℕ) (s : MemorySwizzle) (es ws rs : List ℕ) (x : Params) → x ≡ params_by m s → layout_by x es ≡ layout_of (memory_of m nets trits) (plan_of s es ws rs)
 unfolding layout_of memory_of
-same_layout m nets trits s es ws rs = refl
+same_layout m nets trits s es ws rs x e = ap (λ (y : Params). layout_by y es) e
 
 from_rows : (m : Mem) (output : Value) (p : Plan) (l : Lent) (to kinds : List ℕ) (g : Going) → RowsDone m output p l to kinds g → Acted m (layout_of m p) (swizzle_rows m output p) l to kinds g
 from_rows m output p l to kinds g d = record { log_is = d.log_is; nets_are = d.nets_are; trits_are = d.trits_are; nets_end = d.nets_end; trits_end = d.trits_end; results_are = d.results_are }

@@ -1,5 +1,5 @@
 -- The image, the state for patches and the record's sizes of a swizzle that no number refuses.
-use mathlib.Core.Path.{◌≡◌, refl, ap, ◌∙◌}
+use mathlib.Core.Path.{◌≡◌, refl, sym, ap, ◌∙◌}
 use Prim.Native.Nat.{ℕ, ◌*◌}
 use mathlib.Core.Bool.{false, not}
 use mathlib.Core.Option.{some}
@@ -11,13 +11,16 @@ use Rattle.lists.specs.Lists.{part}
 use Rattle.lists.proofs.Choice.{else_zero, or_false, leaves_accepted}
 use Rattle.rules.specs.Cell.{Mem, Plan}
 use Rattle.rules.specs.Geometry.{Layout, layout_of}
-use Rattle.rules.specs.Image.{image_size}
+use Rattle.rules.specs.Image.{image_size, Laid}
 use Rattle.rules.specs.Patch.{laid_out}
 use Rattle.rules.specs.Record.{sizes_of}
 use Rattle.rules.specs.Conditions.{plan_too_large, bad_shape, bad_nets, bad_trits, bad_output_len, bad_value}
 use Rattle.rules.specs.Refusals as rules
 use Rattle.rules.specs.Refusals.{lent_refusal, image_refusal, driving_number, swizzle_number, swizzle_refusal}
-use Rattle.rules.specs.Answers.{Accepted, sizes_call}
+use Rattle.rules.specs.Answers.{Refused, Accepted, Filled, filled_with, sizes_call}
+use Rattle.rules.specs.Refusal as numbers
+use Rattle.rules.specs.declared.numbers.Refusal.{Refusal}
+use Rattle.rules.proofs.Answers.{tells_refused, answer_accepted, number_nonzero}
 use Rattle.rules.specs.Beside.Shape.{handed_on}
 use Rattle.rules.specs.Beside.Layouts.{fill_refusal_by, fill_refusal_of, fill_refusal, filled_by, fill_call}
 use Rattle.rules.proofs.Accepts.{layout_good}
@@ -70,11 +73,26 @@ module _ (r : rules.SwizzleRooms) (room : ℕ) (st : LogState) (m : Memory) (net
   filled_out image e =
       leaves_accepted (fill_refusal_of q (length image) M.init) image (laid_out q M.init image) (ap (λ (k : ℕ). fill_refusal_of q k M.init) e ∙ fill_0)
 
-  pub handed : (x : Layout) → x ≡ q → handed_on x ≡ some q
-  handed x e = ap handed_on e ∙ handed_some q (layout_good st.next (given_of m nets trits) output p (number r room st m nets trits output p z))
+  fill_number : (image : List ℕ) → length image ≡ r.image → (fill_call (some q) M.init image).number ≡ 0
+  unfolding fill_call fill_refusal filled_by
+  fill_number image e = ap (λ (k : ℕ). fill_refusal_of q k M.init) e ∙ fill_0
 
-  pub image_laid : (image after : List ℕ) → length image ≡ r.image → (x : Layout) → x ≡ q → after ≡ (fill_call (handed_on x) (part 0 m.init_len trits) image).out → after ≡ laid_out q M.init image
-  image_laid image after e x f h = h ∙ (λ i. (fill_call (handed x f i) (init_is m nets trits i) image).out) ∙ filled_out image e
+  -- x is the layout, and l what is handed on of it
+  module _ (l : Laid) (x : Layout) (e : l ≡ handed_on x) (f : x ≡ q) where
+    pub handed : l ≡ some q
+    handed = e ∙ ap handed_on f ∙ handed_some q (layout_good st.next (given_of m nets trits) output p (number r room st m nets trits output p z))
 
-  pub sizes_told : sizes_call (some q) ≡ Accepted (sizes_of q)
-  sizes_told = sizes_some q
+    pub sizes_told : sizes_call l ≡ Accepted (sizes_of q)
+    sizes_told = ap sizes_call handed ∙ sizes_some q
+
+    pub image_laid : (image after : List ℕ) → length image ≡ r.image → after ≡ (fill_call l (part 0 m.init_len trits) image).out → after ≡ laid_out q M.init image
+    image_laid image after g h = h ∙ (λ i. (fill_call (handed i) (init_is m nets trits i) image).out) ∙ filled_out image g
+
+    -- neither the sizes nor the image refuse it
+    pub sizes_never : (n : ℕ) → Refused n ≡ sizes_call l → ⊥
+    sizes_never n h = (tells_refused 0 n (sizes_of q) (h ∙ sizes_told ∙ sym (answer_accepted 0 (sizes_of q) refl))).1 refl
+
+    pub fill_never : (k : Refusal) (image after : List ℕ) → length image ≡ r.image → filled_with (numbers.number k) after ≡ fill_call l (part 0 m.init_len trits) image → ⊥
+    fill_never k image after g h =
+        number_nonzero k
+        (ap (λ (y : Filled). y.number) h ∙ (λ i. (fill_call (handed i) (init_is m nets trits i) image).number) ∙ fill_number image g)

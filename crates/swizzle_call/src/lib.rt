@@ -2,7 +2,8 @@
 #![tactic(auto)]
 
 ghost use Rattle.std.specs.Prelude.{◌≡◌, drop};
-ghost use Rattle.rules.specs.Answers.{swizzle_call};
+ghost use Rattle.rules.specs.Answers.{swizzle_call, filled_with};
+ghost use Rattle.rules.specs.Refusal.{number_of};
 ghost use Rattle.log_entries.specs.View.{state_of, lent, lent_of};
 ghost use Rattle.net_memory.specs.Given.{view_given, mem_of};
 ghost use Rattle.rules.specs.Geometry.{layout_of};
@@ -10,19 +11,21 @@ ghost use Rattle.rules.specs.Swizzle.{swizzle, swizzle_scratch};
 ghost use Rattle.swizzle_plan.specs.Calls.{view_plan};
 ghost use Rattle.swizzle_reads.specs.Going.{going_of, SameRooms};
 ghost use Rattle.lists.specs.Lists.{part};
-ghost use Rattle.rules.specs.Beside.Shape.{handed_on};
 ghost use Rattle.rules.specs.Beside.Layouts.{fill_call};
 ghost use Rattle.image_geometry.specs.View.{layout_by};
 ghost use Rattle.image_state.specs.View.{laid_of};
 ghost use Rattle.swizzle_call.specs.Acted.{Passed, NoneYet, Acted, HoldsPorts};
-ghost use Rattle.swizzle_call.specs.Made.{made_of, none_yet_of};
+ghost use Rattle.swizzle_call.specs.Made.{made_of};
+ghost use Rattle.swizzle_call.specs.Told.{told};
 ghost use Rattle.swizzle_call.specs.Whole.{Swizzles};
 ghost use Rattle.swizzle_call.specs.Answer.{swizzled_of};
 
-use image_geometry::{Layout, Params};
-use image_state::{Laid, Sized};
+use image_geometry::Layout;
+use image_state::Laid;
 use log_entries::{Log, LogState};
-use net_memory::{Given, Memory};
+use net_memory::Given;
+use record_sizes::Sizes;
+use rules::Refusal;
 use swizzle_counts::SwizzleRooms;
 use swizzle_plan::Plan;
 use swizzle_reads::Reads;
@@ -37,16 +40,14 @@ pub struct Made {
     pub trits_at: usize,
 }
 
-// No memories, and the log's state as it is.
-fn none_yet(state: LogState) -> Made
-    ensures { result ≡ none_yet_of state }
+// The layout of a memory's rows by its plan.
+#[tactic(auto, using(crate::proofs::Cases::same_layout))]
+fn layout_for<'a>(given: Given<'_>, plan: Plan<'a>) -> Layout<'a>
+    ensures { layout_by result.params result.entries.now ≡ layout_of (mem_of given.entry) (view_plan plan.entry) }
 {
-    let memory = swizzle_rows::no_memories();
-    Made {
-        state,
-        memory,
-        nets_at: 0,
-        trits_at: 0,
+    Layout {
+        params: swizzle_plan::params_of(given.memory, plan.swizzle),
+        entries: plan.entries,
     }
 }
 
@@ -71,14 +72,10 @@ fn act<'a>(
         return;
     }
     if given.memory.depth == 0 {
-        log.state = port_empty::emit_empty(log.words, log.state, given, output);
+        port_empty::emit_empty(log, given, output);
         return;
     }
-    let params = swizzle_plan::params_of(given.memory, plan.swizzle);
-    let q = Layout {
-        params,
-        entries: plan.entries,
-    };
+    let q = layout_for(given, plan);
     swizzle_rows::emit_rows(
         log,
         made,
@@ -128,28 +125,25 @@ fn make<'a>(
     }
 }
 
-// What a swizzle gives beside the log and the lent arrays: the number that refuses it or 0, what it makes, the state that patches go by, and the
-// record's sizes.
+// What a swizzle gives beside the log and the lent arrays: what it makes, the state that patches go by, and the record's sizes.
 #[derive(Clone, Copy)]
 pub struct Swizzled {
-    pub refusal: u32,
     pub made: Made,
     pub laid: Laid,
-    pub sizes: Sized,
+    pub sizes: Sizes,
 }
 
-// The initial trits laid out in the image, and the state that patches go by.
-fn lay(image: &mut [u8], m: Memory, trits: &[u8], p: Params, entries: &[u32]) -> Laid
-    ensures { (laid_of result ≡ handed_on (layout_by p entries.now)) × (image.new ≡ (fill_call (handed_on (layout_by p entries.now)) (part 0 m.init_len trits.now) image.old).out) }
+// The initial trits of a memory laid out in the image.
+fn fill_init(image: &mut [u8], laid: Laid, given: Given<'_>) -> Result<(), Refusal>
+    ensures { filled_with (number_of result) image.new ≡ fill_call (laid_of laid) (part 0 given.entry.memory.init_len given.entry.trits.now) image.old }
 {
-    let laid = Laid::laid_out(Layout { params: p, entries });
-    let n = net_memory::init_size(m);
-    let number = laid.fill(image, lists::part(trits, 0, n));
-    laid
+    let n = net_memory::init_size(given.memory);
+    laid.fill(image, lists::part(given.trits, 0, n))
 }
 
-// A memory swizzled by a plan. A call takes its log and the log's state apart, as C hands them. Refused: the log, the arrays and the state are as they were. Accepted: the rest of the image, of the nets, of the
-// trits and of the scratch past its need are as they were.
+// A memory swizzled by a plan. A call takes its log and the log's state apart, as C hands them. Refused: the log and the arrays are as they were.
+// Accepted: the rest of the image, of the nets, of the trits and of the scratch past its need are as they were.
+#[tactic(auto, using(crate::proofs::Answer::refused_answer))]
 pub fn swizzle<'a>(
     log: &mut [u32],
     st: LogState,
@@ -160,9 +154,9 @@ pub fn swizzle<'a>(
     given: Given<'_>,
     output: &[u32],
     plan: Plan<'a>,
-) -> Swizzled
-    ensures scratch_after { swizzled_of result (swizzle_scratch (mem_of given.entry) (view_plan plan.entry)) log.new image.exit.now nets_to.new trits_to.new scratch.new ≡ swizzle_call (record { image = image.entry.now; nets = nets_to.old; trits = trits_to.old; scratch = scratch.old }) log.old (state_of st) (view_given given.entry) output.now (view_plan plan.entry) }
-    ensures swizzles { Swizzles given.entry.memory given.entry.nets.now given.entry.trits.now output.now plan.entry.swizzle plan.entry.entries.now plan.entry.writes.now plan.entry.reads.now st log.old image.old nets_to.old trits_to.old scratch.old result log.new image.new nets_to.new trits_to.new scratch.new }
+) -> Result<Swizzled, Refusal>
+    ensures scratch_after { swizzled_of (told st result) (swizzle_scratch (mem_of given.entry) (view_plan plan.entry)) log.new image.exit.now nets_to.new trits_to.new scratch.new ≡ swizzle_call (record { image = image.entry.now; nets = nets_to.old; trits = trits_to.old; scratch = scratch.old }) log.old (state_of st) (view_given given.entry) output.now (view_plan plan.entry) }
+    ensures swizzles { Swizzles given.entry.memory given.entry.nets.now given.entry.trits.now output.now plan.entry.swizzle plan.entry.entries.now plan.entry.writes.now plan.entry.reads.now st log.old image.old nets_to.old trits_to.old scratch.old (told st result) log.new image.new nets_to.new trits_to.new scratch.new }
 {
     let r = SwizzleRooms {
         image: image.len(),
@@ -170,33 +164,11 @@ pub fn swizzle<'a>(
         trits: trits_to.len(),
         scratch: scratch.len(),
     };
-    let n = rules::number_of(swizzle_refusal::swizzle_refusal(
-        r,
-        log.len(),
-        st,
-        given,
-        output,
-        plan,
-    ));
-    if n != 0 {
-        let made = none_yet(st);
-        let laid = Laid::unset();
-        let sizes = Sized::Refused(n);
-        return Swizzled {
-            refusal: n,
-            made,
-            laid,
-            sizes,
-        };
-    }
+    swizzle_refusal::swizzle_refusal(r, log.len(), st, given, output, plan)?;
+    // What follows refuses no swizzle that passed.
+    let laid = Laid::laid_out(layout_for(given, plan));
+    let sizes = laid.sizes()?;
+    fill_init(image, laid, given)?;
     let made = make(log, st, nets_to, trits_to, scratch, given, output, plan);
-    let p = swizzle_plan::params_of(given.memory, plan.swizzle);
-    let laid = lay(image, given.memory, given.trits, p, plan.entries);
-    let sizes = laid.sized();
-    Swizzled {
-        refusal: 0,
-        made,
-        laid,
-        sizes,
-    }
+    Ok(Swizzled { made, laid, sizes })
 }

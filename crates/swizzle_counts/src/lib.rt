@@ -2,9 +2,9 @@
 // closed form.
 #![tactic(auto)]
 
-ghost use Rattle.std.specs.Prelude.{◌≡◌, true, [], eqb, ◌*◌, ◌^◌, ◌≤◌, length};
+ghost use Rattle.std.specs.Prelude.{◌≡◌, true, [], eqb, ◌*◌, ◌≤◌, length};
 ghost use Rattle.lists.specs.Choice.{when◌then◌else◌};
-ghost use Rattle.rules.specs.Limits.{max_ports, max_wide, max_width, max_row, max_merge};
+ghost use Rattle.rules.specs.Limits.{max_ports, max_width, max_row, max_merge};
 ghost use Rattle.image_geometry.specs.View.{layout_by};
 ghost use Rattle.swizzle_split.specs.Steps.{can_split};
 ghost use Rattle.swizzle_counts.specs.Needs.{no_needs, plus_needs, Most, port_most, split_of, Lengths, Ranges, read_from, read_needs, ReadFits, ReadsFit, reads_needs, write_from, kept_nets, MaskFits, write_needs, WriteFits, WritesFit, writes_needs};

@@ -1,7 +1,7 @@
 // swizzle_depths.
 use crate::plans::{Wanted, depths, memories, plan, refusal};
 use rules::NO_BIT;
-use swizzle_plan::MemorySwizzle;
+use swizzle_plan::{MemorySwizzle, Plan};
 use try_kit::samples::{memory, plain, pos, read_port, write_by, write_port};
 use try_kit::tally::Tally;
 
@@ -20,10 +20,12 @@ fn bare(
     depths(
         t,
         plain(depth, width, init),
-        s,
-        entries,
-        &none,
-        &none,
+        Plan {
+            swizzle: s,
+            entries,
+            writes: &none,
+            reads: &none,
+        },
         lent,
         want,
     )
@@ -98,7 +100,13 @@ pub(crate) fn plan_sizes(t: Tally) -> Tally {
 // The new wide logs are tried for their size alone.
 fn logged(t: Tally, writes: &[u32], reads: &[u32], want: Wanted) -> Tally {
     let m = memory(2, 1, 2, 1, write_port(1, 1), 1, read_port(1, 1));
-    depths(t, m, plan(0, 1, 1), &[0u32], writes, reads, 1, want)
+    let p = Plan {
+        swizzle: plan(0, 1, 1),
+        entries: &[0u32],
+        writes,
+        reads,
+    };
+    depths(t, m, p, 1, want)
 }
 
 pub(crate) fn logs(t: Tally) -> Tally {
@@ -241,16 +249,13 @@ fn broken(t: Tally, depth: u32, mask: u32, hard: u32, number: u32) -> Tally {
     let w = write_by(1, 2, mask, pos(16777216));
     let m = memory(depth, 1, depth, 1, w, 0, read_port(0, 0));
     let none: [u32; 0] = [];
-    depths(
-        t,
-        m,
-        plan(1, hard, 1),
-        &[1u32],
-        &none,
-        &none,
-        0,
-        refusal(number),
-    )
+    let p = Plan {
+        swizzle: plan(1, hard, 1),
+        entries: &[1u32],
+        writes: &none,
+        reads: &none,
+    };
+    depths(t, m, p, 0, refusal(number))
 }
 
 // Numbers in their order: 1 to 4 of the memory, 7, 8, 10 and 20.

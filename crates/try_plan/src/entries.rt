@@ -1,5 +1,5 @@
 // make_data_swizzle: a painted room, of which the first words are lent.
-use net_memory::Memory;
+use net_memory::Given;
 use rules::Refusal;
 use try_kit::paint::{paint, painted};
 use try_kit::tally::{Tally, add};
@@ -15,24 +15,15 @@ fn answer_is(r: Result<usize, Refusal>, number: u32, count: usize) -> bool {
 }
 
 // The call with a part of a room.
-fn call(
-    m: Memory,
-    nets: &[u32],
-    trits: &[u8],
-    sizes: &[u32],
-    out: &mut [u32],
-    lent: usize,
-) -> Result<usize, Refusal> {
+fn call(given: Given<'_>, sizes: &[u32], out: &mut [u32], lent: usize) -> Result<usize, Refusal> {
     let n = lent.min(out.len());
-    swizzle_entries::make_data_swizzle(&mut out[0..n], m, nets, trits, sizes)
+    swizzle_entries::make_data_swizzle(&mut out[0..n], given, sizes)
 }
 
 // A call's number and the entries that the room holds after it.
 pub(crate) fn made(
     t: Tally,
-    m: Memory,
-    nets: &[u32],
-    trits: &[u8],
+    given: Given<'_>,
     sizes: &[u32],
     lent: usize,
     number: u32,
@@ -40,7 +31,7 @@ pub(crate) fn made(
 ) -> Tally {
     let mut out = [0u32; ROOM];
     paint(&mut out);
-    let r = call(m, nets, trits, sizes, &mut out, lent);
+    let r = call(given, sizes, &mut out, lent);
     let t = add(t, answer_is(r, number, want.len()));
     add(t, out.starts_with(want) && painted(&out, want.len()))
 }

@@ -1,6 +1,6 @@
 // make_data_swizzle: document 01's examples, masks that differ in one subport, and the borders.
 use crate::entries::made;
-use net_memory::Memory;
+use net_memory::{Given, Memory};
 use rules::NO_BIT;
 use try_kit::samples::{memory, plain, read_port, write_port};
 use try_kit::tally::Tally;
@@ -31,7 +31,18 @@ fn three(
 ) -> Tally {
     let nets = [5u32, 6, 7, a, b, c];
     let trits = [0u8, 1, 2];
-    made(t, row(3, 1, 3), &nets, &trits, &[size], lent, number, want)
+    made(
+        t,
+        Given {
+            memory: row(3, 1, 3),
+            nets: &nets,
+            trits: &trits,
+        },
+        &[size],
+        lent,
+        number,
+        want,
+    )
 }
 
 pub(crate) fn masks(t: Tally) -> Tally {
@@ -61,7 +72,18 @@ pub(crate) fn masks(t: Tally) -> Tally {
 fn subports(t: Tally, a: u32, b: u32, c: u32, d: u32, want: &[u32]) -> Tally {
     let m = memory(2, 2, 4, 1, write_port(0, 4), 0, read_port(0, 2));
     let nets = [5u32, 6, 7, 8, a, b, c, d];
-    made(t, m, &nets, &[0u8, 1, 2, 0], &[3u32], 10, 0, want)
+    made(
+        t,
+        Given {
+            memory: m,
+            nets: &nets,
+            trits: &[0u8, 1, 2, 0],
+        },
+        &[3u32],
+        10,
+        0,
+        want,
+    )
 }
 
 // The mask of each subport counts.
@@ -79,9 +101,11 @@ fn two(t: Tally, a: u32, b: u32, lent: usize, number: u32, want: &[u32]) -> Tall
     let trits = [0u8, 1, 2, 0];
     made(
         t,
-        row(4, 2, 4),
-        &nets,
-        &trits,
+        Given {
+            memory: row(4, 2, 4),
+            nets: &nets,
+            trits: &trits,
+        },
         &[3u32, 4],
         lent,
         number,
@@ -117,9 +141,11 @@ fn sizes(
     let list = [a, b, 1];
     made(
         t,
-        row(1, 2, 1),
-        &nets,
-        &[trit],
+        Given {
+            memory: row(1, 2, 1),
+            nets: &nets,
+            trits: &[trit],
+        },
         lists::part(&list, 0, count),
         lent,
         number,
@@ -148,7 +174,18 @@ pub(crate) fn granularities(t: Tally) -> Tally {
     let t = no_granularities(t);
     let t = sizes(t, 0, 2, 1, 1, 1, 0, &[0u32]);
     let t = sizes(t, 0, 2, 1, 2, 2, 0, &[0u32, NO_BIT]);
-    made(t, row(3, 0, 0), &none, &trits, &none, 3, 0, &want)
+    made(
+        t,
+        Given {
+            memory: row(3, 0, 0),
+            nets: &none,
+            trits: &trits,
+        },
+        &none,
+        3,
+        0,
+        &want,
+    )
 }
 
 // Width 0, with a granularity or none.
@@ -159,9 +196,11 @@ fn flat(t: Tally, size: u32, count: usize, number: u32) -> Tally {
     let m = memory(4, 0, 0, 1, write_port(0, 0), 0, read_port(0, 0));
     made(
         t,
-        m,
-        &none,
-        &codes,
+        Given {
+            memory: m,
+            nets: &none,
+            trits: &codes,
+        },
         lists::part(&list, 0, count),
         0,
         number,
@@ -169,9 +208,27 @@ fn flat(t: Tally, size: u32, count: usize, number: u32) -> Tally {
     )
 }
 
+// Width 0 without ports.
+fn portless(t: Tally) -> Tally {
+    let none: [u32; 0] = [];
+    let codes: [u8; 0] = [];
+    let m = plain(9, 0, 0);
+    made(
+        t,
+        Given {
+            memory: m,
+            nets: &none,
+            trits: &codes,
+        },
+        &none,
+        0,
+        0,
+        &none,
+    )
+}
+
 // Width 0 gives no entries; depth 0 gives those of any depth.
 pub(crate) fn nothing(t: Tally) -> Tally {
-    let none: [u32; 0] = [];
     let codes: [u8; 0] = [];
     let t = flat(t, 64, 1, 0);
     let t = flat(t, 65, 1, 5);
@@ -179,8 +236,19 @@ pub(crate) fn nothing(t: Tally) -> Tally {
     let m = memory(0, 2, 0, 1, write_port(0, 2), 0, read_port(0, 0));
     let nets = [5u32, 6, 9, 8];
     let want = [0u32, NO_BIT, 1, NO_BIT];
-    let t = made(t, m, &nets, &codes, &[2u32], 4, 0, &want);
-    made(t, plain(9, 0, 0), &none, &codes, &none, 0, 0, &none)
+    let t = made(
+        t,
+        Given {
+            memory: m,
+            nets: &nets,
+            trits: &codes,
+        },
+        &[2u32],
+        4,
+        0,
+        &want,
+    );
+    portless(t)
 }
 
 // The entry at a place where each bit stands `step` entries after the one before.
@@ -208,9 +276,11 @@ fn granules(t: Tally, width: u32, size: u32, lent: usize, number: u32, want: &[u
     let m = row(width, 1, width);
     made(
         t,
-        m,
-        lists::part(&nets, 0, net_memory::nets_total(m)),
-        lists::part(&trits, 0, net_memory::trits_total(m)),
+        Given {
+            memory: m,
+            nets: lists::part(&nets, 0, net_memory::nets_total(m)),
+            trits: lists::part(&trits, 0, net_memory::trits_total(m)),
+        },
         &[size],
         lent,
         number,

@@ -1,7 +1,7 @@
 // swizzle_mux_bits.
 use crate::plans::{mux, mux_refused, plan};
 use net_memory::Memory;
-use swizzle_plan::MemorySwizzle;
+use swizzle_plan::{MemorySwizzle, Plan};
 use try_kit::samples::{memory, plain, read_port, with_read, with_write, write_port};
 use try_kit::tally::Tally;
 
@@ -27,10 +27,12 @@ fn two_and_two(
         t,
         m,
         &list,
-        s,
-        &[0u32],
-        &writes,
-        &reads,
+        Plan {
+            swizzle: s,
+            entries: &[0u32],
+            writes: &writes,
+            reads: &reads,
+        },
         0,
         [want[0], want[1], 0, 0, 0, 0, 0, 0],
         [want[2], want[3], 0, 0, 0, 0, 0, 0],
@@ -61,10 +63,12 @@ fn chunks(t: Tally, depth: u32, hard: u32, want: u32) -> Tally {
         t,
         m,
         &none,
-        plan(0, hard, 1),
-        &[0u32],
-        &[0u32],
-        &none,
+        Plan {
+            swizzle: plan(0, hard, 1),
+            entries: &[0u32],
+            writes: &[0u32],
+            reads: &none,
+        },
         0,
         [want, 0, 0, 0, 0, 0, 0, 0],
         [0u32; 8],
@@ -96,19 +100,18 @@ pub(crate) fn nothing(t: Tally) -> Tally {
     let t = two_and_two(t, ports(0), [0, 2], top, [0, 2], [1, 3], [1, 1, 1, 1]);
     let none = [0u32; 8];
     let flat = plain(5, 0, 0);
-    let t = mux(
-        t,
-        flat,
-        &empty,
-        plan(0, 0, 1),
-        &empty,
-        &empty,
-        &empty,
-        0,
-        none,
-        none,
-    );
-    mux_refused(t, flat, &empty, plan(1, 0, 1), &empty, &empty, &empty, 8)
+    let bare = Plan {
+        swizzle: plan(0, 0, 1),
+        entries: &empty,
+        writes: &empty,
+        reads: &empty,
+    };
+    let t = mux(t, flat, &empty, bare, 0, none, none);
+    let masked = Plan {
+        swizzle: plan(1, 0, 1),
+        ..bare
+    };
+    mux_refused(t, flat, &empty, masked, 8)
 }
 
 // 8 rows: so many times a listed port, a mask, the hard bits, one entry, so many write logs, of which the first is named, and so many read logs.
@@ -133,10 +136,12 @@ fn no_bits(
         t,
         ports(8),
         lists::part(&list, 0, ports_count),
-        plan(mask, hard, 1),
-        &[entry],
-        lists::part(&logs, 0, writes),
-        lists::part(&read_logs, 0, reads),
+        Plan {
+            swizzle: plan(mask, hard, 1),
+            entries: &[entry],
+            writes: lists::part(&logs, 0, writes),
+            reads: lists::part(&read_logs, 0, reads),
+        },
         number,
     )
 }
@@ -189,10 +194,12 @@ fn eight_times(t: Tally) -> Tally {
         t,
         ports(8),
         &[1u32; 8],
-        plan(0, 3, 1),
-        &[0u32],
-        &[0u32, 2],
-        &[3u32; 8],
+        Plan {
+            swizzle: plan(0, 3, 1),
+            entries: &[0u32],
+            writes: &[0u32, 2],
+            reads: &[3u32; 8],
+        },
         0,
         w,
         r,

@@ -1,7 +1,7 @@
 // swizzle_depths and swizzle_mux_bits.
-use net_memory::Memory;
+use net_memory::{Given, Memory};
 use rules::Refusal;
-use swizzle_plan::MemorySwizzle;
+use swizzle_plan::{MemorySwizzle, Plan};
 use swizzle_sizes::MuxBits;
 use try_kit::paint::{paint, painted};
 use try_kit::tally::{Tally, add};
@@ -52,41 +52,22 @@ pub(crate) fn memories(full: usize, deep: u32, rest: usize, shallow: u32) -> Wan
     }
 }
 
-// The entries of a plan and its new wide logs.
-fn call(
-    m: Memory,
-    s: MemorySwizzle,
-    entries: &[u32],
-    writes: &[u32],
-    reads: &[u32],
-    out: &mut [u32],
-) -> u32 {
+// The call on nets and trits of one value each.
+fn call(m: Memory, plan: Plan<'_>, out: &mut [u32]) -> u32 {
     let nets = [5u32; NETS];
     let trits = [1u8; TRITS];
-    rules::number_of(swizzle_sizes::swizzle_depths(
-        out,
-        m,
-        lists::part(&nets, 0, net_memory::nets_total(m)),
-        lists::part(&trits, 0, net_memory::trits_total(m)),
-        s,
-        entries,
-        writes,
-        reads,
-    ))
+    let given = Given {
+        memory: m,
+        nets: lists::part(&nets, 0, net_memory::nets_total(m)),
+        trits: lists::part(&trits, 0, net_memory::trits_total(m)),
+    };
+    rules::number_of(swizzle_sizes::swizzle_depths(out, given, plan))
 }
 
 // The call with so many words of a room.
-fn call_in(
-    m: Memory,
-    s: MemorySwizzle,
-    entries: &[u32],
-    writes: &[u32],
-    reads: &[u32],
-    out: &mut [u32],
-    lent: usize,
-) -> u32 {
+fn call_in(m: Memory, plan: Plan<'_>, out: &mut [u32], lent: usize) -> u32 {
     let n = lent.min(out.len());
-    call(m, s, entries, writes, reads, &mut out[0..n])
+    call(m, plan, &mut out[0..n])
 }
 
 // So many words from a place on are one word.
@@ -96,45 +77,25 @@ fn all_are(room: &[u32], at: usize, count: usize, word: u32) -> bool {
 }
 
 // swizzle_depths with so many words of a painted room.
-pub(crate) fn depths(
-    t: Tally,
-    m: Memory,
-    s: MemorySwizzle,
-    entries: &[u32],
-    writes: &[u32],
-    reads: &[u32],
-    lent: usize,
-    want: Wanted,
-) -> Tally {
+pub(crate) fn depths(t: Tally, m: Memory, plan: Plan<'_>, lent: usize, want: Wanted) -> Tally {
     let mut out = [0u32; ROOM];
     paint(&mut out);
-    let n = call_in(m, s, entries, writes, reads, &mut out, lent);
+    let n = call_in(m, plan, &mut out, lent);
     let t = add(t, n == want.number);
     let t = add(t, all_are(&out, 0, want.full, want.deep));
     let t = add(t, all_are(&out, want.full, want.rest, want.shallow));
     add(t, painted(&out, plus(want.full, want.rest)))
 }
 
-fn mux_call(
-    m: Memory,
-    list: &[u32],
-    s: MemorySwizzle,
-    entries: &[u32],
-    writes: &[u32],
-    reads: &[u32],
-) -> Result<MuxBits, Refusal> {
+fn mux_call(m: Memory, list: &[u32], plan: Plan<'_>) -> Result<MuxBits, Refusal> {
     let nets = [5u32; NETS];
     let trits = [1u8; TRITS];
-    swizzle_sizes::swizzle_mux_bits(
-        m,
-        lists::part(&nets, 0, net_memory::nets_total(m)),
-        lists::part(&trits, 0, net_memory::trits_total(m)),
-        list,
-        s,
-        entries,
-        writes,
-        reads,
-    )
+    let given = Given {
+        memory: m,
+        nets: lists::part(&nets, 0, net_memory::nets_total(m)),
+        trits: lists::part(&trits, 0, net_memory::trits_total(m)),
+    };
+    swizzle_sizes::swizzle_mux_bits(given, list, plan)
 }
 
 // swizzle_mux_bits: the number and all sixteen words of the answer.
@@ -142,15 +103,12 @@ pub(crate) fn mux(
     t: Tally,
     m: Memory,
     list: &[u32],
-    s: MemorySwizzle,
-    entries: &[u32],
-    writes: &[u32],
-    reads: &[u32],
+    plan: Plan<'_>,
     number: u32,
     want_writes: [u32; 8],
     want_reads: [u32; 8],
 ) -> Tally {
-    match mux_call(m, list, s, entries, writes, reads) {
+    match mux_call(m, list, plan) {
         Ok(bits) => {
             let t = add(t, number == 0);
             let t = add(t, bits.writes == want_writes);
@@ -165,16 +123,7 @@ pub(crate) fn mux(
 }
 
 // A refused call's words are 0.
-pub(crate) fn mux_refused(
-    t: Tally,
-    m: Memory,
-    list: &[u32],
-    s: MemorySwizzle,
-    entries: &[u32],
-    writes: &[u32],
-    reads: &[u32],
-    number: u32,
-) -> Tally {
+pub(crate) fn mux_refused(t: Tally, m: Memory, list: &[u32], plan: Plan<'_>, number: u32) -> Tally {
     let none = [0u32; 8];
-    mux(t, m, list, s, entries, writes, reads, number, none, none)
+    mux(t, m, list, plan, number, none, none)
 }

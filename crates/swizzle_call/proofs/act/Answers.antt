@@ -1,41 +1,40 @@
 -- `swizzle_call::act` meets its contract.
-use mathlib.Core.Path.{refl, sym, ap, ◌∙◌}
+use mathlib.Core.Path.{refl, sym, ◌∙◌}
 use lib.ListN.{length}
-use borrow.Rule.Slice.Mut.{set_vals}
 use Rattle.rules.specs.Geometry.{layout_of}
+use Rattle.log_entries.specs.View.{lent_of}
 use Rattle.net_memory.specs.View.{memory_of}
 use Rattle.net_memory.proofs.Sized.{writes_length, reads_length}
-use Rattle.image_geometry.specs.declared.Params.{Params}
 use Rattle.image_geometry.specs.View.{layout_by}
 use Rattle.swizzle_plan.specs.Calls.{plan_of}
 use Rattle.swizzle_counts.proofs.Rowed.{mem_width, mem_depth_lem}
 use Rattle.swizzle_reads.specs.Going.{going_of}
-use Rattle.swizzle_call.proofs.Cases.{flat_acted, empty_acted, same_layout, ran_acted, ran_ports, scratch_kept, rooms_of}
+use Rattle.swizzle_call.proofs.Cases.{flat_acted, empty_acted, ran_acted, ran_ports, scratch_kept, rooms_of}
 use Rattle.swizzle_call.proofs.act.Goals as goal
 
-pub returns-then-m-eq0-clause-acted : goal.returns-then-m-eq0-clause-acted
-returns-then-m-eq0-clause-acted c =
+pub returns-then-given-eq0-clause-acted : goal.returns-then-given-eq0-clause-acted
+returns-then-given-eq0-clause-acted c =
     let v = c.args in
     let mem = memory_of v.given.memory v.given.nets.now v.given.trits.now in
     let plan = plan_of v.plan.swizzle v.plan.entries.now v.plan.writes.now v.plan.reads.now in
-    flat_acted mem v.output.now plan (layout_of mem plan) (mem_width v.given.memory v.given.nets.now v.given.trits.now ∙ c.if-m-eq0.true) v.made.now c.requires.none_yet v.log.now
+    flat_acted mem v.output.now plan (layout_of mem plan) (mem_width v.given.memory v.given.nets.now v.given.trits.now ∙ c.if-given-eq0.true) v.made.now c.requires.none_yet v.log.now
 
-pub returns-then-m-eq0-clause-holds_ports : goal.returns-then-m-eq0-clause-holds_ports
-returns-then-m-eq0-clause-holds_ports c =
+pub returns-then-given-eq0-clause-holds_ports : goal.returns-then-given-eq0-clause-holds_ports
+returns-then-given-eq0-clause-holds_ports c =
     let v = c.args in
-    λ w d. absurd (w (mem_width v.given.memory v.given.nets.now v.given.trits.now ∙ c.if-m-eq0.true))
+    λ w d. absurd (w (mem_width v.given.memory v.given.nets.now v.given.trits.now ∙ c.if-given-eq0.true))
 
-pub returns-then-m-eq0-2-clause-acted : goal.returns-then-m-eq0-2-clause-acted
-returns-then-m-eq0-2-clause-acted c =
+pub returns-then-given-eq0-2-clause-acted : goal.returns-then-given-eq0-2-clause-acted
+returns-then-given-eq0-2-clause-acted c =
     let v = c.args in
     let mem = memory_of v.given.memory v.given.nets.now v.given.trits.now in
     let plan = plan_of v.plan.swizzle v.plan.entries.now v.plan.writes.now v.plan.reads.now in
-    empty_acted (rooms_of c.requires.passed.image v.made.now.nets.now v.made.now.trits.now v.scratch.now) (length v.log.now.words.now) v.log.now.state v.given.memory v.given.nets.now v.given.trits.now v.output.now plan c.requires.passed.zero (layout_of mem plan) (λ f. c.if-m-eq0.false (sym (mem_width v.given.memory v.given.nets.now v.given.trits.now) ∙ f)) (mem_depth_lem v.given.memory v.given.nets.now v.given.trits.now ∙ c.if-m-eq0-2.true) v.made.now c.requires.none_yet v.log.now.words.now v.log.now.words.ghost_name (record { words = set_vals c.emit_empty-log.new.log v.log.now.words; state = c.emit_empty-log.result }) c.emit_empty-log.ensures refl
+    empty_acted (rooms_of c.requires.passed.image v.made.now.nets.now v.made.now.trits.now v.scratch.now) (length v.log.now.words.now) v.log.now.state v.given.memory v.given.nets.now v.given.trits.now v.output.now plan c.requires.passed.zero (layout_of mem plan) (λ f. c.if-given-eq0.false (sym (mem_width v.given.memory v.given.nets.now v.given.trits.now) ∙ f)) (mem_depth_lem v.given.memory v.given.nets.now v.given.trits.now ∙ c.if-given-eq0-2.true) v.made.now c.requires.none_yet (lent_of v.log.now) c.emit_empty.new.log c.emit_empty.ensures
 
-pub returns-then-m-eq0-2-clause-holds_ports : goal.returns-then-m-eq0-2-clause-holds_ports
-returns-then-m-eq0-2-clause-holds_ports c =
+pub returns-then-given-eq0-2-clause-holds_ports : goal.returns-then-given-eq0-2-clause-holds_ports
+returns-then-given-eq0-2-clause-holds_ports c =
     let v = c.args in
-    λ w d. absurd (d (mem_depth_lem v.given.memory v.given.nets.now v.given.trits.now ∙ c.if-m-eq0-2.true))
+    λ w d. absurd (d (mem_depth_lem v.given.memory v.given.nets.now v.given.trits.now ∙ c.if-given-eq0-2.true))
 
 pub returns-clause-acted : goal.returns-clause-acted
 returns-clause-acted c =
@@ -43,10 +42,10 @@ returns-clause-acted c =
     let mem = memory_of v.given.memory v.given.nets.now v.given.trits.now in
     let plan = plan_of v.plan.swizzle v.plan.entries.now v.plan.writes.now v.plan.reads.now in
     let e = c.emit_rows in
-    let p = c.params_of-params in
-    let x = layout_by p.result v.plan.entries.now in
-    let q = ap (λ (y : Params). layout_by y v.plan.entries.now) p.ensures ∙ same_layout v.given.memory v.given.nets.now v.given.trits.now v.plan.swizzle v.plan.entries.now v.plan.writes.now v.plan.reads.now in
-    ran_acted (rooms_of c.requires.passed.image v.made.now.nets.now v.made.now.trits.now v.scratch.now) (length v.log.now.words.now) v.log.now.state v.given.memory v.given.nets.now v.given.trits.now v.output.now plan c.requires.passed.zero (λ f. c.if-m-eq0.false (sym (mem_width v.given.memory v.given.nets.now v.given.trits.now) ∙ f)) (λ f. c.if-m-eq0-2.false (sym (mem_depth_lem v.given.memory v.given.nets.now v.given.trits.now) ∙ f)) (writes_length v.given.memory _ c.well_formed.1.1.1.0.1.1.0 v.given.nets.now) (reads_length v.given.memory _ c.well_formed.1.1.1.0.1.1.0 v.given.nets.now v.given.trits.now) v.log.now.words.now v.made.now.nets.now v.made.now.trits.now v.log.now.words.ghost_name refl refl (length v.scratch.now) refl v.made.now.nets_at v.made.now.trits_at v.made.now.memory (going_of e.new.log e.new.made) x q e.ensures.rows_ran
+    let p = c.layout_for-q in
+    let x = layout_by p.result.params p.result.entries.now in
+    let q = p.ensures in
+    ran_acted (rooms_of c.requires.passed.image v.made.now.nets.now v.made.now.trits.now v.scratch.now) (length v.log.now.words.now) v.log.now.state v.given.memory v.given.nets.now v.given.trits.now v.output.now plan c.requires.passed.zero (λ f. c.if-given-eq0.false (sym (mem_width v.given.memory v.given.nets.now v.given.trits.now) ∙ f)) (λ f. c.if-given-eq0-2.false (sym (mem_depth_lem v.given.memory v.given.nets.now v.given.trits.now) ∙ f)) (writes_length v.given.memory _ c.well_formed.1.1.1.0.1.1.0 v.given.nets.now) (reads_length v.given.memory _ c.well_formed.1.1.1.0.1.1.0 v.given.nets.now v.given.trits.now) v.log.now.words.now v.made.now.nets.now v.made.now.trits.now v.log.now.words.ghost_name refl refl (length v.scratch.now) refl v.made.now.nets_at v.made.now.trits_at v.made.now.memory (going_of e.new.log e.new.made) x q e.ensures.rows_ran
 
 pub returns-clause-scratch_unchanged : goal.returns-clause-scratch_unchanged
 returns-clause-scratch_unchanged c =
@@ -54,10 +53,10 @@ returns-clause-scratch_unchanged c =
     let mem = memory_of v.given.memory v.given.nets.now v.given.trits.now in
     let plan = plan_of v.plan.swizzle v.plan.entries.now v.plan.writes.now v.plan.reads.now in
     let e = c.emit_rows in
-    let p = c.params_of-params in
-    let x = layout_by p.result v.plan.entries.now in
-    let q = ap (λ (y : Params). layout_by y v.plan.entries.now) p.ensures ∙ same_layout v.given.memory v.given.nets.now v.given.trits.now v.plan.swizzle v.plan.entries.now v.plan.writes.now v.plan.reads.now in
-    scratch_kept (rooms_of c.requires.passed.image v.made.now.nets.now v.made.now.trits.now v.scratch.now) (length v.log.now.words.now) v.log.now.state v.given.memory v.given.nets.now v.given.trits.now v.output.now plan c.requires.passed.zero (λ f. c.if-m-eq0.false (sym (mem_width v.given.memory v.given.nets.now v.given.trits.now) ∙ f)) (λ f. c.if-m-eq0-2.false (sym (mem_depth_lem v.given.memory v.given.nets.now v.given.trits.now) ∙ f)) (writes_length v.given.memory _ c.well_formed.1.1.1.0.1.1.0 v.given.nets.now) (reads_length v.given.memory _ c.well_formed.1.1.1.0.1.1.0 v.given.nets.now v.given.trits.now) x q v.scratch.now e.new.scratch e.ensures.all_kept
+    let p = c.layout_for-q in
+    let x = layout_by p.result.params p.result.entries.now in
+    let q = p.ensures in
+    scratch_kept (rooms_of c.requires.passed.image v.made.now.nets.now v.made.now.trits.now v.scratch.now) (length v.log.now.words.now) v.log.now.state v.given.memory v.given.nets.now v.given.trits.now v.output.now plan c.requires.passed.zero (λ f. c.if-given-eq0.false (sym (mem_width v.given.memory v.given.nets.now v.given.trits.now) ∙ f)) (λ f. c.if-given-eq0-2.false (sym (mem_depth_lem v.given.memory v.given.nets.now v.given.trits.now) ∙ f)) (writes_length v.given.memory _ c.well_formed.1.1.1.0.1.1.0 v.given.nets.now) (reads_length v.given.memory _ c.well_formed.1.1.1.0.1.1.0 v.given.nets.now v.given.trits.now) x q v.scratch.now e.new.scratch e.ensures.all_kept
 
 pub returns-clause-holds_ports : goal.returns-clause-holds_ports
 returns-clause-holds_ports c =
@@ -65,7 +64,7 @@ returns-clause-holds_ports c =
     let mem = memory_of v.given.memory v.given.nets.now v.given.trits.now in
     let plan = plan_of v.plan.swizzle v.plan.entries.now v.plan.writes.now v.plan.reads.now in
     let e = c.emit_rows in
-    let p = c.params_of-params in
-    let x = layout_by p.result v.plan.entries.now in
-    let q = ap (λ (y : Params). layout_by y v.plan.entries.now) p.ensures ∙ same_layout v.given.memory v.given.nets.now v.given.trits.now v.plan.swizzle v.plan.entries.now v.plan.writes.now v.plan.reads.now in
-    λ w d. ran_ports (rooms_of c.requires.passed.image v.made.now.nets.now v.made.now.trits.now v.scratch.now) (length v.log.now.words.now) v.log.now.state v.given.memory v.given.nets.now v.given.trits.now v.output.now plan c.requires.passed.zero (λ f. c.if-m-eq0.false (sym (mem_width v.given.memory v.given.nets.now v.given.trits.now) ∙ f)) (λ f. c.if-m-eq0-2.false (sym (mem_depth_lem v.given.memory v.given.nets.now v.given.trits.now) ∙ f)) (writes_length v.given.memory _ c.well_formed.1.1.1.0.1.1.0 v.given.nets.now) (reads_length v.given.memory _ c.well_formed.1.1.1.0.1.1.0 v.given.nets.now v.given.trits.now) v.log.now.words.now v.made.now.nets.now v.made.now.trits.now v.log.now.words.ghost_name refl refl (length v.scratch.now) refl v.made.now.nets_at v.made.now.trits_at v.made.now.memory (going_of e.new.log e.new.made) x q e.ensures.rows_ran
+    let p = c.layout_for-q in
+    let x = layout_by p.result.params p.result.entries.now in
+    let q = p.ensures in
+    λ w d. ran_ports (rooms_of c.requires.passed.image v.made.now.nets.now v.made.now.trits.now v.scratch.now) (length v.log.now.words.now) v.log.now.state v.given.memory v.given.nets.now v.given.trits.now v.output.now plan c.requires.passed.zero (λ f. c.if-given-eq0.false (sym (mem_width v.given.memory v.given.nets.now v.given.trits.now) ∙ f)) (λ f. c.if-given-eq0-2.false (sym (mem_depth_lem v.given.memory v.given.nets.now v.given.trits.now) ∙ f)) (writes_length v.given.memory _ c.well_formed.1.1.1.0.1.1.0 v.given.nets.now) (reads_length v.given.memory _ c.well_formed.1.1.1.0.1.1.0 v.given.nets.now v.given.trits.now) v.log.now.words.now v.made.now.nets.now v.made.now.trits.now v.log.now.words.ghost_name refl refl (length v.scratch.now) refl v.made.now.nets_at v.made.now.trits_at v.made.now.memory (going_of e.new.log e.new.made) x q e.ensures.rows_ran
