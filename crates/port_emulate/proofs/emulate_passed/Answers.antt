@@ -1,4 +1,4 @@
--- `port_emulate::emulate_in` meets its contract.
+-- `port_emulate::emulate_passed` meets its contract.
 use Rattle.std.proofs.Common.{rules}
 use mathlib.Core.Path.{refl}
 use lib.ListN.{length}
@@ -7,7 +7,7 @@ use Rattle.log_entries.specs.View.{state_of}
 use Rattle.port_emulate.proofs.Bounds.{fits_all, nets_there}
 use Rattle.port_emulate.proofs.Number.{all_x_is, refused_log}
 use Rattle.port_emulate.proofs.Call.{call_refused, call_done, all_new, log_name, done_unnamed}
-use Rattle.port_emulate.proofs.emulate_in.Goals as goal
+use Rattle.port_emulate.proofs.emulate_passed.Goals as goal
 
 pub dry_refusal-requires : goal.dry_refusal-requires
 dry_refusal-requires c =
