@@ -1,7 +1,7 @@
 // memory/src/lib.rs, emulate_read_before_write of one write port: flip-flops before its address, data and mask.
 #![tactic(auto)]
 
-ghost use Rattle.std.specs.Prelude.{◌≡◌, Bool, [], ◌≤◌, length, take};
+ghost use Rattle.std.specs.Prelude.{◌≡◌, [], ◌≤◌, length, take};
 ghost use Rattle.rules.specs.Limits.{max_merge};
 ghost use Rattle.rules.specs.Cell.{new_flip_flop};
 ghost use Rattle.rules.specs.Log.{add_dff_of};
