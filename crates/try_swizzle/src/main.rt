@@ -3,9 +3,9 @@
 #![tactic(auto)]
 
 use log_entries::LogState;
-use net_memory::Memory;
+use net_memory::{Given, Memory};
 use std::{fmt, io};
-use swizzle_plan::MemorySwizzle;
+use swizzle_plan::{MemorySwizzle, Plan};
 use try_kit::samples;
 
 // Words or trits, on a line.
@@ -30,7 +30,6 @@ fn memory() -> Memory {
 }
 
 fn main(rt: HostRuntime) -> io::Result<()> {
-    let m = memory();
     let nets = [10u32, 11, 12, 13, 14, 15, 15, 17, 18, 19];
     let trits = [
         0u8, 1, 1, 0, 2, 1, 0, 0, 1, 1, 0, 2, 1, 0, 1, 1, 0, 1, 1, 2, 2, 0,
@@ -43,32 +42,40 @@ fn main(rt: HostRuntime) -> io::Result<()> {
     let mut nets_to = [7u32; 400];
     let mut trits_to = [9u8; 400];
     let mut scratch = [0u32; 400];
-    let s = MemorySwizzle {
-        soft_addr_bits_mask: 2,
-        hard_addr_bits: 1,
-        data_width_unit: 4,
+    let given = Given {
+        memory: memory(),
+        nets: &nets,
+        trits: &trits,
+    };
+    let plan = Plan {
+        swizzle: MemorySwizzle {
+            soft_addr_bits_mask: 2,
+            hard_addr_bits: 1,
+            data_width_unit: 4,
+        },
+        entries: &entries,
+        writes: &logs,
+        reads: &logs,
     };
     let st = LogState { used: 0, next: 30 };
-    let x = swizzle_call::swizzle(
+    let r = swizzle_call::swizzle(
         &mut log,
         st,
         &mut image,
         &mut nets_to,
         &mut trits_to,
         &mut scratch,
-        m,
-        &nets,
-        &trits,
+        given,
         &output,
-        s,
-        &entries,
-        &logs,
-        &logs,
+        plan,
     );
-    let made = x.made;
+    let made = match r {
+        Ok(x) => x.made,
+        Err(e) => return line(&rt, &[e.number()]),
+    };
     let state = made.state;
     let g = made.memory;
-    line(&rt, &[x.refusal])?;
+    line(&rt, &[0u32])?;
     println!(rt; "{} {} ", state.used, state.next)?;
     line(&rt, lists::part(&log, 0, state.used))?;
     line(&rt, &[g.mems, g.full, g.full_depth, g.part_depth, g.unit])?;
