@@ -1,5 +1,4 @@
 -- The structs of the rules' answers.
-use Rattle.std.specs.Prelude.{ℕ}
 use Rattle.rules.specs.Beside.Shape as shapes
 use Rattle.rules.specs.Answers.{Answer, Refused, Accepted}
 use Rattle.image_geometry.specs.declared.Shape.{Shape}

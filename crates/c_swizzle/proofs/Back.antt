@@ -4,7 +4,7 @@ use mathlib.Core.Bool.{Bool, true, false}
 use mathlib.Core.List.{List}
 use Prim.Native.Nat.{ℕ}
 use lib.Dec.{eqb}
-use borrow.Author.Tests.{eqb-true, eqb-false, ne_eqb, eq-eqb}
+use borrow.Author.Tests.{eqb-true, eqb-false}
 use Rattle.rules.specs.Record as record-rules
 use Rattle.rules.specs.Log as log-rules
 use Rattle.rules.specs.Cell.{Given, Plan}
@@ -14,19 +14,17 @@ use Rattle.rules.specs.Answers as answers
 use Rattle.rules.specs.Answers.{SwizzleLent, swizzle_call}
 use Rattle.rules.proofs.Answers.{answer_refused, answer_accepted, tells_refused, tells_accepted}
 use Rattle.record_sizes.specs.View.{view_sizes}
-use Rattle.image_state.specs.declared.Sized.{Sized}
-use Rattle.image_state.specs.declared.Sized.TheVariants.{Refused, Accepted}
-use Rattle.image_state.specs.View.{laid_of, sized_of}
+use Rattle.image_state.specs.View.{laid_of}
 use Rattle.swizzle_result.specs.declared.WideWritePort.{WideWritePort as MachineWrite}
 use Rattle.swizzle_result.specs.declared.WideReadPort.{WideReadPort as MachineRead}
 use Rattle.swizzle_result.specs.declared.WideMemory.{WideMemory as MachineWide}
-use Rattle.swizzle_call.specs.declared.Swizzled.{Swizzled as MachineSwizzled}
+use Rattle.swizzle_call.specs.Told.{Told}
 use Rattle.swizzle_call.specs.Answer.{swizzled_of}
 use Rattle.c_memory.proofs.Back.{net_back, flip_flop_back}
 use Rattle.c_memory.proofs.Each.{undone}
 use Rattle.c_record.specs.View.{head_struct}
 use Rattle.c_swizzle.specs.View.{given_write, given_read, given_wide, write_struct, read_struct, wide_struct}
-use Rattle.c_swizzle.specs.Calls.{swizzled_struct, given_sizes, given_swizzled}
+use Rattle.c_swizzle.specs.Calls.{swizzled_struct, given_swizzled}
 
 write_back : (p : MachineWrite) → given_write (write_struct p) ≡ p
 write_back p = λ i. record { addr_len = p.addr_len; wide = p.wide; clock = net_back p.clock i }
@@ -56,15 +54,11 @@ wide_back g = λ i. record {
 }
 
 -- the sizes: the answer with this number, k the rules' number of the call
-sizes_back : (n k : ℕ) (a : Sized) (s : record-rules.Sizes) → n ≡ k → sized_of a ≡ answers.answer_of k s → given_sizes n (head_struct (sized_of a)).sizes ≡ a
-unfolding given_sizes
-sizes_back n k (Refused j) s e h =
+sizes_back : (n k : ℕ) (a : answers.Answer record-rules.Sizes) (s : record-rules.Sizes) → n ≡ k → a ≡ answers.answer_of k s → answers.answer_of n (view_sizes (head_struct a).sizes) ≡ a
+sizes_back n k (answers.Refused j) s e h =
     let t = tells_refused k j s h in
-    let q : n ≡ j = e ∙ t.0 in
-    rw (ne_eqb n 0 (λ z. t.1 (sym e ∙ z))) (ap Refused q)
-sizes_back n k (Accepted z) s e h =
-    let t = tells_accepted k s (view_sizes z) h in
-    rw (eq-eqb n 0 (e ∙ t.0))
+    answer_refused n _ (λ z. t.1 (sym e ∙ z)) ∙ ap answers.Refused (e ∙ t.0)
+sizes_back n k (answers.Accepted z) s e h = answer_accepted n z (e ∙ (tells_accepted k s z h).0)
 
 -- an answer's number is the call's
 same_number : {A : Type 0} (n k : ℕ) (a b : A) → answers.answer_of n a ≡ answers.answer_of k b → n ≡ k
@@ -74,9 +68,9 @@ same_number n k a b e = on (eqb n 0) refl
     on true h = let z = eqb-true n 0 h in z ∙ sym (tells_accepted k b a (sym (answer_accepted n a z) ∙ e)).0
     on false h = sym (tells_refused k n b (sym (answer_refused n a (eqb-false n 0 h)) ∙ e)).0
 
-module _ (l : SwizzleLent) (log : List ℕ) (s : log-rules.LogState) (g : Given) (output : Value) (p : Plan) (x : MachineSwizzled) (log' image' nets' trits' scratch' : List ℕ)
+module _ (l : SwizzleLent) (log : List ℕ) (s : log-rules.LogState) (g : Given) (output : Value) (p : Plan) (x : Told) (log' image' nets' trits' scratch' : List ℕ)
     (e : swizzled_of x (swizzle_scratch g.mem p) log' image' nets' trits' scratch' ≡ swizzle_call l log s g output p) where
-  sizes_of_lem : given_sizes x.refusal (head_struct (sized_of x.sizes)).sizes ≡ x.sizes
+  sizes_of_lem : answers.answer_of x.refusal (view_sizes (head_struct x.sizes).sizes) ≡ x.sizes
   unfolding swizzle_call
   sizes_of_lem =
       sizes_back x.refusal _ x.sizes _

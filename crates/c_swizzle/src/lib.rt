@@ -3,6 +3,7 @@
 
 ghost use Rattle.std.specs.Prelude.{◌≡◌};
 ghost use Rattle.rules.specs.Answers.{swizzle_call};
+ghost use Rattle.rules.specs.Refusal.{number};
 ghost use Rattle.rules.specs.Swizzle.{swizzle_scratch};
 ghost use Rattle.log_entries.specs.View.{state_of};
 ghost use Rattle.net_memory.specs.View.{memory_of};
@@ -10,8 +11,9 @@ ghost use Rattle.net_memory.specs.Given.{given_of};
 ghost use Rattle.image_patches.specs.Calls.{calls_of};
 ghost use Rattle.swizzle_plan.specs.Calls.{plan_of};
 ghost use Rattle.swizzle_call.specs.Answer.{swizzled_of};
+ghost use Rattle.swizzle_call.specs.Told.{told, accepted_told, refused_told};
 ghost use Rattle.swizzle_call.specs.Whole.{Swizzles};
-ghost use Rattle.swizzle_patches.specs.Joined.{Joined, Kept};
+ghost use Rattle.swizzle_patches.specs.Joined.{Joined, Kept, told_patches};
 ghost use Rattle.c_memory.specs.View.{given_memory};
 ghost use Rattle.c_swizzle.specs.Calls.{swizzled_struct, given_swizzled, patches_struct, given_patches};
 
@@ -19,8 +21,10 @@ use c_memory::Memory;
 use c_net::Control;
 use image_state::Laid;
 use log_entries::LogState;
+use net_memory::Given;
 use record_sizes::Sizes;
-use swizzle_plan::MemorySwizzle;
+use rules::Refusal;
+use swizzle_plan::{MemorySwizzle, Plan};
 
 pub mod parts;
 pub mod wide;
@@ -87,34 +91,67 @@ pub struct SwizzledPatches {
     pub patches: u32,
 }
 
-fn swizzled_struct(x: swizzle_call::Swizzled) -> Swizzled
-    ensures { result ≡ swizzled_struct x }
+// Of a call that is not refused.
+fn accepted_struct(x: swizzle_call::Swizzled) -> Swizzled
+    ensures { result ≡ swizzled_struct (accepted_told x) }
 {
     let made = x.made;
     let state = made.state;
     let memory = made.memory;
     let laid = x.laid;
     let sizes = x.sizes;
-    let head = c_image::sizes_result(sizes);
-    let known = head.sizes;
     Swizzled {
-        number: x.refusal,
+        number: 0,
         state,
         memory: wide::memory_struct(memory),
         nets_used: made.nets_at,
         trits_used: made.trits_at,
         laid,
-        sizes: known,
+        sizes,
     }
 }
 
-fn patches_struct(x: swizzle_patches::SwizzledPatches) -> SwizzledPatches
-    ensures { result ≡ patches_struct x }
+// Refused: the log's state as it was, no memories, and no state for patches.
+fn refused_struct(st: LogState, refusal: Refusal) -> Swizzled
+    ensures { result ≡ swizzled_struct (refused_told st (number refusal)) }
 {
-    let swizzled = x.swizzled;
-    SwizzledPatches {
-        swizzled: swizzled_struct(swizzled),
-        patches: x.patches,
+    let head = c_image::sizes_result(Err(refusal));
+    let sizes = head.sizes;
+    Swizzled {
+        number: head.number,
+        state: st,
+        memory: wide::memory_struct(swizzle_rows::no_memories()),
+        nets_used: 0,
+        trits_used: 0,
+        laid: Laid::unset(),
+        sizes,
+    }
+}
+
+fn swizzled_struct(st: LogState, answer: Result<swizzle_call::Swizzled, Refusal>) -> Swizzled
+    ensures { result ≡ swizzled_struct (told st answer) }
+{
+    match answer {
+        Err(refusal) => refused_struct(st, refusal),
+        Ok(x) => accepted_struct(x),
+    }
+}
+
+fn patches_struct(
+    st: LogState,
+    answer: Result<swizzle_patches::SwizzledPatches, Refusal>,
+) -> SwizzledPatches
+    ensures { result ≡ patches_struct (told_patches st answer) }
+{
+    match answer {
+        Err(refusal) => SwizzledPatches {
+            swizzled: refused_struct(st, refusal),
+            patches: refusal.number(),
+        },
+        Ok(x) => SwizzledPatches {
+            swizzled: accepted_struct(x.swizzled),
+            patches: rules::number_of(x.patches),
+        },
     }
 }
 
@@ -139,12 +176,22 @@ pub fn tablegoose_swizzle<'a>(
     ensures swizzles { Swizzles (given_memory m) nets.now trits.now output.now s entries.now writes.now reads.now st log.old image.old nets_to.old trits_to.old scratch.old (given_swizzled result) log.new image.new nets_to.new trits_to.new scratch.new }
     ensures value { result ≡ swizzled_struct (given_swizzled result) }
 {
-    let given = c_memory::memory_of(m);
-    let x = swizzle_call::swizzle(
-        log, st, image, nets_to, trits_to, scratch, given, nets, trits, output, s, entries, writes,
+    let memory = c_memory::memory_of(m);
+    let given = Given {
+        memory,
+        nets,
+        trits,
+    };
+    let plan = Plan {
+        swizzle: s,
+        entries,
+        writes,
         reads,
+    };
+    let answer = swizzle_call::swizzle(
+        log, st, image, nets_to, trits_to, scratch, given, output, plan,
     );
-    swizzled_struct(x)
+    swizzled_struct(st, answer)
 }
 
 // A swizzle, and the calls of a list on its image; each call's number goes into `numbers`. Where the swizzle is refused no call is made.
@@ -171,10 +218,20 @@ pub fn tablegoose_swizzle_and_patch<'a>(
     ensures kept { Kept st log.old image.old nets_to.old trits_to.old scratch.old (given_patches result) log.new image.new nets_to.new trits_to.new scratch.new }
     ensures value { result ≡ patches_struct (given_patches result) }
 {
-    let given = c_memory::memory_of(m);
-    let x = swizzle_patches::swizzle_and_patch(
-        log, st, image, nets_to, trits_to, scratch, numbers, given, nets, trits, output, s,
-        entries, writes, reads, calls, rows,
+    let memory = c_memory::memory_of(m);
+    let given = Given {
+        memory,
+        nets,
+        trits,
+    };
+    let plan = Plan {
+        swizzle: s,
+        entries,
+        writes,
+        reads,
+    };
+    let answer = swizzle_patches::swizzle_and_patch(
+        log, st, image, nets_to, trits_to, scratch, numbers, given, output, plan, calls, rows,
     );
-    patches_struct(x)
+    patches_struct(st, answer)
 }

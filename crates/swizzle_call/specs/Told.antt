@@ -23,7 +23,10 @@ pub record Told : Type 0 where
 abbrev pub refused_told : LogState → ℕ → Told
 refused_told st n = record { refusal = n; made = none_yet_of st; laid = unset_laid; sizes = Refused n }
 
+abbrev pub accepted_told : Swizzled → Told
+accepted_told x = record { refusal = 0; made = x.made; laid = x.laid; sizes = Accepted (view_sizes x.sizes) }
+
 -- the answer of a call that began with this state of the log
 abbrev pub told : LogState → Result Swizzled Refusal → Told
-told st (Ok x) = record { refusal = 0; made = x.made; laid = x.laid; sizes = Accepted (view_sizes x.sizes) }
+told st (Ok x) = accepted_told x
 told st (Err e) = refused_told st (number e)

@@ -5,18 +5,20 @@ ghost use Rattle.log_entries.specs.View.{state_of};
 ghost use Rattle.net_memory.specs.Given.{view_given};
 ghost use Rattle.swizzle_plan.specs.Calls.{view_plan};
 ghost use Rattle.image_patches.specs.Calls.{calls_of};
-ghost use Rattle.swizzle_patches.specs.Joined.{Joined, Kept};
+ghost use Rattle.swizzle_patches.specs.Joined.{Joined, Kept, told_patches};
 
+use image_patches::Calls;
 use log_entries::LogState;
 use net_memory::Given;
+use rules::Refusal;
 use swizzle_call::Swizzled;
 use swizzle_plan::Plan;
 
-// What the swizzle gives, and the number of the list of calls: 0, 20 where the room for their numbers is short, or the swizzle's.
+// What an accepted swizzle gives, and by what the list of calls is refused: 20 where the room for their numbers is short.
 #[derive(Clone, Copy)]
 pub struct SwizzledPatches {
     pub swizzled: Swizzled,
-    pub patches: u32,
+    pub patches: Result<(), Refusal>,
 }
 
 // A swizzle and the calls of a list on its image; the number of each call goes into `numbers`. Where the swizzle is refused no call is made. A call takes
@@ -34,25 +36,18 @@ pub fn swizzle_and_patch<'a>(
     plan: Plan<'a>,
     calls: &[u32],
     rows: &[u8],
-) -> SwizzledPatches
-    ensures joined { Joined (record { image = image.entry.now; nets = nets_to.old; trits = trits_to.old; scratch = scratch.old }) log.old (state_of st) (view_given given.entry) output.now (view_plan plan.entry) numbers.old (calls_of calls.now rows.now) result log.new image.exit.now nets_to.new trits_to.new scratch.new numbers.new }
-    ensures kept { Kept st log.old image.old nets_to.old trits_to.old scratch.old result log.new image.new nets_to.new trits_to.new scratch.new }
+) -> Result<SwizzledPatches, Refusal>
+    ensures joined { Joined (record { image = image.entry.now; nets = nets_to.old; trits = trits_to.old; scratch = scratch.old }) log.old (state_of st) (view_given given.entry) output.now (view_plan plan.entry) numbers.old (calls_of calls.now rows.now) (told_patches st result) log.new image.exit.now nets_to.new trits_to.new scratch.new numbers.new }
+    ensures kept { Kept st log.old image.old nets_to.old trits_to.old scratch.old (told_patches st result) log.new image.new nets_to.new trits_to.new scratch.new }
 {
     let swizzled = swizzle_call::swizzle(
         log, st, image, nets_to, trits_to, scratch, given, output, plan,
-    );
-    let n = swizzled.refusal;
-    if n != 0 {
-        return SwizzledPatches {
-            swizzled,
-            patches: n,
-        };
-    }
+    )?;
     let laid = swizzled.laid;
-    let list = image_patches::Calls {
+    let list = Calls {
         words: calls,
         trits: rows,
     };
-    let patches = rules::number_of(image_patches::patch_each(image, numbers, laid.layout(), list));
-    SwizzledPatches { swizzled, patches }
+    let patches = image_patches::patch_each(image, numbers, laid.layout(), list);
+    Ok(SwizzledPatches { swizzled, patches })
 }

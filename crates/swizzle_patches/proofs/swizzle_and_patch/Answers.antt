@@ -1,39 +1,33 @@
 -- `swizzle_patches::swizzle_and_patch` meets its contract.
-use Prim.Native.Nat.{ℕ}
 use mathlib.Core.Path.{◌≡◌, refl, ap, ◌∙◌}
-use Rattle.rules.specs.Image as rules
+use Rattle.std.proofs.Common.{rules}
+use Rattle.std.specs.Prelude.{Ok, Err}
+use Rattle.rules.specs.Image as images
+use Rattle.rules.specs.Refusal.{number_of}
 use Rattle.rules.specs.Answers.{patches_call}
 use Rattle.image_state.specs.View.{laid_of}
 use Rattle.image_patches.specs.Calls.{calls_of, patched_to}
-use Rattle.swizzle_patches.proofs.Demanded.{demand}
+use Rattle.swizzle_call.specs.Told.{told}
+use Rattle.swizzle_patches.specs.Joined.{told_patches}
+use Rattle.swizzle_patches.proofs.Demanded.{demand, joined_err}
 use Rattle.swizzle_patches.proofs.swizzle_and_patch.Goals as goal
 
-pub returns-then-n-ne0 : goal.returns-then-n-ne0
-returns-then-n-ne0 c =
-    record {
-      joined = record {
-        left = c.swizzle-swizzled.new.image;
-        swizzled = c.swizzle-swizzled.ensures.scratch_after;
-        refused = λ h. (refl, refl, refl);
-        patched = λ z. absurd (c.if-n-ne0.true z);
-        demanded = λ z k. absurd (c.if-n-ne0.true z);
-      };
-      kept = c.swizzle-swizzled.ensures.swizzles.refused;
-    }
+pub returns-in_err-swizzled-clause-joined : goal.returns-in_err-swizzled-clause-joined
+returns-in_err-swizzled-clause-joined c =
+    let st = c.args.st in
+    let e : told_patches st c.from_residual.result ≡ told_patches st (Err c.in_err-swizzled.field-0.0) = search rules in
+    joined_err _ _ st _ _ _ _ _ _ _ _ _ _ _ _ e c.in_err-swizzled.ensures.scratch_after
 
-pub returns : goal.returns
-returns c =
+pub returns-clause-joined : goal.returns-clause-joined
+returns-clause-joined c =
     let v = c.args in
-    let told : patched_to c.number_of-patches.result c.patch_each.new.numbers c.patch_each.new.buffer ≡ patches_call v.numbers.now (laid_of c.swizzle-swizzled.result.laid) (calls_of v.calls.now v.rows.now) c.swizzle-swizzled.new.image =
-    ap (λ (k : ℕ). patched_to k c.patch_each.new.numbers c.patch_each.new.buffer) c.number_of-patches.ensures ∙ c.patch_each.ensures
-    ∙ ap (λ (l : rules.Laid). patches_call v.numbers.now l (calls_of v.calls.now v.rows.now) c.swizzle-swizzled.new.image) c.layout.ensures in
+    let x = c.in_ok-swizzled.swizzled in
+    let called : patched_to (number_of c.patch_each-patches.result) c.patch_each-patches.new.numbers c.patch_each-patches.new.buffer ≡ patches_call v.numbers.now (laid_of x.laid) (calls_of v.calls.now v.rows.now) c.swizzle.new.image =
+    c.patch_each-patches.ensures ∙ ap (λ (l : images.Laid). patches_call v.numbers.now l (calls_of v.calls.now v.rows.now) c.swizzle.new.image) c.layout.ensures in
     record {
-      joined = record {
-        left = c.swizzle-swizzled.new.image;
-        swizzled = c.swizzle-swizzled.ensures.scratch_after;
-        refused = λ h. absurd (h c.if-n-ne0.false);
-        patched = λ z. told;
-        demanded = λ z k. demand _ _ _ _ _ _ c.swizzle-swizzled.result _ _ _ _ _ c.swizzle-swizzled.ensures.scratch_after z _ _ _ _ _ told k;
-      };
-      kept = λ h. absurd (h c.if-n-ne0.false);
+      left = c.swizzle.new.image;
+      swizzled = c.in_ok-swizzled.ensures.scratch_after;
+      refused = λ h. absurd (h refl);
+      patched = λ z. called;
+      demanded = λ z k. demand _ _ _ _ _ _ (told v.st (Ok x)) _ _ _ _ _ c.in_ok-swizzled.ensures.scratch_after refl _ _ _ _ _ called k;
     }
