@@ -1,9 +1,9 @@
 // The rows of a table's text.
-ghost use Rattle.std.specs.Prelude.{◌≡◌, ◌∷◌, [], ◌++◌, ◌≤◌, drop, length};
+ghost use Rattle.std.specs.Prelude.{◌≡◌, ◌∷◌, [], ◌++◌, ◌≤◌, ◌&&◌, ltb, leb, drop, length};
 ghost use Rattle.rules.specs.Limits.{max_width};
 ghost use Rattle.table_text.specs.Bytes.{max_text};
 ghost use Rattle.table_text.specs.View.{reason_number, scan_kind, scan_of};
-ghost use Rattle.table_text.specs.Scan.{scan_as, scan_start, with_kind, word_end, number_end, ended, between, left_of, scan_trit, scan_hex, scan_comment, scan_slash, scan_word, scan_plain, scan_step_of, is_stored, place_of, scan_stored, scan_run, rows_read};
+ghost use Rattle.table_text.specs.Scan.{scan_as, scan_start, with_kind, word_end, number_end, ended, between, left_of, scan_trit, scan_hex, scan_comment, scan_slash, scan_word, scan_plain, scan_step_of, place_of, scan_stored, scan_run, rows_read};
 
 use crate::bytes;
 use crate::reason::Reason;
@@ -145,18 +145,11 @@ impl Scan {
     fn hex(self, b: u8) -> Scan
         ensures { scan_of result ≡ scan_hex (scan_of self) b }
     {
-        let digit = bytes::hex_of(b);
-        if digit < 16 {
-            Scan::new(
-                Kind::Number,
-                self.line,
-                self.row,
-                0,
-                bytes::more(16, self.value, digit),
-            )
-        } else {
-            self.refused(Reason::BadByte)
-        }
+        let Some(digit) = bytes::hex_of(b) else {
+            return self.refused(Reason::BadByte);
+        };
+        let value = bytes::more(16, self.value, digit);
+        Scan::new(Kind::Number, self.line, self.row, 0, value)
     }
 
     #[tactic(auto, unfolding(crate::specs::Scan::scan_comment))]
@@ -186,7 +179,7 @@ impl Scan {
     fn word(self, depth: u32, width: u32, b: u8) -> Scan
         ensures { scan_of result ≡ scan_word depth width (scan_of self) b }
     {
-        if bytes::trit_of(b) < 3 {
+        if bytes::trit_of(b).is_some() {
             self.trit(depth, width)
         } else if self.kind == Kind::Word && b == b'_' {
             self
@@ -224,12 +217,11 @@ impl Scan {
         }
     }
 
-    #[tactic(auto, unfolding(crate::specs::Scan::is_stored))]
-    fn is_stored(self, depth: u32, width: u32, b: u8) -> bool
-        ensures { result ≡ is_stored depth width (scan_of self) b }
+    // A trit has a place in the rows.
+    fn has_place(self, depth: u32, width: u32) -> bool
+        ensures { result ≡ (leb (scan_of self).kind 1 && (ltb self.row depth && ltb 0 (left_of width (scan_of self)))) }
     {
         (self.kind == Kind::Gap || self.kind == Kind::Word)
-            && bytes::trit_of(b) < 3
             && self.row < depth
             && 0 < self.left_of(width)
     }
@@ -244,13 +236,16 @@ impl Scan {
     }
 
     // Stores a trit.
-    #[tactic(auto, unfolding(crate::specs::Scan::scan_stored))]
+    #[tactic(auto, unfolding(crate::specs::Scan::scan_stored, crate::specs::Scan::is_stored))]
     fn store(self, rows: &mut [u8], depth: u32, width: u32, b: u8)
         requires { width ≤ max_width }
         ensures { rows.new ≡ scan_stored depth width (scan_of self) b rows.old }
     {
-        if self.is_stored(depth, width, b) {
-            lists::put(rows, self.place(width), bytes::trit_of(b));
+        let Some(trit) = bytes::trit_of(b) else {
+            return;
+        };
+        if self.has_place(depth, width) {
+            lists::put(rows, self.place(width), trit);
         }
     }
 }
