@@ -147,7 +147,12 @@ impl Head {
         if self.value == 4 {
             Head::new(Kind::AfterPlain, ENTRIES, self.count, 0)
         } else {
-            Head::new(Kind::Plain, ENTRIES, self.count, bytes::next_letter(self.value))
+            Head::new(
+                Kind::Plain,
+                ENTRIES,
+                self.count,
+                bytes::next_letter(self.value),
+            )
         }
     }
 
