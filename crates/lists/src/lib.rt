@@ -31,6 +31,7 @@ pub fn store_run(to: &mut [u32], at: usize, first: u32, last: u32)
 {
     let start = at.min(to.len());
     let n = (last.saturating_sub(first) as usize).min(to.len() - start);
+    // a counter beside the loop: with `iter_mut().zip(first..last)` the proof did not close
     let mut number = first;
     for place in &mut to[start..start + n] {
         *place = number;
