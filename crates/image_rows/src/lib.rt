@@ -168,8 +168,8 @@ fn put_each(image: &mut [u8], at: u64, entries: &[u32], from: usize, to: usize, 
     requires { RunOf at from to entries.now }
     ensures { PutRun at entries.now from to trits.now image.old image.new }
 {
-    for i in from..to {
-        entry::put_trit(image, at + (i - from) as u64, trits, entries[i]);
+    for (i, entry) in entries[from..to].iter().enumerate() {
+        entry::put_trit(image, at + i as u64, trits, *entry);
     }
 }
 
