@@ -1,6 +1,6 @@
 // A caller's ports as the library's, and back.
 ghost use Rattle.std.specs.Prelude.{◌≡◌, map};
-ghost use Rattle.c_memory.specs.View.{given_net, given_write, given_clock, given_reset, given_controls, given_flip_flop, fields_of, given_read, net_struct, write_struct, no_flip_flop, flip_flop_struct, read_with, read_struct, zero_control, zero_write, zero_read};
+ghost use Rattle.c_memory.specs.View.{given_net, given_write, given_clock, given_reset, given_controls, given_flip_flop, fields_of, given_read, write_struct, no_flip_flop, flip_flop_struct, read_with, read_struct, zero_control, zero_write, zero_read};
 
 use crate::{FlipFlop, ReadPort, WritePort};
 use c_net::Control;

@@ -5,9 +5,6 @@ use Rattle.rules.specs.Ports.{Overlay}
 use Rattle.rules.specs.Answers.{Returned, lent_call, Overlaid}
 use Rattle.c_log.specs.declared.Logged.{Logged}
 use Rattle.c_log.specs.View.{left_by}
-use Rattle.log_entries.specs.declared.LogState as machine
-use Rattle.port_mux.specs.declared.Answer.{Answer}
-use Rattle.port_mux.specs.declared.Answer.TheVariants.{Refused, Accepted}
 
 -- the overlay, the state and the log after it, and the rooms
 pub record ReturnedOverlay : Type 0 where
@@ -18,11 +15,6 @@ pub record ReturnedOverlay : Type 0 where
 -- by the rules: s is the state before
 abbrev pub lent_overlay : LogState → Overlaid → ReturnedOverlay
 lent_overlay s o = record { returned = lent_call s o.logged; bits = o.bits; mask = o.mask }
-
--- the struct of an answer; a refused call gives back the state that it was given
-abbrev pub mux_struct : machine.LogState → Answer → Logged
-mux_struct st (Refused n) = record { number = n; state = st }
-mux_struct st (Accepted s) = record { number = 0; state = s }
 
 -- by the struct, the log and the rooms: v is what an accepted call gives
 abbrev pub overlay_left_by : Overlay → Logged → List ℕ → List ℕ → List ℕ → ReturnedOverlay

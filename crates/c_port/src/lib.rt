@@ -7,15 +7,15 @@ ghost use Rattle.rules.specs.Answers.{unmap_read_dff_call, unmap_reset_call, emu
 ghost use Rattle.log_entries.specs.View.{state_of};
 ghost use Rattle.net_memory.specs.Given.{given_of};
 ghost use Rattle.port_mux.specs.Call.{overlay_of};
-ghost use Rattle.port_unmap.specs.Call.{unclocking, rooms_of, driven_of};
+ghost use Rattle.port_unmap.specs.Call.{unclocking, rooms_of};
 ghost use Rattle.c_memory.specs.View.{given_memory};
-ghost use Rattle.c_port.specs.Overlays.{lent_overlay, overlay_left_by, mux_struct};
-ghost use Rattle.c_port.specs.View.{driven_struct, given_driven, NewMemory, NewTrits, NewNets};
+ghost use Rattle.c_port.specs.Overlays.{lent_overlay, overlay_left_by};
+ghost use Rattle.c_port.specs.View.{driven_struct, driven_by, NewMemory, NewTrits, NewNets};
 
 use c_log::Logged;
 use c_memory::Memory;
 use log_entries::LogState;
-use port_mux::Answer;
+use rules::Refusal;
 
 // A refusal's number, or 0; the memory and the log's state after the call.
 #[repr(C)]
@@ -26,23 +26,21 @@ pub struct Driven {
     pub state: LogState,
 }
 
-// The struct of an answer to a call on the memory m.
-fn driven_struct(m: Memory, d: port_unmap::Driven) -> Driven
-    ensures { result ≡ driven_struct m d }
+// The struct of an answer to a call on the memory m and the state st, which a refused call gives back.
+fn driven_struct(m: Memory, st: LogState, r: Result<port_unmap::Driven, Refusal>) -> Driven
+    ensures { result ≡ driven_struct m st r }
 {
-    let state = d.state;
-    if d.refusal != 0 {
-        return Driven {
-            number: d.refusal,
+    match r {
+        Err(refusal) => Driven {
+            number: refusal.number(),
             memory: m,
-            state,
-        };
-    }
-    let memory = d.memory;
-    Driven {
-        number: 0,
-        memory: c_memory::memory_struct(memory),
-        state,
+            state: st,
+        },
+        Ok(driven) => Driven {
+            number: 0,
+            memory: c_memory::memory_struct(driven.memory),
+            state: driven.state,
+        },
     }
 }
 
@@ -55,13 +53,14 @@ pub fn tablegoose_unmap_read_dff(
     trits: &[u8],
     port: usize,
 ) -> Driven
-    ensures log_after { driven_of (given_driven result) nets.now trits.now output.new log.new ≡ unmap_read_dff_call (rooms_of nets.now trits.now output.old) log.old (state_of st) (given_of (given_memory m) nets.now trits.now) port output.old }
+    ensures log_after { driven_by result nets.now trits.now output.new log.new ≡ unmap_read_dff_call (rooms_of nets.now trits.now output.old) log.old (state_of st) (given_of (given_memory m) nets.now trits.now) port output.old }
     ensures new_memory { NewMemory m st (unclocking (given_memory m) port) result }
 {
-    let given = c_memory::memory_of(m);
+    let given = c_memory::given_by(m, nets, trits);
     driven_struct(
         m,
-        port_unmap::unmap_read_dff(log, st, output, given, nets, trits, port),
+        st,
+        port_unmap::unmap_read_dff(log, st, output, given, port),
     )
 }
 
@@ -75,12 +74,13 @@ pub fn tablegoose_unmap_read_init_reset_transparency(
     port: usize,
     include_transparency: bool,
 ) -> Driven
-    ensures log_after { driven_of (given_driven result) nets.now trits.new output.new log.new ≡ unmap_reset_call (rooms_of nets.now trits.old output.old) log.old (state_of st) (given_of (given_memory m) nets.now trits.old) port include_transparency output.old }
+    ensures log_after { driven_by result nets.now trits.new output.new log.new ≡ unmap_reset_call (rooms_of nets.now trits.old output.old) log.old (state_of st) (given_of (given_memory m) nets.now trits.old) port include_transparency output.old }
     ensures new_trits { NewTrits m st port include_transparency trits.old trits.new result }
 {
     let given = c_memory::memory_of(m);
     driven_struct(
         m,
+        st,
         port_reset::unmap_read_init_reset_transparency(
             log,
             st,
@@ -102,27 +102,15 @@ pub fn tablegoose_emulate_read_before_write(
     m: Memory,
     trits: &[u8],
 ) -> Driven
-    ensures log_after { driven_of (given_driven result) nets.new trits.now [] log.new ≡ emulate_call (rooms_of nets.old trits.now []) log.old (state_of st) (given_of (given_memory m) nets.old trits.now) }
+    ensures log_after { driven_by result nets.new trits.now [] log.new ≡ emulate_call (rooms_of nets.old trits.now []) log.old (state_of st) (given_of (given_memory m) nets.old trits.now) }
     ensures new_nets { NewNets m st nets.old nets.new result }
 {
     let given = c_memory::memory_of(m);
     driven_struct(
         m,
+        st,
         port_emulate::emulate_read_before_write(log, st, nets, given, trits),
     )
-}
-
-// The answer of transparency_mux on the state st.
-fn mux_struct(r: Answer, st: LogState) -> Logged
-    ensures { result ≡ mux_struct st r }
-{
-    match r {
-        Answer::Refused(n) => Logged {
-            number: n,
-            state: st,
-        },
-        Answer::Accepted(state) => Logged { number: 0, state },
-    }
 }
 
 // Bits and mask after it go to the rooms; without a mask, `mask` and its room play no part.
@@ -142,9 +130,9 @@ pub fn tablegoose_transparency_mux(
 ) -> Logged
     ensures { overlay_left_by (overlay_of masked (take (length bits.now) bits_to.new) (take (length bits.now) mask_to.new)) result log.new bits_to.new mask_to.new ≡ lent_overlay (state_of st) (transparency_mux_call bits_to.old mask_to.old log.old (state_of st) (given_of (given_memory m) nets.now trits.now) read write (overlay_of masked bits.now mask.now)) }
 {
-    let given = c_memory::memory_of(m);
+    let given = c_memory::given_by(m, nets, trits);
     let r = port_mux::transparency_mux(
-        log, st, bits_to, mask_to, given, nets, trits, read, write, bits, mask, masked,
+        log, st, bits_to, mask_to, given, read, write, bits, mask, masked,
     );
-    mux_struct(r, st)
+    c_log::answer_struct(r, st)
 }

@@ -1,26 +1,20 @@
 -- The numbers of a fallback as the code tries them, and the words and nets that are left for the split.
-use mathlib.Core.Path.{◌≡◌, refl, sym, ap, ◌∙◌, subst}
+use mathlib.Core.Path.{◌≡◌, refl, sym, ap, ◌∙◌}
 use mathlib.Core.Logic.{◌≢◌, ⊎_elim}
 use Prim.Native.Nat.{ℕ, ◌+◌, ◌-◌, ◌*◌, ◌<◌, ◌≤◌, min}
 use native.Mathlib.Nat.{eq-zero-or-pos, mul-le-mul}
 use native.Mathlib.Omega.{arith}
-use mathlib.Core.Bool.{Bool, true, false, not}
+use mathlib.Core.Bool.{true, false}
 use mathlib.Core.List.{List}
 use lib.ListN.{length}
-use lib.Dec.{eqb}
 use borrow.Author.Tests.{eq-eqb}
-use Rattle.lists.specs.Choice.{when◌then◌else◌, ◌or_else◌}
-use Rattle.lists.proofs.Choice.{else_first, else_rest, hit, miss}
 use Rattle.rules.specs.Limits.{max_bits, max_nets, max_ports, max_row, max_words}
-use Rattle.rules.specs.Value.{Value}
-use Rattle.rules.specs.Cell.{Mem, Given}
-use Rattle.rules.specs.Conditions.{write_clocks_differ, short_ports}
-use Rattle.rules.specs.Fallback.{can_lower_fallback, lower_fallback, fallback_plan, fallback_scratch}
+use Rattle.rules.specs.Cell.{Mem}
+use Rattle.rules.specs.Fallback.{lower_fallback, fallback_plan, fallback_scratch}
 use Rattle.rules.specs.Log.{LogState, start_net, added}
 use Rattle.rules.specs.Ports.{unmap_all}
-use Rattle.rules.specs.Refusals as rules
-use Rattle.rules.specs.Refusals.{room_refusal, log_refusal, driving_number, swizzle_refusal, lower_fallback_number}
-use Rattle.rules.proofs.Counted.{Counted, counted_refusal}
+use Rattle.rules.specs.Refusals.{room_refusal, log_refusal, swizzle_refusal}
+use Rattle.rules.proofs.Counted.{counted_refusal}
 use Rattle.rules.proofs.Walks.{lt_or_le}
 use Rattle.log_entries.specs.declared.LogState as machine
 use Rattle.log_entries.specs.Emission.{is_over, dry_start}
@@ -42,30 +36,6 @@ use Rattle.fallback_pass.proofs.Unmapped.{given_long, given_good}
 use Rattle.fallback_pass.proofs.Counts.{swizzle_counted}
 use Rattle.fallback.specs.Refusal.{Later, Asked, DryRun}
 use Rattle.fallback.proofs.Total.{wide_rest, flat_rest, whole_refusal}
-
--- ---- 1 to 4, 11 and 14
-module _ (next : ℕ) (g : Given) (output : Value) (n : ℕ) (e : n ≡ driving_number false next g output) where
-  pub number_first : n ≢ 0 → n ≡ lower_fallback_number next g output
-  unfolding lower_fallback_number
-  number_first h = e ∙ sym (else_first (driving_number false next g output) _ (λ z. h (e ∙ z)))
-
-  number_rest : n ≡ 0 → lower_fallback_number next g output ≡ (when write_clocks_differ g.mem then 11 else when short_ports g.mem then 14 else 0)
-  unfolding lower_fallback_number
-  number_rest z = else_rest (driving_number false next g output) _ (sym e ∙ z)
-
-  module _ (z : n ≡ 0) (same : Bool) (s : same ≡ can_lower_fallback g.mem) where
-    differ : (b : Bool) → not same ≡ b → write_clocks_differ g.mem ≡ b
-    unfolding write_clocks_differ
-    differ b q = ap not (sym s) ∙ q
-
-    pub number_11 : not same ≡ true → 11 ≡ lower_fallback_number next g output
-    number_11 q = hit 11 _ (differ true q) ∙ sym (number_rest z)
-
-    pub number_14 : not same ≡ false → short_ports g.mem ≡ true → 14 ≡ lower_fallback_number next g output
-    number_14 q h = miss 11 _ 14 (differ false q) (hit 14 0 h) ∙ sym (number_rest z)
-
-    pub number_0 : not same ≡ false → short_ports g.mem ≡ false → 0 ≡ lower_fallback_number next g output
-    number_0 q h = miss 11 _ 0 (differ false q) (miss 14 0 0 h refl) ∙ sym (number_rest z)
 
 -- ---- scratch
 pub need_small : (p c : ℕ) → p ≤ max_ports → c ≤ max_bits → 2 * p * c ≤ 524288

@@ -1,15 +1,11 @@
 -- The split's arguments are the plan of a fallback, and what the swizzle leaves of them.
 use mathlib.Core.Path.{◌≡◌, refl, sym, ap, ◌∙◌, subst}
-use Prim.Native.Nat.{ℕ, ◌-◌, ◌≤◌, min}
+use Prim.Native.Nat.{ℕ}
 use native.Mathlib.Omega.{arith}
 use mathlib.Core.List.{List, [], ◌∷◌}
-use lib.ListN.{length, take, replicate, length-take}
-use lib.Seq.{sets, length-sets}
-use Rattle.lists.specs.Lists.{part, up_from}
-use Rattle.lists.proofs.UpFrom.{length_up}
-use Rattle.lists.proofs.Stores.{take_stored}
-use Rattle.lists.proofs.Parts.{part_replicate}
-use Rattle.rules.specs.Limits.{max_bits, max_ports, max_row}
+use lib.ListN.{length, take, length-take}
+use lib.Seq.{length-sets}
+use Rattle.rules.specs.Limits.{max_bits}
 use Rattle.rules.specs.Cell.{Mem, Plan}
 use Rattle.rules.specs.Geometry.{layout_of}
 use Rattle.rules.specs.Image.{image_size}
@@ -24,9 +20,9 @@ use Rattle.net_memory.specs.Given.{given_of}
 use Rattle.swizzle_plan.specs.declared.MemorySwizzle.{MemorySwizzle}
 use Rattle.swizzle_plan.specs.Calls.{plan_of}
 use Rattle.swizzle_result.specs.View.{results_of}
-use Rattle.swizzle_call.specs.declared.Swizzled.{Swizzled}
+use Rattle.swizzle_call.specs.Told.{Told}
 use Rattle.swizzle_call.specs.Whole.{Changed, Swizzles}
-use Rattle.fallback.specs.Split.{rooms, Passes, SplitDone}
+use Rattle.fallback.specs.Split.{Passes, SplitDone}
 
 -- ---- what the swizzle leaves
 none_left : (l : List ℕ) → length l ≡ 0 → l ≡ []
@@ -36,7 +32,7 @@ none_left (a ∷ l) e = absurd (omega (arith, e))
 take_none : (n : ℕ) (l : List ℕ) → length l ≡ 0 → take n l ≡ []
 take_none n l e = none_left (take n l) (omega (arith, length-take n l, e))
 
-module _ (b : Memory) (nets trits outs : List ℕ) (s : MemorySwizzle) (es ws rs : List ℕ) (st : LogState) (log image tables kinds pieces : List ℕ) (x : Swizzled)
+module _ (b : Memory) (nets trits outs : List ℕ) (s : MemorySwizzle) (es ws rs : List ℕ) (st : LogState) (log image tables kinds pieces : List ℕ) (x : Told)
     (log' image' tables' kinds' pieces' : List ℕ) (si : length image ≡ max_bits) (sk : length kinds ≡ 0) (sp : length pieces ≡ max_bits) where
   abbrev B : Mem
   B = memory_of b nets trits
@@ -52,8 +48,9 @@ module _ (b : Memory) (nets trits outs : List ℕ) (s : MemorySwizzle) (es ws rs
   number_0 e z =
       (λ i. swizzle_refusal (record { image = si i; nets = length tables; trits = sk i; scratch = sp i }) (length log) (state_of st) (given_of b nets trits) outs (e i)) ∙ z
 
-  done_by : Changed B outs P st log image tables kinds pieces x log' image' tables' kinds' pieces' → Done P
-  done_by c = record {
+  done_by : x.refusal ≡ 0 → Changed B outs P st log image tables kinds pieces x log' image' tables' kinds' pieces' → Done P
+  done_by z c = record {
+    passed = z;
     log_is = c.acted.log_is;
     tables_are = c.acted.nets_are;
     results_are =
@@ -66,4 +63,4 @@ module _ (b : Memory) (nets trits outs : List ℕ) (s : MemorySwizzle) (es ws rs
   -- of the split by the plan of a fallback, which no number refuses
   pub split_done : P ≡ fallback_plan B → Passes b nets trits outs st log tables
       → Swizzles b nets trits outs s es ws rs st log image tables kinds pieces x log' image' tables' kinds' pieces' → Done (fallback_plan B)
-  split_done e z h = subst Done e (done_by (h.accepted (h.number ∙ number_0 e z)))
+  split_done e z h = subst Done e (done_by (h.number ∙ number_0 e z) (h.accepted (h.number ∙ number_0 e z)))

@@ -19,7 +19,7 @@ use Rattle.net_memory.specs.View.{memory_of}
 use Rattle.net_memory.specs.Given.{given_of}
 use Rattle.swizzle_result.specs.declared.WideMemory.{WideMemory}
 use Rattle.swizzle_result.specs.View.{results_of}
-use Rattle.swizzle_call.specs.declared.Swizzled.{Swizzled}
+use Rattle.swizzle_call.specs.Told.{Told}
 use Rattle.swizzle_call.specs.Acted.{HoldsPorts}
 use Rattle.fallback_bare.specs.Bare.{bare_of}
 use Rattle.fallback_rows.proofs.Whole.{Flat}
@@ -38,7 +38,8 @@ Passes b nets trits outs st log tables =
     swizzle_refusal (rooms tables) (length log) (state_of st) (given_of b nets trits) outs (fallback_plan (memory_of b nets trits)) ≡ 0
 
 -- the log, the tables, and the memories that struct, tables and image hold
-pub record SplitDone (b : Mem) (outs : Value) (p : Plan) (st : LogState) (log tables : List ℕ) (x : Swizzled) (log' tables' image' : List ℕ) : Type 0 where
+pub record SplitDone (b : Mem) (outs : Value) (p : Plan) (st : LogState) (log tables : List ℕ) (x : Told) (log' tables' image' : List ℕ) : Type 0 where
+  pub passed : x.refusal ≡ 0
   pub log_is : lent x.made.state log' ≡ run (swizzle b outs p) (lent st log)
   pub tables_are : tables' ≡ sets tables 0 (shared_nets b (swizzle b outs p st.next).value)
   pub results_are : results_of x.made.memory (take x.made.nets_at tables') [] (take (image_size (layout_of b p)) image') ≡ (swizzle b outs p st.next).value

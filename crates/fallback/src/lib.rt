@@ -13,6 +13,7 @@ ghost use Rattle.net_memory.specs.View.{memory_of};
 ghost use Rattle.net_memory.specs.Given.{view_given, mem_of};
 ghost use Rattle.swizzle_result.specs.View.{results_of};
 ghost use Rattle.swizzle_counts.specs.Refusal.{rooms_of};
+ghost use Rattle.swizzle_call.specs.Told.{told};
 ghost use Rattle.fallback_bare.specs.Bare.{bare_of};
 ghost use Rattle.fallback_pass.specs.Split.{split_words, split_nets};
 ghost use Rattle.fallback.specs.Split.{Passes, SplitDone, Prepared, Ready, split_lowered};
@@ -21,7 +22,6 @@ ghost use Rattle.fallback.specs.Answer.{left_by, lowered_of, Lowers};
 
 use fallback_plan::Lists;
 use log_entries::{Log, LogState};
-use merge_mux::emit::Keys;
 use net_memory::{Given, Memory};
 use port_transparency::Overlay;
 use rules::Refusal;
@@ -37,9 +37,9 @@ fn split_rows(
     tables: &mut [u32],
     given: Given<'_>,
     outs: &[u32],
-) -> Swizzled
+) -> Result<Swizzled, Refusal>
     requires { Passes given.memory given.nets.now given.trits.now outs.now st log.old tables.old × (given.memory.width ≤ max_row) × (length image.old ≡ max_bits) }
-    ensures { SplitDone (mem_of given.entry) outs.now (fallback_plan (mem_of given.entry)) st log.old tables.old result log.new tables.new image.new }
+    ensures { SplitDone (mem_of given.entry) outs.now (fallback_plan (mem_of given.entry)) st log.old tables.old (told st result) log.new tables.new image.new }
 {
     let lists = Lists::of(given.memory.width);
     let mut none = [0u8; 0];
@@ -76,7 +76,11 @@ fn lower_rows(log: &mut Log, tables: &mut [u32], given: Given<'_>, outs: &[u32])
         ..given
     };
     let mut image = [0u8; rules::BITS_ROOM];
-    let x = split_rows(log.words, log.state, &mut image, tables, bare, outs);
+    let split = split_rows(log.words, log.state, &mut image, tables, bare, outs);
+    // No number refuses it.
+    let Ok(x) = split else {
+        return;
+    };
     let made = x.made;
     log.state = made.state;
     let n = net_memory::init_size(given.memory);
@@ -277,17 +281,6 @@ pub fn lower_fallback(
         return Err(Refusal::NoRoom);
     }
     let mut after = [0u32; rules::MAX_OUTPUTS];
-    let mut overlay = Overlay {
-        under: [0; rules::MAX_MERGE],
-        bits: [0; rules::MAX_MERGE],
-        mask: [0; rules::MAX_MERGE],
-        select: [0; rules::MAX_MERGE],
-        spare: [0; rules::MAX_MERGE],
-        keys: Keys {
-            x: [0; rules::MAX_MERGE],
-            y: [0; rules::MAX_MERGE],
-            at: [0; rules::MAX_MERGE],
-        },
-    };
+    let mut overlay = Overlay::new();
     lower_asked(log, st, scratch, &mut after, &mut overlay, given, output)
 }

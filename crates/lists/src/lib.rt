@@ -31,6 +31,7 @@ pub fn store_run(to: &mut [u32], at: usize, first: u32, last: u32)
 {
     let start = at.min(to.len());
     let n = (last.saturating_sub(first) as usize).min(to.len() - start);
+    // A counter beside the places: over a `zip` the invariant has no index of a place.
     let mut number = first;
     for place in &mut to[start..start + n] {
         *place = number;
@@ -65,43 +66,6 @@ pub fn part<T>(s: &[T], start: usize, count: usize) -> &[T]
 {
     let rest = &s[start.min(s.len())..];
     &rest[..count.min(rest.len())]
-}
-
-// The same number at another width.
-pub fn usize_of_u32(x: u32) -> usize
-    ensures { (result ≡ x) × (result < 0x100000000) }
-{
-    x as usize
-}
-
-pub fn u32_of_u16(x: u16) -> u32
-    ensures { result ≡ x }
-{
-    x as u32
-}
-
-pub fn u32_of_u8(x: u8) -> u32
-    ensures { result ≡ x }
-{
-    x as u32
-}
-
-pub fn u64_of_u32(x: u32) -> u64
-    ensures { result ≡ x }
-{
-    x as u64
-}
-
-pub fn usize_of_u64(x: u64) -> usize
-    ensures { result ≡ x }
-{
-    x as usize
-}
-
-pub fn u64_of_usize(x: usize) -> u64
-    ensures { result ≡ x }
-{
-    x as u64
 }
 
 // 2^k; 2^32 where k is above 32.

@@ -21,7 +21,7 @@ use rules::Refusal;
 
 // The words of the log that are used, and the next free net.
 #[repr(C)]
-#[derive(Clone, Copy)]
+#[derive(Clone, Copy, Debug, PartialEq, Eq)]
 pub struct LogState {
     pub used: usize,
     pub next: u32,

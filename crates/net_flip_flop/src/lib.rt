@@ -12,7 +12,7 @@ ghost use Rattle.net_flip_flop.specs.View.{controls_of};
 use net_value::{ControlNet, Net};
 
 // What a flip-flop and a clocked read port share.
-#[derive(Clone, Copy)]
+#[derive(Clone, Copy, Debug, PartialEq, Eq)]
 pub struct Controls {
     pub clock: ControlNet,
     pub clear: ControlNet,

@@ -20,7 +20,7 @@ pub enum Trit {
     Undef,
 }
 
-// A trit's code.
+// A trit's code. (`u8::from` and `Trit::try_from` would not say which of its two numbers is meant: the code, or that of its character.)
 #[tactic(auto, unfolding(rules::specs::Logic::code_of))]
 pub fn trit_code(t: Trit) -> u8
     ensures { result ≡ code_of (trit_view t) }

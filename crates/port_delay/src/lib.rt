@@ -1,7 +1,7 @@
 // memory/src/lib.rs, emulate_read_before_write of one write port: flip-flops before its address, data and mask.
 #![tactic(auto)]
 
-ghost use Rattle.std.specs.Prelude.{◌≡◌, Bool, [], ◌≤◌, length, take};
+ghost use Rattle.std.specs.Prelude.{◌≡◌, [], ◌≤◌, length, take};
 ghost use Rattle.rules.specs.Limits.{max_merge};
 ghost use Rattle.rules.specs.Cell.{new_flip_flop};
 ghost use Rattle.rules.specs.Log.{add_dff_of};
@@ -12,6 +12,7 @@ ghost use Rattle.log_entries.specs.View.{lent_of};
 ghost use Rattle.net_memory.specs.View.{write_by};
 ghost use Rattle.port_transparency.specs.Gave.{Gave};
 ghost use Rattle.port_delay.specs.Delay.{start_trit, mask_delay, port_of, cut, delayable, delayed_if, Delayable};
+ghost use Rattle.port_delay.specs.Room.{zero_room};
 
 use log_entries::Log;
 use merge_dff::Trits;
@@ -79,6 +80,30 @@ fn can_delay(addr: usize, bits: usize, mask: usize) -> bool
 }
 
 impl Room {
+    // A room of zeros.
+    #[tactic(auto, unfolding(crate::specs::Room::zero_room))]
+    pub fn new() -> Room
+        ensures { result ≡ zero_room }
+    {
+        Room {
+            addr: [0; rules::MAX_MERGE],
+            bits: [0; rules::MAX_MERGE],
+            mask: [0; rules::MAX_MERGE],
+            starts: [0; rules::MAX_MERGE],
+            column: [0; rules::MAX_MERGE],
+            keys: Keys {
+                x: [0; rules::MAX_MERGE],
+                y: [0; rules::MAX_MERGE],
+                at: [0; rules::MAX_MERGE],
+            },
+            trits: Trits {
+                clear: [0; rules::MAX_MERGE],
+                reset: [0; rules::MAX_MERGE],
+                init: [0; rules::MAX_MERGE],
+            },
+        }
+    }
+
     // The merging flip-flop of a mask, in the same way.
     fn emit_mask(&mut self, log: &mut Log, all_x: bool, clock: ControlNet, mask: &[u32])
         requires { length mask.now ≤ max_merge }

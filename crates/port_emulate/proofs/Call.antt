@@ -7,7 +7,6 @@ use mathlib.Core.List.{List, [], map, append-nil}
 use lib.ListN.{length}
 use lib.Seq.{sets}
 use Rattle.lists.specs.Lists.{part}
-use Rattle.lists.proofs.Choice.{leaves_refused, leaves_accepted}
 use Rattle.rules.specs.Limits.{max_ports}
 use Rattle.rules.specs.Logic.{is_undef}
 use Rattle.rules.specs.Cell.{WritePort, Mem}
@@ -16,7 +15,6 @@ use Rattle.rules.specs.Ports.{Driving, delay_writes, settled_port, emulate_read_
 use Rattle.rules.specs.Refusals.{alone, log_refusal, emulate_read_before_write_refusal}
 use Rattle.rules.specs.Refusal.{number}
 use Rattle.rules.specs.declared.numbers.Refusal.{Refusal}
-use Rattle.rules.proofs.Answers.{number_nonzero}
 use Rattle.rules.specs.Answers as rules
 use Rattle.rules.specs.Answers.{emulate_call}
 use Rattle.log_entries.specs.Emission.{Lent, is_over, run}
@@ -103,16 +101,9 @@ module _ (m : Memory) (nets trits log : List ℕ) (st : machine.LogState) where
         done_as (memory_of w nets' trits) log' (state_of st') n (ew ∙ ap (settled_mem M) ev ∙ value_is nets' writes_is (d.kept trits)) (ap (λ (x : Lent). x.log) q) (ap (λ (x : Lent). x.state) q)
 
 -- ---- the struct and the nets themselves
-pub all-kept : (m : Memory) (nets : List ℕ) (e : Refusal) → Emulated m nets nets (Err e)
-all-kept m nets e = record { struct_is = λ x y. sym (leaves_refused (number e) m _ (number_nonzero e)); nets_kept = λ _. refl; size = refl }
-
 pub all_new : (m : Memory) (nets nets' : List ℕ) (v w : Memory) (st' : machine.LogState) → ((x y : List ℕ) → v ≡ turning (is_read m x y) (min max_ports m.write_count) m)
     → ((x y : List ℕ) → w ≡ settling (is_read m x y) (min max_ports v.read_count) v) → length nets' ≡ length nets → Emulated m nets nets' (Ok (record { memory = w; state = st' }))
-all_new m nets nets' v w st' ev ew e = record {
-  struct_is = λ x y. ew x y ∙ ap (λ (u : Memory). settling (is_read m x y) (min max_ports u.read_count) u) (ev x y) ∙ sym (leaves_accepted 0 m _ refl);
-  nets_kept = λ h. absurd (h refl);
-  size = e;
-}
+all_new m nets nets' v w st' ev ew e = ((λ x y. ew x y ∙ ap (λ (u : Memory). settling (is_read m x y) (min max_ports u.read_count) u) (ev x y)), e)
 
 -- ---- a log and its state apart
 module _ (m : Memory) (allX : Bool) (nets nets' : List ℕ) (l l1 : Lent) (d : PortsDone m allX nets nets' l l1) where

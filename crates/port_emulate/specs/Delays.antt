@@ -1,6 +1,6 @@
 -- The write ports delayed one after the other, by the test of each and by whether the image is all X.
-use Rattle.std.specs.Prelude.{◌≡◌, ◌≢◌, ℕ, suc, ◌<◌, ◌≤◌, min, Bool, List, [], ◌∷◌, length, get_or, set, Result}
-use Rattle.lists.specs.Choice.{when◌then◌else◌, leaves, ◌or_else◌}
+use Rattle.std.specs.Prelude.{◌≡◌, ℕ, suc, ◌<◌, ◌≤◌, min, Bool, List, [], ◌∷◌, length, get_or, set, Result, Ok, Err}
+use Rattle.lists.specs.Choice.{when◌then◌else◌, ◌or_else◌}
 use Rattle.lists.specs.Lists.{any}
 use Rattle.rules.specs.Limits.{max_ports}
 use Rattle.rules.specs.Cell.{WritePort}
@@ -8,7 +8,6 @@ use Rattle.rules.specs.Log.{Trace, ◌>>=◌, done}
 use Rattle.rules.specs.Ports.{delayed}
 use Rattle.rules.specs.Conditions.{unclocked}
 use Rattle.rules.specs.Refusals.{Rooms, emulate_number}
-use Rattle.rules.specs.Refusal.{number_of}
 use Rattle.rules.specs.declared.numbers.Refusal.{Refusal}
 use Rattle.net_memory.specs.declared.MemoryWritePort.{MemoryWritePort}
 use Rattle.net_memory.specs.declared.Memory.{Memory}
@@ -19,7 +18,6 @@ use Rattle.port_transparency.specs.Gave.{Gave}
 use Rattle.port_delay.specs.Delay.{cut, delayed_if, Delayable}
 use Rattle.port_settle.specs.Settled.{is_read, turned_by, turned_from, settled_memory}
 use Rattle.port_unmap.specs.declared.Driven.{Driven}
-use Rattle.port_unmap.specs.Call.{memory_left}
 
 -- one port by this test; q is what its scratch holds
 abbrev pub delayed_by : Bool → Bool → WritePort → WritePort → Trace WritePort
@@ -81,8 +79,7 @@ pub record PortsDone (m : Memory) (allX : Bool) (nets nets' : List ℕ) (l l1 : 
 abbrev pub input_number : ℕ → Memory → List ℕ → List ℕ → ℕ
 input_number next m nets trits = emulate_number next (given_of m nets trits) or_else (when any unclocked (memory_of m nets trits).reads then 22 else 0)
 
--- the struct and the nets themselves: a refused call leaves both as they were
-pub record Emulated (m : Memory) (nets nets' : List ℕ) (r : Result Driven Refusal) : Type 0 where
-  pub struct_is : (x y : List ℕ) → memory_left m r ≡ leaves (number_of r) m (settled_memory (is_read m x y) m)
-  pub nets_kept : number_of r ≢ 0 → nets' ≡ nets
-  pub size : length nets' ≡ length nets
+-- the struct of an accepted call, and the nets themselves; a refused call leaves the nets as they were
+abbrev pub Emulated : Memory → List ℕ → List ℕ → Result Driven Refusal → Type 0
+Emulated m nets nets' (Ok d) = ((x y : List ℕ) → d.memory ≡ settled_memory (is_read m x y) m) × (length nets' ≡ length nets)
+Emulated m nets nets' (Err e) = nets' ≡ nets

@@ -20,8 +20,6 @@ ghost use Rattle.port_unmap.specs.Call.{driven_of};
 ghost use Rattle.port_emulate.specs.Delays.{delayed_by, cut_by, delays, Fitting, PortReady, PortDone, PortsDone, rooms_of, input_number, Emulated};
 
 use log_entries::{Log, LogState};
-use merge_dff::Trits;
-use merge_mux::emit::Keys;
 use net_memory::{Given, Memory, MemoryWritePort};
 use port_delay::Room;
 use port_unmap::Driven;
@@ -130,37 +128,8 @@ fn dry_refusal(
     st.dry_refusal(room, dry.state)
 }
 
-// A memory without a number of its own: 20 and 21 by a dry run, then the same for good. The room serves both. The call writes the nets, so it takes
+// A memory without a number of its own: 20 and 21 by a dry run, then the same for good. The call writes the nets, so it takes
 // them apart from the memory and its trits.
-fn emulate_in(
-    log: &mut [u32],
-    st: LogState,
-    nets: &mut [u32],
-    delay: &mut Room,
-    m: Memory,
-    trits: &[u8],
-) -> Result<Driven, Refusal>
-    requires { input_number st.next m nets.old trits.now ≡ 0 }
-    ensures log_after { driven_of m result nets.new trits.now [] log.new ≡ emulate_call (rooms_of nets.old trits.now) log.old (state_of st) (given_of m nets.old trits.now) }
-    ensures emulated { Emulated m nets.old nets.new result }
-{
-    let all_x = net_logic::is_undef(lists::part(trits, 0, net_memory::init_size(m)));
-    dry_refusal(log.len(), st, delay, all_x, m, nets)?;
-    let turned = port_settle::turn_clocks(m);
-    // The flip-flops run by the clocks as they were.
-    let clocked = m;
-    let mut log = Log {
-        words: log,
-        state: st,
-    };
-    delay_ports(&mut log, nets, delay, all_x, clocked);
-    Ok(Driven {
-        memory: port_settle::settle_relations(m, turned),
-        state: log.state,
-    })
-}
-
-// The same with a room of its own.
 fn emulate_passed(
     log: &mut [u32],
     st: LogState,
@@ -172,24 +141,21 @@ fn emulate_passed(
     ensures log_after { driven_of m result nets.new trits.now [] log.new ≡ emulate_call (rooms_of nets.old trits.now) log.old (state_of st) (given_of m nets.old trits.now) }
     ensures emulated { Emulated m nets.old nets.new result }
 {
-    let mut delay = Room {
-        addr: [0; rules::MAX_MERGE],
-        bits: [0; rules::MAX_MERGE],
-        mask: [0; rules::MAX_MERGE],
-        starts: [0; rules::MAX_MERGE],
-        column: [0; rules::MAX_MERGE],
-        keys: Keys {
-            x: [0; rules::MAX_MERGE],
-            y: [0; rules::MAX_MERGE],
-            at: [0; rules::MAX_MERGE],
-        },
-        trits: Trits {
-            clear: [0; rules::MAX_MERGE],
-            reset: [0; rules::MAX_MERGE],
-            init: [0; rules::MAX_MERGE],
-        },
+    let all_x = net_logic::is_undef(lists::part(trits, 0, net_memory::init_size(m)));
+    let mut delay = Room::new();
+    dry_refusal(log.len(), st, &mut delay, all_x, m, nets)?;
+    let turned = port_settle::turn_clocks(m);
+    // The flip-flops run by the clocks as they were.
+    let clocked = m;
+    let mut log = Log {
+        words: log,
+        state: st,
     };
-    emulate_in(log, st, nets, &mut delay, m, trits)
+    delay_ports(&mut log, nets, &mut delay, all_x, clocked);
+    Ok(Driven {
+        memory: port_settle::settle_relations(m, turned),
+        state: log.state,
+    })
 }
 
 // emulate_read_before_write: write ports that some read port reads before they write are delayed by half a cycle; relations to them are Undefined.

@@ -31,8 +31,9 @@ use Rattle.lists.specs.Choice.{leaves}
 use Rattle.net_memory.specs.declared.Memory.{Memory}
 use Rattle.net_memory.specs.View.{memory_of}
 use Rattle.net_memory.specs.Given.{given_of}
+use Rattle.log_requests.specs.Answers.{logged_of}
 use Rattle.port_transparency.specs.Gave.{Gave}
-use Rattle.port_mux.specs.Call.{overlay_of, wanted_of, logged_of, overlaid_of, overlaid}
+use Rattle.port_mux.specs.Call.{overlay_of, wanted_of, overlaid_of, overlaid}
 
 -- ---- the two ways an answer is made
 module _ {A : Type 0} (v : A) (N : ℕ) (log : List ℕ) (s : LogState) (t : Trace A) where

@@ -11,11 +11,9 @@ use Rattle.rules.specs.Log.{Trace, LogState}
 use Rattle.rules.specs.Conditions.{bad_write_shape, bad_read_shape, short_pair}
 use Rattle.rules.specs.Ports.{Overlay}
 use Rattle.rules.specs.Answers.{Overlaid, logged}
-use Rattle.rules.specs.Answers as rules
 use Rattle.rules.specs.declared.numbers.Refusal.{Refusal}
-use Rattle.rules.specs.Refusal.{answer_by}
 use Rattle.log_entries.specs.declared.LogState as machine
-use Rattle.log_entries.specs.View.{state_of}
+use Rattle.log_requests.specs.Answers.{logged_of}
 use Rattle.net_memory.specs.declared.Memory.{Memory}
 use Rattle.net_memory.specs.View.{memory_of, read_port}
 
@@ -26,14 +24,6 @@ overlay_of masked bits mask = record { bits = bits; mask = when masked then some
 -- a value where it is wanted
 abbrev pub wanted_of : Bool → Value → Value
 wanted_of wanted v = when wanted then v else []
-
-module _ {A : Type 0} where
-  -- v is the value of an accepted call
-  abbrev pub request_of : A → Result machine.LogState Refusal → rules.Answer (rules.After A)
-  request_of v r = answer_by (λ s. record { value = v; state = state_of s }) r
-
-  abbrev pub logged_of : A → Result machine.LogState Refusal → List ℕ → rules.Logged A
-  logged_of v r log = record { answer = request_of v r; log = log }
 
 -- the machine's answer: the first n nets of the rooms are the overlay after
 abbrev pub overlaid_of : Bool → ℕ → Result machine.LogState Refusal → List ℕ → List ℕ → List ℕ → Overlaid

@@ -1,13 +1,13 @@
 -- Trits to bytes, one step of each loop.
-use mathlib.Core.Path.{◌≡◌, sym, ap, ◌∙◌}
+use mathlib.Core.Path.{◌≡◌, refl, sym, ap, ◌∙◌}
 use mathlib.Core.Bool.{Bool, true, false}
 use Prim.Native.Nat.{ℕ, zero, suc, ◌+◌, ◌-◌, ◌*◌, ◌^◌, ◌<◌, ◌≤◌}
 use native.Mathlib.Omega.{arith}
 use native.Mathlib.Numerals.{add-one}
 use native.Mathlib.Nat.{pow-succ'}
 use mathlib.Core.List.{List, [], ◌∷◌, ◌++◌, map}
-use lib.ListN.{length, take, drop, get_or, set}
-use lib.Seq.{sets, drop-cons, drop-drop}
+use lib.ListN.{length, take, drop, set}
+use lib.Seq.{sets, drop-drop}
 use lib.Pow.{pow_mono}
 use lib.Dec.{eqb}
 use Rattle.lists.specs.Choice.{when◌then◌else◌}
@@ -17,14 +17,31 @@ use Rattle.rules.specs.Limits.{trit_x}
 use Rattle.rules.specs.Record.{byte_of, pack_bits, known_bit, value_bit}
 use Rattle.rules.proofs.Bits.{length_pack}
 
--- ---- bits of trits, one trit before
-pub byte_turn : (f : ℕ → ℕ) (l : List ℕ) (i k b : ℕ) → 0 < i → i ≤ length l → k ≡ byte_of (map f (drop i l)) → b ≡ f (get_or l (i - 1) 0)
-    → b + 2 * k ≡ byte_of (map f (drop (i - 1) l))
-unfolding byte_of
-byte_turn f l i k b p h e q =
-    let y : suc (i - 1) ≡ i = omega arith in
-    let d : drop (i - 1) l ≡ get_or l (i - 1) 0 ∷ drop i l = drop-cons l (i - 1) 0 (omega arith) ∙ ap (λ (n : ℕ). get_or l (i - 1) 0 ∷ drop n l) y in
-    rw (d, e, q)
+-- ---- the bits of trits, the last first, before a byte
+unfoldable pub byte_on : (ℕ → ℕ) → List ℕ → ℕ → ℕ
+byte_on f [] k = k
+byte_on f (t ∷ l) k = f t + 2 * byte_on f l k
+
+module _ (f : ℕ → ℕ) where
+  pub on_last : (l : List ℕ) (t k : ℕ) → byte_on f (l ++ (t ∷ [])) k ≡ byte_on f l (f t + 2 * k)
+  unfolding byte_on
+  on_last [] t k = refl
+  on_last (x ∷ l) t k = ap (λ (n : ℕ). f x + 2 * n) (on_last l t k)
+
+  pub on_none : (l : List ℕ) → byte_on f l 0 ≡ byte_of (map f l)
+  unfolding byte_on byte_of
+  on_none [] = refl
+  on_none (x ∷ l) = ap (λ (n : ℕ). f x + 2 * n) (on_none l)
+
+  pub on_most : (l : List ℕ) (k : ℕ) → k ≤ byte_on f l k
+  unfolding byte_on
+  on_most [] k = omega arith
+  on_most (x ∷ l) k = omega (arith, on_most l k)
+
+  pub on_end : (l : List ℕ) (k : ℕ) → length l ≡ 0 → k ≡ byte_on f l k
+  unfolding byte_on
+  on_end [] k h = refl
+  on_end (x ∷ l) k h = absurd (omega arith)
 
 -- the byte of at most n bits is below 2 ^ n
 byte_lt : (f : ℕ → ℕ) → ((t : ℕ) → f t < 2) → (l : List ℕ) → byte_of (map f l) < 2 ^ length l

@@ -67,10 +67,9 @@ impl Group {
     {
         let mut known: u8 = 0;
         let mut value: u8 = 0;
-        let group = lists::part(ts, at, 8);
-        for i in (0..group.len()).rev() {
-            known = known_bit(group[i]) + 2 * known;
-            value = value_bit(group[i]) + 2 * value;
+        for t in lists::part(ts, at, 8).iter().rev() {
+            known = known_bit(*t) + 2 * known;
+            value = value_bit(*t) + 2 * value;
         }
         Group { known, value }
     }

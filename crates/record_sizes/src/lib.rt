@@ -24,12 +24,7 @@ pub struct Sizes {
 fn is_power(n: u32) -> bool
     ensures { result ≡ is_power n }
 {
-    for e in 0..rules::MAX_HARD + 1 {
-        if n == 1 << e {
-            return true;
-        }
-    }
-    false
+    n.is_power_of_two() && n <= 1 << rules::MAX_HARD
 }
 
 // A depth is 0 exactly when its count is.

@@ -1,5 +1,5 @@
 -- Bytes of a table's text: digits, what separates words, and numbers that grow digit by digit.
-use Rattle.std.specs.Prelude.{ℕ, ◌+◌, ◌-◌, ◌*◌, Bool, true, ◌&&◌, eqb, ltb, leb}
+use Rattle.std.specs.Prelude.{ℕ, ◌+◌, ◌-◌, ◌*◌, Bool, true, ◌&&◌, Option, Some, None, eqb, ltb, leb}
 use Rattle.lists.specs.Choice.{when◌then◌else◌}
 
 -- the longest text that is read
@@ -40,6 +40,10 @@ hex_of b =
     else when leb 97 b && leb b 102 then b - 87
     else when leb 65 b && leb b 70 then b - 55
     else 16
+
+-- a number below a bound, none else
+abbrev pub below : ℕ → ℕ → Option ℕ
+below most n = when ltb n most then Some n else None
 
 -- the letters of `plain` from the second on
 unfoldable pub letter_of : ℕ → ℕ

@@ -1,6 +1,6 @@
 // Bytes of a table's text: digits, what separates words, and numbers that grow digit by digit.
 ghost use Rattle.std.specs.Prelude.{◌≡◌, get_or};
-ghost use Rattle.table_text.specs.Bytes.{bump, more, low_word, is_blank, is_end, is_digit_of, trit_of, hex_of, letter_of, next_letter};
+ghost use Rattle.table_text.specs.Bytes.{bump, more, low_word, is_blank, is_end, is_digit_of, trit_of, hex_of, below, letter_of, next_letter};
 
 // The longest text that is read.
 pub const MAX_TEXT: usize = 1048576;
@@ -51,32 +51,32 @@ pub fn is_end(b: u8) -> bool
 pub fn is_digit(b: u8) -> bool
     ensures { result ≡ is_digit_of b }
 {
-    b'0' <= b && b <= b'9'
+    b.is_ascii_digit()
 }
 
-// The trit of a byte, 3 where it is none.
+// The trit of a byte.
 #[tactic(auto, unfolding(crate::specs::Bytes::trit_of))]
-pub fn trit_of(b: u8) -> u8
-    ensures { result ≡ trit_of b }
+pub fn trit_of(b: u8) -> Option<u8>
+    ensures { result ≡ below 3 (trit_of b) }
 {
     match b {
-        b'0' => 0,
-        b'1' => 1,
-        b'x' | b'X' => 2,
-        _ => 3,
+        b'0' => Some(0),
+        b'1' => Some(1),
+        b'x' | b'X' => Some(2),
+        _ => None,
     }
 }
 
-// The value of a hex digit, 16 where the byte is none.
+// The value of a hex digit.
 #[tactic(auto, unfolding(crate::specs::Bytes::hex_of, crate::specs::Bytes::is_digit_of))]
-pub fn hex_of(b: u8) -> u8
-    ensures { result ≡ hex_of b }
+pub fn hex_of(b: u8) -> Option<u8>
+    ensures { result ≡ below 16 (hex_of b) }
 {
     match b {
-        b'0'..=b'9' => b - b'0',
-        b'a'..=b'f' => b - b'a' + 10,
-        b'A'..=b'F' => b - b'A' + 10,
-        _ => 16,
+        b'0'..=b'9' => Some(b - b'0'),
+        b'a'..=b'f' => Some(b - b'a' + 10),
+        b'A'..=b'F' => Some(b - b'A' + 10),
+        _ => None,
     }
 }
 
@@ -103,5 +103,5 @@ pub fn next_letter(k: u64) -> u64
 pub fn byte_at(text: &[u8], i: usize) -> u8
     ensures { result ≡ get_or text.now i 10 }
 {
-    if i < text.len() { text[i] } else { b'\n' }
+    text.get(i).copied().unwrap_or(b'\n')
 }

@@ -7,6 +7,11 @@ ghost use Rattle.table_text.specs.Head.{head_as, head_start, head_bad, number_en
 use crate::bytes;
 use crate::reason::Reason;
 
+// The fields of the line are counted from 0: this one has the entries,
+const ENTRIES: u32 = 2;
+// and so many there are.
+const FIELDS: u32 = 6;
+
 // What the machine waits for, or why it refuses the line.
 #[derive(Clone, Copy, Debug, PartialEq, Eq)]
 pub enum Kind {
@@ -88,8 +93,8 @@ impl Head {
     fn comma(self) -> Head
         ensures { head_of result ≡ head_comma (head_of self) }
     {
-        if self.kind == Kind::Number && self.field == 2 {
-            self.number_end(2)
+        if self.kind == Kind::Number && self.field == ENTRIES {
+            self.number_end(ENTRIES)
         } else {
             self.bad()
         }
@@ -100,8 +105,8 @@ impl Head {
         ensures { head_of result ≡ head_break (head_of self) }
     {
         let end = self.blank();
-        if end.kind == Kind::Gap && end.field == 6 {
-            Head::new(Kind::Read, 6, end.count, 0)
+        if end.kind == Kind::Gap && end.field == FIELDS {
+            Head::new(Kind::Read, FIELDS, end.count, 0)
         } else {
             self.bad()
         }
@@ -124,8 +129,8 @@ impl Head {
     fn entry(self, kind: Kind, value: u64) -> Head
         ensures { head_of result ≡ head_entry (head_of self) (head_kind kind) value }
     {
-        if self.kind == Kind::Gap && self.field == 2 {
-            Head::new(kind, 2, self.count, value)
+        if self.kind == Kind::Gap && self.field == ENTRIES {
+            Head::new(kind, ENTRIES, self.count, value)
         } else {
             self.bad()
         }
@@ -140,9 +145,14 @@ impl Head {
             return self.bad();
         }
         if self.value == 4 {
-            Head::new(Kind::AfterPlain, 2, self.count, 0)
+            Head::new(Kind::AfterPlain, ENTRIES, self.count, 0)
         } else {
-            Head::new(Kind::Plain, 2, self.count, bytes::next_letter(self.value))
+            Head::new(
+                Kind::Plain,
+                ENTRIES,
+                self.count,
+                bytes::next_letter(self.value),
+            )
         }
     }
 

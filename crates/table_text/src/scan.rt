@@ -1,9 +1,9 @@
 // The rows of a table's text.
-ghost use Rattle.std.specs.Prelude.{◌≡◌, ◌∷◌, [], ◌++◌, ◌≤◌, drop, length};
+ghost use Rattle.std.specs.Prelude.{◌≡◌, ◌∷◌, [], ◌++◌, ◌≤◌, ◌&&◌, ltb, leb, drop, length};
 ghost use Rattle.rules.specs.Limits.{max_width};
 ghost use Rattle.table_text.specs.Bytes.{max_text};
 ghost use Rattle.table_text.specs.View.{reason_number, scan_kind, scan_of};
-ghost use Rattle.table_text.specs.Scan.{scan_as, scan_start, with_kind, word_end, number_end, ended, between, left_of, scan_trit, scan_hex, scan_comment, scan_slash, scan_word, scan_plain, scan_step_of, is_stored, place_of, scan_stored, scan_run, rows_read};
+ghost use Rattle.table_text.specs.Scan.{scan_as, scan_start, with_kind, word_end, number_end, ended, between, left_of, scan_trit, scan_hex, scan_comment, scan_slash, scan_word, scan_plain, scan_step_of, place_of, scan_stored, scan_run, rows_read};
 
 use crate::bytes;
 use crate::reason::Reason;
@@ -24,6 +24,14 @@ pub enum Kind {
     // after `@`
     At,
     Refused(Reason),
+}
+
+// How many rows there are, and the bits of each.
+#[derive(Clone, Copy)]
+struct Size {
+    depth: u32,
+    width: u32,
+    ghost within: { width ≤ max_width },
 }
 
 // The machine that reads the rows: where it is, the line and the row in hand, the bits of a word that are to come, and a row number.
@@ -73,10 +81,10 @@ impl Scan {
     }
 
     #[tactic(auto, unfolding(crate::specs::Scan::number_end))]
-    fn number_end(self, depth: u32) -> Scan
-        ensures { scan_of result ≡ number_end depth (scan_of self) }
+    fn number_end(self, size: Size) -> Scan
+        ensures { scan_of result ≡ number_end size.depth (scan_of self) }
     {
-        if self.value <= u64::from(depth) {
+        if self.value <= u64::from(size.depth) {
             Scan::new(Kind::Gap, self.line, bytes::low_word(self.value), 0, 0)
         } else {
             self.refused(Reason::RowPastDepth)
@@ -85,13 +93,13 @@ impl Scan {
 
     // A word or a row number is at its end.
     #[tactic(auto, unfolding(crate::specs::Scan::ended))]
-    fn end_word(self, depth: u32) -> Scan
-        ensures { scan_of result ≡ ended depth (scan_of self) }
+    fn end_word(self, size: Size) -> Scan
+        ensures { scan_of result ≡ ended size.depth (scan_of self) }
     {
         match self.kind {
             Kind::Gap => self,
             Kind::Word => self.word_end(),
-            Kind::Number => self.number_end(depth),
+            Kind::Number => self.number_end(size),
             Kind::Slash | Kind::Comment | Kind::At | Kind::Refused(_) => self.refused(
                 Reason::BadByte,
             ),
@@ -115,11 +123,11 @@ impl Scan {
 
     // The bits of the word in hand that are to come.
     #[tactic(auto, unfolding(crate::specs::Scan::left_of))]
-    fn left_of(self, width: u32) -> u32
-        ensures { result ≡ left_of width (scan_of self) }
+    fn left_of(self, size: Size) -> u32
+        ensures { result ≡ left_of size.width (scan_of self) }
     {
         if self.kind == Kind::Gap {
-            width
+            size.width
         } else {
             self.left
         }
@@ -127,11 +135,11 @@ impl Scan {
 
     // A trit.
     #[tactic(auto, unfolding(crate::specs::Scan::scan_trit))]
-    fn trit(self, depth: u32, width: u32) -> Scan
-        ensures { scan_of result ≡ scan_trit depth width (scan_of self) }
+    fn trit(self, size: Size) -> Scan
+        ensures { scan_of result ≡ scan_trit size.depth size.width (scan_of self) }
     {
-        let left = self.left_of(width);
-        if depth <= self.row {
+        let left = self.left_of(size);
+        if size.depth <= self.row {
             self.refused(Reason::RowPastDepth)
         } else if left == 0 {
             self.refused(Reason::LongWord)
@@ -145,18 +153,11 @@ impl Scan {
     fn hex(self, b: u8) -> Scan
         ensures { scan_of result ≡ scan_hex (scan_of self) b }
     {
-        let digit = bytes::hex_of(b);
-        if digit < 16 {
-            Scan::new(
-                Kind::Number,
-                self.line,
-                self.row,
-                0,
-                bytes::more(16, self.value, digit),
-            )
-        } else {
-            self.refused(Reason::BadByte)
-        }
+        let Some(digit) = bytes::hex_of(b) else {
+            return self.refused(Reason::BadByte);
+        };
+        let value = bytes::more(16, self.value, digit);
+        Scan::new(Kind::Number, self.line, self.row, 0, value)
     }
 
     #[tactic(auto, unfolding(crate::specs::Scan::scan_comment))]
@@ -183,11 +184,11 @@ impl Scan {
 
     // Between words or in one.
     #[tactic(auto, unfolding(crate::specs::Scan::scan_word))]
-    fn word(self, depth: u32, width: u32, b: u8) -> Scan
-        ensures { scan_of result ≡ scan_word depth width (scan_of self) b }
+    fn word(self, size: Size, b: u8) -> Scan
+        ensures { scan_of result ≡ scan_word size.depth size.width (scan_of self) b }
     {
-        if bytes::trit_of(b) < 3 {
-            self.trit(depth, width)
+        if bytes::trit_of(b).is_some() {
+            self.trit(size)
         } else if self.kind == Kind::Word && b == b'_' {
             self
         } else if self.kind == Kind::Gap && b == b'@' {
@@ -199,13 +200,13 @@ impl Scan {
 
     // Outside comments.
     #[tactic(auto, unfolding(crate::specs::Scan::scan_plain))]
-    fn plain(self, depth: u32, width: u32, b: u8) -> Scan
-        ensures { scan_of result ≡ scan_plain depth width (scan_of self) b }
+    fn plain(self, size: Size, b: u8) -> Scan
+        ensures { scan_of result ≡ scan_plain size.depth size.width (scan_of self) b }
     {
         if bytes::is_end(b) {
-            self.end_word(depth).gap(b)
+            self.end_word(size).gap(b)
         } else if self.kind == Kind::Gap || self.kind == Kind::Word {
-            self.word(depth, width, b)
+            self.word(size, b)
         } else {
             self.hex(b)
         }
@@ -213,58 +214,58 @@ impl Scan {
 
     // One byte.
     #[tactic(auto, unfolding(crate::specs::Scan::scan_step_of))]
-    fn step(self, depth: u32, width: u32, b: u8) -> Scan
-        ensures { scan_of result ≡ scan_step_of depth width (scan_of self) b }
+    fn step(self, size: Size, b: u8) -> Scan
+        ensures { scan_of result ≡ scan_step_of size.depth size.width (scan_of self) b }
     {
         match self.kind {
             Kind::Refused(_) => self,
             Kind::Comment => self.comment(b),
             Kind::Slash => self.slash(b),
-            Kind::Gap | Kind::Word | Kind::Number | Kind::At => self.plain(depth, width, b),
+            Kind::Gap | Kind::Word | Kind::Number | Kind::At => self.plain(size, b),
         }
     }
 
-    #[tactic(auto, unfolding(crate::specs::Scan::is_stored))]
-    fn is_stored(self, depth: u32, width: u32, b: u8) -> bool
-        ensures { result ≡ is_stored depth width (scan_of self) b }
+    // A trit has a place in the rows.
+    fn has_place(self, size: Size) -> bool
+        ensures { result ≡ (leb (scan_of self).kind 1 && (ltb self.row size.depth && ltb 0 (left_of size.width (scan_of self)))) }
     {
         (self.kind == Kind::Gap || self.kind == Kind::Word)
-            && bytes::trit_of(b) < 3
-            && self.row < depth
-            && 0 < self.left_of(width)
+            && self.row < size.depth
+            && 0 < self.left_of(size)
     }
 
     // Where a trit goes.
-    fn place(self, width: u32) -> usize
-        requires { width ≤ max_width }
-        ensures { result ≡ place_of width (scan_of self) }
+    fn place(self, size: Size) -> usize
+        ensures { result ≡ place_of size.width (scan_of self) }
     {
-        let left = self.left_of(width).saturating_sub(1);
-        self.row as usize * width as usize + left as usize
+        let left = self.left_of(size).saturating_sub(1);
+        self.row as usize * size.width as usize + left as usize
     }
 
     // Stores a trit.
-    #[tactic(auto, unfolding(crate::specs::Scan::scan_stored))]
-    fn store(self, rows: &mut [u8], depth: u32, width: u32, b: u8)
-        requires { width ≤ max_width }
-        ensures { rows.new ≡ scan_stored depth width (scan_of self) b rows.old }
+    #[tactic(auto, unfolding(crate::specs::Scan::scan_stored, crate::specs::Scan::is_stored))]
+    fn store(self, rows: &mut [u8], size: Size, b: u8)
+        ensures { rows.new ≡ scan_stored size.depth size.width (scan_of self) b rows.old }
     {
-        if self.is_stored(depth, width, b) {
-            lists::put(rows, self.place(width), bytes::trit_of(b));
+        let Some(trit) = bytes::trit_of(b) else {
+            return;
+        };
+        if self.has_place(size) {
+            lists::put(rows, self.place(size), trit);
         }
     }
 }
 
 // Reads the rows from a place of the text on; the end of the text is a line break.
-fn read_from(rows: &mut [u8], depth: u32, width: u32, text: &[u8], from: usize) -> Scan
-    requires { (width ≤ max_width) × (length text.now ≤ max_text) }
-    ensures { scan_run depth width scan_start rows.old (drop from (text.now ++ (10 ∷ []))) ≡ record { state = scan_of result; rows = rows.new } }
+fn read_from(rows: &mut [u8], size: Size, text: &[u8], from: usize) -> Scan
+    requires { length text.now ≤ max_text }
+    ensures { scan_run size.depth size.width scan_start rows.old (drop from (text.now ++ (10 ∷ []))) ≡ record { state = scan_of result; rows = rows.new } }
 {
     let mut scan = Scan::new(Kind::Gap, 2, 0, 0, 0);
     for i in from..text.len() + 1 {
         let b = bytes::byte_at(text, i);
-        scan.store(rows, depth, width, b);
-        scan = scan.step(depth, width, b);
+        scan.store(rows, size, b);
+        scan = scan.step(size, b);
     }
     scan
 }
@@ -277,5 +278,5 @@ pub fn read_rows(rows: &mut [u8], depth: u32, width: u32, text: &[u8], from: usi
     if rules::MAX_WIDTH < width || bytes::MAX_TEXT < text.len() {
         return Scan::new(Kind::Refused(Reason::Unread), 1, 0, 0, 0);
     }
-    read_from(rows, depth, width, text, from)
+    read_from(rows, Size { depth, width }, text, from)
 }

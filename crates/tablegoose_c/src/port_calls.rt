@@ -4,10 +4,10 @@ ghost use Rattle.rules.specs.Answers.{unmap_read_dff_call, unmap_reset_call, emu
 ghost use Rattle.log_entries.specs.View.{state_of};
 ghost use Rattle.net_memory.specs.Given.{given_of};
 ghost use Rattle.port_mux.specs.Call.{overlay_of};
-ghost use Rattle.port_unmap.specs.Call.{unclocking, rooms_of, driven_of};
+ghost use Rattle.port_unmap.specs.Call.{unclocking, rooms_of};
 ghost use Rattle.c_memory.specs.View.{given_memory};
 ghost use Rattle.c_port.specs.Overlays.{lent_overlay, overlay_left_by};
-ghost use Rattle.c_port.specs.View.{given_driven, NewMemory, NewTrits, NewNets};
+ghost use Rattle.c_port.specs.View.{driven_by, NewMemory, NewTrits, NewNets};
 
 use c_log::Logged;
 use c_memory::Memory;
@@ -24,7 +24,7 @@ pub extern "C" fn tablegoose_unmap_read_dff(
     trits: &[u8],
     port: usize,
 ) -> Driven
-    ensures log_after { driven_of (given_driven result) nets.now trits.now output.new log.new ≡ unmap_read_dff_call (rooms_of nets.now trits.now output.old) log.old (state_of st) (given_of (given_memory m) nets.now trits.now) port output.old }
+    ensures log_after { driven_by result nets.now trits.now output.new log.new ≡ unmap_read_dff_call (rooms_of nets.now trits.now output.old) log.old (state_of st) (given_of (given_memory m) nets.now trits.now) port output.old }
     ensures new_memory { NewMemory m st (unclocking (given_memory m) port) result }
 {
     c_port::tablegoose_unmap_read_dff(log, st, output, m, nets, trits, port)
@@ -41,7 +41,7 @@ pub extern "C" fn tablegoose_unmap_read_init_reset_transparency(
     port: usize,
     include_transparency: bool,
 ) -> Driven
-    ensures log_after { driven_of (given_driven result) nets.now trits.new output.new log.new ≡ unmap_reset_call (rooms_of nets.now trits.old output.old) log.old (state_of st) (given_of (given_memory m) nets.now trits.old) port include_transparency output.old }
+    ensures log_after { driven_by result nets.now trits.new output.new log.new ≡ unmap_reset_call (rooms_of nets.now trits.old output.old) log.old (state_of st) (given_of (given_memory m) nets.now trits.old) port include_transparency output.old }
     ensures new_trits { NewTrits m st port include_transparency trits.old trits.new result }
 {
     c_port::tablegoose_unmap_read_init_reset_transparency(
@@ -64,7 +64,7 @@ pub extern "C" fn tablegoose_emulate_read_before_write(
     m: Memory,
     trits: &[u8],
 ) -> Driven
-    ensures log_after { driven_of (given_driven result) nets.new trits.now [] log.new ≡ emulate_call (rooms_of nets.old trits.now []) log.old (state_of st) (given_of (given_memory m) nets.old trits.now) }
+    ensures log_after { driven_by result nets.new trits.now [] log.new ≡ emulate_call (rooms_of nets.old trits.now []) log.old (state_of st) (given_of (given_memory m) nets.old trits.now) }
     ensures new_nets { NewNets m st nets.old nets.new result }
 {
     c_port::tablegoose_emulate_read_before_write(log, st, nets, m, trits)

@@ -1,7 +1,7 @@
 // extract_read_ports: rooms that are painted, and of which the first words are lent.
 use crate::case::{Case, NETS, OUTS, TRITS};
 use crate::{case, room, same};
-use net_memory::Memory;
+use net_memory::{Given, Memory};
 use rules::Refusal;
 use try_kit::paint::paint;
 use try_kit::tally::{Tally, add};
@@ -30,17 +30,19 @@ fn call(
     let nets = case::nets_of(c);
     let trits = case::trits_of(c);
     let outs = case::outs_of(c);
-    let m = c.m;
     let a = lent.nets.min(room_nets.len());
     let b = lent.trits.min(room_trits.len());
     let e = lent.outs.min(room_outs.len());
+    let given = Given {
+        memory: c.m,
+        nets: lists::part(&nets, 0, c.nets),
+        trits: lists::part(&trits, 0, c.trits),
+    };
     port_extract::extract_read_ports(
         &mut room_nets[0..a],
         &mut room_trits[0..b],
         &mut room_outs[0..e],
-        m,
-        lists::part(&nets, 0, c.nets),
-        lists::part(&trits, 0, c.trits),
+        given,
         list,
         lists::part(&outs, 0, c.outs),
     )

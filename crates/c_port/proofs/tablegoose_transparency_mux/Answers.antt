@@ -1,25 +1,19 @@
 -- `c_port::tablegoose_transparency_mux` meets its contract.
-use mathlib.Core.Path.{ap, ◌∙◌}
 use lib.ListN.{length, take}
-use Rattle.rules.specs.Answers.{transparency_mux_call}
-use Rattle.log_entries.specs.View.{state_of}
-use Rattle.net_memory.specs.declared.Memory.{Memory as MachineMemory}
-use Rattle.net_memory.specs.Given.{given_of}
 use Rattle.port_mux.specs.Call.{overlay_of}
 use Rattle.c_port.proofs.Overlaid.{overlay_left}
 use Rattle.c_port.proofs.tablegoose_transparency_mux.Goals as goal
 
 pub returns : goal.returns
 returns c =
-    let x = c in
-    let v = x.args in
-    let d = x.transparency_mux-r in
-    let g = x.memory_of-given in
+    let v = c.args in
+    let d = c.transparency_mux-r in
+    let g = c.given_by-given in
     let n = length v.bits.now in
     overlay_left
     (overlay_of v.masked (take n d.new.bits_to) (take n d.new.mask_to))
     v.st
-    c.mux_struct.result
+    c.answer_struct.result
     d.result
     d.new.log
     d.new.bits_to
@@ -31,5 +25,5 @@ returns c =
     v.read
     v.write
     (overlay_of v.masked v.bits.now v.mask.now)
-    c.mux_struct.ensures
-    (d.ensures ∙ ap (λ (m : MachineMemory). transparency_mux_call v.bits_to.now v.mask_to.now v.log.now (state_of v.st) (given_of m v.nets.now v.trits.now) v.read v.write (overlay_of v.masked v.bits.now v.mask.now)) g.ensures)
+    c.answer_struct.ensures
+    (rw (g.ensures.0, g.ensures.1, g.ensures.2) at d.ensures)

@@ -3,8 +3,8 @@ use mathlib.Core.List.{[]}
 use lib.Seq.{sets}
 use Rattle.net_memory.specs.View.{memory_of}
 use Rattle.log_entries.specs.View.{lent}
-use Rattle.log_entries.proofs.Emission.{unnamed}
 use Rattle.port_transparency.specs.Gave.{Gave}
+use Rattle.port_transparency.proofs.Gave.{gave_unnamed}
 use Rattle.port_unmap_all.specs.All.{unmapped_all}
 use Rattle.fallback.proofs.Acts.{dry_done}
 use Rattle.fallback.proofs.dry_unmapped.Goals as goal
@@ -14,5 +14,5 @@ returns c =
     let v = c.args in
     let e = c.emit_unmap_all in
     let t = unmapped_all (memory_of v.given.memory v.given.nets.now v.given.trits.now) v.output.now (sets v.after.now 0 v.output.now) in
-    let g : Gave t (lent c.dry_start.result []) (lent e.new.log.state e.new.log.words.now) e.new.after = record { ran = unnamed t 0 _ _ e.ensures.ran; value = e.ensures.value } in
+    let g : Gave t (lent c.dry_start.result []) (lent e.new.log.state e.new.log.words.now) e.new.after = gave_unnamed 0 t _ _ _ e.ensures in
     dry_done v.given.memory v.given.nets.now v.given.trits.now v.output.now v.st c.requires.0 v.after.now [] e.new.after c.dry_start.result e.new.log.state e.new.log.words.now c.requires.1 c.dry_start.ensures g

@@ -1,16 +1,13 @@
 -- `record_sizes::is_power` meets its contract.
-use Rattle.record_sizes.proofs.Powers.{power_all, power_found, power_turn, power_none}
-use Rattle.std.proofs.Common.{arith, sym, ◌∙◌}
+use Rattle.std.proofs.Common.{ap, sym, ◌∙◌, ◌&&◌, leb}
+use mathlib.Core.Bool.{Bool}
+use Rattle.record_sizes.proofs.Powers.{power_by_ones}
 use Rattle.record_sizes.proofs.is_power.Goals as goal
 
-pub loop-e-init : goal.loop-e-init
-loop-e-init c = power_all _
+pub returns-then-is_power_of_two : goal.returns-then-is_power_of_two
+returns-then-is_power_of_two c =
+    let e = sym c.is_power_of_two.ensures ∙ c.if-is_power_of_two.true in sym (ap (λ (b : Bool). b && leb c.args.n 32768) e) ∙ power_by_ones c.args.n
 
-pub returns-then-n-e : goal.returns-then-n-e
-returns-then-n-e c = sym (power_found _ _ (omega arith) c.if-n-e.true) ∙ c.loop-e.invariant
-
-pub loop-e-preserved : goal.loop-e-preserved
-loop-e-preserved c = power_turn _ _ (omega arith) c.if-n-e.false ∙ c.loop-e.invariant
-
-pub returns : goal.returns
-returns c = sym (power_none c.args.n c.loop-e.e (omega arith)) ∙ c.loop-e.invariant
+pub returns-else-is_power_of_two : goal.returns-else-is_power_of_two
+returns-else-is_power_of_two c =
+    let e = sym c.is_power_of_two.ensures ∙ c.if-is_power_of_two.false in c.if-is_power_of_two.false ∙ sym (ap (λ (b : Bool). b && leb c.args.n 32768) e) ∙ power_by_ones c.args.n

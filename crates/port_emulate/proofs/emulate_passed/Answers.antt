@@ -1,12 +1,13 @@
--- `port_emulate::emulate_in` meets its contract.
+-- `port_emulate::emulate_passed` meets its contract.
 use Rattle.std.proofs.Common.{rules}
+use mathlib.Core.Path.{refl}
 use lib.ListN.{length}
 use Rattle.std.proofs.lemmas.Result.{err_from_is_err_and}
 use Rattle.log_entries.specs.View.{state_of}
 use Rattle.port_emulate.proofs.Bounds.{fits_all, nets_there}
 use Rattle.port_emulate.proofs.Number.{all_x_is, refused_log}
-use Rattle.port_emulate.proofs.Call.{call_refused, call_done, all-kept, all_new, log_name, done_unnamed}
-use Rattle.port_emulate.proofs.emulate_in.Goals as goal
+use Rattle.port_emulate.proofs.Call.{call_refused, call_done, all_new, log_name, done_unnamed}
+use Rattle.port_emulate.proofs.emulate_passed.Goals as goal
 
 pub dry_refusal-requires : goal.dry_refusal-requires
 dry_refusal-requires c =
@@ -22,7 +23,7 @@ returns-in_err-dry_refusal c =
     let b = all_x_is m x y c.init_size.result c.part.result.now c.is_undef-all_x.result c.init_size.ensures.0 c.part.ensures.part c.is_undef-all_x.ensures in
     let n = refused_log m x y (length v.log.now) (state_of v.st) _ c.requires (c.in_err-dry_refusal.ensures y c.requires b) in
     let e = err_from_is_err_and c.from_residual.result c.from_residual.ensures.1 in
-    rw (e.1, e.2) (record { log_after = call_refused m x y v.log.now v.st _ n; emulated = all-kept m x _ })
+    rw (e.1, e.2) (record { log_after = call_refused m x y v.log.now v.st _ n; emulated = refl })
 
 pub delay_ports-requires : goal.delay_ports-requires
 delay_ports-requires c =
