@@ -3,7 +3,6 @@
 
 ghost use Rattle.std.specs.Prelude.{◌≡◌, false, ◌++◌, ◌≤◌, length, Ok};
 ghost use Rattle.std.proofs.lemmas.List.Edits.{sets};
-ghost use Rattle.rules.specs.Record.{record_bytes};
 ghost use Rattle.rules.specs.Conditions.{bad_sizes};
 ghost use Rattle.rules.specs.Refusal.{number_of};
 ghost use Rattle.rules.specs.Answers.{Accepted, filled_with};
@@ -155,22 +154,11 @@ fn behind_end(
     if behind.len() == 0 {
         return shown(out, line, depth, width, rows);
     }
-    match table_read::read_table(behind) {
-        Ok(table) => compared(out, depth, width, rows, &table),
-        Err(fault) => Err(Refused::Table(fault)),
-    }
+    let table = table_read::read_table(behind).map_err(Refused::Table)?;
+    compared(out, depth, width, rows, &table)
 }
 
 // ---- the whole
-
-// The bytes of a record of these sizes.
-fn record_bytes(sizes: Sizes) -> usize
-    requires { bad_sizes (view_sizes sizes) ≡ false }
-    ensures { result ≡ record_bytes (view_sizes sizes) }
-{
-    let trits = sizes.trits_within(rules::MAX_IMAGE) as usize;
-    rules::HEAD_BYTES + 2 * ((trits + 7) / 8)
-}
 
 // By the record of these sizes.
 fn record_end(
@@ -183,18 +171,14 @@ fn record_end(
     requires { bad_sizes (view_sizes sizes) ≡ false }
     ensures { end_as result out.new ≡ record_end out.old line.now (layout_of layout.entry) after.now (Accepted (view_sizes sizes)) }
 {
-    let n = record_bytes(sizes);
+    let n = record_codec::record_bytes(sizes);
     let mut room = [0u8; rules::MAX_BITS as usize];
-    match record_rows(&mut room, layout, sizes, lists::part(after, 0, n)) {
-        Ok(()) => {
-            let depth = layout.params.depth;
-            let width = layout.params.width;
-            let rows = lists::part(&room, 0, depth as usize * width as usize);
-            let behind = lists::part(after, n, after.len());
-            behind_end(out, line, depth, width, rows, behind)
-        }
-        Err(refusal) => Err(Refused::Call(refusal)),
-    }
+    record_rows(&mut room, layout, sizes, lists::part(after, 0, n)).map_err(Refused::Call)?;
+    let depth = layout.params.depth;
+    let width = layout.params.width;
+    let rows = lists::part(&room, 0, depth as usize * width as usize);
+    let behind = lists::part(after, n, after.len());
+    behind_end(out, line, depth, width, rows, behind)
 }
 
 // By the header's table.
@@ -202,22 +186,18 @@ fn head_end(out: &mut [u8], line: &[u8], after: &[u8], table: &Table) -> Result<
     ensures { end_as result out.new ≡ head_end out.old line.now after.now (parsed_of (Ok table.now)) }
 {
     let layout = table.layout();
-    match Laid::laid_out(layout).sizes() {
-        Ok(sizes) => record_end(out, line, layout, after, sizes),
-        Err(refusal) => Err(Refused::Call(refusal)),
-    }
+    let sizes = Laid::laid_out(layout).sizes().map_err(Refused::Call)?;
+    record_end(out, line, layout, after, sizes)
 }
 
 // Where the first line ends.
 fn line_end(text: &[u8]) -> usize
     ensures { (result ≡ line_end text.now) × (result ≤ length text.now) }
 {
-    for (i, b) in text.iter().enumerate() {
-        if *b == b'\n' {
-            return i + 1;
-        }
+    match text.iter().position(|b| *b == b'\n') {
+        Some(i) => i + 1,
+        None => text.len(),
     }
-    text.len()
 }
 
 // The rows of a text's record, or the rows in which they differ from its table: the bytes of the text.
@@ -227,8 +207,6 @@ pub fn read_back(out: &mut [u8], text: &[u8]) -> Result<usize, Refused>
     let n = line_end(text);
     let line = lists::part(text, 0, n);
     let after = lists::part(text, n, text.len());
-    match table_read::read_table(line) {
-        Ok(table) => head_end(out, line, after, &table),
-        Err(fault) => Err(Refused::Text(fault)),
-    }
+    let table = table_read::read_table(line).map_err(Refused::Text)?;
+    head_end(out, line, after, &table)
 }
