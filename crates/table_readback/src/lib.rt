@@ -29,6 +29,14 @@ pub enum Refused {
     Call(Refusal),
 }
 
+// Rows of a table: how many, the bits of each, and their trits.
+#[derive(Clone, Copy)]
+struct Rows<'a> {
+    depth: u32,
+    width: u32,
+    trits: &'a [u8],
+}
+
 // ---- the record's rows
 
 // The rows of an image whose record had this head.
@@ -65,26 +73,26 @@ fn record_rows(
 // ---- the text
 
 // The length of the rows' text, by a run that keeps one byte of it.
-fn rows_size(depth: u32, width: u32, rows: &[u8]) -> usize
-    ensures { result ≡ length (rows_shown depth width rows.now) }
+fn rows_size(rows: Rows<'_>) -> usize
+    ensures { result ≡ length (rows_shown rows.entry.depth rows.entry.width rows.entry.trits.now) }
 {
     let mut one = [0u8; 1];
-    table_print::put_rows(&mut one, depth, width, rows)
+    table_print::put_rows(&mut one, rows.depth, rows.width, rows.trits)
 }
 
 // The rows' text, from a place on.
-fn put_behind(out: &mut [u8], at: usize, depth: u32, width: u32, rows: &[u8])
+fn put_behind(out: &mut [u8], at: usize, rows: Rows<'_>)
     requires { at ≤ length out.old }
-    ensures { out.new ≡ sets out.old at (rows_shown depth width rows.now) }
+    ensures { out.new ≡ sets out.old at (rows_shown rows.entry.depth rows.entry.width rows.entry.trits.now) }
 {
-    table_print::put_rows(&mut out[at..], depth, width, rows);
+    table_print::put_rows(&mut out[at..], rows.depth, rows.width, rows.trits);
 }
 
 // The header line and the rows.
-fn shown(out: &mut [u8], line: &[u8], depth: u32, width: u32, rows: &[u8]) -> Result<usize, Refused>
-    ensures { end_as result out.new ≡ text_end out.old (line.now ++ rows_shown depth width rows.now) }
+fn shown(out: &mut [u8], line: &[u8], rows: Rows<'_>) -> Result<usize, Refused>
+    ensures { end_as result out.new ≡ text_end out.old (line.now ++ rows_shown rows.entry.depth rows.entry.width rows.entry.trits.now) }
 {
-    let size = rows_size(depth, width, rows);
+    let size = rows_size(rows);
     let n = line.len();
     if out.len() < n {
         return Err(Refused::Call(Refusal::NoRoom));
@@ -93,69 +101,50 @@ fn shown(out: &mut [u8], line: &[u8], depth: u32, width: u32, rows: &[u8]) -> Re
         return Err(Refused::Call(Refusal::NoRoom));
     }
     lists::copy(out, 0, line);
-    put_behind(out, n, depth, width, rows);
+    put_behind(out, n, rows);
     Ok(n + size)
 }
 
 // The length of the text of the differing rows, by a run that keeps one byte of it.
-fn differences_size(depth: u32, width: u32, rows: &[u8], theirs: &[u8]) -> usize
-    ensures { result ≡ length (diff_text depth width rows.now theirs.now) }
+fn differences_size(rows: Rows<'_>, theirs: &[u8]) -> usize
+    ensures { result ≡ length (diff_text rows.entry.depth rows.entry.width rows.entry.trits.now theirs.now) }
 {
     let mut one = [0u8; 1];
-    table_differ::put_differences(&mut one, depth, width, rows, theirs)
+    table_differ::put_differences(&mut one, rows.depth, rows.width, rows.trits, theirs)
 }
 
 // The rows that differ.
-fn differences(
-    out: &mut [u8],
-    depth: u32,
-    width: u32,
-    rows: &[u8],
-    theirs: &[u8],
-) -> Result<usize, Refused>
-    ensures { end_as result out.new ≡ text_end out.old (diff_text depth width rows.now theirs.now) }
+fn differences(out: &mut [u8], rows: Rows<'_>, theirs: &[u8]) -> Result<usize, Refused>
+    ensures { end_as result out.new ≡ text_end out.old (diff_text rows.entry.depth rows.entry.width rows.entry.trits.now theirs.now) }
 {
-    if out.len() < differences_size(depth, width, rows, theirs) {
+    if out.len() < differences_size(rows, theirs) {
         return Err(Refused::Call(Refusal::NoRoom));
     }
-    Ok(table_differ::put_differences(out, depth, width, rows, theirs))
+    Ok(table_differ::put_differences(out, rows.depth, rows.width, rows.trits, theirs))
 }
 
 // Against a table.
-fn compared(
-    out: &mut [u8],
-    depth: u32,
-    width: u32,
-    rows: &[u8],
-    table: &Table,
-) -> Result<usize, Refused>
-    ensures { end_as result out.new ≡ compared_end out.old depth width rows.now (parsed_of (Ok table.now)) }
+fn compared(out: &mut [u8], rows: Rows<'_>, table: &Table) -> Result<usize, Refused>
+    ensures { end_as result out.new ≡ compared_end out.old rows.entry.depth rows.entry.width rows.entry.trits.now (parsed_of (Ok table.now)) }
 {
-    if table.params.depth != depth {
+    if table.params.depth != rows.depth {
         return Err(Refused::Call(Refusal::BadShape));
     }
-    if table.params.width != width {
+    if table.params.width != rows.width {
         return Err(Refused::Call(Refusal::BadShape));
     }
-    differences(out, depth, width, rows, table.trits())
+    differences(out, rows, table.trits())
 }
 
 // By what follows the record.
-fn behind_end(
-    out: &mut [u8],
-    line: &[u8],
-    depth: u32,
-    width: u32,
-    rows: &[u8],
-    behind: &[u8],
-) -> Result<usize, Refused>
-    ensures { end_as result out.new ≡ behind_end out.old line.now depth width rows.now behind.now }
+fn behind_end(out: &mut [u8], line: &[u8], rows: Rows<'_>, behind: &[u8]) -> Result<usize, Refused>
+    ensures { end_as result out.new ≡ behind_end out.old line.now rows.entry.depth rows.entry.width rows.entry.trits.now behind.now }
 {
     if behind.len() == 0 {
-        return shown(out, line, depth, width, rows);
+        return shown(out, line, rows);
     }
     let table = table_read::read_table(behind).map_err(Refused::Table)?;
-    compared(out, depth, width, rows, &table)
+    compared(out, rows, &table)
 }
 
 // ---- the whole
@@ -176,9 +165,13 @@ fn record_end(
     record_rows(&mut room, layout, sizes, lists::part(after, 0, n)).map_err(Refused::Call)?;
     let depth = layout.params.depth;
     let width = layout.params.width;
-    let rows = lists::part(&room, 0, depth as usize * width as usize);
-    let behind = lists::part(after, n, after.len());
-    behind_end(out, line, depth, width, rows, behind)
+    let trits = lists::part(&room, 0, depth as usize * width as usize);
+    let rows = Rows {
+        depth,
+        width,
+        trits,
+    };
+    behind_end(out, line, rows, lists::part(after, n, after.len()))
 }
 
 // By the header's table.

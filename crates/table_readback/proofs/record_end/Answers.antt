@@ -35,4 +35,4 @@ returns c =
     let n = c.record_bytes-n.result in
     let f : Filled = filled_with 0 c.record_rows.new.room in
     let g = ap (λ (r : Result (Unit {0}) Refusal). filled_with (number_of r) c.record_rows.new.room) (sym (passed c.record_rows.result _ c.in_ok-map_err.ensures.cases)) ∙ c.record_rows.ensures in
-    by_record a.out.now a.line.now a.after.now q (view_sizes a.sizes) n _ f _ _ (c.record_bytes-n.ensures c.requires) c.part.ensures.part c.part-behind.ensures.part g (c.behind_end.ensures ∙ end_rows a.out.now a.line.now [] q.depth q.width f _ _ refl c.part-rows.ensures.part)
+    by_record a.out.now a.line.now a.after.now q (view_sizes a.sizes) n _ f _ _ (c.record_bytes-n.ensures c.requires) c.part.ensures.part c.part-2.ensures.part g (c.behind_end.ensures ∙ end_rows a.out.now a.line.now [] q.depth q.width f _ _ refl c.part-trits.ensures.part)
