@@ -11,7 +11,7 @@ use Rattle.net_memory.specs.FlipFlop.{MemoryReadFlipFlop}
 use Rattle.std.specs.Prelude.{None, Some}
 use Rattle.net_memory.specs.declared.MemoryReadPort.{MemoryReadPort}
 use Rattle.net_memory.specs.declared.Memory.{Memory as MachineMemory}
-use Rattle.c_net.specs.View.{flag_code, given_control}
+use Rattle.c_net.specs.View.{flag_code, given_control, flagged_control}
 use Rattle.c_memory.specs.View.{net_of, given_net, no_control, given_write, given_clock, given_reset, given_flip_flop, given_read, given_memory, net_struct, write_struct, flip_flop_struct, read_struct, memory_struct}
 use Rattle.c_memory.proofs.Each.{undone}
 
@@ -33,7 +33,8 @@ write_back : (p : MemoryWritePort) → given_write (write_struct p) ≡ p
 write_back p = λ i. record { addr_len = p.addr_len; data_len = p.data_len; mask_len = p.mask_len; clock = net_back p.clock i }
 
 -- a flag that is 0 or 1 leaves the reset as it is
-reset_back : (b : Bool) (c : ControlNet) → when ltb 1 (flag_code b) then no_control else given_net (net_struct c) ≡ c
+reset_back : (b : Bool) (c : ControlNet) → net_of (flagged_control (net_struct c) (flag_code b)) ≡ c
+unfolding flagged_control
 reset_back true c = net_back c
 reset_back false c = net_back c
 

@@ -1,6 +1,6 @@
 // A caller's ports as the library's, and back.
 ghost use Rattle.std.specs.Prelude.{◌≡◌, map};
-ghost use Rattle.c_memory.specs.View.{given_net, given_write, given_clock, given_reset, given_controls, given_flip_flop, fields_of, given_read, write_struct, no_flip_flop, flip_flop_struct, read_with, read_struct, zero_control, zero_write, zero_read};
+ghost use Rattle.c_memory.specs.View.{given_write, given_clock, given_reset, given_controls, given_flip_flop, fields_of, given_read, write_struct, no_flip_flop, flip_flop_struct, read_with, read_struct, zero_control, zero_write, zero_read};
 
 use crate::{FlipFlop, ReadPort, WritePort};
 use c_net::Control;
@@ -10,12 +10,6 @@ use net_value::{ControlNet, Net};
 
 // ---- from a caller's struct
 
-pub fn net_of(c: Control) -> ControlNet
-    ensures { result ≡ given_net c }
-{
-    c_net::control_net(c)
-}
-
 fn write_of(p: WritePort) -> MemoryWritePort
     ensures { result ≡ given_write p }
 {
@@ -23,7 +17,7 @@ fn write_of(p: WritePort) -> MemoryWritePort
         addr_len: p.addr_len,
         data_len: p.data_len,
         mask_len: p.mask_len,
-        clock: net_of(p.clock),
+        clock: c_net::control_net(p.clock),
     }
 }
 
@@ -33,30 +27,20 @@ fn clock_of(p: FlipFlop) -> ControlNet
     ensures { result ≡ given_clock p }
 {
     if p.clocked == 1 {
-        return net_of(p.clock);
+        return c_net::control_net(p.clock);
     }
     ControlNet::Neg(Net(0))
 }
 
-// Its reset: Neg(0) too where the flag `reset_over_enable` is above 1.
-#[tactic(auto, unfolding(crate::specs::View::given_reset))]
-fn reset_of(p: FlipFlop) -> ControlNet
-    ensures { result ≡ given_reset p }
-{
-    if 1 < p.reset_over_enable {
-        return ControlNet::Neg(Net(0));
-    }
-    net_of(p.reset)
-}
-
+#[tactic(auto, using(crate::proofs::Back::by_view), unfolding(crate::specs::View::given_reset))]
 fn controls_of(p: FlipFlop) -> Controls
     ensures { result ≡ given_controls p }
 {
     Controls {
         clock: clock_of(p),
-        clear: net_of(p.clear),
-        reset: reset_of(p),
-        enable: net_of(p.enable),
+        clear: c_net::control_net(p.clear),
+        reset: c_net::flagged_control(p.reset, p.reset_over_enable),
+        enable: c_net::control_net(p.enable),
         reset_over_enable: p.reset_over_enable == 1,
     }
 }
