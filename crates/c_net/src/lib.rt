@@ -25,7 +25,7 @@ pub struct Result {
 
 // A net, or its inverse: polarity 0 is Pos, 1 is Neg.
 #[repr(C)]
-#[derive(Clone, Copy)]
+#[derive(Clone, Copy, Default)]
 pub struct Control {
     pub polarity: u32,
     pub net: u32,
@@ -145,10 +145,7 @@ fn control_result(a: result::Result<ControlNet, Refusal>) -> ControlResult
         },
         Err(refusal) => ControlResult {
             number: refusal.number(),
-            control: Control {
-                polarity: 0,
-                net: 0,
-            },
+            control: Control::default(),
         },
     }
 }
