@@ -1,8 +1,7 @@
 -- A library's memory as a caller's struct is, read again, that memory.
 use mathlib.Core.Path.{◌≡◌, refl}
 use mathlib.Core.Bool.{Bool, true, false}
-use lib.Dec.{eqb, ltb}
-use Rattle.lists.specs.Choice.{when◌then◌else◌}
+use lib.Dec.{eqb}
 use Rattle.net_value.specs.declared.ControlNet.{ControlNet}
 use Rattle.net_value.specs.declared.ControlNet.TheVariants.{Pos, Neg}
 use Rattle.net_value.specs.View.{control_of}
@@ -12,7 +11,7 @@ use Rattle.std.specs.Prelude.{None, Some}
 use Rattle.net_memory.specs.declared.MemoryReadPort.{MemoryReadPort}
 use Rattle.net_memory.specs.declared.Memory.{Memory as MachineMemory}
 use Rattle.c_net.specs.View.{flag_code, given_control, flagged_control}
-use Rattle.c_memory.specs.View.{net_of, given_net, no_control, given_write, given_clock, given_reset, given_flip_flop, given_read, given_memory, net_struct, write_struct, flip_flop_struct, read_struct, memory_struct}
+use Rattle.c_memory.specs.View.{net_of, given_net, given_write, given_clock, given_reset, given_flip_flop, given_read, given_memory, net_struct, write_struct, flip_flop_struct, read_struct, memory_struct}
 use Rattle.c_memory.proofs.Each.{undone}
 
 -- a control by its view

@@ -1,5 +1,5 @@
 -- The library's memory that a caller's struct is, and the caller's struct of a library's memory.
-use Rattle.std.specs.Prelude.{map, replicate, eqb, ltb}
+use Rattle.std.specs.Prelude.{map, replicate, eqb}
 use Rattle.lists.specs.Choice.{when◌then◌else◌}
 use Rattle.rules.specs.Limits.{max_ports}
 use Rattle.rules.specs.Value as rules

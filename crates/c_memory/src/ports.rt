@@ -1,9 +1,8 @@
 // A caller's ports as the library's, and back.
 ghost use Rattle.std.specs.Prelude.{◌≡◌, map};
-ghost use Rattle.c_memory.specs.View.{given_write, given_clock, given_reset, given_controls, given_flip_flop, fields_of, given_read, write_struct, no_flip_flop, flip_flop_struct, read_with, read_struct, zero_control, zero_write, zero_read};
+ghost use Rattle.c_memory.specs.View.{given_write, given_clock, given_reset, given_controls, given_flip_flop, fields_of, given_read, write_struct, flip_flop_struct, read_with, read_struct};
 
 use crate::{FlipFlop, ReadPort, WritePort};
-use c_net::Control;
 use net_flip_flop::Controls;
 use net_memory::{MemoryReadPort, MemoryWritePort};
 use net_value::{ControlNet, Net};
@@ -32,6 +31,7 @@ fn clock_of(p: FlipFlop) -> ControlNet
     ControlNet::Neg(Net(0))
 }
 
+// (c_log reads a request's controls, whose clock has no flag; this crate does without requests.)
 #[tactic(auto, using(crate::proofs::Back::by_view), unfolding(crate::specs::View::given_reset))]
 fn controls_of(p: FlipFlop) -> Controls
     ensures { result ≡ given_controls p }
@@ -110,33 +110,11 @@ fn write_struct(p: MemoryWritePort) -> WritePort
     }
 }
 
-pub fn zero_control() -> Control
-    ensures { result ≡ zero_control }
-{
-    Control {
-        polarity: 0,
-        net: 0,
-    }
-}
-
-fn no_flip_flop() -> FlipFlop
-    ensures { result ≡ no_flip_flop }
-{
-    FlipFlop {
-        clocked: 0,
-        clock: zero_control(),
-        clear: zero_control(),
-        reset: zero_control(),
-        enable: zero_control(),
-        reset_over_enable: 0,
-    }
-}
-
 pub fn flip_flop_struct(f: Option<Controls>) -> FlipFlop
     ensures { result ≡ flip_flop_struct f }
 {
     match f {
-        None => no_flip_flop(),
+        None => FlipFlop::default(),
         Some(c) => FlipFlop {
             clocked: 1,
             clock: c_net::control_struct(c.clock),
@@ -190,33 +168,4 @@ pub(crate) fn read_structs(
     ensures { result ≡ map read_struct ports }
 {
     ports.map(read_struct)
-}
-
-// ---- all 0
-
-pub(crate) fn zero_write() -> WritePort
-    ensures { result ≡ zero_write }
-{
-    WritePort {
-        addr_len: 0,
-        data_len: 0,
-        mask_len: 0,
-        clock: zero_control(),
-    }
-}
-
-pub(crate) fn zero_read() -> ReadPort
-    ensures { result ≡ zero_read }
-{
-    let none = MemoryReadPort {
-        addr_len: 0,
-        data_len: 0,
-        clear_len: 0,
-        reset_len: 0,
-        init_len: 0,
-        relations_len: 0,
-        relations: [0u8; rules::MAX_PORTS],
-        flip_flop: None,
-    };
-    read_with(none, no_flip_flop())
 }
