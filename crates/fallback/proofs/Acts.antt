@@ -2,23 +2,22 @@
 use mathlib.Core.Path.{◌≡◌, refl, sym, ap, ◌∙◌, subst}
 use mathlib.Core.Logic.{◌≢◌, ⊎_elim}
 use Prim.Native.Nat.{ℕ, ◌+◌, ◌-◌, ◌*◌, ◌<◌, ◌≤◌}
-use native.Mathlib.Nat.{zero-add, eq-zero-or-pos}
+use native.Mathlib.Nat.{zero-add}
 use native.Mathlib.Omega.{arith}
 use mathlib.Core.Bool.{Bool, true, false, ◌&&◌}
 use mathlib.Core.List.{List, [], ◌∷◌}
-use lib.ListN.{length, take, drop}
+use lib.ListN.{length, take}
 use lib.Seq.{sets}
 use lib.Dec.{leb, ltb}
 use borrow.Author.Tests.{le-ltb, ltb-false, leb-true}
-use Rattle.lists.specs.Choice.{when◌then◌else◌, ◌or_else◌}
+use Rattle.lists.specs.Choice.{when◌then◌else◌}
 use Rattle.lists.specs.Lists.{part}
 use Rattle.lists.proofs.Choice.{else_zero, and_true, refused_not}
 use Rattle.rules.specs.Limits.{max_outputs, max_bits, max_nets, max_words, X}
-use Rattle.rules.specs.Value.{Value, x_nets, good_value}
+use Rattle.rules.specs.Value.{Value, good_value}
 use Rattle.rules.specs.Cell.{Mem, output_len}
-use Rattle.rules.specs.Log.{Entry, encode, Trace, ◌>>=◌, ◌>>◌, done, replace_value_of, request, LogState, start_net, added, state_after, log_after}
+use Rattle.rules.specs.Log.{Entry, encode, Trace, ◌>>=◌, ◌>>◌, done, replace_value_of, request, LogState, start_net, added, state_after}
 use Rattle.rules.specs.Ports.{Driving, unmap_all}
-use Rattle.rules.specs.Swizzle.{swizzle}
 use Rattle.rules.specs.Conditions.{no_room_of}
 use Rattle.rules.specs.Fallback.{fallback_plan, lower_rows, lower_fallback, fallback_scratch}
 use Rattle.rules.specs.Refusals.{room_refusal, log_refusal, lent_refusal, swizzle_refusal, lower_fallback_number, lower_fallback_refusal}
@@ -46,11 +45,11 @@ use Rattle.fallback_masks.specs.Sizes.{rows_words_of, rows_nets}
 use Rattle.fallback_pass.specs.Split.{split_words, split_nets}
 use Rattle.fallback_pass.proofs.Number as pass
 use Rattle.fallback_pass.proofs.Refusal.{bare_refusal}
-use Rattle.fallback_pass.proofs.Unmapped.{ready, given_long, unmapped-memory, unmapped_next, unmapped_long, unmapped_good}
+use Rattle.fallback_pass.proofs.Unmapped.{ready, unmapped_next, unmapped_long, unmapped_good}
 use Rattle.fallback_pass.proofs.Counts.{swizzle_counted}
 use Rattle.fallback.specs.Split.{rooms, Ready, split_lowered}
 use Rattle.fallback.specs.Refusal.{DryRun}
-use Rattle.fallback.proofs.Total.{none_lower, wide_rest, flat_rest, whole_is, rest_at, flat_is, chains_first, chains_whole, whole_refusal}
+use Rattle.fallback.proofs.Total.{none_lower, wide_rest, flat_rest, whole_is, rest_at, flat_is, chains_first, whole_refusal}
 
 -- ---- words that are counted
 one_most : (l : Lent) (ws : List ℕ) (k : ℕ) → l.state.used ≤ max_words → (emit_words l ws k).state.used ≤ max_words

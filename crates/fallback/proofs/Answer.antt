@@ -1,25 +1,26 @@
 -- What a fallback gives and leaves, field by field, is its whole answer in the rules.
 use mathlib.Core.Path.{◌≡◌, refl, sym, ap, ◌∙◌}
 use mathlib.Core.Logic.{◌≢◌, ⊎_elim}
-use Prim.Native.Nat.{ℕ, zero, suc, ◌+◌, ◌<◌, ◌≤◌}
+use Prim.Native.Nat.{ℕ, zero, suc, ◌<◌, ◌≤◌}
 use native.Mathlib.Nat.{eq-zero-or-pos}
 use native.Mathlib.Omega.{arith}
 use mathlib.Core.List.{List}
 use lib.ListN.{length, drop}
-use lib.Dec.{ltb}
 use borrow.Author.Tests.{lt-ltb, le-ltb}
-use Rattle.lists.specs.Choice.{when◌then◌else◌, ◌or_else◌, leaves}
+use Rattle.lists.specs.Choice.{leaves}
 use Rattle.lists.proofs.Choice.{else_first, else_rest, leaves_refused, leaves_accepted}
 use Rattle.rules.specs.Cell.{Mem}
 use Rattle.rules.specs.Log.{Trace, log_after, state_after}
-use Rattle.rules.specs.Log as rules
 use Rattle.rules.specs.Conditions.{no_room_of}
 use Rattle.rules.specs.Fallback.{lower_fallback, fallback_scratch}
 use Rattle.rules.specs.Refusals.{log_refusal, lent_refusal, lower_fallback_number, lower_fallback_refusal}
 use Rattle.rules.specs.Beside.Chain.{Chains}
 use Rattle.rules.specs.Answers.{Answer, Refused, Accepted, answer_of, After, Logged, after, logged, lower_fallback_call}
 use Rattle.rules.specs.Answers as answers
-use Rattle.rules.proofs.Answers.{answer_refused, answer_accepted}
+use Rattle.rules.specs.Refusal.{number as number_by}
+use Rattle.rules.specs.declared.numbers.Refusal.{Refusal}
+use Rattle.std.specs.Prelude.{Err}
+use Rattle.rules.proofs.Answers.{answer_refused, number_nonzero}
 use Rattle.log_entries.specs.declared.LogState.{LogState}
 use Rattle.log_entries.specs.Emission.{Lent, run}
 use Rattle.log_entries.specs.View.{state_of, lent}
@@ -27,9 +28,8 @@ use Rattle.log_entries.proofs.Emission.{accepted_run}
 use Rattle.net_memory.specs.declared.Memory.{Memory}
 use Rattle.net_memory.specs.View.{memory_of}
 use Rattle.net_memory.specs.Given.{given_of}
-use Rattle.fallback_pass.proofs.Number as pass
 use Rattle.fallback.specs.Refusal.{Asked}
-use Rattle.fallback.specs.Answer.{Left, lowered_of, Unchanged, Changed, Lowers}
+use Rattle.fallback.specs.Answer.{Left, left_by, lowered_of, Unchanged, Changed, Lowers}
 use Rattle.fallback.proofs.Total.{wide_rest, flat_rest, chains_whole}
 use Rattle.fallback.proofs.Acts as acts
 
@@ -131,10 +131,18 @@ promises {m = m} {nets = nets} {trits = trits} {output = output} {st = st} {log 
     (whole_answer m nets trits output st log scratch x log' scratch' h, h)
 
 -- refused, with nothing changed
-pub kept : (m : Memory) (nets trits output : List ℕ) (st : LogState) (log scratch : List ℕ) (n : ℕ) → n ≢ 0 → n ≡ lower_fallback_refusal (length scratch) (length log) (state_of st) (given_of m nets trits) output
-    → Lowers m nets trits output st log scratch (record { refusal = n; state = st }) log scratch
-kept m nets trits output st log scratch n h e = record {
-  number = e;
+pub kept : (m : Memory) (nets trits output : List ℕ) (st : LogState) (log scratch : List ℕ) (e : Refusal) → number_by e ≡ lower_fallback_refusal (length scratch) (length log) (state_of st) (given_of m nets trits) output
+    → Lowers m nets trits output st log scratch (left_by st (Err e)) log scratch
+kept m nets trits output st log scratch e h = record {
+  number = h;
   refused = λ r. record { log_is = refl; scratch_is = refl; state_is = refl };
-  accepted = λ z. absurd (h z);
+  accepted = λ z. absurd (number_nonzero e z);
 }
+
+-- by a number of the input, by the log's, and where the scratch is short
+module _ (m : Memory) (nets trits output : List ℕ) (st : LogState) (log scratch : List ℕ) (e : Refusal) where
+  pub kept_input : number_by e ≡ lower_fallback_number st.next (given_of m nets trits) output → Lowers m nets trits output st log scratch (left_by st (Err e)) log scratch
+  kept_input h = kept m nets trits output st log scratch e (whole_number m nets trits output st (length log) (length scratch) _ h (number_nonzero e))
+
+  pub kept_log : Asked m nets trits output st (length scratch) → number_by e ≡ log_refusal (length log) (state_of st) (lower_fallback (memory_of m nets trits) output) → Lowers m nets trits output st log scratch (left_by st (Err e)) log scratch
+  kept_log a h = kept m nets trits output st log scratch e (whole-log m nets trits output st (length log) (length scratch) a.number a.room _ h)

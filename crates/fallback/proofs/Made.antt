@@ -1,22 +1,22 @@
 -- The registers of a struct, and the struct that the split leaves.
 use mathlib.Core.Path.{◌≡◌, refl, sym, ap, ◌∙◌, subst}
 use mathlib.Core.Logic.{◌≢◌, ⊎_elim}
-use Prim.Native.Nat.{ℕ, ◌+◌, ◌-◌, ◌*◌, ◌<◌, ◌≤◌, min}
+use Prim.Native.Nat.{ℕ, ◌-◌, ◌*◌, ◌<◌, ◌≤◌}
 use native.Mathlib.Nat.{eq-zero-or-pos, mul-pos}
 use native.Mathlib.Omega.{arith}
 use mathlib.Core.Bool.{Bool, true, false, not, ◌||◌}
-use mathlib.Core.List.{List, [], ◌∷◌, map}
+use mathlib.Core.List.{List, [], map}
 use lib.ListN.{length, take, drop, length-map, length-take}
 use lib.Dec.{eqb, ltb}
 use borrow.Author.Tests.{eqb-true, not-false}
 use Rattle.lists.specs.Choice.{when◌then◌else◌}
-use Rattle.lists.specs.Lists.{part, sum_by, up_from}
+use Rattle.lists.specs.Lists.{part, up_from}
 use Rattle.lists.proofs.Choice.{or_false}
 use Rattle.lists.proofs.Store.{drop_sets}
 use Rattle.lists.proofs.UpFrom.{length_up}
 use Rattle.rules.specs.Limits.{max_ports, max_row, max_unit, max_columns, max_nets}
-use Rattle.rules.specs.Value.{Value, good_value}
-use Rattle.rules.specs.Cell.{WritePort, ReadPort, Mem, Plan, output_len}
+use Rattle.rules.specs.Value.{Value}
+use Rattle.rules.specs.Cell.{Mem, Plan}
 use Rattle.rules.specs.Log.{Trace, ◌>>=◌, done, start_net, added}
 use Rattle.rules.specs.Ports.{Driving}
 use Rattle.rules.specs.Conditions.{bad_shape}
@@ -32,7 +32,7 @@ use Rattle.log_entries.specs.View.{state_of, lent}
 use Rattle.log_entries.proofs.Emission.{run_then}
 use Rattle.log_entries.proofs.Rooms.{Fits, room_fits}
 use Rattle.net_memory.specs.declared.Memory.{Memory}
-use Rattle.net_memory.specs.View.{memory_of, read_ports_of, trit_size, trits_total}
+use Rattle.net_memory.specs.View.{memory_of, trits_total}
 use Rattle.net_memory.specs.Given.{given_of}
 use Rattle.net_check.proofs.Accept.{exact}
 use Rattle.swizzle_facts.proofs.Counting.{reads_readable}
@@ -40,13 +40,12 @@ use Rattle.swizzle_laws.proofs.ReadsCounts.{Readables}
 use Rattle.swizzle_result.specs.declared.WideMemory.{WideMemory}
 use Rattle.swizzle_result.specs.View.{result_of, results_of}
 use Rattle.swizzle_call.specs.Told.{Told}
-use Rattle.swizzle_call.specs.Acted.{PortsHeld}
 use Rattle.swizzle_call.proofs.Logs.{log_0}
 use Rattle.fallback_bare.specs.Bare.{bare_of}
 use Rattle.fallback_counts.specs.Counts.{AllRows}
 use Rattle.fallback_plan.proofs.Numbers as plan
 use Rattle.fallback_rows.specs.Rows.{rows_of, lowered}
-use Rattle.fallback_rows.proofs.Whole.{Flat, lowered_is}
+use Rattle.fallback_rows.proofs.Whole.{lowered_is}
 use Rattle.fallback_flat.proofs.Ports.{no_wides, AllFresh, writes_new, reads_fresh}
 use Rattle.fallback_flat.proofs.Structs.{flat}
 use Rattle.fallback_masks.proofs.Rows.{all_rows, shallow_none}

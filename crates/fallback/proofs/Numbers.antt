@@ -1,26 +1,20 @@
 -- The numbers of a fallback as the code tries them, and the words and nets that are left for the split.
-use mathlib.Core.Path.{◌≡◌, refl, sym, ap, ◌∙◌, subst}
+use mathlib.Core.Path.{◌≡◌, refl, sym, ap, ◌∙◌}
 use mathlib.Core.Logic.{◌≢◌, ⊎_elim}
 use Prim.Native.Nat.{ℕ, ◌+◌, ◌-◌, ◌*◌, ◌<◌, ◌≤◌, min}
 use native.Mathlib.Nat.{eq-zero-or-pos, mul-le-mul}
 use native.Mathlib.Omega.{arith}
-use mathlib.Core.Bool.{Bool, true, false, not}
+use mathlib.Core.Bool.{true, false}
 use mathlib.Core.List.{List}
 use lib.ListN.{length}
-use lib.Dec.{eqb}
 use borrow.Author.Tests.{eq-eqb}
-use Rattle.lists.specs.Choice.{when◌then◌else◌, ◌or_else◌}
-use Rattle.lists.proofs.Choice.{else_first, else_rest, hit, miss}
 use Rattle.rules.specs.Limits.{max_bits, max_nets, max_ports, max_row, max_words}
-use Rattle.rules.specs.Value.{Value}
-use Rattle.rules.specs.Cell.{Mem, Given}
-use Rattle.rules.specs.Conditions.{write_clocks_differ, short_ports}
-use Rattle.rules.specs.Fallback.{can_lower_fallback, lower_fallback, fallback_plan, fallback_scratch}
+use Rattle.rules.specs.Cell.{Mem}
+use Rattle.rules.specs.Fallback.{lower_fallback, fallback_plan, fallback_scratch}
 use Rattle.rules.specs.Log.{LogState, start_net, added}
 use Rattle.rules.specs.Ports.{unmap_all}
-use Rattle.rules.specs.Refusals as rules
-use Rattle.rules.specs.Refusals.{room_refusal, log_refusal, driving_number, swizzle_refusal, lower_fallback_number}
-use Rattle.rules.proofs.Counted.{Counted, counted_refusal}
+use Rattle.rules.specs.Refusals.{room_refusal, log_refusal, swizzle_refusal}
+use Rattle.rules.proofs.Counted.{counted_refusal}
 use Rattle.rules.proofs.Walks.{lt_or_le}
 use Rattle.log_entries.specs.declared.LogState as machine
 use Rattle.log_entries.specs.Emission.{is_over, dry_start}

@@ -1,15 +1,11 @@
 -- The split's arguments are the plan of a fallback, and what the swizzle leaves of them.
 use mathlib.Core.Path.{◌≡◌, refl, sym, ap, ◌∙◌, subst}
-use Prim.Native.Nat.{ℕ, ◌-◌, ◌≤◌, min}
+use Prim.Native.Nat.{ℕ}
 use native.Mathlib.Omega.{arith}
 use mathlib.Core.List.{List, [], ◌∷◌}
-use lib.ListN.{length, take, replicate, length-take}
-use lib.Seq.{sets, length-sets}
-use Rattle.lists.specs.Lists.{part, up_from}
-use Rattle.lists.proofs.UpFrom.{length_up}
-use Rattle.lists.proofs.Stores.{take_stored}
-use Rattle.lists.proofs.Parts.{part_replicate}
-use Rattle.rules.specs.Limits.{max_bits, max_ports, max_row}
+use lib.ListN.{length, take, length-take}
+use lib.Seq.{length-sets}
+use Rattle.rules.specs.Limits.{max_bits}
 use Rattle.rules.specs.Cell.{Mem, Plan}
 use Rattle.rules.specs.Geometry.{layout_of}
 use Rattle.rules.specs.Image.{image_size}
@@ -26,7 +22,7 @@ use Rattle.swizzle_plan.specs.Calls.{plan_of}
 use Rattle.swizzle_result.specs.View.{results_of}
 use Rattle.swizzle_call.specs.Told.{Told}
 use Rattle.swizzle_call.specs.Whole.{Changed, Swizzles}
-use Rattle.fallback.specs.Split.{rooms, Passes, SplitDone}
+use Rattle.fallback.specs.Split.{Passes, SplitDone}
 
 -- ---- what the swizzle leaves
 none_left : (l : List ℕ) → length l ≡ 0 → l ≡ []

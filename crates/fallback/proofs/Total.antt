@@ -1,11 +1,10 @@
 -- The words and nets of a whole fallback: those of the unmappings where they start, and the counts of the rest.
 use mathlib.Core.Path.{◌≡◌, refl, sym, ap, ◌∙◌, subst}
 use mathlib.Core.Logic.{◌≢◌}
-use Prim.Native.Nat.{ℕ, ◌+◌, ◌-◌, ◌<◌, ◌≤◌}
+use Prim.Native.Nat.{ℕ, ◌+◌, ◌-◌}
 use native.Mathlib.Omega.{arith}
-use mathlib.Core.List.{List, [], ◌∷◌}
+use mathlib.Core.List.{List, []}
 use lib.ListN.{length}
-use Rattle.rules.specs.Limits.{X}
 use Rattle.rules.specs.Value.{Value}
 use Rattle.rules.specs.Cell.{Mem, output_len}
 use Rattle.rules.specs.Log.{Entry, Trace, ◌>>=◌, done, start_net, added, LogState}
@@ -20,7 +19,7 @@ use Rattle.rules.proofs.Traces.{bind_words, bind_next, log_refusal_at}
 use Rattle.net_memory.specs.declared.Memory.{Memory}
 use Rattle.net_memory.specs.View.{memory_of}
 use Rattle.net_memory.specs.Given.{given_of}
-use Rattle.port_unmap_all.specs.All.{all_bare, unmapped_all}
+use Rattle.port_unmap_all.specs.All.{unmapped_all}
 use Rattle.port_unmap_all.proofs.Walk.{chains_unmapped}
 use Rattle.port_unmap_all.proofs.Rules.{rules_like}
 use Rattle.swizzle_laws.proofs.Pairs.{counted_bind}

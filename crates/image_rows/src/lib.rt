@@ -156,12 +156,11 @@ impl Cursor {
 fn plain_entries(entries: &[u32]) -> usize
     ensures { Plain entries.now result }
 {
-    for (i, entry) in entries.iter().enumerate() {
-        if *entry as usize != i {
-            return i;
-        }
-    }
-    entries.len()
+    let first = entries
+        .iter()
+        .enumerate()
+        .position(|(i, entry)| *entry as usize != i);
+    first.unwrap_or(entries.len())
 }
 
 // Writes the trits of the entries from number `from` to below `to` to the places from `at` on, one by one.
@@ -169,8 +168,8 @@ fn put_each(image: &mut [u8], at: u64, entries: &[u32], from: usize, to: usize, 
     requires { RunOf at from to entries.now }
     ensures { PutRun at entries.now from to trits.now image.old image.new }
 {
-    for i in from..to {
-        entry::put_trit(image, at + (i - from) as u64, trits, entries[i]);
+    for (i, entry) in entries[from..to].iter().enumerate() {
+        entry::put_trit(image, at + i as u64, trits, *entry);
     }
 }
 
@@ -187,6 +186,17 @@ fn take_entries(room: &mut [u8], first: Cursor, g: Steps, entries: &[u32], image
 }
 
 impl<'a> Rows<'a> {
+    fn of(layout: Layout<'a>, s: Shape, plain: usize) -> Rows<'a>
+        requires { (s.full_depth ≤ 1048576) × (s.part_depth ≤ 1048576) × ReadyRows layout (steps_by s layout.params.unit) plain }
+        ensures { result.layout ≡ layout.entry }
+    {
+        Rows {
+            layout,
+            steps: Steps::of(s, layout.params.unit),
+            plain,
+        }
+    }
+
     // The cursor at entry number `entry` of a row: the one division of a row's places.
     fn cursor_at(self, line: Line, entry: usize) -> Cursor
         requires number_lt_depth { (line.number < self.layout.params.depth) × (entry ≤ length self.layout.entries.now) × OnSpot self.layout.params line }
@@ -296,15 +306,9 @@ pub fn patch_row(
     ensures { filled_with (number_of result) image.new ≡ patch_call (handed_on (layout_of layout.entry)) (record { row = row; trits = trits.now; room = length image.old }) image.old }
 {
     let p = layout.params;
-    let Some(s) = check_layout(layout) else {
-        return Err(Refusal::NotLaidOut);
-    };
+    let s = check_layout(layout).ok_or(Refusal::NotLaidOut)?;
     check_patch(image.len(), p, s.image_size, row, trits)?;
-    let rows = Rows {
-        layout,
-        steps: Steps::of(s, p.unit),
-        plain: 0,
-    };
+    let rows = Rows::of(layout, s, 0);
     rows.write_row(image, Line::at(p, row), trits);
     Ok(())
 }
@@ -330,9 +334,7 @@ fn check_fill(room: usize, p: Params, size: u64, rows: &[u8]) -> Result<(), Refu
 pub fn check_rows(room: usize, layout: Layout<'_>, rows: &[u8]) -> Result<(), Refusal>
     ensures { number_of result ≡ fill_refusal (handed_on (layout_of layout.entry)) room rows.now }
 {
-    let Some(s) = check_layout(layout) else {
-        return Err(Refusal::NotLaidOut);
-    };
+    let s = check_layout(layout).ok_or(Refusal::NotLaidOut)?;
     check_fill(room, layout.params, s.image_size, rows)
 }
 
@@ -340,17 +342,10 @@ pub fn check_rows(room: usize, layout: Layout<'_>, rows: &[u8]) -> Result<(), Re
 pub fn fill_rows(image: &mut [u8], layout: Layout<'_>, rows: &[u8]) -> Result<(), Refusal>
     ensures { filled_with (number_of result) image.new ≡ fill_call (handed_on (layout_of layout.entry)) rows.now image.old }
 {
-    let p = layout.params;
-    let Some(s) = check_layout(layout) else {
-        return Err(Refusal::NotLaidOut);
-    };
-    check_fill(image.len(), p, s.image_size, rows)?;
+    let s = check_layout(layout).ok_or(Refusal::NotLaidOut)?;
+    check_fill(image.len(), layout.params, s.image_size, rows)?;
     lists::fill(image, 0, s.image_size as usize, rules::TRIT_X);
-    let lines = Rows {
-        layout,
-        steps: Steps::of(s, p.unit),
-        plain: plain_entries(layout.entries),
-    };
+    let lines = Rows::of(layout, s, plain_entries(layout.entries));
     lines.write_rows(image, rows);
     Ok(())
 }
@@ -374,15 +369,9 @@ pub fn read_row(room: &mut [u8], layout: Layout<'_>, image: &[u8], row: u32) -> 
     ensures { filled_with (number_of result) room.new ≡ read_row_call (handed_on (layout_of layout.entry)) room.old image.now row }
 {
     let p = layout.params;
-    let Some(s) = check_layout(layout) else {
-        return Err(Refusal::NotLaidOut);
-    };
+    let s = check_layout(layout).ok_or(Refusal::NotLaidOut)?;
     check_read(room.len(), p, s.image_size, image.len(), row)?;
-    let rows = Rows {
-        layout,
-        steps: Steps::of(s, p.unit),
-        plain: 0,
-    };
+    let rows = Rows::of(layout, s, 0);
     rows.take_row(room, row, image);
     Ok(())
 }
@@ -397,11 +386,7 @@ pub fn place_of(layout: Layout<'_>, row: u32, entry: usize) -> Result<Place, Ref
         return Err(Refusal::OutOfRange);
     }
     let line = Line::at(p, row);
-    let rows = Rows {
-        layout,
-        steps: Steps::of(s, p.unit),
-        plain: 0,
-    };
+    let rows = Rows::of(layout, s, 0);
     let c = rows.cursor_at(line, entry);
     Ok(Place {
         memory: c.memory,

@@ -6,7 +6,7 @@ ghost use Rattle.std.proofs.lemmas.List.Edits.{sets};
 ghost use Rattle.lists.specs.Lists.{part};
 ghost use Rattle.rules.specs.Limits.{head_bytes};
 ghost use Rattle.rules.specs.Record.{size_trits, record_image, word16, array_bytes, record_head, encode_record, head_sizes, record_bytes, bits_of};
-ghost use Rattle.rules.specs.Conditions.{bad_head, bad_bits};
+ghost use Rattle.rules.specs.Conditions.{bad_head, bad_sizes, bad_bits};
 ghost use Rattle.rules.specs.Refusal.{number_of};
 ghost use Rattle.rules.specs.Refusals.{record_number, read_record_refusal, write_record_refusal, header_refusal};
 ghost use Rattle.rules.specs.Answers.{answer_of, write_record_call, read_record_call, header_call};
@@ -27,7 +27,14 @@ fn bytes_for(trits: u64) -> u64
     requires { trits ≤ many_trits }
     ensures { result ≡ head_bytes + 2 * array_bytes trits }
 {
-    (rules::HEAD_BYTES as u64) + 2 * ((trits + 7) / 8)
+    (rules::HEAD_BYTES as u64) + 2 * trits.div_ceil(8)
+}
+
+// The bytes of the record of these sizes.
+pub fn record_bytes(sizes: Sizes) -> usize
+    ensures { bad_sizes (view_sizes sizes) ≡ false → result ≡ record_bytes (view_sizes sizes) }
+{
+    bytes_for(sizes.trits_within(rules::MAX_IMAGE)) as usize
 }
 
 // The first bytes of a record, or all, with the six words of their head.
@@ -135,7 +142,7 @@ fn check_write(room: usize, sizes: Sizes, image: &[u8]) -> Result<(), Refusal>
     if (image.len() as u64) < count {
         return Err(Refusal::NoRoom);
     }
-    if (room as u64) < bytes_for(count) {
+    if room < record_bytes(sizes) {
         return Err(Refusal::NoRoom);
     }
     Ok(())
@@ -143,16 +150,15 @@ fn check_write(room: usize, sizes: Sizes, image: &[u8]) -> Result<(), Refusal>
 
 // Stores a word.
 fn put_word(out: &mut [u8], at: usize, w: u32)
-    requires { (w < 65536) × (at + 1 < length out.old) }
+    requires { w < 65536 }
     ensures { out.new ≡ sets out.old at (word16 w) }
 {
-    out[at] = (w % 256) as u8;
-    out[at + 1] = (w / 256) as u8;
+    lists::copy(out, at, &(w as u16).to_le_bytes());
 }
 
 // Stores the six words.
 fn put_head(out: &mut [u8], sizes: Sizes)
-    requires { Words sizes × (head_bytes ≤ length out.old) }
+    requires { Words sizes }
     ensures { out.new ≡ sets out.old 0 (record_head (view_sizes sizes)) }
 {
     put_word(out, 0, u32::from(rules::RECORD_MARK));
@@ -169,9 +175,8 @@ fn put_record(out: &mut [u8], sizes: Sizes, image: &[u8]) -> usize
     ensures { (result ≡ record_bytes (view_sizes sizes)) × (out.new ≡ sets out.old 0 (encode_record (view_sizes sizes) (record_image (view_sizes sizes) image.now))) }
 {
     put_head(out, sizes);
-    let ts = sizes.image_of(image);
-    record_bits::put_arrays(out, rules::HEAD_BYTES, ts);
-    bytes_for(ts.len() as u64) as usize
+    record_bits::put_arrays(out, rules::HEAD_BYTES, sizes.image_of(image));
+    record_bytes(sizes)
 }
 
 // Writes the record of an image, and gives its bytes; the rest of the room is kept.
@@ -189,10 +194,10 @@ fn bad_arrays(count: usize, ks: &[u8], vs: &[u8]) -> bool
     requires { (length ks.now ≡ length vs.now) × (length ks.now ≤ many_bytes) }
     ensures { result ≡ bad_by count (bits_of ks.now) (bits_of vs.now) }
 {
-    for j in 0..ks.len() {
+    for (j, (known, value)) in ks.iter().zip(vs).enumerate() {
         let group = Group {
-            known: ks[j],
-            value: vs[j],
+            known: *known,
+            value: *value,
         };
         if group.is_bad(count.saturating_sub(8 * j)) {
             return true;
@@ -205,7 +210,7 @@ fn bad_arrays(count: usize, ks: &[u8], vs: &[u8]) -> bool
 fn middle_of(bytes: &[u8]) -> usize
     ensures { (result ≡ head_bytes + array_bytes (size_trits (head_sizes bytes.now))) × (result < many_trits) }
 {
-    rules::HEAD_BYTES + (record_reader::head_trits(bytes) as usize + 7) / 8
+    rules::HEAD_BYTES + (record_reader::head_trits(bytes) as usize).div_ceil(8)
 }
 
 // The bytes of a record's known bits, and those of its value bits; of other bytes, what stands there.
@@ -229,7 +234,7 @@ fn bad_bits(bytes: &[u8], count: usize) -> bool
     requires { (bad_head bytes.now (length bytes.now) ≡ false) × (count ≡ size_trits (head_sizes bytes.now)) × (count ≤ many_trits) }
     ensures { result ≡ bad_bits bytes.now }
 {
-    let middle = rules::HEAD_BYTES + (count + 7) / 8;
+    let middle = rules::HEAD_BYTES + count.div_ceil(8);
     bad_arrays(count, &bytes[rules::HEAD_BYTES..middle], &bytes[middle..])
 }
 

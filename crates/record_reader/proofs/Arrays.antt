@@ -2,12 +2,11 @@
 use mathlib.Core.Path.{◌≡◌, refl, sym, ap, ◌∙◌}
 use mathlib.Core.Bool.{Bool, true, false}
 use Prim.Native.Nat.{ℕ, zero, suc, ◌+◌, ◌-◌, ◌*◌, ◌/◌, ◌%◌, ◌<◌, ◌≤◌}
-use native.Mathlib.Numerals.{add-one}
 use native.Mathlib.Omega.{arith}
 use mathlib.Core.List.{List, [], ◌∷◌, ◌++◌, map, append-nil}
 use lib.Dec.{eqb, leb}
-use lib.ListN.{length, take, drop, get_or, length-take, length-drop, length-map, drop_of_length-le}
-use lib.Seq.{sets, drop-cons, drop-drop, length-take-le, take_all, take-nil, drop-nil}
+use lib.ListN.{length, take, drop, length-take, length-drop, length-map, drop_of_length-le}
+use lib.Seq.{sets, drop-drop, length-take-le, take_all, take-nil, drop-nil}
 use borrow.Author.Tests.{le-leb, eq-eqb, eqb-true, leb-true}
 use Rattle.lists.specs.Lists.{pairs}
 use Rattle.lists.proofs.Choice.{and_true, cases_le}
@@ -23,13 +22,6 @@ use Rattle.record_bits.specs.Groups.{trits_by, group_trits}
 use Rattle.record_bits.proofs.Arrays.{trits_byte}
 use Rattle.record_reader.specs.Reading.{reader_at, image_of, many_trits, has_trits, trits_there, place_after_trits}
 
-module _ (t j : ℕ) (ks vs : List ℕ) (h : j < length ks) (e : length ks ≡ length vs) where
-  next : (l : List ℕ) → j < length l → drop j l ≡ get_or l j 0 ∷ drop (j + 1) l
-  next l g = rw (add-one, drop-cons l j 0 g)
-
-  pub trits-step : trits_by t (bits_of (drop j ks)) (bits_of (drop j vs)) ≡ group_trits t (get_or ks j 0) (get_or vs j 0) ++ trits_by (t - 8) (bits_of (drop (j + 1) ks)) (bits_of (drop (j + 1) vs))
-  trits-step = rw (next ks h, next vs (omega arith)) (trits_byte t (get_or ks j 0) (get_or vs j 0) (drop (j + 1) ks) (drop (j + 1) vs))
-
 -- ---- the trits of a byte each, stored eight places apart
 length_group : (t k v : ℕ) → 8 ≤ t → length (group_trits t k v) ≡ 8
 unfolding group_trits
@@ -44,9 +36,23 @@ put_next l t j k v ks vs =
     (λ h. sets_at l (8 * j) (8 * (j + 1)) (group_trits t k v) (trits_by (t - 8) ks vs) (omega (arith, length_group t k v h)))
     (λ h. let z : t - 8 ≡ 0 = omega arith in rw (z, append-nil (group_trits t k v)))
 
-pub trits_none : (t j : ℕ) (ks vs : List ℕ) → length ks ≤ j → trits_by t (bits_of (drop j ks)) (bits_of (drop j vs)) ≡ []
+-- the trits of what is left of two arrays, to be stored from byte j on
+abbrev pub left : (image : List ℕ) (count j : ℕ) (ks vs : List ℕ) → List ℕ
+left image count j ks vs = sets image (8 * j) (trits_by (count - 8 * j) (bits_of ks) (bits_of vs))
+
+pub left_start : (image : List ℕ) (count j : ℕ) (ks vs ks' vs' : List ℕ) → j ≡ 0 → ks' ≡ ks → vs' ≡ vs → left image count j ks' vs' ≡ sets image 0 (trits_by count (bits_of ks) (bits_of vs))
+left_start image count j ks vs ks' vs' e p q = let z : count - 0 ≡ count = omega arith in rw (e, p, q, z)
+
+pub left_turn : (image image' : List ℕ) (count j n k v : ℕ) (ks vs ks' vs' : List ℕ) → n ≡ count - 8 * j → ks ≡ k ∷ ks' → vs ≡ v ∷ vs' → image' ≡ sets image (8 * j) (group_trits n k v)
+    → left image' count (j + 1) ks' vs' ≡ left image count j ks vs
+left_turn image image' count j n k v ks vs ks' vs' b p q e =
+    let u : count - 8 * (j + 1) ≡ count - 8 * j - 8 = omega arith in
+    rw (e, b, p, q, u, trits_byte (count - 8 * j) k v ks' vs') (put_next image (count - 8 * j) j k v (bits_of ks') (bits_of vs'))
+
+pub left_none : (image : List ℕ) (count j : ℕ) (ks vs : List ℕ) → length ks ≡ 0 → image ≡ left image count j ks vs
 unfolding bits_of
-trits_none t j ks vs h = rw (drop_of_length-le ks h, take-nil {A = ℕ × ℕ} t)
+left_none image count j [] vs h = rw (take-nil {A = ℕ × ℕ} (count - 8 * j))
+left_none image count j (k ∷ ks) vs h = absurd (omega arith)
 
 -- ---- what is left of the arrays from a byte on
 pairs_none : (a : List ℕ) → pairs {A = ℕ} {B = ℕ} a [] ≡ []

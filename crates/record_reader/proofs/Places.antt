@@ -53,26 +53,25 @@ module _ (bytes : List ℕ) where
     trit_at_lem = rw (known_at, value_at)
 
 -- ---- what the code answers, with its own count of trits
-module _ (bytes : List ℕ) (i count : ℕ) (e : count ≡ size_trits (head_sizes bytes)) where
-  place : 12 + (count + 7) / 8 + i / 8 ≡ 12 + array_bytes (size_trits (head_sizes bytes)) + i / 8
-  unfolding array_bytes ceil_div
-  place = ap (λ (x : ℕ). 12 + (x + 7) / 8 + i / 8) e
+module _ (bytes : List ℕ) (i count n : ℕ) (e : count ≡ size_trits (head_sizes bytes)) (b : n ≡ array_bytes count) where
+  place : 12 + n + i / 8 ≡ 12 + array_bytes (size_trits (head_sizes bytes)) + i / 8
+  place = ap (λ (x : ℕ). 12 + x + i / 8) (b ∙ ap array_bytes e)
 
   pub past_trits : count ≤ i → None ≡ trit_numbered bytes i
   unfolding trit_numbered
   past_trits h = rw (le-ltb i (size_trits (head_sizes bytes)) (omega arith))
 
-  pub past_bytes : length bytes ≤ 12 + (count + 7) / 8 + i / 8 → i < count → None ≡ trit_numbered bytes i
+  pub past_bytes : length bytes ≤ 12 + n + i / 8 → i < count → None ≡ trit_numbered bytes i
   unfolding trit_numbered
   past_bytes h g =
       rw (lt-ltb i (size_trits (head_sizes bytes)) (omega arith), le-ltb (12 + array_bytes (size_trits (head_sizes bytes)) + i / 8) (length bytes) (omega (arith, place)))
 
-  module _ (g : i < count) (h : 12 + (count + 7) / 8 + i / 8 < length bytes) where
+  module _ (g : i < count) (h : 12 + n + i / 8 < length bytes) where
     pub there : trit_numbered bytes i ≡ Some (trit_at_of bytes i)
     unfolding trit_numbered
     there = rw (lt-ltb i (size_trits (head_sizes bytes)) (omega arith), lt-ltb (12 + array_bytes (size_trits (head_sizes bytes)) + i / 8) (length bytes) (omega (arith, place)))
 
-    pub taken : (k v t : ℕ) → k ≡ get_or (from_uint 8 (get_or bytes (12 + i / 8) 0)) (i % 8) 0 → v ≡ get_or (from_uint 8 (get_or bytes (12 + (count + 7) / 8 + i / 8) 0)) (i % 8) 0
+    pub taken : (k v t : ℕ) → k ≡ get_or (from_uint 8 (get_or bytes (12 + i / 8) 0)) (i % 8) 0 → v ≡ get_or (from_uint 8 (get_or bytes (12 + n + i / 8) 0)) (i % 8) 0
         → t ≡ trit_by k v → Some t ≡ trit_numbered bytes i
     taken k v t p q r =
         let u : v ≡ get_or (from_uint 8 (get_or bytes (12 + array_bytes (size_trits (head_sizes bytes)) + i / 8) 0)) (i % 8) 0 = q ∙ ap (λ (x : ℕ). get_or (from_uint 8 (get_or bytes x 0)) (i % 8) 0) place in
@@ -100,12 +99,12 @@ module _ (bytes : List ℕ) (e : bad_head bytes (length bytes) ≡ false) where
       get_or-map f (take (size_trits (head_sizes bytes)) ps) i (0, 0)
       ∙ ap f (get_or-take (size_trits (head_sizes bytes)) ps i (0, 0) h ∙ get_d_pairs (known_bits bytes) (value_bits bytes) i 0 same_length)
 
-  near : (i : ℕ) → i < size_trits (head_sizes bytes) → 12 + (size_trits (head_sizes bytes) + 7) / 8 + i / 8 < length bytes
+  near : (i : ℕ) → i < size_trits (head_sizes bytes) → 12 + array_bytes (size_trits (head_sizes bytes)) + i / 8 < length bytes
   unfolding array_bytes ceil_div
   near i h = omega (arith, whole)
 
   pub read_at : (i : ℕ) → i < size_trits (head_sizes bytes) → trit_numbered bytes i ≡ Some (get_or (decode_image bytes) i trit_x)
-  read_at i h = there bytes i (size_trits (head_sizes bytes)) refl h (near i h) ∙ ap Some (sym (decoded_at i h))
+  read_at i h = there bytes i (size_trits (head_sizes bytes)) _ refl refl h (near i h) ∙ ap Some (sym (decoded_at i h))
 
 -- ---- the place after a trit, by what was found
 code_not_end : (t : ℕ) → Some t ≡ None → ⊥

@@ -16,17 +16,6 @@ const MANY: u64 = 1125899906842624;
 
 // ---- words
 
-// The byte at a place, 0 where there is none.
-fn byte_at(bytes: &[u8], at: usize) -> u16
-    ensures { result ≡ get_or bytes.now at 0 }
-{
-    if at < bytes.len() {
-        u16::from(bytes[at])
-    } else {
-        0
-    }
-}
-
 // Both bytes of the word at a place are there.
 fn has_word(bytes: &[u8], at: usize) -> bool
     ensures { result ≡ has_word bytes.now at }
@@ -40,7 +29,7 @@ fn word_there(bytes: &[u8], at: usize) -> Option<u16>
     ensures { result ≡ word_there bytes.now at }
 {
     if has_word(bytes, at) {
-        Some(u16::from(bytes[at]) + 256 * u16::from(bytes[at + 1]))
+        Some(u16::from_le_bytes([bytes[at], bytes[at + 1]]))
     } else {
         None
     }
@@ -60,7 +49,7 @@ fn word_at(bytes: &[u8], at: usize) -> u16
 {
     match word_there(bytes, at) {
         Some(word) => word,
-        None => byte_at(bytes, at),
+        None => u16::from(bytes.get(at).copied().unwrap_or(0)),
     }
 }
 
@@ -144,7 +133,7 @@ pub fn trit_numbered(bytes: &[u8], at: usize) -> Option<u8>
         return None;
     }
     let known = rules::HEAD_BYTES + at / 8;
-    let value = rules::HEAD_BYTES + (count + 7) / 8 + at / 8;
+    let value = rules::HEAD_BYTES + array_bytes(count) + at / 8;
     if bytes.len() <= value {
         return None;
     }
@@ -199,7 +188,7 @@ impl FirstTrits {
 fn array_bytes(count: usize) -> usize
     ensures { (result ≡ array_bytes count) × (result ≤ many_bytes) }
 {
-    count / 8 + (count % 8 + 7) / 8
+    count.div_ceil(8)
 }
 
 // A byte of trits starts at the place, and the record is as long as so many trits take.
@@ -217,10 +206,10 @@ fn put_groups(image: &mut [u8], count: usize, ks: &[u8], vs: &[u8])
     requires { (length ks.now ≡ length vs.now) × (length ks.now ≤ many_bytes) }
     ensures { image.new ≡ sets image.old 0 (trits_by count (bits_of ks.now) (bits_of vs.now)) }
 {
-    for j in 0..ks.len() {
+    for (j, (known, value)) in ks.iter().zip(vs).enumerate() {
         let group = Group {
-            known: ks[j],
-            value: vs[j],
+            known: *known,
+            value: *value,
         };
         group.spread(image, 8 * j, count.saturating_sub(8 * j));
     }

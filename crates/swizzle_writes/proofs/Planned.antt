@@ -1,6 +1,6 @@
 -- A write port of a plan whose number is 0: what the machine leaves is what the rules give.
 use mathlib.Core.Path.{◌≡◌, refl, sym, ap, ◌∙◌, subst}
-use Prim.Native.Nat.{ℕ, zero, suc, ◌+◌, ◌-◌, ◌*◌, ◌^◌, ◌<◌, ◌≤◌, min}
+use Prim.Native.Nat.{ℕ, ◌+◌, ◌-◌, ◌*◌, ◌^◌, ◌<◌, ◌≤◌, min}
 use native.Mathlib.Nat.{mul_left_comm, mul-pos}
 use native.Mathlib.Omega.{arith}
 use Rattle.std.proofs.lemmas.Nat.{pow_pos}

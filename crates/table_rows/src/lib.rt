@@ -59,9 +59,7 @@ fn check_room(room: usize, p: Params, size: u64, len: usize) -> Result<(), Refus
 pub fn read_rows(room: &mut [u8], layout: Layout<'_>, image: &[u8]) -> Result<(), Refusal>
     ensures { filled_with (number_of result) room.new ≡ read_rows_call (handed_on (layout_of layout.entry)) room.old image.now }
 {
-    let Some(s) = image_check::check_layout(layout) else {
-        return Err(Refusal::NotLaidOut);
-    };
+    let s = image_check::check_layout(layout).ok_or(Refusal::NotLaidOut)?;
     check_room(room.len(), layout.params, s.image_size, image.len())?;
     put_all(room, layout, image);
     Ok(())

@@ -4,7 +4,9 @@
 
 use log_entries::LogState;
 use net_memory::{Given, Memory};
+use rules::Refusal;
 use std::{fmt, io};
+use swizzle_call::Swizzled;
 use swizzle_plan::{MemorySwizzle, Plan};
 use try_kit::samples;
 
@@ -29,23 +31,38 @@ fn memory() -> Memory {
     samples::memory(8, 2, 16, 1, w, 1, r)
 }
 
+// The number of a swizzle; where it is 0 also what it gives, and the arrays that it was lent.
+fn print_answer(
+    rt: &impl Print,
+    answer: Result<Swizzled, Refusal>,
+    log: &[u32],
+    nets: &[u32],
+    trits: &[u8],
+    image: &[u8],
+) -> io::Result<()> {
+    let x = match answer {
+        Ok(x) => x,
+        Err(refusal) => return line(rt, &[refusal.number()]),
+    };
+    let made = x.made;
+    let state = made.state;
+    let g = made.memory;
+    line(rt, &[0u32])?;
+    println!(rt; "{} {} ", state.used, state.next)?;
+    line(rt, lists::part(log, 0, state.used))?;
+    line(rt, &[g.mems, g.full, g.full_depth, g.part_depth, g.unit])?;
+    line(rt, lists::part(nets, 0, made.nets_at))?;
+    line(rt, lists::part(trits, 0, made.trits_at))?;
+    line(rt, lists::part(image, 0, 64))
+}
+
 fn main(rt: HostRuntime) -> io::Result<()> {
-    let nets = [10u32, 11, 12, 13, 14, 15, 15, 17, 18, 19];
-    let trits = [
-        0u8, 1, 1, 0, 2, 1, 0, 0, 1, 1, 0, 2, 1, 0, 1, 1, 0, 1, 1, 2, 2, 0,
-    ];
-    let output = [21u32, 22];
-    let entries = [0u32, 4294967295, 1];
-    let logs = [0u32];
-    let mut log = [0u32; 2000];
-    let mut image = [9u8; 200];
-    let mut nets_to = [7u32; 400];
-    let mut trits_to = [9u8; 400];
-    let mut scratch = [0u32; 400];
     let given = Given {
         memory: memory(),
-        nets: &nets,
-        trits: &trits,
+        nets: &[10, 11, 12, 13, 14, 15, 15, 17, 18, 19],
+        trits: &[
+            0, 1, 1, 0, 2, 1, 0, 0, 1, 1, 0, 2, 1, 0, 1, 1, 0, 1, 1, 2, 2, 0,
+        ],
     };
     let plan = Plan {
         swizzle: MemorySwizzle {
@@ -53,33 +70,26 @@ fn main(rt: HostRuntime) -> io::Result<()> {
             hard_addr_bits: 1,
             data_width_unit: 4,
         },
-        entries: &entries,
-        writes: &logs,
-        reads: &logs,
+        entries: &[0, 4294967295, 1],
+        writes: &[0],
+        reads: &[0],
     };
     let st = LogState { used: 0, next: 30 };
-    let r = swizzle_call::swizzle(
+    let mut log = [0u32; 2000];
+    let mut image = [9u8; 200];
+    let mut nets = [7u32; 400];
+    let mut trits = [9u8; 400];
+    let mut scratch = [0u32; 400];
+    let answer = swizzle_call::swizzle(
         &mut log,
         st,
         &mut image,
-        &mut nets_to,
-        &mut trits_to,
+        &mut nets,
+        &mut trits,
         &mut scratch,
         given,
-        &output,
+        &[21, 22],
         plan,
     );
-    let made = match r {
-        Ok(x) => x.made,
-        Err(e) => return line(&rt, &[e.number()]),
-    };
-    let state = made.state;
-    let g = made.memory;
-    line(&rt, &[0u32])?;
-    println!(rt; "{} {} ", state.used, state.next)?;
-    line(&rt, lists::part(&log, 0, state.used))?;
-    line(&rt, &[g.mems, g.full, g.full_depth, g.part_depth, g.unit])?;
-    line(&rt, lists::part(&nets_to, 0, made.nets_at))?;
-    line(&rt, lists::part(&trits_to, 0, made.trits_at))?;
-    line(&rt, lists::part(&image, 0, 64))
+    print_answer(&rt, answer, &log, &nets, &trits, &image)
 }

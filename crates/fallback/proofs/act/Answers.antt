@@ -1,8 +1,5 @@
 -- `fallback::act` meets its contract.
-use Rattle.std.proofs.Common.{rules}
 use mathlib.Core.Path.{refl, ◌∙◌}
-use mathlib.Core.List.{List}
-use Prim.Native.Nat.{ℕ}
 use lib.ListN.{length}
 use lib.Seq.{sets}
 use Rattle.rules.specs.Fallback.{lower_fallback}

@@ -1,29 +1,36 @@
 -- `fallback::lower_asked` meets its contract.
-use mathlib.Core.Path.{refl, sym, ◌∙◌}
+use mathlib.Core.Path.{◌≡◌, refl, sym, ◌∙◌, subst}
 use lib.ListN.{length}
+use Rattle.std.specs.Prelude.{Result, Err}
 use Rattle.std.proofs.Common.{rules}
 use Rattle.rules.specs.Fallback.{lower_fallback}
+use Rattle.rules.specs.declared.numbers.Refusal.{Refusal}
+use Rattle.log_entries.specs.declared.LogState.{LogState}
 use Rattle.net_memory.specs.View.{memory_of}
 use Rattle.log_entries.proofs.Emission.{unnamed, run_name}
-use Rattle.fallback.proofs.Answer.{whole-log, kept}
+use Rattle.fallback.specs.Answer.{left_by, Lowers}
+use Rattle.fallback.proofs.Answer.{whole-log, kept_log}
 use Rattle.fallback.proofs.lower_asked.Goals as goal
 
-pub returns-then-n-ne0 : goal.returns-then-n-ne0
-returns-then-n-ne0 c =
+pub returns-in_err-log_refusal : goal.returns-in_err-log_refusal
+returns-in_err-log_refusal c =
     let v = c.args in
-    kept v.given.memory v.given.nets.now v.given.trits.now v.output.now v.st v.log.now v.tables.now c.log_number-n.result c.if-n-ne0.true (whole-log v.given.memory v.given.nets.now v.given.trits.now v.output.now v.st (length v.log.now) (length v.tables.now) c.requires.0.number c.requires.0.room c.log_number-n.result c.log_number-n.ensures)
+    let e = c.in_err-log_refusal.field-0.0 in
+    let q : c.from_residual.result ≡ Err e = search rules in
+    subst (λ (r : Result LogState Refusal). Lowers v.given.memory v.given.nets.now v.given.trits.now v.output.now v.st v.log.now v.tables.now (left_by v.st r) v.log.now v.tables.now) (sym q)
+    (kept_log v.given.memory v.given.nets.now v.given.trits.now v.output.now v.st v.log.now v.tables.now e c.requires.0 c.in_err-log_refusal.ensures)
 
 pub act-requires : goal.act-requires
 act-requires c =
     let v = c.args in
-    (sym (whole-log v.given.memory v.given.nets.now v.given.trits.now v.output.now v.st (length v.log.now) (length v.tables.now) c.requires.0.number c.requires.0.room c.log_number-n.result c.log_number-n.ensures) ∙ c.if-n-ne0.false, c.dry_unmapped-dry.auto.after ∙ c.requires.1)
+    (sym (whole-log v.given.memory v.given.nets.now v.given.trits.now v.output.now v.st (length v.log.now) (length v.tables.now) c.requires.0.number c.requires.0.room 0 c.in_ok-log_refusal.ensures), c.dry_unmapped-dry.auto.after ∙ c.requires.1)
 
 pub returns : goal.returns
 returns c =
     let v = c.args in
-    let z = sym (whole-log v.given.memory v.given.nets.now v.given.trits.now v.output.now v.st (length v.log.now) (length v.tables.now) c.requires.0.number c.requires.0.room c.log_number-n.result c.log_number-n.ensures) ∙ c.if-n-ne0.false in
+    let z = whole-log v.given.memory v.given.nets.now v.given.trits.now v.output.now v.st (length v.log.now) (length v.tables.now) c.requires.0.number c.requires.0.room 0 c.in_ok-log_refusal.ensures in
     record {
-      number = sym z;
+      number = z;
       refused = λ h. absurd (h refl);
       accepted = λ h.
           let t = lower_fallback (memory_of v.given.memory v.given.nets.now v.given.trits.now) v.output.now in

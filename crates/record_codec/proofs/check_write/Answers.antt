@@ -1,7 +1,7 @@
 -- `record_codec::check_write` meets its contract.
 use Rattle.record_sizes.specs.View.{view_sizes}
 use Rattle.rules.proofs.Headers.{bad_trits_lem, all-trits}
-use Rattle.record_codec.proofs.Writing.{write_4, write_17, write_short, write_full, write_0, bytes_are}
+use Rattle.record_codec.proofs.Writing.{write_4, write_17, write_short, write_full, write_0}
 use mathlib.Core.Path.{sym, ◌∙◌}
 use mathlib.Core.Bool.{true, false}
 use native.Mathlib.Omega.{arith}
@@ -23,19 +23,16 @@ returns-then-image-count c =
     let s = sym c.is_bad.ensures ∙ c.if-is_bad.false in
     write_short _ z _ (bad_trits_lem _ false _ _ c.image_of.ensures c.trits_good.ensures (ap not c.if-not-trits_good.false)) s (omega (arith, all-trits z c.trits_within-count.result s c.trits_within-count.ensures))
 
-pub bytes_for-requires : goal.bytes_for-requires
-bytes_for-requires c = omega (arith, c.trits_within-count.ensures)
-
-pub returns-then-room-bytes_for : goal.returns-then-room-bytes_for
-returns-then-room-bytes_for c =
+pub returns-then-room-record_bytes : goal.returns-then-room-record_bytes
+returns-then-room-record_bytes c =
     let z = view_sizes c.args.sizes in
     let s = sym c.is_bad.ensures ∙ c.if-is_bad.false in
     let n = all-trits z c.trits_within-count.result s c.trits_within-count.ensures in
-    write_full _ z _ (bad_trits_lem _ false _ _ c.image_of.ensures c.trits_good.ensures (ap not c.if-not-trits_good.false)) s (omega arith) (omega (arith, bytes_are z c.trits_within-count.result c.bytes_for.result n c.bytes_for.ensures))
+    write_full _ z _ (bad_trits_lem _ false _ _ c.image_of.ensures c.trits_good.ensures (ap not c.if-not-trits_good.false)) s (omega arith) (omega (arith, c.record_bytes.ensures s))
 
 pub returns : goal.returns
 returns c =
     let z = view_sizes c.args.sizes in
     let s = sym c.is_bad.ensures ∙ c.if-is_bad.false in
     let n = all-trits z c.trits_within-count.result s c.trits_within-count.ensures in
-    write_0 _ z _ (bad_trits_lem _ false _ _ c.image_of.ensures c.trits_good.ensures (ap not c.if-not-trits_good.false)) s (omega arith) (omega (arith, bytes_are z c.trits_within-count.result c.bytes_for.result n c.bytes_for.ensures))
+    write_0 _ z _ (bad_trits_lem _ false _ _ c.image_of.ensures c.trits_good.ensures (ap not c.if-not-trits_good.false)) s (omega arith) (omega (arith, c.record_bytes.ensures s))

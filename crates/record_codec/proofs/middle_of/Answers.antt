@@ -9,4 +9,4 @@ use Rattle.record_codec.proofs.middle_of.Goals as goal
 pub returns : goal.returns
 returns c =
     let h = c.head_trits in
-    (ap (λ (n : ℕ). 12 + n) (array_bytes_lem h.result ∙ ap array_bytes h.ensures.0), omega (arith, h.ensures.1))
+    (ap (λ (n : ℕ). 12 + n) (c.div_ceil.ensures ∙ array_bytes_lem h.result ∙ ap array_bytes h.ensures.0), omega (arith, c.div_ceil.ensures, h.ensures.1))
