@@ -2,6 +2,7 @@
 // anything may stand, and two memories that mean the same could differ there.
 use net_memory::{Memory, MemoryReadPort, MemoryWritePort};
 
+// A write port has no such array and could derive it; it is compared here alone.
 fn same_write(a: MemoryWritePort, b: MemoryWritePort) -> bool {
     a.addr_len == b.addr_len
         && a.data_len == b.data_len

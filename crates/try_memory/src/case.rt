@@ -6,6 +6,7 @@ const NETS: usize = 600;
 
 const TRITS: usize = 34900;
 
+// (try_extract's case has outputs, rooms and contents of its own: one struct for both would need a contract for each constructor.)
 // How many nets and trits are lent, and the net and the trit that are put at a place, if it is there.
 #[derive(Clone, Copy)]
 pub(crate) struct Case {
