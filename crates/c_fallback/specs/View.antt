@@ -1,9 +1,6 @@
--- The struct of a library's answer to a fallback, and the library's answer that a struct is.
-use Rattle.fallback.specs.declared.Lowered.{Lowered}
+-- What a struct of an answer to a fallback says, as the library's promise reads its own answer.
+use Rattle.fallback.specs.Answer.{Left}
 use Rattle.c_log.specs.declared.Logged.{Logged}
 
-abbrev pub lowered_struct : Lowered → Logged
-lowered_struct x = record { number = x.refusal; state = x.state }
-
-abbrev pub given_lowered : Logged → Lowered
+abbrev pub given_lowered : Logged → Left
 given_lowered r = record { refusal = r.number; state = r.state }

@@ -9,22 +9,11 @@ ghost use Rattle.net_memory.specs.View.{memory_of};
 ghost use Rattle.net_memory.specs.Given.{given_of};
 ghost use Rattle.fallback.specs.Answer.{lowered_of, Lowers};
 ghost use Rattle.c_memory.specs.View.{given_memory};
-ghost use Rattle.c_fallback.specs.View.{lowered_struct, given_lowered};
+ghost use Rattle.c_fallback.specs.View.{given_lowered};
 
 use c_log::Logged;
 use c_memory::Memory;
-use fallback::Lowered;
 use log_entries::LogState;
-
-fn lowered_struct(x: Lowered) -> Logged
-    ensures { result ≡ lowered_struct x }
-{
-    let state = x.state;
-    Logged {
-        number: x.refusal,
-        state,
-    }
-}
 
 // A memory as flip-flops and muxes: a register for each row.
 pub fn tablegoose_lower_fallback(
@@ -39,7 +28,7 @@ pub fn tablegoose_lower_fallback(
     ensures scratch_after { lowered_of (given_lowered result) (fallback_scratch (memory_of (given_memory m) nets.now trits.now)) log.new scratch.new ≡ lower_fallback_call scratch.old log.old (state_of st) (given_of (given_memory m) nets.now trits.now) output.now }
     ensures lowers { Lowers (given_memory m) nets.now trits.now output.now st log.old scratch.old (given_lowered result) log.new scratch.new }
 {
-    let given = c_memory::memory_of(m);
-    let x = fallback::lower_fallback(log, st, scratch, given, nets, trits, output);
-    lowered_struct(x)
+    let given = c_memory::given_by(m, nets, trits);
+    let x = fallback::lower_fallback(log, st, scratch, given, output);
+    c_log::answer_struct(x, st)
 }

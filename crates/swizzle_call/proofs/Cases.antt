@@ -52,7 +52,9 @@ use Rattle.swizzle_ready.proofs.Planned.{layout_planned}
 use Rattle.swizzle_ready.proofs.Scratch.{scratch_is}
 use Rattle.swizzle_ready.proofs.Joined as joined
 use Rattle.swizzle_ready.proofs.Joined.{RowsDone, Begun, rows_done}
+use Rattle.swizzle_call.specs.declared.Made.{Made}
 use Rattle.swizzle_call.specs.Acted.{NoneYet, Acted, PortsHeld}
+use Rattle.swizzle_call.specs.Made.{made_of, left_of}
 
 -- what is lent, by its lengths
 abbrev pub rooms_of : ℕ → List ℕ → List ℕ → List ℕ → rules.SwizzleRooms
@@ -79,10 +81,10 @@ module _ (m : Mem) (q : Layout) (t : Trace (List Driving)) where
   }
 
   -- the same of a log and a state apart
-  pub unnamed_acted : (st : LogState) (log : List ℕ) (name : GName) (to kinds : List ℕ) (g : Going) → Acted m q t (named name (lent st log)) to kinds g
-      → Acted m q t (lent st log) to kinds (record { lent = named 0 g.lent; nets = g.nets; trits = g.trits; nets_at_of = g.nets_at_of; trits_at_of = g.trits_at_of; memory = g.memory })
-  unnamed_acted st log name to kinds g a = record {
-    log_is = unnamed t 0 (named name (lent st log)) g.lent a.log_is;
+  pub made_acted : (st : LogState) (log : List ℕ) (name : GName) (to kinds : List ℕ) (after : Log) (x : Made) (nets trits : List ℕ) → x.state ≡ after.state
+      → Acted m q t (named name (lent st log)) to kinds (left_of after x nets trits) → Acted m q t (lent st log) to kinds (made_of x after.words.now nets trits)
+  made_acted st log name to kinds after x nets trits e a = record {
+    log_is = ap (λ (s : LogState). lent s after.words.now) e ∙ unnamed t 0 (named name (lent st log)) (lent_of after) a.log_is;
     nets_are = a.nets_are;
     trits_are = a.trits_are;
     nets_end = a.nets_end;

@@ -15,7 +15,7 @@ ghost use Rattle.rules.specs.Beside.Layouts.{fill_call};
 ghost use Rattle.image_geometry.specs.View.{layout_by};
 ghost use Rattle.image_state.specs.View.{laid_of};
 ghost use Rattle.swizzle_call.specs.Acted.{Passed, NoneYet, Acted, HoldsPorts};
-ghost use Rattle.swizzle_call.specs.Made.{made_of};
+ghost use Rattle.swizzle_call.specs.Made.{left_of};
 ghost use Rattle.swizzle_call.specs.Told.{told};
 ghost use Rattle.swizzle_call.specs.Whole.{Swizzles};
 ghost use Rattle.swizzle_call.specs.Answer.{swizzled_of};
@@ -88,10 +88,9 @@ fn act<'a>(
     );
 }
 
-// The same of a log and its state apart, with rooms of which no part is used yet.
+// The same with rooms of which no part is used yet.
 fn make<'a>(
-    log: &mut [u32],
-    st: LogState,
+    log: &mut Log,
     nets_to: &mut [u32],
     trits_to: &mut [u8],
     scratch: &mut [u32],
@@ -99,15 +98,12 @@ fn make<'a>(
     output: &[u32],
     plan: Plan<'a>,
 ) -> Made
-    requires { Passed given.memory given.nets.now given.trits.now output.now plan.swizzle plan.entries.now plan.writes.now plan.reads.now st log.old nets_to.old trits_to.old scratch.old }
-    ensures acted { Acted (mem_of given.entry) (layout_of (mem_of given.entry) (view_plan plan.entry)) (swizzle (mem_of given.entry) output.now (view_plan plan.entry)) (lent st log.old) nets_to.old trits_to.old (made_of result log.new nets_to.new trits_to.new) }
+    requires { Passed given.memory given.nets.now given.trits.now output.now plan.swizzle plan.entries.now plan.writes.now plan.reads.now log.old.state log.old.words.now nets_to.old trits_to.old scratch.old }
+    ensures acted { Acted (mem_of given.entry) (layout_of (mem_of given.entry) (view_plan plan.entry)) (swizzle (mem_of given.entry) output.now (view_plan plan.entry)) (lent_of log.old) nets_to.old trits_to.old (left_of log.new result nets_to.new trits_to.new) }
+    ensures state { result.state ≡ log.new.state }
     ensures scratch_unchanged { drop (swizzle_scratch (mem_of given.entry) (view_plan plan.entry)) scratch.new ≡ drop (swizzle_scratch (mem_of given.entry) (view_plan plan.entry)) scratch.old }
-    ensures holds_ports { HoldsPorts (mem_of given.entry) output.now (view_plan plan.entry) st.next result.memory }
+    ensures holds_ports { HoldsPorts (mem_of given.entry) output.now (view_plan plan.entry) log.old.state.next result.memory }
 {
-    let mut log = Log {
-        words: log,
-        state: st,
-    };
     let mut made = Reads {
         nets: nets_to,
         nets_at: 0,
@@ -115,7 +111,7 @@ fn make<'a>(
         trits_at: 0,
         memory: swizzle_rows::no_memories(),
     };
-    act(&mut log, &mut made, scratch, given, output, plan);
+    act(log, &mut made, scratch, given, output, plan);
     let memory = made.memory;
     Made {
         state: log.state,
@@ -169,6 +165,10 @@ pub fn swizzle<'a>(
     let laid = Laid::laid_out(layout_for(given, plan));
     let sizes = laid.sizes()?;
     fill_init(image, laid, given)?;
-    let made = make(log, st, nets_to, trits_to, scratch, given, output, plan);
+    let mut log = Log {
+        words: log,
+        state: st,
+    };
+    let made = make(&mut log, nets_to, trits_to, scratch, given, output, plan);
     Ok(Swizzled { made, laid, sizes })
 }

@@ -3,9 +3,8 @@ ghost use Rattle.std.specs.Prelude.{◌≡◌, ◌||◌, List, ℕ};
 ghost use Rattle.lists.specs.Lists.{any, pairs};
 ghost use Rattle.rules.specs.Conditions.{bad_wide, bad_writes, bad_reads, all_reads};
 ghost use Rattle.rules.specs.Cell.{read_wide_log2, read_at_of};
-ghost use Rattle.net_memory.specs.Given.{mem_of};
 ghost use Rattle.net_memory.specs.View.{memory_of};
-ghost use Rattle.swizzle_plan.specs.Calls.{view_plan};
+ghost use Rattle.swizzle_plan.specs.Calls.{plan_of};
 ghost use Rattle.swizzle_plan.specs.Numbers.{in_eight, write_logs, read_logs};
 
 use crate::Plan;
@@ -14,7 +13,7 @@ use net_memory::{Given, Memory};
 // A new wide log is above the hard bits, or below the non-soft bits under the old one.
 #[tactic(auto, unfolding(rules::specs::Conditions::bad_wide))]
 fn wide_bad(plan: Plan<'_>, old: u32, new: u32) -> bool
-    ensures { result ≡ bad_wide (view_plan plan.entry) old new }
+    ensures { (es ws rs : List ℕ) → result ≡ bad_wide (plan_of plan.entry.swizzle es ws rs) old new }
 {
     let s = plan.swizzle;
     s.hard_addr_bits < new
@@ -23,7 +22,7 @@ fn wide_bad(plan: Plan<'_>, old: u32, new: u32) -> bool
 
 // One of the write ports', over these old ones, is.
 fn wides_bad(olds: &[u32], plan: Plan<'_>) -> bool
-    ensures { result ≡ any (λ x. bad_wide (view_plan plan.entry) x.0 x.1) (pairs olds.now plan.entry.writes.now) }
+    ensures { (es rs : List ℕ) → result ≡ any (λ x. bad_wide (plan_of plan.entry.swizzle es plan.entry.writes.now rs) x.0 x.1) (pairs olds.now plan.entry.writes.now) }
 {
     olds.iter()
         .zip(plan.writes)
@@ -49,7 +48,7 @@ pub fn write_logs(m: Memory, nets: &[u32]) -> [u32; rules::MAX_PORTS]
 
 // Number 9 of the write ports: apart from `reads_bad`, as these old wide logs come from the nets.
 fn writes_bad(given: Given<'_>, plan: Plan<'_>) -> bool
-    ensures { result ≡ bad_writes (mem_of given.entry) (view_plan plan.entry) }
+    ensures { (trits es rs : List ℕ) → result ≡ bad_writes (memory_of given.entry.memory given.entry.nets.now trits) (plan_of plan.entry.swizzle es plan.entry.writes.now rs) }
 {
     let count = net_memory::ports_used(given.memory.write_count);
     if plan.writes.len() != count {
@@ -70,7 +69,7 @@ pub fn read_log(m: Memory, port: u32) -> u32
 
 // One of the listed read ports has a bad new wide log.
 fn listed_bad(given: Given<'_>, ports: &[u32], plan: Plan<'_>) -> bool
-    ensures { result ≡ any (λ x. bad_wide (view_plan plan.entry) x.0 x.1) (pairs (read_logs (mem_of given.entry) ports.now) plan.entry.reads.now) }
+    ensures { (nets trits es ws : List ℕ) → result ≡ any (λ x. bad_wide (plan_of plan.entry.swizzle es ws plan.entry.reads.now) x.0 x.1) (pairs (read_logs (memory_of given.entry.memory nets trits) ports.now) plan.entry.reads.now) }
 {
     ports.iter().zip(plan.reads).any(|(port, new)| wide_bad(
         plan,
@@ -81,7 +80,7 @@ fn listed_bad(given: Given<'_>, ports: &[u32], plan: Plan<'_>) -> bool
 
 // Number 9 of the listed read ports: apart from `writes_bad`, as these old wide logs come from the struct.
 fn reads_bad(given: Given<'_>, ports: &[u32], plan: Plan<'_>) -> bool
-    ensures { result ≡ bad_reads (mem_of given.entry) ports.now (view_plan plan.entry) }
+    ensures { (nets trits es ws : List ℕ) → result ≡ bad_reads (memory_of given.entry.memory nets trits) ports.now (plan_of plan.entry.swizzle es ws plan.entry.reads.now) }
 {
     if plan.reads.len() != ports.len() {
         return true;
@@ -91,14 +90,14 @@ fn reads_bad(given: Given<'_>, ports: &[u32], plan: Plan<'_>) -> bool
 
 // Number 9 of the write ports and the listed read ports.
 pub fn logs_bad(given: Given<'_>, ports: &[u32], plan: Plan<'_>) -> bool
-    ensures { result ≡ (bad_writes (mem_of given.entry) (view_plan plan.entry) || bad_reads (mem_of given.entry) ports.now (view_plan plan.entry)) }
+    ensures { (trits es : List ℕ) → result ≡ (bad_writes (memory_of given.entry.memory given.entry.nets.now trits) (plan_of plan.entry.swizzle es plan.entry.writes.now plan.entry.reads.now) || bad_reads (memory_of given.entry.memory given.entry.nets.now trits) ports.now (plan_of plan.entry.swizzle es plan.entry.writes.now plan.entry.reads.now)) }
 {
     writes_bad(given, plan) || reads_bad(given, ports, plan)
 }
 
 // Number 9 of the write ports and every read port.
 pub fn all_logs_bad(given: Given<'_>, plan: Plan<'_>) -> bool
-    ensures { result ≡ (bad_writes (mem_of given.entry) (view_plan plan.entry) || bad_reads (mem_of given.entry) (all_reads (mem_of given.entry)) (view_plan plan.entry)) }
+    ensures { (trits es : List ℕ) → result ≡ (bad_writes (memory_of given.entry.memory given.entry.nets.now trits) (plan_of plan.entry.swizzle es plan.entry.writes.now plan.entry.reads.now) || bad_reads (memory_of given.entry.memory given.entry.nets.now trits) (all_reads (memory_of given.entry.memory given.entry.nets.now trits)) (plan_of plan.entry.swizzle es plan.entry.writes.now plan.entry.reads.now)) }
 {
     let ports = [0u32, 1, 2, 3, 4, 5, 6, 7];
     let count = net_memory::ports_used(given.memory.read_count);

@@ -6,6 +6,11 @@ pub returns : goal.returns
 returns c =
     let v = c.args in
     let d = c.lower_fallback-x in
-    let g = c.memory_of-given in
-    let r = c.lowered_struct in
-    record { scratch_after = told_call v.m g.result g.ensures v.nets.now v.trits.now v.output.now v.st v.log.now v.scratch.now d.new.log d.new.scratch d.result r.result r.ensures d.ensures.scratch_after; lowers = told_fields v.m g.result g.ensures v.nets.now v.trits.now v.output.now v.st v.log.now v.scratch.now d.new.log d.new.scratch d.result r.result r.ensures d.ensures.lowers }
+    let g = c.given_by-given in
+    let r = c.answer_struct in
+    let q = rw (g.ensures.0, g.ensures.1, g.ensures.2) at d.ensures.scratch_after in
+    let l = rw (g.ensures.0, g.ensures.1, g.ensures.2) at d.ensures.lowers in
+    record {
+      scratch_after = told_call v.st d.result r.result r.ensures _ v.log.now v.scratch.now d.new.log d.new.scratch _ v.output.now q;
+      lowers = told_fields v.st d.result r.result r.ensures _ v.nets.now v.trits.now v.output.now v.log.now v.scratch.now d.new.log d.new.scratch l;
+    }
