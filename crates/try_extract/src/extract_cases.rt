@@ -1,7 +1,9 @@
-// Extractions from the first memory, whose places memories::base names.
+// Extractions from the first memory, whose places `try_kit::samples::base` names.
 use crate::case::{Case, of, with_lens, with_net, with_out, with_trit};
 use crate::extracts::{extracted, lend, refused};
 use net_memory::{Memory, MemoryReadPort};
+use rules::Refusal;
+use rules::Refusal::{BadDepth, BadShape, BadValue, NoRoom, OutOfRange, TooLarge};
 use try_kit::samples::{base, clocked_port, read_by, with_read, with_sizes};
 use try_kit::tally::Tally;
 
@@ -43,7 +45,7 @@ fn fits(
     trits: &[usize],
     outs: &[usize],
 ) -> Tally {
-    extracted(t, c, list, lend(a, b, e), 0, m, nets, trits, outs)
+    extracted(t, c, list, lend(a, b, e), None, m, nets, trits, outs)
 }
 
 // Ports 2 and 0, and 2 again, into rooms that are exactly full.
@@ -148,13 +150,13 @@ pub(crate) fn output_nets(t: Tally) -> Tally {
 // Ports 2, 0 and 2 into rooms of so many places.
 fn short(t: Tally, a: usize, b: usize, e: usize) -> Tally {
     let list = [2u32, 0, 2];
-    refused(t, of(base()), &list, lend(a, b, e), 20)
+    refused(t, of(base()), &list, lend(a, b, e), NoRoom)
 }
 
 // An empty list into rooms of so many places.
 fn short_empty(t: Tally, a: usize, b: usize) -> Tally {
     let list: [u32; 0] = [];
-    refused(t, of(base()), &list, lend(a, b, 0), 20)
+    refused(t, of(base()), &list, lend(a, b, 0), NoRoom)
 }
 
 // Number 20: rooms that are one place short.
@@ -168,19 +170,19 @@ pub(crate) fn short_rooms(t: Tally) -> Tally {
 }
 
 // So many times a port, into rooms of so many places.
-fn listed(t: Tally, c: Case, count: usize, port: u32, size: usize, number: u32) -> Tally {
+fn listed(t: Tally, c: Case, count: usize, port: u32, size: usize, refusal: Refusal) -> Tally {
     let list = [port; 9];
     refused(
         t,
         c,
         lists::part(&list, 0, count),
         lend(size, size, size),
-        number,
+        refusal,
     )
 }
 
 // The first memory with some of its read ports, and a list that names one that is not there.
-fn missing(t: Tally, reads: u32, outs: usize, port: u32, size: usize, number: u32) -> Tally {
+fn missing(t: Tally, reads: u32, outs: usize, port: u32, size: usize, refusal: Refusal) -> Tally {
     let m = with_sizes(base(), 8, 2, 16, 2, reads);
     let c = of(m);
     listed(
@@ -189,19 +191,19 @@ fn missing(t: Tally, reads: u32, outs: usize, port: u32, size: usize, number: u3
         1,
         port,
         size,
-        number,
+        refusal,
     )
 }
 
 // Number 15, also with no room, and not before 2.
 pub(crate) fn no_ports(t: Tally) -> Tally {
-    let t = missing(t, 3, 12, 3, 99, 15);
-    let t = missing(t, 3, 12, 4294967295, 99, 15);
-    let t = missing(t, 3, 12, 3, 0, 15);
-    let t = missing(t, 2, 10, 2, 99, 15);
-    let t = missing(t, 0, 0, 0, 99, 15);
-    let t = missing(t, 3, 11, 3, 99, 2);
-    missing(t, 3, 13, 3, 99, 2)
+    let t = missing(t, 3, 12, 3, 99, OutOfRange);
+    let t = missing(t, 3, 12, 4294967295, 99, OutOfRange);
+    let t = missing(t, 3, 12, 3, 0, OutOfRange);
+    let t = missing(t, 2, 10, 2, 99, OutOfRange);
+    let t = missing(t, 0, 0, 0, 99, OutOfRange);
+    let t = missing(t, 3, 11, 3, 99, BadShape);
+    missing(t, 3, 13, 3, 99, BadShape)
 }
 
 // The first memory with another depth, so many initial trits, and an output net, a net and a trit put at their places 0.
@@ -212,15 +214,22 @@ fn broken(depth: u32, init: u32, out: u32, net: u32, trit: u8) -> Case {
 
 // So many times port 3, which is not there, into no room; and each number after those that it yields to.
 pub(crate) fn orders(t: Tally) -> Tally {
-    let t = listed(t, broken(8, 16, 5000, 2, 0), 9, 0, 199, 1);
-    let t = listed(t, broken(6, 11, 16777216, 16777216, 3), 9, 3, 0, 1);
-    let t = listed(t, broken(32769, 11, 16777216, 16777216, 3), 1, 3, 0, 1);
-    let t = listed(t, broken(6, 11, 16777216, 16777216, 3), 8, 3, 0, 2);
-    let t = listed(t, broken(6, 12, 16777216, 16777216, 3), 8, 3, 0, 3);
-    let t = listed(t, broken(8, 16, 16777216, 2, 0), 8, 3, 0, 4);
-    let t = listed(t, broken(8, 16, 5000, 16777216, 0), 8, 3, 0, 4);
-    let t = listed(t, broken(8, 16, 5000, 2, 3), 8, 3, 0, 4);
-    let t = listed(t, broken(8, 16, 5000, 2, 0), 8, 3, 0, 15);
-    let t = listed(t, broken(8, 16, 5000, 2, 0), 8, 1, 0, 20);
-    listed(t, broken(8, 16, 5000, 2, 0), 0, 1, 0, 20)
+    let t = listed(t, broken(8, 16, 5000, 2, 0), 9, 0, 199, TooLarge);
+    let t = listed(t, broken(6, 11, 16777216, 16777216, 3), 9, 3, 0, TooLarge);
+    let t = listed(
+        t,
+        broken(32769, 11, 16777216, 16777216, 3),
+        1,
+        3,
+        0,
+        TooLarge,
+    );
+    let t = listed(t, broken(6, 11, 16777216, 16777216, 3), 8, 3, 0, BadShape);
+    let t = listed(t, broken(6, 12, 16777216, 16777216, 3), 8, 3, 0, BadDepth);
+    let t = listed(t, broken(8, 16, 16777216, 2, 0), 8, 3, 0, BadValue);
+    let t = listed(t, broken(8, 16, 5000, 16777216, 0), 8, 3, 0, BadValue);
+    let t = listed(t, broken(8, 16, 5000, 2, 3), 8, 3, 0, BadValue);
+    let t = listed(t, broken(8, 16, 5000, 2, 0), 8, 3, 0, OutOfRange);
+    let t = listed(t, broken(8, 16, 5000, 2, 0), 8, 1, 0, NoRoom);
+    listed(t, broken(8, 16, 5000, 2, 0), 0, 1, 0, NoRoom)
 }

@@ -48,13 +48,13 @@ fn call(
     )
 }
 
-// A call's number, the memory after it, and the parts of the patterns that the rooms hold then.
+// How a call is refused, the memory after it, and the parts of the patterns that the rooms hold then.
 pub(crate) fn extracted(
     t: Tally,
     c: Case,
     list: &[u32],
     lent: Rooms,
-    number: u32,
+    refusal: Option<Refusal>,
     after: Memory,
     nets: &[usize],
     trits: &[usize],
@@ -74,20 +74,16 @@ pub(crate) fn extracted(
         &mut room_trits,
         &mut room_outs,
     );
-    let (refusal, m) = match r {
-        Ok(m) => (0, m),
-        Err(e) => (e.number(), c.m),
-    };
-    let t = add(t, refusal == number);
-    let t = add(t, same::same_memory(m, after));
+    let t = add(t, r.err() == refusal);
+    let t = add(t, same::same_memory(r.unwrap_or(c.m), after));
     let t = add(t, room::is_parts(&room_nets, room::NET_WORDS, nets));
     let t = add(t, room::is_parts(&room_trits, room::Trits, trits));
     add(t, room::is_parts(&room_outs, room::OUT_WORDS, outs))
 }
 
 // A refused call leaves the rooms and the memory as they are.
-pub(crate) fn refused(t: Tally, c: Case, list: &[u32], lent: Rooms, number: u32) -> Tally {
+pub(crate) fn refused(t: Tally, c: Case, list: &[u32], lent: Rooms, refusal: Refusal) -> Tally {
     let none: [usize; 0] = [];
     let m = c.m;
-    extracted(t, c, list, lent, number, m, &none, &none, &none)
+    extracted(t, c, list, lent, Some(refusal), m, &none, &none, &none)
 }

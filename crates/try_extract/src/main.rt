@@ -9,33 +9,23 @@ mod same;
 
 use std::io;
 use try_kit::tally;
-use try_kit::tally::Tally;
-
-// A line with a group's name and its counts.
-fn report(rt: &impl Print, name: &str, t: Tally) -> io::Result<()> {
-    println!(rt; "{name}: {t}")
-}
 
 fn main(rt: HostRuntime) -> io::Result<()> {
-    report(&rt, "extractions", extract_cases::accepted(tally::start()))?;
-    report(
-        &rt,
-        "output nets",
-        extract_cases::output_nets(tally::start()),
+    println!(rt; "extractions: {}", extract_cases::accepted(tally::start()))?;
+    println!(rt;
+        "output nets: {}",
+        extract_cases::output_nets(tally::start())
     )?;
-    report(
-        &rt,
-        "short rooms",
-        extract_cases::short_rooms(tally::start()),
+    println!(rt;
+        "short rooms: {}",
+        extract_cases::short_rooms(tally::start())
     )?;
-    report(
-        &rt,
-        "missing ports",
-        extract_cases::no_ports(tally::start()),
+    println!(rt;
+        "missing ports: {}",
+        extract_cases::no_ports(tally::start())
     )?;
-    report(
-        &rt,
-        "order of numbers",
-        extract_cases::orders(tally::start()),
+    println!(rt;
+        "order of numbers: {}",
+        extract_cases::orders(tally::start())
     )
 }

@@ -1,23 +1,8 @@
-// Comparison of memories, field by field, with all eight places for ports: these structs derive no equality.
-use net_flip_flop::Controls;
+// Comparison of memories, field by field, with all eight places for ports. The structs derive no equality: past the number of ports, or of relations,
+// anything may stand, and two memories that mean the same could differ there.
 use net_memory::{Memory, MemoryReadPort, MemoryWritePort};
 
-fn same_controls(a: Controls, b: Controls) -> bool {
-    a.clock == b.clock
-        && a.clear == b.clear
-        && a.reset == b.reset
-        && a.enable == b.enable
-        && a.reset_over_enable == b.reset_over_enable
-}
-
-fn same_flip_flop(a: Option<Controls>, b: Option<Controls>) -> bool {
-    match (a, b) {
-        (None, None) => true,
-        (Some(x), Some(y)) => same_controls(x, y),
-        _ => false,
-    }
-}
-
+// A write port has no such array and could derive it; it is compared here alone.
 fn same_write(a: MemoryWritePort, b: MemoryWritePort) -> bool {
     a.addr_len == b.addr_len
         && a.data_len == b.data_len
@@ -35,7 +20,7 @@ fn same_lens(a: MemoryReadPort, b: MemoryReadPort) -> bool {
 }
 
 fn same_read(a: MemoryReadPort, b: MemoryReadPort) -> bool {
-    same_lens(a, b) && a.relations == b.relations && same_flip_flop(a.flip_flop, b.flip_flop)
+    same_lens(a, b) && a.relations == b.relations && a.flip_flop == b.flip_flop
 }
 
 fn same_sizes(a: Memory, b: Memory) -> bool {

@@ -1,8 +1,9 @@
 -- The requests that the programs try, by their entries, and what a case gives them.
-use Rattle.std.specs.Prelude.{ℕ, ◌+◌, ◌%◌, min, List, eqb}
+use Rattle.std.specs.Prelude.{ℕ, ◌+◌, ◌%◌, min, List}
 use Rattle.lists.specs.Choice.{when◌then◌else◌}
 use Rattle.rules.specs.Answers.{slice_call}
 use Rattle.net_logic.specs.View.{given_part}
+use Rattle.try_kit.specs.Spoilt.{is_control}
 use Rattle.try_kit.specs.Tally.{most}
 use Rattle.try_kit.specs.declared.requests.Request.{Request}
 use Rattle.try_kit.specs.declared.requests.Request.TheVariants.{Void, Not, And, Or, Mux, Eq, Shl, Ushr, Dff, Replace, IntoPos, Remap, DedupMux, DedupDff, BitwiseMux}
@@ -68,7 +69,7 @@ results_of BitwiseMux n = n
 
 -- which control of a case is none, 4 where all are good
 abbrev pub bad_one_of : Case → ℕ
-bad_one_of c = when eqb c.bad 3 then c.which % 4 else 4
+bad_one_of c = when is_control c.bad then c.which % 4 else 4
 
 -- a case's parts of the trits that it is given
 abbrev pub clear_of : List ℕ → Case → List ℕ

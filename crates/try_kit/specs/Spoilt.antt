@@ -1,15 +1,22 @@
 -- Controls and trits of which one may be bad.
-use Rattle.std.specs.Prelude.{ℕ, Bool, List, eqb, set}
+use Rattle.std.specs.Prelude.{ℕ, Bool, true, false, List, eqb, set}
 use Rattle.lists.specs.Choice.{when◌then◌else◌}
 use Rattle.net_value.specs.declared.ControlNet.{ControlNet}
 use Rattle.net_value.specs.declared.ControlNet.TheVariants.{Pos, Neg}
 use Rattle.net_flip_flop.specs.declared.Controls.{Controls}
+use Rattle.try_kit.specs.declared.spoilt.Bad.{Bad}
+use Rattle.try_kit.specs.declared.spoilt.Bad.TheVariants.{Nothing, First, Second, Control, Trit, Room}
 use Rattle.try_kit.specs.Paint.{pattern_of, trit_at_of}
 use Rattle.try_kit.specs.Nets.{select_of}
 
--- n where this is what is bad
-abbrev pub of_what : ℕ → ℕ → ℕ → ℕ
-of_what bad what n = when eqb bad what then n else 0
+-- the select or a control is what is bad
+abbrev pub is_control : Bad → Bool
+is_control Nothing = false
+is_control First = false
+is_control Second = false
+is_control Control = true
+is_control Trit = false
+is_control Room = false
 
 -- Neg of a constant is no control
 abbrev pub no_control : ControlNet

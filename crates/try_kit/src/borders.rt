@@ -1,9 +1,10 @@
 // Lengths, rooms and next free nets at the borders of what a request takes, and the number that its state gives it.
 ghost use Rattle.std.specs.Prelude.{◌≡◌};
+ghost use Rattle.rules.specs.Refusal.{number_of};
 ghost use Rattle.try_kit.specs.Borders.{length_at, room_at, next_at, state_number};
 
 use crate::words::{plus, word};
-use rules::{FIRST_CELL, MAX_MERGE, MAX_NETS};
+use rules::{FIRST_CELL, MAX_MERGE, MAX_NETS, Refusal};
 
 pub fn length_at(k: u32) -> usize
     ensures { result ≡ length_at k }
@@ -35,15 +36,15 @@ pub fn next_at(k: u32, nets: usize) -> u32
     nexts[k as usize % 6]
 }
 
-// 20 or 21 of a request whose log would end at `end`, and whose nets from `next` on would end at `last`; else 0.
-pub fn state_number(room: usize, end: usize, next: u32, last: u32) -> u32
-    ensures { result ≡ state_number room end next last }
+// How a request is refused whose log would end at `end`, and whose nets from `next` on would end at `last`.
+pub fn state_refusal(room: usize, end: usize, next: u32, last: u32) -> Result<(), Refusal>
+    ensures { number_of result ≡ state_number room end next last }
 {
     if room < end {
-        return 20;
+        return Err(Refusal::NoRoom);
     }
     if next < FIRST_CELL || MAX_NETS < last {
-        return 21;
+        return Err(Refusal::NetsFull);
     }
-    0
+    Ok(())
 }

@@ -1,18 +1,16 @@
 // The requests that log entries, and the cases that each is tried in: 720, of five lengths, four rooms and six next free nets; with good values, with a
 // bad net in the first or in the second value, with a bad select or control, with a bad trit code, and with one value a bit longer than the other.
-ghost use Rattle.std.specs.Prelude.{◌≡◌, min, ◌+◌, eqb};
+ghost use Rattle.std.specs.Prelude.{◌≡◌, min, ◌+◌};
 ghost use Rattle.rules.specs.Answers.{slice_call};
 ghost use Rattle.net_logic.specs.View.{given_part};
-ghost use Rattle.try_kit.specs.Spoilt.{select_in, controls_in};
+ghost use Rattle.try_kit.specs.Spoilt.{is_control, select_in, controls_in};
 ghost use Rattle.try_kit.specs.Requests.{kind_of, words_of, results_of, bad_one_of, sum_of, clear_of, reset_of, init_of};
 
 use crate::borders::{length_at, next_at, room_at};
 use crate::nets::{fill_nets, spoil};
 use crate::numbered;
 use crate::numbered::Tally;
-use crate::spoilt::{
-    CONTROL, FIRST, NOTHING, SECOND, TRIT, controls_in, of_what, select_in, set_trits,
-};
+use crate::spoilt::{Bad, controls_in, select_in, set_trits};
 use crate::words::plus;
 use net_flip_flop::{Controls, FlipFlop};
 use net_value::ControlNet;
@@ -144,7 +142,7 @@ pub struct Case {
     pub n: usize,
     pub m: usize,
     pub neg: bool,
-    pub bad: u32,
+    pub bad: Bad,
     pub which: u32,
     pub used: usize,
     pub room: usize,
@@ -154,10 +152,20 @@ pub struct Case {
 
 const CASES: u32 = 720;
 
+// Where the last is, one value is longer.
+const BADS: [Bad; 6] = [
+    Bad::Nothing,
+    Bad::First,
+    Bad::Second,
+    Bad::Control,
+    Bad::Trit,
+    Bad::Nothing,
+];
+
 impl Case {
     fn at(request: Request, k: u32) -> Case {
         let n = length_at(k % 5);
-        let variant = k / 120 % 6;
+        let variant = k as usize / 120 % 6;
         let m = if variant == 5 { plus(n, 1) } else { n };
         let short = k / 20 % 2 == 1;
         Case {
@@ -165,7 +173,7 @@ impl Case {
             n,
             m,
             neg: k % 2 == 1,
-            bad: if variant == 5 { NOTHING } else { variant },
+            bad: BADS[variant],
             which: k,
             used: 3,
             room: room_at(k / 5 % 4, 3, request.words(n, m)),
@@ -175,19 +183,18 @@ impl Case {
     }
 
     pub fn select(self) -> ControlNet
-        ensures { result ≡ select_in self.neg (eqb self.bad 3) }
+        ensures { result ≡ select_in self.neg (is_control self.bad) }
     {
-        select_in(self.neg, self.bad == CONTROL)
+        select_in(self.neg, matches!(self.bad, Bad::Control))
     }
 
     // One of the four controls is none where a control is bad.
     pub fn controls(self) -> Controls
         ensures { result ≡ controls_in self.neg (bad_one_of self) }
     {
-        let none = if self.bad == CONTROL {
-            self.which % 4
-        } else {
-            4
+        let none = match self.bad {
+            Bad::Control => self.which % 4,
+            _ => 4,
         };
         controls_in(self.neg, none)
     }
@@ -197,9 +204,16 @@ impl Case {
         let places = [0usize, self.n, plus(self.n, 1)];
         fill_nets(a, self.next, 0);
         fill_nets(b, self.next, 2);
-        spoil(a, of_what(self.bad, FIRST, self.n), self.next);
-        spoil(b, of_what(self.bad, SECOND, self.m), self.next);
-        set_trits(trits, self.bad == TRIT, places[self.which as usize % 3]);
+        match self.bad {
+            Bad::First => spoil(a, self.n, self.next),
+            Bad::Second => spoil(b, self.m, self.next),
+            _ => {}
+        }
+        set_trits(
+            trits,
+            self.bad == Bad::Trit,
+            places[self.which as usize % 3],
+        );
     }
 }
 

@@ -1,36 +1,27 @@
-// What is bad in a case of a request: a net of a value, the select or a control, a trit code; and controls and trits of which one may be bad.
-ghost use Rattle.std.specs.Prelude.{◌≡◌, ◌%◌, eqb, length};
+// What is bad in a case of a request: a net of a value, the select or a control, a trit code, the room; and controls and trits of which one may be bad.
+ghost use Rattle.std.specs.Prelude.{◌≡◌, length};
 ghost use Rattle.lists.specs.Choice.{when◌then◌else◌};
 ghost use Rattle.try_kit.specs.Paint.{pattern_of, trit_at_of};
 ghost use Rattle.net_value.specs.declared.ControlNet.TheVariants.{Pos, Neg};
-ghost use Rattle.try_kit.specs.Spoilt.{of_what, select_in, controls_in, trits_in};
+ghost use Rattle.try_kit.specs.Spoilt.{select_in, controls_in, trits_in};
 
 use crate::nets::select_of;
 use crate::paint::fill_trits;
 use net_flip_flop::Controls;
 use net_value::{ControlNet, Net};
 
-pub const NOTHING: u32 = 0;
-
-pub const FIRST: u32 = 1;
-
-pub const SECOND: u32 = 2;
-
-pub const CONTROL: u32 = 3;
-
-pub const TRIT: u32 = 4;
+#[derive(Clone, Copy, Debug, PartialEq, Eq)]
+pub enum Bad {
+    Nothing,
+    First,
+    Second,
+    Control,
+    Trit,
+    // the room for results is one net short
+    Room,
+}
 
 const BAD_CODE: u8 = 3;
-
-// n where this is what is bad, else 0.
-pub fn of_what(bad: u32, what: u32, n: usize) -> usize
-    ensures { result ≡ of_what bad what n }
-{
-    if bad == what {
-        return n;
-    }
-    0
-}
 
 // The select, or no control: Neg of a constant.
 pub fn select_in(neg: bool, bad: bool) -> ControlNet

@@ -3,32 +3,17 @@ use net_logic::Trit;
 use rules::{Refusal, number_of};
 use try_kit::tally::{Tally, add};
 
-// An answer as a number: the number that refuses, or 100 and the value.
-fn trit_number(r: Result<Trit, Refusal>) -> u32 {
-    match r {
-        Ok(t) => 100 + u32::from(net_logic::trit_code(t)),
-        Err(refusal) => refusal.number(),
-    }
-}
-
-pub(crate) fn bool_number(r: Result<bool, Refusal>) -> u32 {
-    match r {
-        Ok(b) => 100 + u32::from(b),
-        Err(refusal) => refusal.number(),
-    }
-}
-
-fn code_case(t: Tally, code: u8, number: u32, back: u8) -> Tally {
-    let t = add(t, trit_number(net_logic::trit_from_code(code)) == number);
+fn code_case(t: Tally, code: u8, want: Result<Trit, Refusal>, back: u8) -> Tally {
+    let t = add(t, net_logic::trit_from_code(code) == want);
     add(t, net_logic::trit_code(net_logic::trit_at(code)) == back)
 }
 
 pub(crate) fn codes(t: Tally) -> Tally {
-    let t = code_case(t, 0, 100, 0);
-    let t = code_case(t, 1, 101, 1);
-    let t = code_case(t, 2, 102, 2);
-    let t = code_case(t, 3, 4, 2);
-    code_case(t, 255, 4, 2)
+    let t = code_case(t, 0, Ok(Trit::Zero), 0);
+    let t = code_case(t, 1, Ok(Trit::One), 1);
+    let t = code_case(t, 2, Ok(Trit::Undef), 2);
+    let t = code_case(t, 3, Err(Refusal::BadValue), 2);
+    code_case(t, 255, Err(Refusal::BadValue), 2)
 }
 
 // One line of each table, by codes: not a, a and b, a or b.
@@ -52,19 +37,19 @@ pub(crate) fn tables(t: Tally) -> Tally {
     line(t, 2, 2, 2, 2, 2)
 }
 
-fn undef_case(t: Tally, a: &[u8], number: u32, undef: bool, good: bool) -> Tally {
-    let t = add(t, bool_number(net_logic::const_is_undef(a)) == number);
+fn undef_case(t: Tally, a: &[u8], want: Result<bool, Refusal>, undef: bool, good: bool) -> Tally {
+    let t = add(t, net_logic::const_is_undef(a) == want);
     let t = add(t, net_logic::is_undef(a) == undef);
     add(t, net_logic::trits_good(a) == good)
 }
 
 pub(crate) fn undefs(t: Tally) -> Tally {
-    let t = undef_case(t, b"", 101, true, true);
-    let t = undef_case(t, b"\x02\x02", 101, true, true);
-    let t = undef_case(t, b"\x02\x01", 100, false, true);
-    let t = undef_case(t, b"\x00", 100, false, true);
-    let t = undef_case(t, b"\x02\x03", 4, false, false);
-    undef_case(t, b"\xff", 4, false, false)
+    let t = undef_case(t, b"", Ok(true), true, true);
+    let t = undef_case(t, b"\x02\x02", Ok(true), true, true);
+    let t = undef_case(t, b"\x02\x01", Ok(false), false, true);
+    let t = undef_case(t, b"\x00", Ok(false), false, true);
+    let t = undef_case(t, b"\x02\x03", Err(Refusal::BadValue), false, false);
+    undef_case(t, b"\xff", Err(Refusal::BadValue), false, false)
 }
 
 // A part of 0 1 2 1 0.

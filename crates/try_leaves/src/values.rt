@@ -1,26 +1,26 @@
 // Values: their tests and parts, and zext, whose lent room holds 201 to 204 before each call.
-use crate::consts::bool_number;
+use rules::Refusal;
 use try_kit::tally::{Tally, add};
 
-fn undef_case(t: Tally, v: &[u32], number: u32, undef: bool, good: bool) -> Tally {
-    let t = add(t, bool_number(net_value::value_is_undef(v)) == number);
+fn undef_case(t: Tally, v: &[u32], want: Result<bool, Refusal>, undef: bool, good: bool) -> Tally {
+    let t = add(t, net_value::value_is_undef(v) == want);
     let t = add(t, net_value::is_undef(v) == undef);
     add(t, net_value::value_good(16777216, v) == good)
 }
 
 pub(crate) fn undefs(t: Tally) -> Tally {
     let none: [u32; 0] = [];
-    let t = undef_case(t, &none, 101, true, true);
+    let t = undef_case(t, &none, Ok(true), true, true);
     let all = [4294967295u32, 4294967295];
-    let t = undef_case(t, &all, 101, true, true);
+    let t = undef_case(t, &all, Ok(true), true, true);
     let one = [4294967295u32, 1];
-    let t = undef_case(t, &one, 100, false, true);
+    let t = undef_case(t, &one, Ok(false), false, true);
     let nets = [0u32, 1, 2, 16777215];
-    let t = undef_case(t, &nets, 100, false, true);
+    let t = undef_case(t, &nets, Ok(false), false, true);
     let past = [4294967295u32, 16777216];
-    let t = undef_case(t, &past, 4, false, false);
+    let t = undef_case(t, &past, Err(Refusal::BadValue), false, false);
     let below = [4294967294u32, 4294967295];
-    undef_case(t, &below, 4, false, false)
+    undef_case(t, &below, Err(Refusal::BadValue), false, false)
 }
 
 // A part of 10 11 12 13 14.

@@ -14,6 +14,7 @@ enum Want<'a> {
     Sum(u64),
 }
 
+// (As in try_record, with `given`: a public function that prints would need a contract over the stream, longer than both.)
 fn say_if(rt: &impl Print, test: bool, yes: &str, no: &str) -> io::Result<()> {
     if test { rt.print(yes) } else { rt.print(no) }
 }

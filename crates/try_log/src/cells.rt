@@ -1,20 +1,20 @@
-// The ten requests that log one entry: the number and the log expected of each case, the call, and the comparison.
+// The ten requests that log one entry: the answer and the log expected of each case, the call, and the comparison.
 use lists::copy_u8_to_u32;
 use log_entries::LogState;
 use rules::{FIRST_CELL, MAX_MERGE, Refusal};
-use try_kit::borders::state_number;
+use try_kit::borders::state_refusal;
 use try_kit::numbered;
 use try_kit::numbered::Tally;
 use try_kit::paint::paint;
 use try_kit::requests::{Case, Inputs, Request, Trial};
-use try_kit::spoilt::{CONTROL, FIRST, SECOND, TRIT};
+use try_kit::spoilt::Bad;
 use try_kit::words::{net_above, plus, word};
 
 const LOG_WORDS: usize = 16640;
 
 const STRIDE: u32 = 3;
 
-// ---- the number expected
+// ---- the answer expected
 
 // Whether a request compares its two lengths.
 fn is_paired(request: Request) -> bool {
@@ -27,8 +27,8 @@ fn is_paired(request: Request) -> bool {
 // A control is bad: the one that was spoilt, or one of net 2 where that is no net yet.
 fn control_bad(c: Case) -> bool {
     match c.request {
-        Request::Mux => c.bad == CONTROL || c.neg && c.next <= FIRST_CELL,
-        Request::Dff => c.bad == CONTROL || c.next <= FIRST_CELL,
+        Request::Mux => c.bad == Bad::Control || c.neg && c.next <= FIRST_CELL,
+        Request::Dff => c.bad == Bad::Control || c.next <= FIRST_CELL,
         _ => false,
     }
 }
@@ -37,24 +37,24 @@ fn control_bad(c: Case) -> bool {
 fn spoilt(c: Case) -> bool {
     match c.request {
         Request::Void => false,
-        Request::Not => c.bad == FIRST,
-        Request::Dff => c.bad == FIRST || c.bad == TRIT,
-        _ => c.bad == FIRST || c.bad == SECOND,
+        Request::Not => c.bad == Bad::First,
+        Request::Dff => matches!(c.bad, Bad::First | Bad::Trit),
+        _ => matches!(c.bad, Bad::First | Bad::Second),
     }
 }
 
 // 1, 2 and 4 of a case.
-fn input_number(c: Case) -> u32 {
+fn check_input(c: Case) -> Result<(), Refusal> {
     if c.request == Request::Mux && MAX_MERGE < c.m {
-        return 1;
+        return Err(Refusal::TooLarge);
     }
     if is_paired(c.request) && c.n != c.m {
-        return 2;
+        return Err(Refusal::BadShape);
     }
     if control_bad(c) || 0 < c.n && spoilt(c) {
-        return 4;
+        return Err(Refusal::BadValue);
     }
-    0
+    Ok(())
 }
 
 // The words of a case's entry, and the nets that it makes.
@@ -66,14 +66,13 @@ fn results(c: Case) -> usize {
     c.request.results(c.n)
 }
 
-// The number that a case expects.
-fn number(c: Case) -> u32 {
-    let first = input_number(c);
-    if first != 0 {
-        return first;
-    }
-    let end = plus(c.used, words(c));
-    state_number(c.room, end, c.next, net_above(c.next, results(c)))
+// The answer that a case expects.
+fn wanted(c: Case) -> Result<LogState, Refusal> {
+    check_input(c)?;
+    let used = plus(c.used, words(c));
+    let next = net_above(c.next, results(c));
+    state_refusal(c.room, used, c.next, next)?;
+    Ok(LogState { used, next })
 }
 
 // ---- the entry expected
@@ -137,9 +136,9 @@ fn put_entry(want: &mut [u32], c: Case, x: Inputs<'_>) {
 }
 
 // The log expected.
-fn want_entry(want: &mut [u32], n: u32, c: Case, x: Inputs<'_>) {
+fn want_entry(want: &mut [u32], accepted: bool, c: Case, x: Inputs<'_>) {
     paint(want);
-    if n == 0 {
+    if accepted {
         put_entry(want, c, x);
     }
 }
@@ -177,22 +176,11 @@ fn call_in(log: &mut [u32], c: Case, x: Inputs<'_>) -> Result<LogState, Refusal>
     call(&mut log[..room], st, c, x)
 }
 
-// Whether an answer is the one expected.
-fn answered(c: Case, n: u32, r: Result<LogState, Refusal>) -> bool {
-    match r {
-        Err(e) => e.number() == n,
-        Ok(s) => {
-            n == 0 && s.used == plus(c.used, words(c)) && s.next == net_above(c.next, results(c))
-        }
-    }
-}
-
 // The call on a painted log, of which every word is compared.
-fn compared(c: Case, n: u32, want: &[u32], x: Inputs<'_>) -> bool {
+fn compared(c: Case, answer: Result<LogState, Refusal>, want: &[u32], x: Inputs<'_>) -> bool {
     let mut log = [0u32; LOG_WORDS];
     paint(&mut log);
-    let r = call_in(&mut log, c, x);
-    answered(c, n, r) && &log[..] == want
+    call_in(&mut log, c, x) == answer && &log[..] == want
 }
 
 pub(crate) struct OneEntry;
@@ -200,8 +188,9 @@ pub(crate) struct OneEntry;
 impl Trial for OneEntry {
     fn tried(t: Tally, c: Case, x: Inputs<'_>) -> Tally {
         let mut want = [0u32; LOG_WORDS];
-        let n = number(c);
-        want_entry(&mut want, n, c, x);
-        numbered::add(t, n, compared(c, n, &want, x))
+        let answer = wanted(c);
+        want_entry(&mut want, answer.is_ok(), c, x);
+        let ok = compared(c, answer, &want, x);
+        numbered::add(t, answer.err().map_or(0, Refusal::number), ok)
     }
 }

@@ -1,80 +1,36 @@
-// The calls that only look at a memory.
-use crate::case;
+// The calls that only look at a memory, each over a case.
 use crate::case::Case;
-use net_memory::Memory;
 use port_outputs::OutputSlice;
 use rules::Refusal;
 
-// What is called: the test of a memory, output_len, can_lower_fallback, and read_port_output_slice.
-#[derive(Clone, Copy, Debug, PartialEq, Eq)]
-pub(crate) enum Call {
-    Refusal,
-    Len,
-    CanLower,
-    Slice,
-}
-
-// The number that refuses, or 1000000 and the length.
-fn len_code(r: Result<usize, Refusal>) -> u64 {
-    match r {
-        Err(refusal) => refusal.number() as u64,
-        Ok(n) => 1000000 + ((n % 1000000) as u64),
-    }
-}
-
-// The number that refuses, or 1000000, 1000 times the start and the size.
-fn slice_code(r: Result<OutputSlice, Refusal>) -> u64 {
-    match r {
-        Err(refusal) => refusal.number() as u64,
-        Ok(OutputSlice { start, size }) => {
-            1000000 + 1000 * ((start % 1000) as u64) + ((size % 1000) as u64)
-        }
-    }
-}
-
-// The number that refuses, or 1000001 for yes and 1000000 for no.
-fn can_code(r: Result<bool, Refusal>) -> u64 {
-    match r {
-        Err(refusal) => refusal.number() as u64,
-        Ok(yes) => 1000000 + (yes as u64),
-    }
-}
-
-fn answer(m: Memory, nets: &[u32], trits: &[u8], call: Call, port: usize) -> u64 {
-    match call {
-        Call::Refusal => rules::number_of(net_check::memory_refusal(m, nets, trits)) as u64,
-        Call::Len => len_code(port_outputs::output_len(m, nets, trits)),
-        Call::CanLower => can_code(port_outputs::can_lower_fallback(m, nets, trits)),
-        Call::Slice => slice_code(port_outputs::read_port_output_slice(m, nets, trits, port)),
-    }
-}
-
-// A call over a case.
-pub(crate) fn look(c: Case, call: Call, port: usize) -> u64 {
-    let nets = case::nets_of(c);
-    let trits = case::trits_of(c);
-    let m = c.m;
-    answer(
-        m,
-        lists::part(&nets, 0, c.nets),
-        lists::part(&trits, 0, c.trits),
-        call,
-        port,
-    )
+pub(crate) fn memory_refusal(c: Case) -> Result<(), Refusal> {
+    let lent = c.lent();
+    net_check::memory_refusal(c.given(&lent))
 }
 
 // The test of a memory with a next free net, and what else breaks 1, 2 or 4.
-pub(crate) fn number(c: Case, next: u32, one: bool, two: bool, four: bool) -> u32 {
-    let nets = case::nets_of(c);
-    let trits = case::trits_of(c);
-    let m = c.m;
-    rules::number_of(net_check::call_refusal(
-        m,
-        lists::part(&nets, 0, c.nets),
-        lists::part(&trits, 0, c.trits),
-        next,
-        one,
-        two,
-        four,
-    ))
+pub(crate) fn call_refusal(
+    c: Case,
+    next: u32,
+    one: bool,
+    two: bool,
+    four: bool,
+) -> Result<(), Refusal> {
+    let lent = c.lent();
+    net_check::call_refusal(c.given(&lent), next, one, two, four)
+}
+
+pub(crate) fn output_len(c: Case) -> Result<usize, Refusal> {
+    let lent = c.lent();
+    port_outputs::output_len(c.given(&lent))
+}
+
+pub(crate) fn can_lower_fallback(c: Case) -> Result<bool, Refusal> {
+    let lent = c.lent();
+    port_outputs::can_lower_fallback(c.given(&lent))
+}
+
+pub(crate) fn output_slice(c: Case, port: usize) -> Result<OutputSlice, Refusal> {
+    let lent = c.lent();
+    port_outputs::read_port_output_slice(c.given(&lent), port)
 }

@@ -1,11 +1,12 @@
 // A memory with what it is lent: nets that are 5 and trits that are 1, as many as it says, with one of each put in another's place.
-use net_memory::Memory;
+use net_memory::{Given, Memory};
 
 // Places for nets and trits.
 const NETS: usize = 600;
 
 const TRITS: usize = 34900;
 
+// (try_extract's case has outputs, rooms and contents of its own: one struct for both would need a contract for each constructor.)
 // How many nets and trits are lent, and the net and the trit that are put at a place, if it is there.
 #[derive(Clone, Copy)]
 pub(crate) struct Case {
@@ -16,6 +17,13 @@ pub(crate) struct Case {
     pub(crate) net: u32,
     pub(crate) trit_at: usize,
     pub(crate) trit: u8,
+}
+
+// The arrays that a case lends.
+#[derive(Drop)]
+pub(crate) struct Lent {
+    nets: [u32; NETS],
+    trits: [u8; TRITS],
 }
 
 // The memory with as much as it says.
@@ -31,34 +39,45 @@ pub(crate) fn of(m: Memory) -> Case {
     }
 }
 
-pub(crate) fn with_net(c: Case, at: usize, net: u32) -> Case {
-    Case {
-        net_at: at,
-        net,
-        ..c
+impl Case {
+    pub(crate) fn with_net(self, at: usize, net: u32) -> Case {
+        Case {
+            net_at: at,
+            net,
+            ..self
+        }
     }
-}
 
-pub(crate) fn with_trit(c: Case, at: usize, trit: u8) -> Case {
-    Case {
-        trit_at: at,
-        trit,
-        ..c
+    pub(crate) fn with_trit(self, at: usize, trit: u8) -> Case {
+        Case {
+            trit_at: at,
+            trit,
+            ..self
+        }
     }
-}
 
-pub(crate) fn with_lens(c: Case, nets: usize, trits: usize) -> Case {
-    Case { nets, trits, ..c }
-}
+    pub(crate) fn with_lens(self, nets: usize, trits: usize) -> Case {
+        Case {
+            nets,
+            trits,
+            ..self
+        }
+    }
 
-pub(crate) fn nets_of(c: Case) -> [u32; NETS] {
-    let mut lent = [5u32; NETS];
-    lists::put(&mut lent, c.net_at, c.net);
-    lent
-}
+    pub(crate) fn lent(self) -> Lent {
+        let mut nets = [5u32; NETS];
+        let mut trits = [1u8; TRITS];
+        lists::put(&mut nets, self.net_at, self.net);
+        lists::put(&mut trits, self.trit_at, self.trit);
+        Lent { nets, trits }
+    }
 
-pub(crate) fn trits_of(c: Case) -> [u8; TRITS] {
-    let mut lent = [1u8; TRITS];
-    lists::put(&mut lent, c.trit_at, c.trit);
-    lent
+    // What the calls are given of it.
+    pub(crate) fn given(self, lent: &Lent) -> Given<'_> {
+        Given {
+            memory: self.m,
+            nets: lists::part(&lent.nets, 0, self.nets),
+            trits: lists::part(&lent.trits, 0, self.trits),
+        }
+    }
 }

@@ -1,27 +1,27 @@
 // output_len, read_port_output_slice and can_lower_fallback.
 use crate::calls;
-use crate::calls::Call;
 use crate::case::of;
 use net_memory::Memory;
 use net_value::ControlNet;
+use port_outputs::OutputSlice;
+use rules::Refusal;
+use rules::Refusal::{BadDepth, OutOfRange};
 use try_kit::samples::{
     base, memory, neg, plain, pos, read_port, with_sizes, with_write, write_by,
 };
 use try_kit::tally::{Tally, add};
 
-fn length_is(t: Tally, m: Memory, len: u64) -> Tally {
-    add(t, calls::look(of(m), Call::Len, 0) == 1000000 + len % 1000)
+fn length_is(t: Tally, m: Memory, len: usize) -> Tally {
+    add(t, calls::output_len(of(m)) == Ok(len))
 }
 
-fn slice_is(t: Tally, m: Memory, port: usize, start: u64, size: u64) -> Tally {
-    add(
-        t,
-        calls::look(of(m), Call::Slice, port) == 1000000 + 1000 * (start % 1000) + size % 1000,
-    )
+fn slice_is(t: Tally, m: Memory, port: usize, start: usize, size: usize) -> Tally {
+    let slice = OutputSlice { start, size };
+    add(t, calls::output_slice(of(m), port) == Ok(slice))
 }
 
-fn no_slice(t: Tally, m: Memory, port: usize, number: u64) -> Tally {
-    add(t, calls::look(of(m), Call::Slice, port) == number)
+fn no_slice(t: Tally, m: Memory, port: usize, refusal: Refusal) -> Tally {
+    add(t, calls::output_slice(of(m), port) == Err(refusal))
 }
 
 // Eight read ports with four data bits.
@@ -38,17 +38,17 @@ pub(crate) fn outputs(t: Tally) -> Tally {
     let t = slice_is(t, base(), 0, 0, 8);
     let t = slice_is(t, base(), 1, 8, 2);
     let t = slice_is(t, base(), 2, 10, 2);
-    let t = no_slice(t, base(), 3, 15);
+    let t = no_slice(t, base(), 3, OutOfRange);
     let t = length_is(t, eight(), 32);
     let t = slice_is(t, eight(), 7, 28, 4);
-    let t = no_slice(t, eight(), 8, 15);
-    let t = no_slice(t, eight(), 18446744073709551615, 15);
+    let t = no_slice(t, eight(), 8, OutOfRange);
+    let t = no_slice(t, eight(), 18446744073709551615, OutOfRange);
     let t = length_is(t, seven(), 28);
-    let t = no_slice(t, seven(), 7, 15);
+    let t = no_slice(t, seven(), 7, OutOfRange);
     let t = slice_is(t, seven(), 6, 24, 4);
-    let t = no_slice(t, with_sizes(base(), 6, 2, 12, 2, 3), 3, 3);
+    let t = no_slice(t, with_sizes(base(), 6, 2, 12, 2, 3), 3, BadDepth);
     let t = length_is(t, plain(4, 1, 4), 0);
-    no_slice(t, plain(4, 1, 4), 0, 15)
+    no_slice(t, plain(4, 1, 4), 0, OutOfRange)
 }
 
 // Write ports, all with net 9 as their clock but for one.
@@ -66,11 +66,11 @@ fn clocked(writes: u32, at: usize, clock: ControlNet) -> Memory {
 }
 
 fn yes(t: Tally, m: Memory) -> Tally {
-    add(t, calls::look(of(m), Call::CanLower, 0) == 1000001)
+    add(t, calls::can_lower_fallback(of(m)) == Ok(true))
 }
 
 fn no(t: Tally, m: Memory) -> Tally {
-    add(t, calls::look(of(m), Call::CanLower, 0) == 1000000)
+    add(t, calls::can_lower_fallback(of(m)) == Ok(false))
 }
 
 // One clock is one net with one sign; ports that are not in use do not count.

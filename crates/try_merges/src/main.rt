@@ -1,17 +1,17 @@
 // Tries the merging muxes: five lengths, three rooms and five next free nets; with good values, with a bad net in the first or in the second value, with a
-// bad select, with a room for results that is one net short, and with one value a bit longer than the other. Every lent word holds a pattern before a call, and every word of log, state and result is compared after it with what a plain computation
-// expects, which finds the distinct pairs by a plain search.
+// bad select, with a room for results that is one net short, and with one value a bit longer than the other. Every lent word holds a pattern before a call,
+// and every word of log, state and result is compared after it with what a plain computation expects, which finds the distinct pairs by a plain search.
 #![tactic(auto)]
 
 use log_entries::LogState;
 use rules::{FIRST_CELL, MAX_MERGE, MAX_NETS, Refusal};
 use std::io;
-use try_kit::borders::{length_at, room_at, state_number};
+use try_kit::borders::{length_at, room_at, state_refusal};
 use try_kit::nets::{fill_nets, net_at, spoil};
 use try_kit::numbered;
 use try_kit::numbered::Tally;
 use try_kit::paint::paint;
-use try_kit::spoilt::{CONTROL, FIRST, NOTHING, SECOND, of_what, select_in};
+use try_kit::spoilt::{Bad, select_in};
 use try_kit::words::{net_above, plus, word};
 
 // The nets and the words that a buffer has room for.
@@ -164,19 +164,25 @@ fn expect_runs(
     state
 }
 
-// What is wrong in a case beside what `spoilt` lists: the room for results is one net short.
-const ROOM: u32 = 4;
-
-// A merge: whether it is the bitwise one, its values' lengths, whether its select is Neg, what is wrong, and the next free net.
+// A merge's case: its values' lengths, whether its select is Neg, what is bad, and the next free net.
 #[derive(Clone, Copy)]
 struct Case {
-    bitwise: bool,
     n: usize,
     m: usize,
     neg: bool,
-    bad: u32,
+    bad: Bad,
     next: u32,
 }
+
+// Where the last is, one value is longer.
+const BADS: [Bad; 6] = [
+    Bad::Nothing,
+    Bad::First,
+    Bad::Second,
+    Bad::Control,
+    Bad::Room,
+    Bad::Nothing,
+];
 
 fn next_at(k: u32) -> u32 {
     match k {
@@ -188,97 +194,154 @@ fn next_at(k: u32) -> u32 {
     }
 }
 
-fn case_at(bitwise: bool, k: u32) -> Case {
-    let n = length_at(k % 5);
-    let variant = k / 75 % 6;
-    Case {
-        bitwise,
-        n,
-        m: if variant == 5 { plus(n, 1) } else { n },
-        neg: k % 2 == 1,
-        bad: if variant == 5 { NOTHING } else { variant },
-        next: next_at(k / 5 % 5),
+impl Case {
+    fn at(k: u32) -> Case {
+        let n = length_at(k % 5);
+        let variant = k as usize / 75 % 6;
+        Case {
+            n,
+            m: if variant == 5 { plus(n, 1) } else { n },
+            neg: k % 2 == 1,
+            bad: BADS[variant],
+            next: next_at(k / 5 % 5),
+        }
+    }
+
+    // The state that the log is lent in.
+    fn state(self) -> LogState {
+        LogState {
+            used: 3,
+            next: self.next,
+        }
+    }
+
+    // The room for results: all nets that a buffer has, or one less than the merge makes.
+    fn out_room(self) -> usize {
+        if self.bad == Bad::Room {
+            return self.n.saturating_sub(1);
+        }
+        NETS
+    }
+
+    // A value is spoilt; the select of a bitwise mux is one.
+    fn spoilt(self) -> bool {
+        0 < self.n && matches!(self.bad, Bad::First | Bad::Second | Bad::Control)
+    }
+}
+
+// One of the two merges.
+trait Merge {
+    // The select is bad, apart from a value that is spoilt.
+    fn select_bad(c: Case) -> bool;
+
+    fn expect(
+        c: Case,
+        want: &mut [u32],
+        s: &[u32],
+        a: &[u32],
+        b: &[u32],
+        nets: &mut [u32],
+    ) -> LogState;
+
+    fn call(
+        c: Case,
+        log: &mut [u32],
+        s: &[u32],
+        a: &[u32],
+        b: &[u32],
+        out: &mut [u32],
+    ) -> Result<LogState, Refusal>;
+}
+
+struct DedupMux;
+
+impl Merge for DedupMux {
+    // It is no control, or Neg of net 2, which is no net yet.
+    fn select_bad(c: Case) -> bool {
+        c.bad == Bad::Control || c.neg && c.next <= FIRST_CELL
+    }
+
+    fn expect(
+        c: Case,
+        want: &mut [u32],
+        _: &[u32],
+        a: &[u32],
+        b: &[u32],
+        nets: &mut [u32],
+    ) -> LogState {
+        let net = if c.neg { 2 } else { 1 };
+        expect_run(want, c.state(), c.neg, net, a, b, 0, a.len(), nets)
+    }
+
+    fn call(
+        c: Case,
+        log: &mut [u32],
+        _: &[u32],
+        a: &[u32],
+        b: &[u32],
+        out: &mut [u32],
+    ) -> Result<LogState, Refusal> {
+        let select = select_in(c.neg, c.bad == Bad::Control);
+        merge_mux::add_dedup_mux(log, c.state(), out, select, a, b)
+    }
+}
+
+struct BitwiseMux;
+
+impl Merge for BitwiseMux {
+    fn select_bad(_: Case) -> bool {
+        false
+    }
+
+    fn expect(
+        c: Case,
+        want: &mut [u32],
+        s: &[u32],
+        a: &[u32],
+        b: &[u32],
+        nets: &mut [u32],
+    ) -> LogState {
+        expect_runs(want, c.state(), s, a, b, nets)
+    }
+
+    fn call(
+        c: Case,
+        log: &mut [u32],
+        s: &[u32],
+        a: &[u32],
+        b: &[u32],
+        out: &mut [u32],
+    ) -> Result<LogState, Refusal> {
+        merge_mux::add_bitwise_mux(log, c.state(), out, s, a, b)
     }
 }
 
 // 1, 2 and 4 of a case.
-fn input_number(c: Case) -> u32 {
+fn check_input<M: Merge>(c: Case) -> Result<(), Refusal> {
     if MAX_MERGE < c.m {
-        return 1;
+        return Err(Refusal::TooLarge);
     }
     if c.n != c.m {
-        return 2;
+        return Err(Refusal::BadShape);
     }
-    if select_bad(c) {
-        return 4;
+    if M::select_bad(c) || c.spoilt() {
+        return Err(Refusal::BadValue);
     }
-    if 0 < c.n && spoilt(c.bad) { 4 } else { 0 }
+    Ok(())
 }
 
-// The select of a merging mux is bad: it is no control, or Neg of net 2, which is no net yet.
-fn select_bad(c: Case) -> bool {
-    !c.bitwise && (c.bad == CONTROL || c.neg && c.next <= FIRST_CELL)
-}
-
-// A value is spoilt; the select of a bitwise mux is one.
-fn spoilt(bad: u32) -> bool {
-    bad != NOTHING && bad < ROOM
-}
-
-// The number that a case expects, where an accepted call would end in the state given.
-fn number(c: Case, room: usize, wanted: LogState) -> u32 {
-    let first = input_number(c);
-    if first != 0 {
-        return first;
+// The answer that a case expects, where an accepted call would end in the state given.
+fn wanted<M: Merge>(c: Case, room: usize, end: LogState) -> Result<LogState, Refusal> {
+    check_input::<M>(c)?;
+    if c.out_room() < c.n {
+        return Err(Refusal::NoRoom);
     }
-    if out_room(c) < c.n {
-        return 20;
-    }
-    state_number(room, wanted.used, c.next, wanted.next)
+    state_refusal(room, end.used, c.next, end.next)?;
+    Ok(end)
 }
 
-fn expect(
-    c: Case,
-    want: &mut [u32],
-    s: &[u32],
-    a: &[u32],
-    b: &[u32],
-    nets: &mut [u32],
-) -> LogState {
-    let st = LogState {
-        used: 3,
-        next: c.next,
-    };
-    if c.bitwise {
-        return expect_runs(want, st, s, a, b, nets);
-    }
-    let net = if c.neg { 2 } else { 1 };
-    expect_run(want, st, c.neg, net, a, b, 0, a.len(), nets)
-}
-
-fn paint_and_expect(
-    c: Case,
-    want: &mut [u32],
-    s: &[u32],
-    a: &[u32],
-    b: &[u32],
-    nets: &mut [u32],
-) -> LogState {
-    paint(want);
-    paint(nets);
-    expect(c, want, s, a, b, nets)
-}
-
-// The room for results: all nets that a buffer has, or one less than the merge makes.
-fn out_room(c: Case) -> usize {
-    if c.bad == ROOM {
-        return c.n.saturating_sub(1);
-    }
-    NETS
-}
-
-// The call, in the room lent.
-fn call(
+// The call, in the rooms lent.
+fn call_in<M: Merge>(
     c: Case,
     room: usize,
     log: &mut [u32],
@@ -287,58 +350,18 @@ fn call(
     b: &[u32],
     out: &mut [u32],
 ) -> Result<LogState, Refusal> {
-    let st = LogState {
-        used: 3,
-        next: c.next,
-    };
-    if log.len() < room {
+    let end = c.out_room();
+    if log.len() < room || out.len() < end {
         // no case expects this one
         return Err(Refusal::OutOfRange);
     }
-    if c.bitwise {
-        return merge_mux::add_bitwise_mux(&mut log[..room], st, out, s, a, b);
-    }
-    merge_mux::add_dedup_mux(
-        &mut log[..room],
-        st,
-        out,
-        select_in(c.neg, c.bad == CONTROL),
-        a,
-        b,
-    )
-}
-
-// The same, in the room for results.
-fn call_in(
-    c: Case,
-    room: usize,
-    log: &mut [u32],
-    s: &[u32],
-    a: &[u32],
-    b: &[u32],
-    out: &mut [u32],
-) -> Result<LogState, Refusal> {
-    let end = out_room(c);
-    if out.len() < end {
-        // no case expects this one
-        return Err(Refusal::OutOfRange);
-    }
-    call(c, room, log, s, a, b, &mut out[..end])
-}
-
-// Whether an answer is the one expected.
-fn answered(n: u32, wanted: LogState, r: Result<LogState, Refusal>) -> bool {
-    match r {
-        Err(e) => e.number() == n,
-        Ok(state) => n == 0 && state.used == wanted.used && state.next == wanted.next,
-    }
+    M::call(c, &mut log[..room], s, a, b, &mut out[..end])
 }
 
 // The call and its comparison: every word of the log and of the result nets.
-fn compare(
+fn compare<M: Merge>(
     c: Case,
-    n: u32,
-    wanted: LogState,
+    wanted: Result<LogState, Refusal>,
     room: usize,
     s: &[u32],
     a: &[u32],
@@ -350,29 +373,25 @@ fn compare(
     let mut out = [0u32; NETS];
     paint(&mut log);
     paint(&mut out);
-    let r = call_in(c, room, &mut log, s, a, b, &mut out);
-    answered(n, wanted, r) && &log[..] == want && &out[..] == nets
+    let r = call_in::<M>(c, room, &mut log, s, a, b, &mut out);
+    r == wanted && &log[..] == want && &out[..] == nets
 }
 
-// A refused call leaves all as it was.
-fn unset(n: u32, want: &mut [u32], nets: &mut [u32]) {
-    if n == 0 {
-        return;
-    }
-    paint(want);
-    paint(nets);
-}
-
-// A case: the words and nets expected are set first.
-fn try_case(t: Tally, c: Case, mode: u32, s: &[u32], a: &[u32], b: &[u32]) -> Tally {
+// A case: the words and nets expected are set first. A refused call leaves all as it was.
+fn try_case<M: Merge>(t: Tally, c: Case, mode: u32, s: &[u32], a: &[u32], b: &[u32]) -> Tally {
     let mut want = [0u32; LOG_WORDS];
     let mut nets = [0u32; NETS];
-    let wanted = paint_and_expect(c, &mut want, s, a, b, &mut nets);
-    let room = room_at(mode, 0, wanted.used);
-    let n = number(c, room, wanted);
-    unset(n, &mut want, &mut nets);
-    let ok = compare(c, n, wanted, room, s, a, b, &want, &nets);
-    numbered::add(t, n, ok)
+    paint(&mut want);
+    paint(&mut nets);
+    let end = M::expect(c, &mut want, s, a, b, &mut nets);
+    let room = room_at(mode, 0, end.used);
+    let answer = wanted::<M>(c, room, end);
+    if answer.is_err() {
+        paint(&mut want);
+        paint(&mut nets);
+    }
+    let ok = compare::<M>(c, answer, room, s, a, b, &want, &nets);
+    numbered::add(t, answer.err().map_or(0, Refusal::number), ok)
 }
 
 // Selects in runs of nine.
@@ -387,18 +406,21 @@ fn set_nets(c: Case, s: &mut [u32], a: &mut [u32], b: &mut [u32]) {
     fill_nets(b, c.next, 2);
     fill_selects(s, c.next);
     fill_nets(a, c.next, 0);
-    spoil(s, of_what(c.bad, CONTROL, c.n), c.next);
-    spoil(a, of_what(c.bad, FIRST, c.n), c.next);
-    spoil(b, of_what(c.bad, SECOND, c.m), c.next);
+    match c.bad {
+        Bad::Control => spoil(s, c.n, c.next),
+        Bad::First => spoil(a, c.n, c.next),
+        Bad::Second => spoil(b, c.m, c.next),
+        _ => {}
+    }
 }
 
-fn set_and_try(t: Tally, bitwise: bool, k: u32) -> Tally {
+fn set_and_try<M: Merge>(t: Tally, k: u32) -> Tally {
     let mut s = [0u32; NETS];
     let mut a = [0u32; NETS];
     let mut b = [0u32; NETS];
-    let c = case_at(bitwise, k);
+    let c = Case::at(k);
     set_nets(c, &mut s, &mut a, &mut b);
-    try_case(
+    try_case::<M>(
         t,
         c,
         k / 25 % 3,
@@ -409,15 +431,15 @@ fn set_and_try(t: Tally, bitwise: bool, k: u32) -> Tally {
 }
 
 // All the cases of one of the two merges.
-fn cases(bitwise: bool) -> Tally {
+fn cases<M: Merge>() -> Tally {
     let mut t = numbered::start();
     for k in 0..CASES {
-        t = set_and_try(t, bitwise, k);
+        t = set_and_try::<M>(t, k);
     }
     t
 }
 
 fn main(rt: HostRuntime) -> io::Result<()> {
-    println!(rt; "add_dedup_mux: {}", cases(false))?;
-    println!(rt; "add_bitwise_mux: {}", cases(true))
+    println!(rt; "add_dedup_mux: {}", cases::<DedupMux>())?;
+    println!(rt; "add_bitwise_mux: {}", cases::<BitwiseMux>())
 }

@@ -12,6 +12,7 @@ use try_kit::sums::sum_of;
 
 // ---- answers
 
+// (As in try_listing, with `given`: a public function that prints would need a contract over the stream, longer than both.)
 fn say_if(rt: &impl Print, test: bool, yes: &str, no: &str) -> io::Result<()> {
     if test { rt.print(yes) } else { rt.print(no) }
 }

@@ -4,15 +4,11 @@ use log_entries::LogState;
 use net_memory::{Given, Memory};
 use port_unmap::Driven;
 use rules::Refusal;
+use rules::Refusal::{BadValue, NetsFull, NoRoom, OutOfRange};
 use try_kit::tally::Tally;
 use try_kit::{paint, samples, tally};
 
 const ROOM: usize = 80;
-
-// The state is this one.
-fn state_is(st: LogState, used: usize, next: u32) -> bool {
-    st.used == used && st.next == next
-}
 
 // The sizes are the sample's, and its read port has no flip-flop.
 fn memory_is(m: Memory) -> bool {
@@ -28,18 +24,7 @@ fn memory_is(m: Memory) -> bool {
 
 // The call is accepted, with this state, and the sample's memory without the flip-flop.
 fn unmapped(r: Result<Driven, Refusal>, used: usize, next: u32) -> bool {
-    match r {
-        Err(_) => false,
-        Ok(driven) => state_is(driven.state, used, next) && memory_is(driven.memory),
-    }
-}
-
-// The call is refused by this number.
-fn refused_as(r: Result<Driven, Refusal>, number: u32) -> bool {
-    match r {
-        Err(refusal) => refusal.number() == number,
-        Ok(_) => false,
-    }
+    r.is_ok_and(|d| d.state == LogState { used, next } && memory_is(d.memory))
 }
 
 // The read port's flip-flop becomes a cell behind it.
@@ -84,8 +69,8 @@ pub(crate) fn unclocked(t: Tally) -> Tally {
     tally::add(t, output[0] == 80)
 }
 
-// One refused call: the number, and every lent word as it was. So many words of the log are used, and the outputs are net `out`.
-fn refused_by(t: Tally, number: u32, used: usize, next: u32, out: u32, port: usize) -> Tally {
+// One refused call: the refusal, and every lent word as it was. So many words of the log are used, and the outputs are net `out`.
+fn refused_by(t: Tally, refusal: Refusal, used: usize, next: u32, out: u32, port: usize) -> Tally {
     let mut log = [0u32; ROOM];
     paint::paint(&mut log);
     let mut output = [out];
@@ -98,7 +83,7 @@ fn refused_by(t: Tally, number: u32, used: usize, next: u32, out: u32, port: usi
         trits: &trits,
     };
     let r = port_unmap::unmap_read_dff(&mut log, st, &mut output, given, port);
-    let t = tally::add(t, refused_as(r, number));
+    let t = tally::add(t, r.err() == Some(refusal));
     let t = tally::add(t, paint::painted(&log, 0));
     tally::add(t, output[0] == out)
 }
@@ -107,11 +92,11 @@ fn refused_by(t: Tally, number: u32, used: usize, next: u32, out: u32, port: usi
 pub(crate) fn refused(t: Tally) -> Tally {
     let short = ROOM - sample::WORDS + 1;
     let few = rules::MAX_NETS - sample::NETS + 1;
-    let t = refused_by(t, 4, 0, 200, 200, 0);
-    let t = refused_by(t, 15, 0, 200, 80, 1);
-    let t = refused_by(t, 20, short, 200, 80, 0);
-    let t = refused_by(t, 21, 0, few, 80, 0);
-    let t = refused_by(t, 4, 0, 200, 200, 1);
-    let t = refused_by(t, 15, short, 200, 80, 1);
-    refused_by(t, 20, short, few, 80, 0)
+    let t = refused_by(t, BadValue, 0, 200, 200, 0);
+    let t = refused_by(t, OutOfRange, 0, 200, 80, 1);
+    let t = refused_by(t, NoRoom, short, 200, 80, 0);
+    let t = refused_by(t, NetsFull, 0, few, 80, 0);
+    let t = refused_by(t, BadValue, 0, 200, 200, 1);
+    let t = refused_by(t, OutOfRange, short, 200, 80, 1);
+    refused_by(t, NoRoom, short, few, 80, 0)
 }

@@ -7,15 +7,9 @@ mod sample;
 
 use std::io;
 use try_kit::tally;
-use try_kit::tally::Tally;
-
-// A line with a group's name and its counts.
-fn report(rt: &impl Print, name: &str, t: Tally) -> io::Result<()> {
-    println!(rt; "{name}: {t}")
-}
 
 fn main(rt: HostRuntime) -> io::Result<()> {
-    report(&rt, "unmapped", cases::accepted(tally::start()))?;
-    report(&rt, "no flip-flop", cases::unclocked(tally::start()))?;
-    report(&rt, "refused", cases::refused(tally::start()))
+    println!(rt; "unmapped: {}", cases::accepted(tally::start()))?;
+    println!(rt; "no flip-flop: {}", cases::unclocked(tally::start()))?;
+    println!(rt; "refused: {}", cases::refused(tally::start()))
 }
