@@ -10,6 +10,7 @@ ghost use Rattle.c_log.specs.View.{given_controls, controls_struct, logged_struc
 use c_net::Control;
 use log_entries::LogState;
 use log_requests::{PosNet, Remapped};
+use net_value::ControlNet;
 use rules::Refusal;
 
 pub mod merges;
@@ -56,10 +57,10 @@ pub struct ControlsLogged {
 pub fn controls_net(c: Controls) -> net_flip_flop::Controls
     ensures { controls_of result ≡ given_controls c }
 {
-    let clock = c_net::control_net(c.clock);
-    let clear = c_net::control_net(c.clear);
+    let clock = ControlNet::from(c.clock);
+    let clear = ControlNet::from(c.clear);
     let reset = c_net::flagged_control(c.reset, c.reset_over_enable);
-    let enable = c_net::control_net(c.enable);
+    let enable = ControlNet::from(c.enable);
     net_flip_flop::Controls {
         clock,
         clear,
@@ -77,10 +78,10 @@ pub fn controls_struct(c: net_flip_flop::Controls) -> Controls
     let reset = c.reset;
     let enable = c.enable;
     Controls {
-        clock: c_net::control_struct(clock),
-        clear: c_net::control_struct(clear),
-        reset: c_net::control_struct(reset),
-        enable: c_net::control_struct(enable),
+        clock: clock.into(),
+        clear: clear.into(),
+        reset: reset.into(),
+        enable: enable.into(),
         reset_over_enable: u32::from(c.reset_over_enable),
     }
 }

@@ -11,6 +11,7 @@ use crate::{Controls, Logged};
 use c_net::Control;
 use log_entries::LogState;
 use net_flip_flop::FlipFlop;
+use net_value::ControlNet;
 
 // A mux in which equal bits are kept once.
 pub fn tablegoose_add_dedup_mux(
@@ -23,7 +24,7 @@ pub fn tablegoose_add_dedup_mux(
 ) -> Logged
     ensures { merge_left_by (add_dedup_mux_of (given_control select) a.now b.now st.next).value result log.new out.new ≡ lent_merge (state_of st) (add_dedup_mux_call out.old log.old (state_of st) (given_control select) a.now b.now) }
 {
-    let c = c_net::control_net(select);
+    let c = ControlNet::from(select);
     let r = merge_mux::add_dedup_mux(log, st, out, c, a, b);
     crate::answer_struct(r, st)
 }

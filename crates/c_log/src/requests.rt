@@ -12,6 +12,7 @@ use crate::{Controls, ControlsLogged, Logged, NetLogged};
 use c_net::Control;
 use log_entries::LogState;
 use net_flip_flop::FlipFlop;
+use net_value::ControlNet;
 
 // Kind 1: so many new nets.
 pub fn tablegoose_add_void(log: &mut [u32], st: LogState, width: u32) -> Logged
@@ -55,7 +56,7 @@ pub fn tablegoose_add_mux(
 ) -> Logged
     ensures { left_by (up_from st.next (length a.now)) result log.new ≡ lent_call (state_of st) (add_mux_call log.old (state_of st) (given_control select) a.now b.now) }
 {
-    let c = c_net::control_net(select);
+    let c = ControlNet::from(select);
     let r = log_requests::add_mux(log, st, c, a, b);
     crate::answer_struct(r, st)
 }
@@ -132,7 +133,7 @@ pub fn tablegoose_into_pos(log: &mut [u32], st: LogState, c: Control) -> NetLogg
     ensures value { result ≡ net_struct st (into_pos_call log.old (state_of st) (given_control c)).answer }
     ensures log_after { log.new ≡ (into_pos_call log.old (state_of st) (given_control c)).log }
 {
-    let given = c_net::control_net(c);
+    let given = ControlNet::from(c);
     let r = log_requests::into_pos(log, st, given);
     crate::net_answer_struct(r, st)
 }

@@ -16,7 +16,7 @@ fn write_of(p: WritePort) -> MemoryWritePort
         addr_len: p.addr_len,
         data_len: p.data_len,
         mask_len: p.mask_len,
-        clock: c_net::control_net(p.clock),
+        clock: p.clock.into(),
     }
 }
 
@@ -26,7 +26,7 @@ fn clock_of(p: FlipFlop) -> ControlNet
     ensures { result ≡ given_clock p }
 {
     if p.clocked == 1 {
-        return c_net::control_net(p.clock);
+        return p.clock.into();
     }
     ControlNet::Neg(Net(0))
 }
@@ -38,9 +38,9 @@ fn controls_of(p: FlipFlop) -> Controls
 {
     Controls {
         clock: clock_of(p),
-        clear: c_net::control_net(p.clear),
+        clear: p.clear.into(),
         reset: c_net::flagged_control(p.reset, p.reset_over_enable),
-        enable: c_net::control_net(p.enable),
+        enable: p.enable.into(),
         reset_over_enable: p.reset_over_enable == 1,
     }
 }
@@ -106,7 +106,7 @@ fn write_struct(p: MemoryWritePort) -> WritePort
         addr_len: p.addr_len,
         data_len: p.data_len,
         mask_len: p.mask_len,
-        clock: c_net::control_struct(p.clock),
+        clock: p.clock.into(),
     }
 }
 
@@ -117,10 +117,10 @@ pub fn flip_flop_struct(f: Option<Controls>) -> FlipFlop
         None => FlipFlop::default(),
         Some(c) => FlipFlop {
             clocked: 1,
-            clock: c_net::control_struct(c.clock),
-            clear: c_net::control_struct(c.clear),
-            reset: c_net::control_struct(c.reset),
-            enable: c_net::control_struct(c.enable),
+            clock: c.clock.into(),
+            clear: c.clear.into(),
+            reset: c.reset.into(),
+            enable: c.enable.into(),
             reset_over_enable: u32::from(c.reset_over_enable),
         },
     }

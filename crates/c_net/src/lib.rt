@@ -65,13 +65,15 @@ pub struct Count {
 
 // The control that a struct gives. A polarity above 1 gives Neg(0), which is no control: calls refuse it by 4.
 #[tactic(auto, unfolding(crate::specs::View::given_control))]
-pub fn control_net(c: Control) -> ControlNet
-    ensures { control_of result ≡ given_control c }
-{
-    match c.polarity {
-        0 => ControlNet::Pos(Net(c.net)),
-        1 => ControlNet::Neg(Net(c.net)),
-        _ => ControlNet::Neg(Net(0)),
+impl From<Control> for ControlNet {
+    ghost from_gives = { λ c r. control_of r ≡ given_control c };
+
+    fn from(c: Control) -> ControlNet {
+        match c.polarity {
+            0 => ControlNet::Pos(Net(c.net)),
+            1 => ControlNet::Neg(Net(c.net)),
+            _ => ControlNet::Neg(Net(0)),
+        }
     }
 }
 
@@ -83,21 +85,23 @@ pub fn flagged_control(c: Control, flag: u32) -> ControlNet
     if 1 < flag {
         return ControlNet::Neg(Net(0));
     }
-    control_net(c)
+    c.into()
 }
 
-pub fn control_struct(c: ControlNet) -> Control
-    ensures { result ≡ control_struct (control_of c) }
-{
-    match c {
-        ControlNet::Pos(n) => Control {
-            polarity: 0,
-            net: n.0,
-        },
-        ControlNet::Neg(n) => Control {
-            polarity: 1,
-            net: n.0,
-        },
+impl From<ControlNet> for Control {
+    ghost from_gives = { λ c r. r ≡ control_struct (control_of c) };
+
+    fn from(c: ControlNet) -> Control {
+        match c {
+            ControlNet::Pos(n) => Control {
+                polarity: 0,
+                net: n.0,
+            },
+            ControlNet::Neg(n) => Control {
+                polarity: 1,
+                net: n.0,
+            },
+        }
     }
 }
 
@@ -141,6 +145,6 @@ fn net_result(a: result::Result<Net, Refusal>) -> Result
 fn control_result(a: result::Result<ControlNet, Refusal>) -> ControlResult
     ensures { result ≡ control_result (control_answer a) }
 {
-    let (number, control) = parts(a.map(control_struct), Control::default());
+    let (number, control) = parts(a.map(Control::from), Control::default());
     ControlResult { number, control }
 }

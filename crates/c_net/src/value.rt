@@ -55,7 +55,7 @@ pub fn tablegoose_net_as_const(net: u32) -> Constant
 pub fn tablegoose_control_not(c: Control) -> ControlResult
     ensures { result ≡ control_result (inverse_call (given_control c)) }
 {
-    crate::control_result(net_value::control_not(crate::control_net(c)))
+    crate::control_result(net_value::control_not(c.into()))
 }
 
 // The control is v for ever: v is 0 or 1, and refused by 4 above.

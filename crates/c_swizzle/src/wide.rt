@@ -13,7 +13,7 @@ fn write_of(p: WideWritePort) -> swizzle_result::WideWritePort
     swizzle_result::WideWritePort {
         addr_len: p.addr_len,
         wide: p.wide,
-        clock: c_net::control_net(p.clock),
+        clock: p.clock.into(),
     }
 }
 
@@ -88,7 +88,7 @@ fn write_struct(p: swizzle_result::WideWritePort) -> WideWritePort
     WideWritePort {
         addr_len: p.addr_len,
         wide: p.wide,
-        clock: c_net::control_struct(p.clock),
+        clock: p.clock.into(),
     }
 }
 

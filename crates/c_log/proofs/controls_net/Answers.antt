@@ -9,9 +9,9 @@ returns c =
     let d = c in
     let b = d in
     λ i. record {
-      clock = b.control_net-clock.ensures i;
-      clear = b.control_net-clear.ensures i;
+      clock = b.from-clock.ensures i;
+      clear = b.from-clear.ensures i;
       reset = d.flagged_control-reset.ensures i;
-      enable = d.control_net-enable.ensures i;
+      enable = d.from-enable.ensures i;
       reset_over_enable = is_set b.args.c.reset_over_enable;
     }

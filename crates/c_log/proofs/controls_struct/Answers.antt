@@ -12,9 +12,9 @@ code false = refl
 
 pub returns : goal.returns
 returns c = λ i. record {
-  clock = c.control_struct.ensures i;
-  clear = c.control_struct-2.ensures i;
-  reset = c.control_struct-3.ensures i;
-  enable = c.control_struct-4.ensures i;
+  clock = c.into.ensures i;
+  clear = c.into-2.ensures i;
+  reset = c.into-3.ensures i;
+  enable = c.into-4.ensures i;
   reset_over_enable = (c.from.ensures ∙ code c.args.c.reset_over_enable) i;
 }

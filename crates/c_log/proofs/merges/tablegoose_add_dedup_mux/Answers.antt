@@ -14,4 +14,4 @@ unfolding add_dedup_mux_call
 returns c =
     let v = c.args in
     let q = c.add_dedup_mux-r in
-    merge_left (add_dedup_mux_of (given_control v.select) v.a.now v.b.now v.st.next).value v.st c.answer_struct.result q.result q.new.log q.new.out _ _ _ _ _ c.answer_struct.ensures (subst (λ (x : Control). merged_of (add_dedup_mux_of x v.a.now v.b.now v.st.next).value q.result q.new.log q.new.out ≡ add_dedup_mux_call v.out.now v.log.now (state_of v.st) x v.a.now v.b.now) c.control_net-c.ensures q.ensures)
+    merge_left (add_dedup_mux_of (given_control v.select) v.a.now v.b.now v.st.next).value v.st c.answer_struct.result q.result q.new.log q.new.out _ _ _ _ _ c.answer_struct.ensures (subst (λ (x : Control). merged_of (add_dedup_mux_of x v.a.now v.b.now v.st.next).value q.result q.new.log q.new.out ≡ add_dedup_mux_call v.out.now v.log.now (state_of v.st) x v.a.now v.b.now) c.from-c.ensures q.ensures)

@@ -13,4 +13,4 @@ unfolding add_mux_call
 returns c =
     let v = c.args in
     let q = c.add_mux-r in
-    left (up_from v.st.next (length v.a.now)) v.st c.answer_struct.result q.result q.new.log _ _ _ _ c.answer_struct.ensures (q.ensures ∙ ap (λ (x : Control). add_mux_call v.log.now (state_of v.st) x v.a.now v.b.now) c.control_net-c.ensures)
+    left (up_from v.st.next (length v.a.now)) v.st c.answer_struct.result q.result q.new.log _ _ _ _ c.answer_struct.ensures (q.ensures ∙ ap (λ (x : Control). add_mux_call v.log.now (state_of v.st) x v.a.now v.b.now) c.from-c.ensures)
