@@ -9,7 +9,7 @@ ghost use Rattle.rules.specs.Beside.Shape.{handed_on, shape_call, place_call};
 ghost use Rattle.rules.specs.Beside.Layouts.{fill_call, fill_and_patch_call, read_row_call};
 ghost use Rattle.image_geometry.specs.View.{layout_by, measured_of};
 ghost use Rattle.image_rows.specs.View.{placed_of};
-ghost use Rattle.image_state.specs.View.{laid_of, unset_laid, laid_by, sizes_answer};
+ghost use Rattle.image_state.specs.View.{laid_of, unset_laid, laid_by};
 ghost use Rattle.image_patches.specs.Calls.{calls_of, patched_to};
 ghost use Rattle.c_record.specs.View.{head_struct};
 ghost use Rattle.c_image.specs.View.{measured_struct, placed_struct};
@@ -19,7 +19,6 @@ use image_geometry::{Layout, Params, Shape};
 use image_patches::Calls;
 use image_rows::Place;
 use image_state::Laid;
-use record_sizes::Sizes;
 use rules::{Refusal, number_of};
 
 // A refusal's number, or 0 and the shape of a layout.
@@ -41,56 +40,30 @@ pub struct PlacedResult {
 fn measured_result(answer: Result<Shape, Refusal>) -> MeasuredResult
     ensures { result ≡ measured_struct (measured_of answer) }
 {
-    match answer {
-        Err(refusal) => MeasuredResult {
-            number: refusal.number(),
-            shape: Shape {
-                full_mems: 0,
-                all_mems: 0,
-                full_depth: 0,
-                part_depth: 0,
-                columns: 0,
-                trits: 0,
-                image_size: 0,
-            },
-        },
-        Ok(shape) => MeasuredResult { number: 0, shape },
-    }
+    let none = Shape {
+        full_mems: 0,
+        all_mems: 0,
+        full_depth: 0,
+        part_depth: 0,
+        columns: 0,
+        trits: 0,
+        image_size: 0,
+    };
+    let (number, shape) = c_net::parts(answer, none);
+    MeasuredResult { number, shape }
 }
 
 fn placed_result(answer: Result<Place, Refusal>) -> PlacedResult
     ensures { result ≡ placed_struct (placed_of answer) }
 {
-    match answer {
-        Err(refusal) => PlacedResult {
-            number: refusal.number(),
-            place: Place {
-                memory: 0,
-                row: 0,
-                bit: 0,
-                index: 0,
-            },
-        },
-        Ok(place) => PlacedResult { number: 0, place },
-    }
-}
-
-pub fn sizes_result(answer: Result<Sizes, Refusal>) -> Head
-    ensures { result ≡ head_struct (sizes_answer answer) }
-{
-    match answer {
-        Err(refusal) => Head {
-            number: refusal.number(),
-            sizes: Sizes {
-                unit: 0,
-                full: 0,
-                full_depth: 0,
-                partial: 0,
-                partial_depth: 0,
-            },
-        },
-        Ok(sizes) => Head { number: 0, sizes },
-    }
+    let none = Place {
+        memory: 0,
+        row: 0,
+        bit: 0,
+        index: 0,
+    };
+    let (number, place) = c_net::parts(answer, none);
+    PlacedResult { number, place }
 }
 
 // ---- by a layout's numbers and entries
@@ -263,5 +236,5 @@ pub fn tablegoose_fill_and_patch(
 pub fn tablegoose_sizes_of(laid: Laid) -> Head
     ensures { result ≡ head_struct (sizes_call (laid_of laid)) }
 {
-    sizes_result(laid.sizes())
+    c_record::head_result(laid.sizes())
 }

@@ -5,7 +5,7 @@
 ghost use Rattle.std.specs.Prelude.{◌≡◌};
 ghost use Rattle.net_flip_flop.specs.View.{controls_of};
 ghost use Rattle.log_requests.specs.Answers.{net_answer_of, controls_answer_of};
-ghost use Rattle.c_log.specs.View.{given_controls, controls_struct, no_controls, logged_struct, net_struct, new_controls_struct};
+ghost use Rattle.c_log.specs.View.{given_controls, controls_struct, logged_struct, net_struct, new_controls_struct};
 
 use c_net::Control;
 use log_entries::LogState;
@@ -17,7 +17,7 @@ pub mod requests;
 
 // The controls of a flip-flop; reset_over_enable is 0 or 1.
 #[repr(C)]
-#[derive(Clone, Copy)]
+#[derive(Clone, Copy, Default)]
 pub struct Controls {
     pub clock: Control,
     pub clear: Control,
@@ -89,62 +89,26 @@ pub fn controls_struct(c: net_flip_flop::Controls) -> Controls
 pub fn answer_struct(r: Result<LogState, Refusal>, st: LogState) -> Logged
     ensures { result ≡ logged_struct st r }
 {
-    match r {
-        Err(e) => Logged {
-            number: e.number(),
-            state: st,
-        },
-        Ok(state) => Logged { number: 0, state },
-    }
+    let (number, state) = c_net::parts(r, st);
+    Logged { number, state }
 }
 
 fn net_answer_struct(r: Result<PosNet, Refusal>, st: LogState) -> NetLogged
     ensures { result ≡ net_struct st (net_answer_of r) }
 {
-    match r {
-        Err(e) => NetLogged {
-            number: e.number(),
-            net: 0,
-            state: st,
-        },
-        Ok(made) => NetLogged {
-            number: 0,
-            net: made.net.0,
-            state: made.state,
-        },
-    }
-}
-
-// The controls of a refused answer.
-fn no_controls() -> Controls
-    ensures { result ≡ no_controls }
-{
-    let none = Control {
-        polarity: 0,
-        net: 0,
-    };
-    Controls {
-        clock: none,
-        clear: none,
-        reset: none,
-        enable: none,
-        reset_over_enable: 0,
-    }
+    let made = r.map(|made| (made.net.0, made.state));
+    let (number, (net, state)) = c_net::parts(made, (0, st));
+    NetLogged { number, net, state }
 }
 
 fn controls_answer_struct(r: Result<Remapped, Refusal>, st: LogState) -> ControlsLogged
     ensures { result ≡ new_controls_struct st (controls_answer_of r) }
 {
-    match r {
-        Err(e) => ControlsLogged {
-            number: e.number(),
-            controls: no_controls(),
-            state: st,
-        },
-        Ok(made) => ControlsLogged {
-            number: 0,
-            controls: controls_struct(made.controls),
-            state: made.state,
-        },
+    let made = r.map(|made| (controls_struct(made.controls), made.state));
+    let (number, (controls, state)) = c_net::parts(made, (Controls::default(), st));
+    ControlsLogged {
+        number,
+        controls,
+        state,
     }
 }

@@ -1,8 +1,7 @@
 -- A library's memory as a caller's struct is, read again, that memory.
 use mathlib.Core.Path.{◌≡◌, refl}
 use mathlib.Core.Bool.{Bool, true, false}
-use lib.Dec.{eqb, ltb}
-use Rattle.lists.specs.Choice.{when◌then◌else◌}
+use lib.Dec.{eqb}
 use Rattle.net_value.specs.declared.ControlNet.{ControlNet}
 use Rattle.net_value.specs.declared.ControlNet.TheVariants.{Pos, Neg}
 use Rattle.net_value.specs.View.{control_of}
@@ -11,8 +10,8 @@ use Rattle.net_memory.specs.FlipFlop.{MemoryReadFlipFlop}
 use Rattle.std.specs.Prelude.{None, Some}
 use Rattle.net_memory.specs.declared.MemoryReadPort.{MemoryReadPort}
 use Rattle.net_memory.specs.declared.Memory.{Memory as MachineMemory}
-use Rattle.c_net.specs.View.{flag_code, given_control}
-use Rattle.c_memory.specs.View.{net_of, given_net, no_control, given_write, given_clock, given_reset, given_flip_flop, given_read, given_memory, net_struct, write_struct, flip_flop_struct, read_struct, memory_struct}
+use Rattle.c_net.specs.View.{flag_code, given_control, flagged_control}
+use Rattle.c_memory.specs.View.{net_of, given_net, given_write, given_clock, given_reset, given_flip_flop, given_read, given_memory, net_struct, write_struct, flip_flop_struct, read_struct, memory_struct}
 use Rattle.c_memory.proofs.Each.{undone}
 
 -- a control by its view
@@ -33,7 +32,8 @@ write_back : (p : MemoryWritePort) → given_write (write_struct p) ≡ p
 write_back p = λ i. record { addr_len = p.addr_len; data_len = p.data_len; mask_len = p.mask_len; clock = net_back p.clock i }
 
 -- a flag that is 0 or 1 leaves the reset as it is
-reset_back : (b : Bool) (c : ControlNet) → when ltb 1 (flag_code b) then no_control else given_net (net_struct c) ≡ c
+reset_back : (b : Bool) (c : ControlNet) → net_of (flagged_control (net_struct c) (flag_code b)) ≡ c
+unfolding flagged_control
 reset_back true c = net_back c
 reset_back false c = net_back c
 

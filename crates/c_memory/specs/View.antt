@@ -1,5 +1,5 @@
 -- The library's memory that a caller's struct is, and the caller's struct of a library's memory.
-use Rattle.std.specs.Prelude.{map, replicate, eqb, ltb}
+use Rattle.std.specs.Prelude.{map, replicate, eqb}
 use Rattle.lists.specs.Choice.{when◌then◌else◌}
 use Rattle.rules.specs.Limits.{max_ports}
 use Rattle.rules.specs.Value as rules
@@ -13,7 +13,7 @@ use Rattle.std.specs.Prelude.{None, Some}
 use Rattle.net_memory.specs.declared.MemoryReadPort.{MemoryReadPort}
 use Rattle.net_memory.specs.declared.Memory.{Memory as MachineMemory}
 use Rattle.c_net.specs.declared.Control.{Control}
-use Rattle.c_net.specs.View.{flag_code, given_control, control_struct}
+use Rattle.c_net.specs.View.{flag_code, given_control, flagged_control, control_struct}
 use Rattle.c_memory.specs.declared.WritePort.{WritePort}
 use Rattle.c_memory.specs.declared.FlipFlop.{FlipFlop}
 use Rattle.c_memory.specs.declared.ReadPort.{ReadPort}
@@ -41,7 +41,7 @@ given_clock p = when eqb p.clocked 1 then given_net p.clock else no_control
 
 -- its reset: no control where the flag `reset_over_enable` is above 1
 unfoldable pub given_reset : FlipFlop → ControlNet
-given_reset p = when ltb 1 p.reset_over_enable then no_control else given_net p.reset
+given_reset p = net_of (flagged_control p.reset p.reset_over_enable)
 
 abbrev pub given_controls : FlipFlop → Controls
 given_controls p = record {

@@ -19,7 +19,7 @@ use rules::Refusal;
 pub mod ports;
 
 #[repr(C)]
-#[derive(Clone, Copy)]
+#[derive(Clone, Copy, Default)]
 pub struct WritePort {
     pub addr_len: u32,
     pub data_len: u32,
@@ -29,7 +29,7 @@ pub struct WritePort {
 
 // Relations are codes: 0 Undefined, 1 ReadBeforeWrite, 2 Transparent. With `clocked` 0 there is no flip-flop, and the controls play no part.
 #[repr(C)]
-#[derive(Clone, Copy)]
+#[derive(Clone, Copy, Default)]
 pub struct ReadPort {
     pub addr_len: u32,
     pub data_len: u32,
@@ -47,7 +47,7 @@ pub struct ReadPort {
 }
 
 #[repr(C)]
-#[derive(Clone, Copy)]
+#[derive(Clone, Copy, Default)]
 pub struct Memory {
     pub depth: u32,
     pub width: u32,
@@ -59,7 +59,7 @@ pub struct Memory {
 }
 
 // The fields of a read port that say its flip-flop.
-#[derive(Clone, Copy)]
+#[derive(Clone, Copy, Default)]
 pub struct FlipFlop {
     pub clocked: u32,
     pub clock: Control,
@@ -128,27 +128,10 @@ pub fn memory_struct(m: net_memory::Memory) -> Memory
     }
 }
 
-fn zero_memory() -> Memory
-    ensures { result ≡ zero_memory }
-{
-    Memory {
-        depth: 0,
-        width: 0,
-        init_len: 0,
-        write_count: 0,
-        read_count: 0,
-        write_ports: [ports::zero_write(); rules::MAX_PORTS],
-        read_ports: [ports::zero_read(); rules::MAX_PORTS],
-    }
-}
-
 fn slice_result(a: Result<OutputSlice, Refusal>) -> Slice
     ensures { result ≡ slice_result (answer_by slice_of a) }
 {
-    let (number, start, size) = match a {
-        Ok(OutputSlice { start, size }) => (0, start, size),
-        Err(refusal) => (refusal.number(), 0, 0),
-    };
+    let (number, OutputSlice { start, size }) = c_net::parts(a, OutputSlice { start: 0, size: 0 });
     Slice {
         number,
         start,
@@ -160,10 +143,7 @@ fn slice_result(a: Result<OutputSlice, Refusal>) -> Slice
 fn extracted_struct(a: Result<net_memory::Memory, Refusal>) -> Extracted
     ensures { result ≡ extracted_struct a }
 {
-    let (number, memory) = match a {
-        Ok(m) => (0, memory_struct(m)),
-        Err(refusal) => (refusal.number(), zero_memory()),
-    };
+    let (number, memory) = c_net::parts(a.map(memory_struct), Memory::default());
     Extracted { number, memory }
 }
 

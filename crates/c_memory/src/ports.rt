@@ -1,20 +1,13 @@
 // A caller's ports as the library's, and back.
 ghost use Rattle.std.specs.Prelude.{◌≡◌, map};
-ghost use Rattle.c_memory.specs.View.{given_net, given_write, given_clock, given_reset, given_controls, given_flip_flop, fields_of, given_read, write_struct, no_flip_flop, flip_flop_struct, read_with, read_struct, zero_control, zero_write, zero_read};
+ghost use Rattle.c_memory.specs.View.{given_write, given_clock, given_reset, given_controls, given_flip_flop, fields_of, given_read, write_struct, flip_flop_struct, read_with, read_struct};
 
 use crate::{FlipFlop, ReadPort, WritePort};
-use c_net::Control;
 use net_flip_flop::Controls;
 use net_memory::{MemoryReadPort, MemoryWritePort};
 use net_value::{ControlNet, Net};
 
 // ---- from a caller's struct
-
-pub fn net_of(c: Control) -> ControlNet
-    ensures { result ≡ given_net c }
-{
-    c_net::control_net(c)
-}
 
 fn write_of(p: WritePort) -> MemoryWritePort
     ensures { result ≡ given_write p }
@@ -23,7 +16,7 @@ fn write_of(p: WritePort) -> MemoryWritePort
         addr_len: p.addr_len,
         data_len: p.data_len,
         mask_len: p.mask_len,
-        clock: net_of(p.clock),
+        clock: c_net::control_net(p.clock),
     }
 }
 
@@ -33,30 +26,21 @@ fn clock_of(p: FlipFlop) -> ControlNet
     ensures { result ≡ given_clock p }
 {
     if p.clocked == 1 {
-        return net_of(p.clock);
+        return c_net::control_net(p.clock);
     }
     ControlNet::Neg(Net(0))
 }
 
-// Its reset: Neg(0) too where the flag `reset_over_enable` is above 1.
-#[tactic(auto, unfolding(crate::specs::View::given_reset))]
-fn reset_of(p: FlipFlop) -> ControlNet
-    ensures { result ≡ given_reset p }
-{
-    if 1 < p.reset_over_enable {
-        return ControlNet::Neg(Net(0));
-    }
-    net_of(p.reset)
-}
-
+// (c_log reads a request's controls, whose clock has no flag; this crate does without requests.)
+#[tactic(auto, using(crate::proofs::Back::by_view), unfolding(crate::specs::View::given_reset))]
 fn controls_of(p: FlipFlop) -> Controls
     ensures { result ≡ given_controls p }
 {
     Controls {
         clock: clock_of(p),
-        clear: net_of(p.clear),
-        reset: reset_of(p),
-        enable: net_of(p.enable),
+        clear: c_net::control_net(p.clear),
+        reset: c_net::flagged_control(p.reset, p.reset_over_enable),
+        enable: c_net::control_net(p.enable),
         reset_over_enable: p.reset_over_enable == 1,
     }
 }
@@ -126,33 +110,11 @@ fn write_struct(p: MemoryWritePort) -> WritePort
     }
 }
 
-pub fn zero_control() -> Control
-    ensures { result ≡ zero_control }
-{
-    Control {
-        polarity: 0,
-        net: 0,
-    }
-}
-
-fn no_flip_flop() -> FlipFlop
-    ensures { result ≡ no_flip_flop }
-{
-    FlipFlop {
-        clocked: 0,
-        clock: zero_control(),
-        clear: zero_control(),
-        reset: zero_control(),
-        enable: zero_control(),
-        reset_over_enable: 0,
-    }
-}
-
 pub fn flip_flop_struct(f: Option<Controls>) -> FlipFlop
     ensures { result ≡ flip_flop_struct f }
 {
     match f {
-        None => no_flip_flop(),
+        None => FlipFlop::default(),
         Some(c) => FlipFlop {
             clocked: 1,
             clock: c_net::control_struct(c.clock),
@@ -206,33 +168,4 @@ pub(crate) fn read_structs(
     ensures { result ≡ map read_struct ports }
 {
     ports.map(read_struct)
-}
-
-// ---- all 0
-
-pub(crate) fn zero_write() -> WritePort
-    ensures { result ≡ zero_write }
-{
-    WritePort {
-        addr_len: 0,
-        data_len: 0,
-        mask_len: 0,
-        clock: zero_control(),
-    }
-}
-
-pub(crate) fn zero_read() -> ReadPort
-    ensures { result ≡ zero_read }
-{
-    let none = MemoryReadPort {
-        addr_len: 0,
-        data_len: 0,
-        clear_len: 0,
-        reset_len: 0,
-        init_len: 0,
-        relations_len: 0,
-        relations: [0u8; rules::MAX_PORTS],
-        flip_flop: None,
-    };
-    read_with(none, no_flip_flop())
 }

@@ -6,6 +6,7 @@ ghost use Rattle.std.specs.Prelude.{◌≡◌};
 ghost use Rattle.rules.specs.Refusal.{answer_by};
 ghost use Rattle.net_logic.specs.View.{bool_answer};
 ghost use Rattle.net_value.specs.View.{control_of, control_answer, net_answer};
+ghost use Rattle.c_net.specs.Parts.{parts_of};
 ghost use Rattle.c_net.specs.View.{flag_result, value_result, given_control, flagged_control, control_struct, control_result, count_struct};
 
 use net_value::{ControlNet, Net};
@@ -25,7 +26,7 @@ pub struct Result {
 
 // A net, or its inverse: polarity 0 is Pos, 1 is Neg.
 #[repr(C)]
-#[derive(Clone, Copy)]
+#[derive(Clone, Copy, Default)]
 pub struct Control {
     pub polarity: u32,
     pub net: u32,
@@ -100,27 +101,29 @@ pub fn control_struct(c: ControlNet) -> Control
     }
 }
 
+// A refusal's number and a value that stands for none, or 0 and the answer's value: what the answers' structs are made of.
+pub fn parts<T: Copy>(answer: result::Result<T, Refusal>, none: T) -> (u32, T)
+    ensures { result ≡ parts_of answer none }
+{
+    match answer {
+        Ok(value) => (0, value),
+        Err(refusal) => (refusal.number(), none),
+    }
+}
+
 // A refusal's number, or 0 and a value.
 pub fn number_result(a: result::Result<u32, Refusal>) -> Result
     ensures { result ≡ value_result (answer_by (λ n. n) a) }
 {
-    let (number, value) = match a {
-        Ok(value) => (0, value),
-        Err(refusal) => (refusal.number(), 0),
-    };
+    let (number, value) = parts(a, 0);
     Result { number, value }
 }
 
 pub fn count_result(a: result::Result<usize, Refusal>) -> Count
     ensures { result ≡ count_struct (answer_by (λ n. n) a) }
 {
-    match a {
-        Ok(count) => Count { number: 0, count },
-        Err(refusal) => Count {
-            number: refusal.number(),
-            count: 0,
-        },
-    }
+    let (number, count) = parts(a, 0);
+    Count { number, count }
 }
 
 pub fn flag_result(a: result::Result<bool, Refusal>) -> Result
@@ -138,17 +141,6 @@ fn net_result(a: result::Result<Net, Refusal>) -> Result
 fn control_result(a: result::Result<ControlNet, Refusal>) -> ControlResult
     ensures { result ≡ control_result (control_answer a) }
 {
-    match a {
-        Ok(control) => ControlResult {
-            number: 0,
-            control: control_struct(control),
-        },
-        Err(refusal) => ControlResult {
-            number: refusal.number(),
-            control: Control {
-                polarity: 0,
-                net: 0,
-            },
-        },
-    }
+    let (number, control) = parts(a.map(control_struct), Control::default());
+    ControlResult { number, control }
 }

@@ -28,21 +28,17 @@ pub struct MuxBits {
 fn mux_bits_result(r: Result<swizzle_sizes::MuxBits, Refusal>) -> MuxBits
     ensures { result ≡ bits_struct (answer_by bits_of r) }
 {
-    match r {
-        Ok(b) => {
-            let writes = b.writes;
-            let reads = b.reads;
-            MuxBits {
-                refusal: 0,
-                writes,
-                reads,
-            }
-        }
-        Err(e) => MuxBits {
-            refusal: e.number(),
-            writes: [0; rules::MAX_PORTS],
-            reads: [0; rules::MAX_PORTS],
-        },
+    let none = swizzle_sizes::MuxBits {
+        writes: [0; rules::MAX_PORTS],
+        reads: [0; rules::MAX_PORTS],
+    };
+    let (refusal, made) = c_net::parts(r, none);
+    let writes = made.writes;
+    let reads = made.reads;
+    MuxBits {
+        refusal,
+        writes,
+        reads,
     }
 }
 

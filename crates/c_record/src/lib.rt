@@ -33,39 +33,31 @@ pub struct SummaryResult {
     pub summary: Summary,
 }
 
-fn head_result(answer: Result<Sizes, Refusal>) -> Head
+pub fn head_result(answer: Result<Sizes, Refusal>) -> Head
     ensures { result ≡ head_struct (view_head answer) }
 {
-    match answer {
-        Ok(sizes) => Head { number: 0, sizes },
-        Err(refusal) => Head {
-            number: refusal.number(),
-            sizes: Sizes {
-                unit: 0,
-                full: 0,
-                full_depth: 0,
-                partial: 0,
-                partial_depth: 0,
-            },
-        },
-    }
+    let none = Sizes {
+        unit: 0,
+        full: 0,
+        full_depth: 0,
+        partial: 0,
+        partial_depth: 0,
+    };
+    let (number, sizes) = c_net::parts(answer, none);
+    Head { number, sizes }
 }
 
 fn summary_result(answer: Result<Summary, Refusal>) -> SummaryResult
     ensures { result ≡ summary_struct (view_summarized answer) }
 {
-    match answer {
-        Ok(summary) => SummaryResult { number: 0, summary },
-        Err(refusal) => SummaryResult {
-            number: refusal.number(),
-            summary: Summary {
-                index: 0,
-                depth: 0,
-                known: 0,
-                ones: 0,
-            },
-        },
-    }
+    let none = Summary {
+        index: 0,
+        depth: 0,
+        known: 0,
+        ones: 0,
+    };
+    let (number, summary) = c_net::parts(answer, none);
+    SummaryResult { number, summary }
 }
 
 // Writes the record of an image; how many bytes it has.

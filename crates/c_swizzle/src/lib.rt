@@ -115,7 +115,7 @@ fn accepted_struct(x: swizzle_call::Swizzled) -> Swizzled
 fn refused_struct(st: LogState, refusal: Refusal) -> Swizzled
     ensures { result ≡ swizzled_struct (refused_told st (number refusal)) }
 {
-    let head = c_image::sizes_result(Err(refusal));
+    let head = c_record::head_result(Err(refusal));
     let sizes = head.sizes;
     Swizzled {
         number: head.number,

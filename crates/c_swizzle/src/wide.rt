@@ -13,7 +13,7 @@ fn write_of(p: WideWritePort) -> swizzle_result::WideWritePort
     swizzle_result::WideWritePort {
         addr_len: p.addr_len,
         wide: p.wide,
-        clock: c_memory::ports::net_of(p.clock),
+        clock: c_net::control_net(p.clock),
     }
 }
 

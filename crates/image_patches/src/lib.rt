@@ -60,6 +60,7 @@ fn call_each(buffer: &mut [u8], numbers: &mut [u32], layout: Layout<'_>, calls: 
     ensures numbers_after { numbers.new ≡ sets numbers.old 0 (patch_numbers (handed_on (layout_of layout.entry)) (length buffer.old) (list_of calls.entry)) }
     ensures buffer_after { buffer.new ≡ patched (handed_on (layout_of layout.entry)) (list_of calls.entry) buffer.old }
 {
+    // by number: the place of the call's number is `i` too, past the end of `numbers` as well
     for i in 0..calls.words.len() / WORDS {
         let number = rules::number_of(call_at(buffer, layout, calls, i));
         lists::put(numbers, i, number);

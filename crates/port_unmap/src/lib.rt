@@ -86,6 +86,7 @@ fn dry_refusal(
 }
 
 // The pair of a read port of this k and address and write port j has too few address bits.
+#[tactic(auto, using(crate::proofs::Short::short_is))]
 pub fn pair_short(m: Memory, nets: &[u32], raddr: &[u32], kr: u32, j: usize) -> bool
     ensures { (trits : List ℕ) (r : ReadPort) → kr ≡ read_wide_log2 (memory_of m nets.now trits) r → raddr.now ≡ r.addr → result ≡ short_pair (memory_of m nets.now trits) r j }
 {
@@ -94,6 +95,7 @@ pub fn pair_short(m: Memory, nets: &[u32], raddr: &[u32], kr: u32, j: usize) -> 
 }
 
 // The same where the relation to it is Transparent.
+#[tactic(auto, using(crate::proofs::Short::rel_not, crate::proofs::Short::rel_yes))]
 fn related_short(m: Memory, nets: &[u32], raddr: &[u32], kr: u32, x: u8, j: usize) -> bool
     ensures { (trits : List ℕ) (r : ReadPort) → kr ≡ read_wide_log2 (memory_of m nets.now trits) r → raddr.now ≡ r.addr → result ≡ (is_transparent x && short_pair (memory_of m nets.now trits) r j) }
 {
@@ -104,6 +106,7 @@ fn related_short(m: Memory, nets: &[u32], raddr: &[u32], kr: u32, x: u8, j: usiz
 }
 
 // Some pair of these relations has too few.
+#[tactic(auto, using(crate::proofs::Short::left_found, crate::proofs::Short::left_next, crate::proofs::Short::left_end))]
 fn pairs_short(m: Memory, nets: &[u32], raddr: &[u32], kr: u32, rels: &[u8]) -> bool
     ensures { (trits : List ℕ) (r : ReadPort) → kr ≡ read_wide_log2 (memory_of m nets.now trits) r → raddr.now ≡ r.addr → result ≡ any (short_pair (memory_of m nets.now trits) r) (transparent_from 0 rels.now) }
 {
@@ -131,6 +134,7 @@ fn port_short_at(m: Memory, nets: &[u32], i: usize, p: MemoryReadPort) -> bool
 }
 
 // The same of any port: one that is not there has none.
+#[tactic(auto, using(crate::proofs::Short::short_none, crate::proofs::Short::none_there))]
 pub fn port_short(m: Memory, nets: &[u32], i: usize) -> bool
     ensures { (trits : List ℕ) → result ≡ short_port (memory_of m nets.now trits) (read_at_of (memory_of m nets.now trits) i) }
 {

@@ -115,6 +115,7 @@ pub fn put_arrays(out: &mut [u8], at: usize, ts: &[u8])
         return;
     }
     let n = ts.len().div_ceil(8);
+    // by number: `j` gives the places of both bytes, so `chunks` would be no plainer
     for j in 0..n {
         let group = Group::pack(ts, 8 * j);
         lists::put(out, at + j, group.known);

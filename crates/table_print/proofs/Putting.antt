@@ -16,11 +16,6 @@ use Rattle.rules.specs.Limits.{trit_x}
 use Rattle.table_print.specs.Rows.{char_of, bits_text, rows_from, rows_text, rows_shown}
 use Rattle.table_print.proofs.Back.{bits_append}
 
-pub trit_past : (rows : List ℕ) (i : ℕ) → length rows ≤ i → trit_x ≡ get_or rows i trit_x
-trit_past [] i h = refl
-trit_past (x ∷ rows) zero h = absurd (omega arith)
-trit_past (x ∷ rows) (suc i) h = trit_past rows i (omega arith)
-
 at_most : (p q : Bool) → (when p then 48 else when q then 49 else 120) ≤ 120
 at_most true q = omega arith
 at_most false true = omega arith

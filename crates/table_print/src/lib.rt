@@ -22,11 +22,7 @@ pub fn char_of(t: u8) -> u8
 fn trit_at(rows: &[u8], at: usize) -> u8
     ensures { result ≡ get_or rows.now at trit_x }
 {
-    if at < rows.len() {
-        rows[at]
-    } else {
-        rules::TRIT_X
-    }
+    rows.get(at).copied().unwrap_or(rules::TRIT_X)
 }
 
 // Stores the trits from `from` on, the last of `width` first; the place after them.

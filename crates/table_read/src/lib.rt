@@ -18,7 +18,7 @@ use table_text::reason::Reason;
 use table_text::{head, scan};
 
 // The words of a header: two numbers, up to MAX_ROW entries, three numbers.
-const MAX_WORDS: usize = 261;
+const MAX_WORDS: usize = rules::MAX_ROW + 5;
 
 // The trits of a table.
 pub const MAX_TRITS: usize = rules::MAX_BITS as usize;
@@ -82,11 +82,11 @@ impl Table {
 
 // ---- the header
 
+// The word at a place, 0 past the end.
 fn word_at(words: &[u32], at: u32) -> u32
     ensures { result ≡ get_or words.now at 0 }
 {
-    let i = at as usize;
-    if i < words.len() { words[i] } else { 0 }
+    words.get(at as usize).copied().unwrap_or(0)
 }
 
 // The header is not read whole, or has more words than fit.
@@ -94,9 +94,10 @@ fn word_at(words: &[u32], at: u32) -> u32
 fn is_bad_head(head: Head) -> bool
     ensures { (when result then 9 else 0) ≡ head_number (head_of head) }
 {
-    head.kind != head::Kind::Read || 261 < head.count
+    head.kind != head::Kind::Read || MAX_WORDS < head.count as usize
 }
 
+// Not of a slice that ends behind the last word: that the last three are found there takes a proof that no header has fewer words.
 fn params_of(words: &[u32], count: u32) -> Params
     ensures { result ≡ params_read words.now count }
 {

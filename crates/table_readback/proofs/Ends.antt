@@ -3,26 +3,21 @@ use mathlib.Core.Path.{◌≡◌, refl, sym, ap, ◌∙◌}
 use mathlib.Core.Logic.{◌≢◌}
 use mathlib.Core.Bool.{true, false}
 use mathlib.Core.List.{List, [], ◌∷◌, ◌++◌, append-nil}
-use Prim.Native.Nat.{ℕ, suc, ◌+◌, ◌-◌, ◌*◌, ◌/◌, ◌≤◌, ◌<◌, min}
+use Prim.Native.Nat.{ℕ, zero, suc, ◌+◌, ◌-◌, ◌*◌, ◌≤◌, ◌<◌}
 use native.Mathlib.Nat.{zero-add, suc-add}
-use native.Mathlib.Numerals.{add-one}
 use native.Mathlib.Omega.{arith}
 use lib.ListN.{length, take, drop, get_or, set, replicate, length-drop, take-append-drop, drop_of_length-le}
-use lib.Seq.{sets, drop-cons, take_all, length-take-le}
-use lib.Dec.{eqb, ltb}
-use borrow.Author.Tests.{eq-eqb, ne_eqb, lt-ltb, le-ltb, ltb-false}
-use Rattle.lists.specs.Choice.{when◌then◌else◌}
-use Rattle.lists.proofs.Choice.{or_false, leaves_refused, leaves_accepted}
+use lib.Seq.{sets, take_all, length-take-le}
+use borrow.Author.Tests.{eq-eqb, ne_eqb, lt-ltb, le-ltb}
+use Rattle.lists.proofs.Choice.{leaves_refused, leaves_accepted}
 use Rattle.rules.specs.Geometry.{Layout}
 use Rattle.rules.specs.Image.{Laid}
-use Rattle.rules.specs.Record.{Sizes, size_trits, size_mems, record_bytes}
-use Rattle.rules.specs.Conditions.{no_room_of, bad_unit, bad_depths, bad_sizes}
+use Rattle.rules.specs.Record.{Sizes, record_bytes}
+use Rattle.rules.specs.Conditions.{no_room_of}
 use Rattle.rules.specs.Refusals.{lent_refusal}
 use Rattle.rules.specs.Answers.{Answer, Refused, Accepted, Filled, filled_with, sizes_call, read_record_call}
 use Rattle.rules.specs.Beside.Shape.{handed_on}
 use Rattle.rules.proofs.Answers.{answer_refused, answer_accepted}
-use Rattle.record_codec.proofs.Heads.{array_bytes_lem}
-use Rattle.record_codec.proofs.Writing.{bytes_are}
 use Rattle.table_read.specs.declared.Table.{Table}
 use Rattle.table_read.specs.Table.{Parsed, parse_table}
 use Rattle.std.specs.Prelude.{Ok}
@@ -165,41 +160,17 @@ unfolding head_end parsed_of
 good_head out line after t r q l s e h k m =
     m ∙ ap (record_end out line q after) (k ∙ ap sizes_call h) ∙ ap (λ (x : Layout). record_end out line x after (sizes_call (handed_on x))) e
 
--- ---- the bytes of a record
-trits_fit : (z : Sizes) → bad_sizes z ≡ false → size_trits z ≤ 131072
-unfolding bad_sizes
-trits_fit z e =
-    let a = (or_false (bad_unit z) _ e).1 in
-    let b = (or_false (bad_depths z) _ a).1 in
-    ltb-false 131072 (size_trits z) (or_false (ltb 32768 (size_mems z * z.unit)) (ltb 131072 (size_trits z)) b).1
-
-pub bytes_of : (z : Sizes) (m n : ℕ) → bad_sizes z ≡ false → m ≡ min (size_trits z) 131072 → n ≡ m → 12 + 2 * ((n + 7) / 8) ≡ record_bytes z
-bytes_of z m n e f g =
-    let k : n ≡ size_trits z = omega (arith, trits_fit z e) in
-    bytes_are z n (12 + 2 * ((n + 7) / 8)) k (ap (λ (b : ℕ). 12 + 2 * b) (array_bytes_lem n))
-
 -- ---- the first line
-module _ (text : List ℕ) (i : ℕ) where
-  line_step : i < length text → line_end (drop i text) ≡ (when eqb (get_or text i 0) 10 then 1 else suc (line_end (drop (i + 1) text)))
-  unfolding line_end
-  line_step h = rw (drop-cons text i 0 h, add-one)
+pub line_at : (text : List ℕ) (i : ℕ) → i < length text → get_or text i 0 ≡ 10 → ((j : ℕ) → j < i → get_or text j 0 ≢ 10) → i + 1 ≡ line_end text
+unfolding line_end
+line_at [] i h e f = absurd (omega arith)
+line_at (b ∷ bs) zero h e f = rw (eq-eqb b 10 e)
+line_at (b ∷ bs) (suc i) h e f = let k = line_at bs i (omega arith) e (λ j g. f (suc j) (omega arith)) in rw (ne_eqb b 10 (f 0 (omega arith))) (omega (arith, k))
 
-  pub line_found : i < length text → get_or text i 0 ≡ 10 → i + line_end (drop i text) ≡ line_end text → i + 1 ≡ line_end text
-  line_found h e k =
-      let s : line_end (drop i text) ≡ 1 = line_step h ∙ (rw (eq-eqb (get_or text i 0) 10 e)) in
-      omega arith
-
-  pub line_more : i < length text → get_or text i 0 ≢ 10 → i + line_end (drop i text) ≡ line_end text → i + 1 + line_end (drop (i + 1) text) ≡ line_end text
-  line_more h e k =
-      let s : line_end (drop i text) ≡ suc (line_end (drop (i + 1) text)) = line_step h ∙ (rw (ne_eqb (get_or text i 0) 10 e)) in
-      omega arith
-
-  no_line : line_end [] ≡ 0
-  unfolding line_end
-  no_line = refl
-
-  pub line_none : length text ≤ i → i + line_end (drop i text) ≡ line_end text → i ≡ line_end text
-  line_none h k = let s : line_end (drop i text) ≡ 0 = ap line_end (drop_of_length-le text {i = i} h) ∙ no_line in omega arith
+pub line_none : (text : List ℕ) → ((j : ℕ) → j < length text → get_or text j 0 ≢ 10) → length text ≡ line_end text
+unfolding line_end
+line_none [] f = refl
+line_none (b ∷ bs) f = rw (ne_eqb b 10 (f 0 (omega arith))) (ap suc (line_none bs (λ j g. f (suc j) (omega arith))))
 
 pub by_line : (out text line after : List ℕ) (n : ℕ) (r : BackEnd) (p : Parsed) → n ≡ line_end text → line ≡ take n text → after ≡ take (length text) (drop n text) → p ≡ parse_table line
     → r ≡ head_end out line after p → r ≡ back_call out text

@@ -3,3 +3,4 @@ pub mod Ends
 pub mod Trip
 pub mod Heads
 pub mod Laws
+pub mod Mapped

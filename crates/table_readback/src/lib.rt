@@ -3,7 +3,6 @@
 
 ghost use Rattle.std.specs.Prelude.{◌≡◌, false, ◌++◌, ◌≤◌, length, Ok};
 ghost use Rattle.std.proofs.lemmas.List.Edits.{sets};
-ghost use Rattle.rules.specs.Record.{record_bytes};
 ghost use Rattle.rules.specs.Conditions.{bad_sizes};
 ghost use Rattle.rules.specs.Refusal.{number_of};
 ghost use Rattle.rules.specs.Answers.{Accepted, filled_with};
@@ -28,6 +27,14 @@ pub enum Refused {
     Text(Fault),
     Table(Fault),
     Call(Refusal),
+}
+
+// Rows of a table: how many, the bits of each, and their trits.
+#[derive(Clone, Copy)]
+struct Rows<'a> {
+    depth: u32,
+    width: u32,
+    trits: &'a [u8],
 }
 
 // ---- the record's rows
@@ -66,26 +73,26 @@ fn record_rows(
 // ---- the text
 
 // The length of the rows' text, by a run that keeps one byte of it.
-fn rows_size(depth: u32, width: u32, rows: &[u8]) -> usize
-    ensures { result ≡ length (rows_shown depth width rows.now) }
+fn rows_size(rows: Rows<'_>) -> usize
+    ensures { result ≡ length (rows_shown rows.entry.depth rows.entry.width rows.entry.trits.now) }
 {
     let mut one = [0u8; 1];
-    table_print::put_rows(&mut one, depth, width, rows)
+    table_print::put_rows(&mut one, rows.depth, rows.width, rows.trits)
 }
 
 // The rows' text, from a place on.
-fn put_behind(out: &mut [u8], at: usize, depth: u32, width: u32, rows: &[u8])
+fn put_behind(out: &mut [u8], at: usize, rows: Rows<'_>)
     requires { at ≤ length out.old }
-    ensures { out.new ≡ sets out.old at (rows_shown depth width rows.now) }
+    ensures { out.new ≡ sets out.old at (rows_shown rows.entry.depth rows.entry.width rows.entry.trits.now) }
 {
-    table_print::put_rows(&mut out[at..], depth, width, rows);
+    table_print::put_rows(&mut out[at..], rows.depth, rows.width, rows.trits);
 }
 
 // The header line and the rows.
-fn shown(out: &mut [u8], line: &[u8], depth: u32, width: u32, rows: &[u8]) -> Result<usize, Refused>
-    ensures { end_as result out.new ≡ text_end out.old (line.now ++ rows_shown depth width rows.now) }
+fn shown(out: &mut [u8], line: &[u8], rows: Rows<'_>) -> Result<usize, Refused>
+    ensures { end_as result out.new ≡ text_end out.old (line.now ++ rows_shown rows.entry.depth rows.entry.width rows.entry.trits.now) }
 {
-    let size = rows_size(depth, width, rows);
+    let size = rows_size(rows);
     let n = line.len();
     if out.len() < n {
         return Err(Refused::Call(Refusal::NoRoom));
@@ -94,83 +101,53 @@ fn shown(out: &mut [u8], line: &[u8], depth: u32, width: u32, rows: &[u8]) -> Re
         return Err(Refused::Call(Refusal::NoRoom));
     }
     lists::copy(out, 0, line);
-    put_behind(out, n, depth, width, rows);
+    put_behind(out, n, rows);
     Ok(n + size)
 }
 
 // The length of the text of the differing rows, by a run that keeps one byte of it.
-fn differences_size(depth: u32, width: u32, rows: &[u8], theirs: &[u8]) -> usize
-    ensures { result ≡ length (diff_text depth width rows.now theirs.now) }
+fn differences_size(rows: Rows<'_>, theirs: &[u8]) -> usize
+    ensures { result ≡ length (diff_text rows.entry.depth rows.entry.width rows.entry.trits.now theirs.now) }
 {
     let mut one = [0u8; 1];
-    table_differ::put_differences(&mut one, depth, width, rows, theirs)
+    table_differ::put_differences(&mut one, rows.depth, rows.width, rows.trits, theirs)
 }
 
 // The rows that differ.
-fn differences(
-    out: &mut [u8],
-    depth: u32,
-    width: u32,
-    rows: &[u8],
-    theirs: &[u8],
-) -> Result<usize, Refused>
-    ensures { end_as result out.new ≡ text_end out.old (diff_text depth width rows.now theirs.now) }
+fn differences(out: &mut [u8], rows: Rows<'_>, theirs: &[u8]) -> Result<usize, Refused>
+    ensures { end_as result out.new ≡ text_end out.old (diff_text rows.entry.depth rows.entry.width rows.entry.trits.now theirs.now) }
 {
-    if out.len() < differences_size(depth, width, rows, theirs) {
+    if out.len() < differences_size(rows, theirs) {
         return Err(Refused::Call(Refusal::NoRoom));
     }
-    Ok(table_differ::put_differences(out, depth, width, rows, theirs))
+    Ok(table_differ::put_differences(out, rows.depth, rows.width, rows.trits, theirs))
 }
 
 // Against a table.
-fn compared(
-    out: &mut [u8],
-    depth: u32,
-    width: u32,
-    rows: &[u8],
-    table: &Table,
-) -> Result<usize, Refused>
-    ensures { end_as result out.new ≡ compared_end out.old depth width rows.now (parsed_of (Ok table.now)) }
+fn compared(out: &mut [u8], rows: Rows<'_>, table: &Table) -> Result<usize, Refused>
+    ensures { end_as result out.new ≡ compared_end out.old rows.entry.depth rows.entry.width rows.entry.trits.now (parsed_of (Ok table.now)) }
 {
-    if table.params.depth != depth {
+    if table.params.depth != rows.depth {
         return Err(Refused::Call(Refusal::BadShape));
     }
-    if table.params.width != width {
+    if table.params.width != rows.width {
         return Err(Refused::Call(Refusal::BadShape));
     }
-    differences(out, depth, width, rows, table.trits())
+    differences(out, rows, table.trits())
 }
 
 // By what follows the record.
-fn behind_end(
-    out: &mut [u8],
-    line: &[u8],
-    depth: u32,
-    width: u32,
-    rows: &[u8],
-    behind: &[u8],
-) -> Result<usize, Refused>
-    ensures { end_as result out.new ≡ behind_end out.old line.now depth width rows.now behind.now }
+fn behind_end(out: &mut [u8], line: &[u8], rows: Rows<'_>, behind: &[u8]) -> Result<usize, Refused>
+    ensures { end_as result out.new ≡ behind_end out.old line.now rows.entry.depth rows.entry.width rows.entry.trits.now behind.now }
 {
     if behind.len() == 0 {
-        return shown(out, line, depth, width, rows);
+        return shown(out, line, rows);
     }
-    match table_read::read_table(behind) {
-        Ok(table) => compared(out, depth, width, rows, &table),
-        Err(fault) => Err(Refused::Table(fault)),
-    }
+    let table = table_read::read_table(behind).map_err(Refused::Table)?;
+    compared(out, rows, &table)
 }
 
 // ---- the whole
-
-// The bytes of a record of these sizes.
-fn record_bytes(sizes: Sizes) -> usize
-    requires { bad_sizes (view_sizes sizes) ≡ false }
-    ensures { result ≡ record_bytes (view_sizes sizes) }
-{
-    let trits = sizes.trits_within(rules::MAX_IMAGE) as usize;
-    rules::HEAD_BYTES + 2 * ((trits + 7) / 8)
-}
 
 // By the record of these sizes.
 fn record_end(
@@ -183,18 +160,18 @@ fn record_end(
     requires { bad_sizes (view_sizes sizes) ≡ false }
     ensures { end_as result out.new ≡ record_end out.old line.now (layout_of layout.entry) after.now (Accepted (view_sizes sizes)) }
 {
-    let n = record_bytes(sizes);
+    let n = record_codec::record_bytes(sizes);
     let mut room = [0u8; rules::MAX_BITS as usize];
-    match record_rows(&mut room, layout, sizes, lists::part(after, 0, n)) {
-        Ok(()) => {
-            let depth = layout.params.depth;
-            let width = layout.params.width;
-            let rows = lists::part(&room, 0, depth as usize * width as usize);
-            let behind = lists::part(after, n, after.len());
-            behind_end(out, line, depth, width, rows, behind)
-        }
-        Err(refusal) => Err(Refused::Call(refusal)),
-    }
+    record_rows(&mut room, layout, sizes, lists::part(after, 0, n)).map_err(Refused::Call)?;
+    let depth = layout.params.depth;
+    let width = layout.params.width;
+    let trits = lists::part(&room, 0, depth as usize * width as usize);
+    let rows = Rows {
+        depth,
+        width,
+        trits,
+    };
+    behind_end(out, line, rows, lists::part(after, n, after.len()))
 }
 
 // By the header's table.
@@ -202,22 +179,18 @@ fn head_end(out: &mut [u8], line: &[u8], after: &[u8], table: &Table) -> Result<
     ensures { end_as result out.new ≡ head_end out.old line.now after.now (parsed_of (Ok table.now)) }
 {
     let layout = table.layout();
-    match Laid::laid_out(layout).sizes() {
-        Ok(sizes) => record_end(out, line, layout, after, sizes),
-        Err(refusal) => Err(Refused::Call(refusal)),
-    }
+    let sizes = Laid::laid_out(layout).sizes().map_err(Refused::Call)?;
+    record_end(out, line, layout, after, sizes)
 }
 
 // Where the first line ends.
 fn line_end(text: &[u8]) -> usize
     ensures { (result ≡ line_end text.now) × (result ≤ length text.now) }
 {
-    for (i, b) in text.iter().enumerate() {
-        if *b == b'\n' {
-            return i + 1;
-        }
+    match text.iter().position(|b| *b == b'\n') {
+        Some(i) => i + 1,
+        None => text.len(),
     }
-    text.len()
 }
 
 // The rows of a text's record, or the rows in which they differ from its table: the bytes of the text.
@@ -227,8 +200,6 @@ pub fn read_back(out: &mut [u8], text: &[u8]) -> Result<usize, Refused>
     let n = line_end(text);
     let line = lists::part(text, 0, n);
     let after = lists::part(text, n, text.len());
-    match table_read::read_table(line) {
-        Ok(table) => head_end(out, line, after, &table),
-        Err(fault) => Err(Refused::Text(fault)),
-    }
+    let table = table_read::read_table(line).map_err(Refused::Text)?;
+    head_end(out, line, after, &table)
 }

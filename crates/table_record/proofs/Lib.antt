@@ -3,3 +3,4 @@ pub mod Records
 pub mod Swizzled
 pub mod Parsed
 pub mod Written
+pub mod Mapped

@@ -34,18 +34,13 @@ pub enum Refused {
 fn split_table(out: &mut [u8], table: &Table) -> Result<usize, Refused>
     ensures { split_as result out.new ≡ split_by out.old (parsed_of (Ok table.now)) }
 {
-    match record_of(out, table.layout(), table.trits()) {
-        Ok(bytes) => Ok(bytes),
-        Err(refusal) => Err(Refused::Call(refusal)),
-    }
+    record_of(out, table.layout(), table.trits()).map_err(Refused::Call)
 }
 
 // The record of a table's text: its bytes.
 pub fn split_text(out: &mut [u8], text: &[u8]) -> Result<usize, Refused>
     ensures { split_as result out.new ≡ split_call out.old text.now }
 {
-    match table_read::read_table(text) {
-        Ok(table) => split_table(out, &table),
-        Err(fault) => Err(Refused::Text(fault)),
-    }
+    let table = table_read::read_table(text).map_err(Refused::Text)?;
+    split_table(out, &table)
 }

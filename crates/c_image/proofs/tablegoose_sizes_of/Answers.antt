@@ -4,4 +4,4 @@ use Rattle.c_record.specs.View.{head_struct}
 use Rattle.c_image.proofs.tablegoose_sizes_of.Goals as goal
 
 pub returns : goal.returns
-returns c = c.sizes_result.ensures ∙ ap head_struct c.sizes.ensures.result_value
+returns c = c.head_result.ensures ∙ ap head_struct c.sizes.ensures.result_value

@@ -1,23 +1,20 @@
 -- `table_readback::line_end` meets its contract.
-use Rattle.table_readback.proofs.Ends.{line_found, line_more, line_none}
-use Rattle.std.proofs.Common.{◌≡◌, length, arith, ◌∙◌}
+use Rattle.std.proofs.Common.{ℕ, ◌≡◌, ◌≢◌, ◌<◌, get_or, length, arith}
+use borrow.Author.Rules.{rules}
+use Rattle.table_readback.proofs.Ends.{line_at, line_none}
 use Rattle.table_readback.proofs.line_end.Goals as goal
 
-pub loop-i-init : goal.loop-i-init
-loop-i-init c = omega arith
+pub returns-in-Some : goal.returns-in-Some
+returns-in-Some c =
+    let t = c.args.text.now in
+    let i = c.in-Some.i in
+    let h : i < length t = search rules in
+    let e : get_or t i 0 ≡ 10 = search rules in
+    let f : (j : ℕ) → j < i → get_or t j 0 ≢ 10 = search rules in
+    (line_at t i h e f, omega arith)
 
-pub returns-then-b-eq10 : goal.returns-then-b-eq10
-returns-then-b-eq10 c =
-    let l = c.loop-i in
-    (line_found c.args.text.now l.i (omega arith) c.if-b-eq10.true l.invariant, omega arith)
-
-pub loop-i-preserved : goal.loop-i-preserved
-loop-i-preserved c =
-    let l = c.loop-i in
-    line_more c.args.text.now l.i (omega arith) c.if-b-eq10.false l.invariant
-
-pub returns : goal.returns
-returns c =
-    let l = c.loop-i in
-    let z : length c.args.text.now ≡ l.i = omega arith in
-    (z ∙ line_none c.args.text.now l.i (omega arith) l.invariant, omega arith)
+pub returns-in-None : goal.returns-in-None
+returns-in-None c =
+    let t = c.args.text.now in
+    let f : (j : ℕ) → j < length t → get_or t j 0 ≢ 10 = search rules in
+    (line_none t f, omega arith)

@@ -7,4 +7,4 @@ use Rattle.table_readback.proofs.put_behind.Goals as goal
 pub returns : goal.returns
 returns c =
     let a = c.args in
-    put-behind a.out.now (rows_shown a.depth a.width a.rows.now) _ a.at _ c.requires refl c.put_rows.ensures.0
+    put-behind a.out.now (rows_shown a.rows.depth a.rows.width a.rows.trits.now) _ a.at _ c.requires refl c.put_rows.ensures.0
