@@ -47,8 +47,7 @@ impl Made {
 #[derive(Clone, Copy, Debug, PartialEq, Eq)]
 pub(crate) struct Got {
     pub(crate) number: u32,
-    used: usize,
-    next: u32,
+    state: LogState,
     made: Made,
 }
 
@@ -56,8 +55,7 @@ impl Got {
     fn new(number: u32, state: LogState, made: Made) -> Got {
         Got {
             number,
-            used: state.used,
-            next: state.next,
+            state,
             made,
         }
     }
