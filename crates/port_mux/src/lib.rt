@@ -86,6 +86,7 @@ fn pair_refusal(m: Memory, nets: &[u32], i: usize, j: usize) -> Result<(), Refus
 }
 
 // 1 to 4, 14 and 15.
+#[tactic(auto, using(crate::proofs::Numbers::num_first, crate::proofs::Numbers::num_rest))]
 fn mux_refusal(
     given: Given<'_>,
     i: usize,
