@@ -29,7 +29,7 @@ use swizzle_call::Swizzled;
 use swizzle_counts::SwizzleRooms;
 use swizzle_result::WideMemory;
 
-// The split of a memory by the plan of a fallback, of which no number refuses any: its tables in `tables`, its trits in `image`.
+// The split of a memory by the plan of a fallback, which no number refuses: its tables in `tables`, its trits in `image`.
 fn split_rows(
     log: &mut [u32],
     st: LogState,

@@ -104,7 +104,7 @@ impl Room {
         }
     }
 
-    // The merging flip-flop of a mask, in the same way.
+    // The merging flip-flop of a mask.
     fn emit_mask(&mut self, log: &mut Log, all_x: bool, clock: ControlNet, mask: &[u32])
         requires { length mask.now ≤ max_merge }
         ensures mask_after { Gave (add_dedup_dff_of (mask_delay all_x (length mask.now) mask.now (control_of clock))) (lent_of log.old) (lent_of log.new) (take (length mask.now) self.new.mask) }

@@ -26,7 +26,7 @@ fn emit_unknown(log: &mut Log, after: &[u32], n: usize)
     log.emit_replace(&after[..n], &unknown[..n]);
 }
 
-// With the room for the outputs after.
+// The emptied memory, with the rooms for its overlays and for the outputs after.
 fn emit_emptied(
     log: &mut Log,
     overlay: &mut Overlay,

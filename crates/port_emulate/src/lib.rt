@@ -145,13 +145,12 @@ fn emulate_passed(
     let mut delay = Room::new();
     dry_refusal(log.len(), st, &mut delay, all_x, m, nets)?;
     let turned = port_settle::turn_clocks(m);
-    // The flip-flops run by the clocks as they were.
-    let clocked = m;
+    // The flip-flops run by the clocks as they were: by `m`, not by `turned`.
     let mut log = Log {
         words: log,
         state: st,
     };
-    delay_ports(&mut log, nets, &mut delay, all_x, clocked);
+    delay_ports(&mut log, nets, &mut delay, all_x, m);
     Ok(Driven {
         memory: port_settle::settle_relations(m, turned),
         state: log.state,
