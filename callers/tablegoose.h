@@ -722,7 +722,7 @@ tablegoose_count tablegoose_list_input(uint8_t *out, size_t out_len, const uint8
  *     384 tablegoose_add_shl
  *     384 tablegoose_add_ushr
  *     256 tablegoose_add_void
- *    4736 tablegoose_can_lower_fallback
+ *    5632 tablegoose_can_lower_fallback
  *     128 tablegoose_cell_of_net
  *     128 tablegoose_const_and
  *     128 tablegoose_const_is_undef
@@ -730,33 +730,33 @@ tablegoose_count tablegoose_list_input(uint8_t *out, size_t out_len, const uint8
  *     128 tablegoose_const_or
  *     128 tablegoose_control_is_always
  *     128 tablegoose_control_not
- *  146304 tablegoose_emulate_read_before_write
- *    6400 tablegoose_extract_read_ports
+ *  144896 tablegoose_emulate_read_before_write
+ *   10368 tablegoose_extract_read_ports
  *    1792 tablegoose_fill
  *    2304 tablegoose_fill_and_patch
- *     640 tablegoose_fill_rows
+ *     768 tablegoose_fill_rows
  *    1152 tablegoose_fill_then_patch
  *     384 tablegoose_into_pos
  *    1152 tablegoose_laid_out
  *     384 tablegoose_list_input
  *     384 tablegoose_list_record
- *  844160 tablegoose_lower_fallback
- *    4864 tablegoose_make_data_swizzle
+ *  847232 tablegoose_lower_fallback
+ *    7168 tablegoose_make_data_swizzle
  *     128 tablegoose_measure
- *    4736 tablegoose_memory_refusal
+ *    5504 tablegoose_memory_refusal
  *     128 tablegoose_memory_summary
  *     128 tablegoose_narrower_select
  *     128 tablegoose_net_as_const
  *     128 tablegoose_net_is_const
  *     128 tablegoose_net_of_cell
- *    4736 tablegoose_output_len
+ *    5504 tablegoose_output_len
  *    1792 tablegoose_patch
  *    1920 tablegoose_patch_all
  *     768 tablegoose_patch_each
  *     640 tablegoose_patch_row
  *     128 tablegoose_place_of
  *    1536 tablegoose_read_laid_row
- *    5504 tablegoose_read_port_output_slice
+ *    6400 tablegoose_read_port_output_slice
  *     384 tablegoose_read_record
  *     384 tablegoose_read_row
  *     256 tablegoose_record_header
@@ -764,8 +764,8 @@ tablegoose_count tablegoose_list_input(uint8_t *out, size_t out_len, const uint8
  *     384 tablegoose_replace_value
  *    1408 tablegoose_sizes_of
  *     128 tablegoose_slice_refusal
- *  460032 tablegoose_swizzle
- *  461184 tablegoose_swizzle_and_patch
+ *  467840 tablegoose_swizzle
+ *  466944 tablegoose_swizzle_and_patch
  *    5632 tablegoose_swizzle_depths
  *    6784 tablegoose_swizzle_mux_bits
  *    4224 tablegoose_swizzled_clear
@@ -778,12 +778,12 @@ tablegoose_count tablegoose_list_input(uint8_t *out, size_t out_len, const uint8
  *    4992 tablegoose_swizzled_write_addr
  *    4224 tablegoose_swizzled_write_data
  *    4224 tablegoose_swizzled_write_mask
- *  157696 tablegoose_transparency_mux
+ *  160768 tablegoose_transparency_mux
  *     128 tablegoose_trit_and
  *     128 tablegoose_trit_not
  *     128 tablegoose_trit_or
- *  142848 tablegoose_unmap_read_dff
- *  186752 tablegoose_unmap_read_init_reset_transparency
+ *  147584 tablegoose_unmap_read_dff
+ *  188416 tablegoose_unmap_read_init_reset_transparency
  *     128 tablegoose_unset
  *     128 tablegoose_value_is_undef
  *     128 tablegoose_wide_log2
