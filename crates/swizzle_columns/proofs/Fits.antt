@@ -1,21 +1,19 @@
 -- A port within the limits, as tests and as facts, and what its parts ask.
-use mathlib.Core.Path.{◌≡◌, refl, sym, ap, ◌∙◌, subst}
+use mathlib.Core.Path.{◌≡◌, refl, ◌∙◌, subst}
 use Prim.Native.Nat.{ℕ, zero, suc, ◌+◌, ◌-◌, ◌*◌, ◌<◌, ◌≤◌}
-use native.Mathlib.Nat.{mul-le-mul, mul-zero, zero-mul, mul_assoc, mul_left_comm, one-mul}
+use native.Mathlib.Nat.{mul-le-mul, mul-zero, zero-mul, mul_left_comm, one-mul}
 use native.Mathlib.Omega.{arith}
-use mathlib.Core.Bool.{Bool, true, false, ◌&&◌}
+use mathlib.Core.Bool.{true, false}
 use mathlib.Core.List.{List}
 use lib.ListN.{length}
 use lib.Seq.{sets}
 use lib.Dec.{eqb, leb, ltb}
 use borrow.Author.Tests.{le-leb, lt-leb, leb-true, eqb-true, eq-eqb, ne_eqb, ltb-true, lt-ltb}
-use Rattle.lists.specs.Choice.{when◌then◌else◌}
 use Rattle.lists.proofs.Choice.{and_true}
 use Rattle.rules.specs.Limits.{X, max_columns, max_row, max_width, max_nets, max_merge}
 use Rattle.rules.specs.Swizzle.{repeating}
 use Rattle.swizzle_laws.specs.Stores.{spill_at}
 use Rattle.swizzle_columns.specs.declared.WidePort.{WidePort}
-use Rattle.swizzle_columns.specs.declared.Grid.{Grid}
 use Rattle.swizzle_columns.specs.Steps.{Good}
 use Rattle.swizzle_columns.specs.Rows.{Bases, all_sources}
 use Rattle.swizzle_columns.specs.Jobs.{Narrow, Port}

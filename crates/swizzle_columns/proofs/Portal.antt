@@ -1,11 +1,10 @@
 -- The machine's numbers of a port are the port's.
-use mathlib.Core.Path.{◌≡◌, refl, sym, ap, ◌∙◌, subst}
-use Prim.Native.Nat.{ℕ, ◌+◌, ◌-◌, ◌*◌, ◌<◌, ◌≤◌}
+use mathlib.Core.Path.{◌≡◌, refl}
+use Prim.Native.Nat.{ℕ, ◌*◌, ◌<◌, ◌≤◌}
 use native.Mathlib.Omega.{arith}
 use mathlib.Core.List.{List}
 use lib.ListN.{length, replicate}
 use Rattle.lists.specs.Lists.{up_from}
-use Rattle.rules.specs.Limits.{X, trit_x}
 use Rattle.rules.specs.Swizzle.{arrange}
 use Rattle.swizzle_laws.specs.Stores.{spill_at, spill_each}
 use Rattle.swizzle_columns.specs.declared.WidePort.{WidePort}

@@ -1,5 +1,5 @@
 -- The entries of a row for each old row of a port, and where pieces start.
-use Rattle.std.specs.Prelude.{◌≡◌, ℕ, ◌+◌, ◌*◌, ◌≤◌, List, [], ◌∷◌, map, get_or, eqb}
+use Rattle.std.specs.Prelude.{ℕ, ◌+◌, ◌*◌, ◌≤◌, List, [], ◌∷◌, map, get_or, eqb}
 use Rattle.lists.specs.Choice.{when◌then◌else◌}
 use Rattle.lists.specs.Lists.{up_from, concat_map}
 use Rattle.rules.specs.Limits.{X, None, addr_bits}

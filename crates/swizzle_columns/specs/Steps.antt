@@ -1,7 +1,6 @@
 -- What the private functions ask and give: a grid of columns, a cursor over it, and arrays of its size.
-use Rattle.std.specs.Prelude.{◌≡◌, ℕ, ◌+◌, ◌-◌, ◌*◌, ◌/◌, ◌%◌, ◌<◌, ◌≤◌, List, [], ◌∷◌, map, length, get_or, eqb, ltb}
+use Rattle.std.specs.Prelude.{◌≡◌, ℕ, ◌+◌, ◌-◌, ◌*◌, ◌/◌, ◌%◌, ◌<◌, ◌≤◌, List, length, ltb}
 use Rattle.lists.specs.Choice.{when◌then◌else◌}
-use Rattle.rules.specs.Limits.{X, None}
 use Rattle.swizzle_laws.specs.Order.{home}
 use Rattle.swizzle_columns.specs.declared.Grid.{Grid}
 use Rattle.swizzle_columns.specs.declared.Cursor.{Cursor}
