@@ -138,8 +138,9 @@ module _ (g : Grid) (size : ℕ) (o : Good g size) where
         back : {x y b b' z : ℕ} → x ≡ y → b ≡ b' → z + b' ≡ y + 1 → x + 1 - b ≡ z
         back p q r = omega arith
 
-    pub steppable : i < size → size < 4611686018427387904 → Steppable c g
-    steppable h m =
+    pub steppable : i < size → Steppable c g
+    steppable h =
+        let m = o.low in
         let p = mod-lt i o.unit_pos in
         let q = mod-lt (i / U) o.mems_pos in
         let x = index_lt i h in record {

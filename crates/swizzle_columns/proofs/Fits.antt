@@ -161,7 +161,7 @@ module _ (p : WidePort) (len size : ℕ) (f : PortFits p len size) where
   size_low = omega (arith, f.size_is, bounded p.rows (p.mems * p.unit) 16 32768 f.rows_max f.columns_max)
 
   pub grid_good : Good (grid_of p len) size
-  grid_good = record { mems_pos = mems_pos; rows_pos = rows_pos; unit_pos = unit_pos; size_is = f.size_is; hop_is = refl; back_is = refl }
+  grid_good = record { mems_pos = mems_pos; rows_pos = rows_pos; unit_pos = unit_pos; size_is = f.size_is; low = size_low; hop_is = refl; back_is = refl }
 
   pub port_narrow : Narrow p.olds (p.mems * p.unit) len p.pieces
   port_narrow =

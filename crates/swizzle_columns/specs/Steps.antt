@@ -11,6 +11,7 @@ pub record Good (g : Grid) (size : ℕ) : Type 0 where
   pub rows_pos : 0 < g.rows
   pub unit_pos : 0 < g.unit
   pub size_is : size ≡ g.rows * (g.mems * g.unit)
+  pub low : size ≤ 4611686018427387903
   pub hop_is : g.hop ≡ (g.rows - 1) * g.unit
   pub back_is : g.back ≡ (g.mems - 1) * (g.rows * g.unit)
 

@@ -25,7 +25,7 @@ store_piece-requires g c =
     let v = k.args in
     let w = h.loop-x.invariant in
     let s = c.piece_starts in
-    record { good = (subst (λ (n : ℕ). Good v.g n) (sym w.1) k.requires.good.0, omega (arith, w.1, k.requires.good.1)); rowed = record { enough = k.requires.v_len.0 ∙ ap (λ (n : ℕ). n * v.g.entries) (sym (s.auto.starts ∙ w.2)) } }
+    record { good = subst (λ (n : ℕ). Good v.g n) (sym w.1) k.requires.good; rowed = record { enough = k.requires.v_len.0 ∙ ap (λ (n : ℕ). n * v.g.entries) (sym (s.auto.starts ∙ w.2)) } }
 
 pub loop-x-preserved : goal.loop-x-preserved
 loop-x-preserved g c =
