@@ -280,6 +280,24 @@ fn store_piece<T: Copy>(to: &mut [T], g: Grid, starts: &[usize], v: &[T])
     }
 }
 
+// Stores piece x; its starts stand in lent scratch.
+fn store_at<T: Copy>(
+    to: &mut [T],
+    g: Grid,
+    columns: usize,
+    chunks: u32,
+    starts: &mut [usize],
+    v: &[T],
+    x: usize,
+)
+    requires good { Good g (length to.old) }
+    requires v_len { (length v.now ≡ length starts.old * g.entries) × Narrow (length starts.old) columns g.entries x }
+    ensures { to.new ≡ spill_at g.mems g.rows g.unit g.entries (starts_by chunks columns g.entries (length starts.old) x) v.now to.old }
+{
+    piece_starts(starts, chunks, columns, g.entries, x);
+    store_piece(to, g, starts, v);
+}
+
 // A row stored as each piece.
 fn store_pieces<T: Copy>(
     to: &mut [T],
@@ -295,27 +313,8 @@ fn store_pieces<T: Copy>(
     ensures { to.new ≡ spill_each g.mems g.rows g.unit g.entries (starts_by chunks columns g.entries (length starts.old)) (up_from 0 pieces) v.now to.old }
 {
     for x in 0..pieces {
-        piece_starts(starts, chunks, columns, g.entries, x);
-        store_piece(to, g, starts, v);
+        store_at(to, g, columns, chunks, starts, v, x);
     }
-}
-
-// Stores piece x; its starts stand in lent scratch.
-fn store_at(
-    to: &mut [u32],
-    g: Grid,
-    columns: usize,
-    chunks: u32,
-    starts: &mut [usize],
-    v: &[u32],
-    x: usize,
-)
-    requires good { Good g (length to.old) }
-    requires v_len { (length v.now ≡ length starts.old * g.entries) × Narrow (length starts.old) columns g.entries x }
-    ensures { to.new ≡ spill_at g.mems g.rows g.unit g.entries (starts_by chunks columns g.entries (length starts.old) x) v.now to.old }
-{
-    piece_starts(starts, chunks, columns, g.entries, x);
-    store_piece(to, g, starts, v);
 }
 
 // The same from a port within the limits.
