@@ -281,7 +281,7 @@ pub fn init_of(p: MemoryReadPort, trits: &[u8]) -> &[u8]
     )
 }
 
-// Where the nets of write port i start.
+// Where the nets of write port i start. (Here and in the three sums below: of `map` and `sum` the proof that the sum fits did not close.)
 fn write_start(m: Memory, i: usize) -> usize
     requires { i ≤ max_ports }
     ensures { (result ≡ write_start m i) × (result ≤ i * 0x300000000) }
