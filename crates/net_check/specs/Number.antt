@@ -5,7 +5,6 @@ use Rattle.rules.specs.Cell.{WritePort, ReadPort, Mem, write_wide_log2, read_wid
 use Rattle.rules.specs.Refusals.{number_by_of}
 use Rattle.rules.specs.Conditions.{bad_write_shape, bad_read_shape, indivisible, bad_write_nets, bad_read_nets}
 use Rattle.net_memory.specs.declared.Memory.{Memory}
-use Rattle.net_check.specs.declared.Read.{Read}
 use Rattle.net_memory.specs.View.{no_read_port, read_by, read_start, trit_start}
 
 unfoldable pub write_number : ℕ → Mem → WritePort → ℕ
@@ -13,10 +12,6 @@ write_number next m p = number_by_of (bad_write_shape m p) (indivisible m.depth 
 
 unfoldable pub read_number : ℕ → Mem → ReadPort → ℕ
 read_number next m p = number_by_of (bad_read_shape m p) (indivisible m.depth (read_wide_log2 m p)) (bad_read_nets next p)
-
--- a read port with its own nets and trits
-abbrev pub read_of : Read → ReadPort
-read_of r = read_by r.port r.nets.now r.trits.now
 
 -- what stands where there is no read port
 abbrev pub no_read_of : ReadPort

@@ -24,11 +24,11 @@ loop-i-preserved c =
     let l = h.loop-i in
     let n = writes_length v.m _ h.well_formed.0 v.nets.now in
     let t : l.i < min 8 v.m.write_count = omega arith in
-    let x = c.part-part.ensures.part ∙ (λ k. part (l.invariant.1 k) (c.write_size-size.ensures.0 k) v.nets.now) in (
+    let x = c.part.ensures.part ∙ (λ k. part (l.invariant.1 k) (c.write_size-size.ensures.0 k) v.nets.now) in (
       omega arith,
       omega (arith, sum_take_more write_size no_write_port refl v.m.write_ports l.i),
       omega arith,
-      λ trits. let q = c.lower-refusal.ensures ∙ ap (least (number_if l.refusal)) (write_is v.m v.nets.now trits v.next l.i t (number_if c.write_refusal.result) c.part-part.result.now x c.write_refusal.ensures) in
+      λ trits. let q = c.lower-refusal.ensures ∙ ap (least (number_if l.refusal)) (write_is v.m v.nets.now trits v.next l.i t (number_if c.write_refusal.result) c.part.result.now x c.write_refusal.ensures) in
           least_turn (write_number v.next (memory_of v.m v.nets.now trits)) (writes_of v.m v.nets.now) l.i (number_if l.refusal) (number_if c.lower-refusal.result) no_write_of (omega (arith, n)) q (l.invariant.3 trits),
     )
 
