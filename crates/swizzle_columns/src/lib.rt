@@ -10,8 +10,11 @@ ghost use Rattle.rules.specs.Swizzle.{arrange, repeating};
 ghost use Rattle.swizzle_laws.specs.Stores.{spill_fit, spill_at, spill_each};
 ghost use Rattle.swizzle_columns.specs.Steps.{Good, At, next_of, Steppable, Rowed};
 ghost use Rattle.swizzle_columns.specs.Rows.{source_of, row_sources, all_sources, last_of, Bases, start_of, starts_by};
-ghost use Rattle.swizzle_columns.specs.Wide.{sizes_fit, rows_fit, PortFits, grid_of, port_starts, can_store, Stores, stored_of, mask_row, port_columns, bits_of, trits_of};
+ghost use Rattle.swizzle_columns.specs.Wide.{wide_of, sizes_fit, rows_fit, PortFits, grid_of, port_starts, can_store, Stores, stored_of, mask_row, port_columns, bits_of, trits_of};
 ghost use Rattle.swizzle_columns.specs.Jobs.{Narrow};
+
+use image_geometry::Params;
+use swizzle_split::Split;
 
 // How the columns of a port stand: so many memories, rows of the port, columns of a memory, and entries of a row; and the steps from the last
 // column of a memory's row to the same row of the next memory, and back to the first memory.
@@ -36,6 +39,23 @@ pub struct WidePort {
     pub width: u32,
     pub chunks: u32,
     pub pieces: u32,
+}
+
+impl WidePort {
+    // A port with this split of a layout, among so many memories.
+    pub fn of(p: Params, mems: u32, s: Split) -> WidePort
+        ensures { result ≡ wide_of p mems s }
+    {
+        WidePort {
+            mems,
+            unit: p.unit,
+            rows: swizzle_split::rows_of(s.new),
+            olds: swizzle_split::rows_of(s.old),
+            width: p.width,
+            chunks: s.mask,
+            pieces: s.pieces,
+        }
+    }
 }
 
 // The rows of a port with the largest wide log.

@@ -16,11 +16,10 @@ mod rows;
 use image_geometry::Layout;
 use log_entries::Log;
 use net_flip_flop::Controls;
-use net_memory::{Given, MemoryReadPort};
+use net_memory::{Given, MemoryReadPort, ReadPort};
 use rows::{Cut, Rows};
 use swizzle_columns::WidePort;
 use swizzle_pieces::Pieces;
-use swizzle_read::ReadPort;
 use swizzle_read_trits::Trits;
 use swizzle_result::{WideMemory, WideReadPort};
 use swizzle_split::Split;
@@ -46,13 +45,11 @@ pub(crate) struct Sizes {
     pub columns: u32,
 }
 
-// A read port of the memory: its number, its struct with its own nets and trits, its new wide log, and its outputs.
+// A read port of the memory, with its number, its new wide log, and its outputs.
 #[derive(Clone, Copy)]
 struct Port<'a> {
     number: usize,
-    port: MemoryReadPort,
-    nets: &'a [u32],
-    trits: &'a [u8],
+    read: ReadPort<'a>,
     wide: u32,
     output: &'a [u32],
     ghost in_use: { number < max_ports },
@@ -95,7 +92,7 @@ impl Cut<'_> {
             rows: swizzle_split::rows_of(s.old),
             count: s.pieces,
         };
-        let port = ReadPort {
+        let port = swizzle_read::ReadPort {
             pieces,
             width: self.piece(),
             voids: swizzle_split::rows_of(s.new),
@@ -108,27 +105,18 @@ impl Cut<'_> {
     }
 
     // The trits of a port, from `at` on, where it has a flip-flop.
-    fn put_trits(self, to: &mut [u8], at: usize, r: MemoryReadPort, trits: &[u8])
-        ensures { to.new ≡ clocked self.entry r trits.now at to.old }
+    fn put_trits(self, to: &mut [u8], at: usize, r: ReadPort<'_>)
+        ensures { to.new ≡ clocked self.entry r.entry.port r.entry.trits.now at to.old }
     {
-        if let None = r.flip_flop {
+        if let None = r.port.flip_flop {
             return;
         }
         let q = self.rows.layout;
-        let s = self.split;
-        let w = WidePort {
-            mems: self.rows.sizes.mems,
-            unit: q.params.unit,
-            rows: swizzle_split::rows_of(s.new),
-            olds: swizzle_split::rows_of(s.old),
-            width: q.params.width,
-            chunks: s.mask,
-            pieces: s.pieces,
-        };
+        let w = WidePort::of(q.params, self.rows.sizes.mems, self.split);
         let kinds = Trits {
-            clear: net_memory::clear_of(r, trits),
-            reset: net_memory::reset_of(r, trits),
-            init: net_memory::init_of(r, trits),
+            clear: r.clear(),
+            reset: r.reset(),
+            init: r.init(),
         };
         kinds.put(to, at, self.size(), w, q.entries);
     }
@@ -200,16 +188,16 @@ impl Reads<'_> {
         hw: &[u32],
         mux: &[u32],
     )
-        requires { Holding x port.port.flip_flop (length hw.now) self.old }
-        ensures ports_after { going_of log.new self.new ≡ all_of x.entry port.entry.number port.entry.port port.entry.trits.now hw.now mux.now port.entry.output.now scratch.old (going_of log.old self.old) }
+        requires { Holding x port.read.port.flip_flop (length hw.now) self.old }
+        ensures ports_after { going_of log.new self.new ≡ all_of x.entry port.entry.number port.entry.read.port port.entry.read.trits.now hw.now mux.now port.entry.output.now scratch.old (going_of log.old self.old) }
         ensures scratch_after { drop (nets_of x.entry) scratch.new ≡ drop (nets_of x.entry) (loaded x.entry mux.now scratch.old log.old.state.next) }
         ensures same_rooms { SameRooms self.old self.new }
     {
-        let r = port.port;
+        let r = port.read.port;
         let first = log.state.next;
         x.emit_port(log, scratch, r.flip_flop, mux, port.output);
         lists::copy(self.nets, self.nets_at, hw);
-        x.put_trits(self.trits, self.trits_at, r, port.trits);
+        x.put_trits(self.trits, self.trits_at, port.read);
         self.memory.read_ports[port.number] = port_of(x.split, r, first);
         self.nets_at += hw.len();
         self.trits_at += x.trit_count(r.flip_flop);
@@ -217,15 +205,15 @@ impl Reads<'_> {
 
     // One port.
     fn read_port(&mut self, log: &mut Log, scratch: &mut [u32], rows: Rows<'_>, port: Port<'_>)
-        ensures ports_after { going_of log.new self.new ≡ port_if (layout_of rows.entry.layout) (length scratch.old) port.entry.number (in_port port.entry.port port.entry.nets.now port.entry.trits.now) port.entry.wide port.entry.output.now (going_of log.old self.old) }
-        ensures scratch_kept { ScratchKept (layout_of rows.entry.layout) (in_port port.entry.port port.entry.nets.now port.entry.trits.now) port.entry.wide scratch.old scratch.new }
+        ensures ports_after { going_of log.new self.new ≡ port_if (layout_of rows.entry.layout) (length scratch.old) port.entry.number (in_port port.entry.read.port port.entry.read.nets.now port.entry.read.trits.now) port.entry.wide port.entry.output.now (going_of log.old self.old) }
+        ensures scratch_kept { ScratchKept (layout_of rows.entry.layout) (in_port port.entry.read.port port.entry.read.nets.now port.entry.read.trits.now) port.entry.wide scratch.old scratch.new }
         ensures same_rooms { SameRooms self.old self.new }
     {
         let mut hw = [0u32; ROOM];
         let mut mux = [0u32; ROOM];
-        let r = port.port;
+        let r = port.read.port;
         let p = rows.layout.params;
-        let addr = net_memory::read_addr_of(r, port.nets);
+        let addr = port.read.addr();
         let old = net_memory::wide::wide_log(p.width, r.data_len as usize);
         let split = swizzle_split::split_addr(&mut hw, &mut mux, p, old, port.wide, addr);
         let Some(s) = split else {
@@ -257,14 +245,12 @@ impl Reads<'_> {
         ensures scratch_kept { ScratchKept (layout_of rows.entry.layout) (port_of given.entry.memory given.entry.nets.now given.entry.trits.now i) (get_or wide.now i 0) scratch.old scratch.new }
         ensures same_rooms { SameRooms self.old self.new }
     {
-        let port = given.memory.read_ports[i];
+        let read = given.read_port(i);
         let x = Port {
             number: i,
-            port,
-            nets: net_memory::read_nets(given.memory, given.nets, i),
-            trits: net_memory::read_trits(given.memory, given.trits, i),
+            read,
             wide: wide.get(i).copied().unwrap_or(0),
-            output: lists::part(output, at, port.data_len as usize),
+            output: lists::part(output, at, read.port.data_len as usize),
         };
         self.read_port(log, scratch, rows, x);
     }
