@@ -12,7 +12,7 @@ ghost use Rattle.net_memory.specs.Ports.{write_of, read_of};
 ghost use Rattle.net_memory.specs.Given.{too_many_ports, long_relations, bad_lens, view_given, mem_of};
 ghost use Rattle.rules.specs.Refusal.{number_of, number_if};
 ghost use Rattle.rules.specs.Refusals.{mem_number, mem_refusal, number_by_of};
-ghost use Rattle.net_check.specs.Number.{write_number, read_number, ReadsFrom, no_read_of};
+ghost use Rattle.net_check.specs.Number.{write_number, read_number};
 
 use net_flip_flop::Controls;
 use net_memory::{Given, Memory, MemoryReadPort, ReadPort, WritePort};
@@ -102,11 +102,10 @@ fn writes_refusal(m: Memory, nets: &[u32], next: u32) -> Option<Refusal>
     let count = net_memory::ports_used(m.write_count);
     let mut refusal = None;
     let mut at = 0;
-    for i in 0..count {
-        let port = m.write_ports[i];
-        let size = net_memory::write_size(port);
+    for port in &m.write_ports[..count] {
+        let size = net_memory::write_size(*port);
         let w = WritePort {
-            port,
+            port: *port,
             nets: lists::part(nets, at, size),
         };
         refusal = lower(refusal, write_refusal(m.depth, m.width, next, w));
@@ -182,36 +181,25 @@ fn read_refusal(
     refusal_by(shape, rows, read_nets_bad(next, r))
 }
 
-// By what read port i is refused, whose nets and trits start at these places.
-fn read_refusal_at(given: Given<'_>, next: u32, i: usize, at: usize, from: usize) -> Option<Refusal>
-    requires { ReadsFrom given.memory i at from }
-    ensures { number_if result ≡ read_number next (mem_of given.entry) (get_or (reads_of given.entry.memory given.entry.nets.now given.entry.trits.now) i no_read_of) }
-{
-    let m = given.memory;
-    let port = m.read_ports[i];
-    let r = ReadPort {
-        port,
-        nets: lists::part(given.nets, at, net_memory::addr_size(port)),
-        trits: lists::part(given.trits, from, net_memory::trit_size(port)),
-    };
-    let writes = net_memory::ports_used(m.write_count);
-    read_refusal(m.depth, m.width, next, writes, r)
-}
-
 // By what a read port is refused, the lowest of all.
 fn reads_refusal(given: Given<'_>, next: u32) -> Option<Refusal>
     ensures { number_if result ≡ least_by (read_number next (mem_of given.entry)) (reads_of given.entry.memory given.entry.nets.now given.entry.trits.now) }
 {
     let m = given.memory;
+    let writes = net_memory::ports_used(m.write_count);
     let count = net_memory::ports_used(m.read_count);
     let mut at = net_memory::reads_start(m);
     let mut from = net_memory::init_size(m);
     let mut refusal = None;
-    for i in 0..count {
-        let p = m.read_ports[i];
-        refusal = lower(refusal, read_refusal_at(given, next, i, at, from));
-        at += net_memory::addr_size(p);
-        from += net_memory::trit_size(p);
+    for port in &m.read_ports[..count] {
+        let r = ReadPort {
+            port: *port,
+            nets: lists::part(given.nets, at, net_memory::addr_size(*port)),
+            trits: lists::part(given.trits, from, net_memory::trit_size(*port)),
+        };
+        refusal = lower(refusal, read_refusal(m.depth, m.width, next, writes, r));
+        at += net_memory::addr_size(*port);
+        from += net_memory::trit_size(*port);
     }
     refusal
 }
