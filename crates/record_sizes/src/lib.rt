@@ -110,6 +110,7 @@ impl Sizes {
     }
 
     // The image in a lent array: its first trits, as many as the sizes say.
+    #[tactic(auto, unfolding(rules::specs::Record::record_image))]
     pub fn image_of(self, image: &[u8]) -> &[u8]
         ensures { result.now ≡ record_image (view_sizes self) image.now }
     {
