@@ -9,7 +9,7 @@ ghost use Rattle.record_sizes.specs.View.{view_sizes};
 
 // `full` memories of depth `full_depth`, then `partial` ones of depth `partial_depth`, each `unit` bits wide.
 #[repr(C)]
-#[derive(Clone, Copy, Debug, PartialEq, Eq)]
+#[derive(Clone, Copy, Debug, Default, PartialEq, Eq)]
 pub struct Sizes {
     pub unit: u32,
     pub full: u32,
