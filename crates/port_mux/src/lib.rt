@@ -19,6 +19,7 @@ ghost use Rattle.port_transparency.specs.Gave.{Gave};
 ghost use Rattle.port_mux.specs.Call.{overlay_of, wanted_of, overlaid_of, overlaid, Paired};
 
 use log_entries::{Log, LogState};
+use net_check::Breaks;
 use net_memory::{Given, Memory, MemoryReadPort};
 use port_transparency::{Overlay, Reading};
 use rules::Refusal;
@@ -101,7 +102,15 @@ fn mux_refusal(
     let one = overlay_long(bits, mask, masked);
     let two = overlay_unlike(given.memory, bits, mask, masked, i);
     let four = overlay_bad(next, bits, mask, masked);
-    net_check::call_refusal(given, next, one, two, four)?;
+    net_check::call_refusal(
+        given,
+        next,
+        Breaks {
+            large: one,
+            shape: two,
+            value: four,
+        },
+    )?;
     pair_refusal(given.memory, given.nets, i, j)
 }
 
