@@ -17,7 +17,7 @@ pub struct Columns<'a> {
 impl Columns<'_> {
     // The key at j.
     #[tactic(auto, using(crate::proofs::Pairs::key_at))]
-    pub fn key(self, j: usize) -> Key
+    pub(crate) fn key(self, j: usize) -> Key
         requires { (j < length self.x.now) × Even self }
         ensures { key_of result ≡ get_or (keys_in self.entry) j (0, 0) }
     {

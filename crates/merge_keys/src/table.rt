@@ -26,7 +26,7 @@ fn slot(key: Key) -> usize
     ensures value { result ≡ slot_of (key_of key) }
     ensures bound { result < slots }
 {
-    ((u64::from(key.x) * 40503 + u64::from(key.y) * 60493) / 64 % 1024) as usize
+    ((u64::from(key.x) * 40503 + u64::from(key.y) * 60493) / 64 % SLOTS as u64) as usize
 }
 
 impl Table {
@@ -98,7 +98,7 @@ impl Table {
     }
 
     // The place of a key among those kept, or their number where it is not among them.
-    pub fn find(&mut self, kept: Columns<'_>, key: Key) -> usize
+    pub(crate) fn find(&mut self, kept: Columns<'_>, key: Key) -> usize
         requires { Even kept × Stands (keys_in kept) self.old.last self.old.before self.old.count }
         ensures place { result ≡ place_in same2 (key_of key) (keys_in kept.entry) }
         ensures stands { Stands (keys_in kept.entry) self.new.last self.new.before self.new.count }
