@@ -17,6 +17,7 @@ ghost use Rattle.port_transparency.specs.Gave.{Gave};
 ghost use Rattle.port_mux.specs.Call.{overlay_of, given_mask, asked_of, wanted_of, overlaid_of, Paired};
 
 use log_entries::{Log, LogState};
+use net_check::Breaks;
 use net_memory::Given;
 use port_transparency::{NoMask, Overlay, Reading};
 use rules::Refusal;
@@ -94,10 +95,12 @@ fn pair_refusal(given: Given<'_>, i: usize, j: usize) -> Result<(), Refusal>
 fn mux_refusal(given: Given<'_>, i: usize, j: usize, o: Asked<'_>, next: u32) -> Result<(), Refusal>
     ensures { number_of result ≡ transparency_mux_number next (view_given given.entry) i j (asked_of o.entry) }
 {
-    let one = overlay_long(o);
-    let two = overlay_unlike(given, o, i);
-    let four = overlay_bad(next, o);
-    net_check::call_refusal(given, next, one, two, four)?;
+    let beside = Breaks {
+        large: overlay_long(o),
+        shape: overlay_unlike(given, o, i),
+        value: overlay_bad(next, o),
+    };
+    net_check::call_refusal(given, next, beside)?;
     pair_refusal(given, i, j)
 }
 

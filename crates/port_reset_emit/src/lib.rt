@@ -32,17 +32,12 @@ pub struct Mask {
 
 impl Mask {
     // A room of zeros.
-    #[tactic(auto, unfolding(crate::specs::Room::zero_mask))]
     pub fn new() -> Mask
         ensures { result ≡ zero_mask }
     {
         Mask {
             over: [0; rules::MAX_MERGE],
-            trits: Trits {
-                clear: [0; rules::MAX_MERGE],
-                reset: [0; rules::MAX_MERGE],
-                init: [0; rules::MAX_MERGE],
-            },
+            trits: Trits::new(),
             ones: [0; rules::MAX_MERGE],
             starts: [0; rules::MAX_MERGE],
         }

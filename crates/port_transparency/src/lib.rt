@@ -248,7 +248,6 @@ fn pair_fits(w: Writing, r: Reading) -> bool
 
 impl Overlay {
     // A room of zeros.
-    #[tactic(auto, unfolding(crate::specs::Room::zero_overlay))]
     pub fn new() -> Overlay
         ensures { result ≡ zero_overlay }
     {
@@ -258,11 +257,7 @@ impl Overlay {
             mask: [0; rules::MAX_MERGE],
             select: [0; rules::MAX_MERGE],
             spare: [0; rules::MAX_MERGE],
-            keys: Keys {
-                x: [0; rules::MAX_MERGE],
-                y: [0; rules::MAX_MERGE],
-                at: [0; rules::MAX_MERGE],
-            },
+            keys: Keys::new(),
         }
     }
 
