@@ -14,6 +14,7 @@ ghost use Rattle.net_memory.specs.Ports.{code_of};
 ghost use Rattle.net_memory.specs.Given.{clocked, view_given, mem_of};
 ghost use Rattle.port_relations.specs.Clocked.{port_differs, clocks_differ_of, has_relation, port_relates, mixed_ports, flip_flops_from};
 
+use net_check::Breaks;
 use net_memory::{Given, Memory, MemoryPortRelation, MemoryReadPort};
 use net_value::ControlNet;
 use rules::Refusal;
@@ -103,7 +104,7 @@ fn any_unclocked(ports: &[MemoryReadPort]) -> bool
 pub fn input_refusal(given: Given<'_>, next: u32) -> Result<(), Refusal>
     ensures { number_of result ≡ (emulate_number next (view_given given.entry) or_else (when any unclocked (mem_of given.entry).reads then 22 else 0)) }
 {
-    net_check::call_refusal(given, next, false, false, false)?;
+    net_check::call_refusal(given, next, Breaks::NOTHING)?;
     let ports = &given.memory.read_ports[..net_memory::ports_used(given.memory.read_count)];
     if clocks_differ(ports) {
         return Err(Refusal::ReadClocksDiffer);
