@@ -15,6 +15,7 @@ ghost use Rattle.c_port.specs.View.{driven_struct, driven_by, NewMemory, NewTrit
 use c_log::Logged;
 use c_memory::Memory;
 use log_entries::LogState;
+use port_mux::Asked;
 use rules::Refusal;
 
 // A refusal's number, or 0; the memory and the log's state after the call.
@@ -131,8 +132,10 @@ pub fn tablegoose_transparency_mux(
     ensures { overlay_left_by (overlay_of masked (take (length bits.now) bits_to.new) (take (length bits.now) mask_to.new)) result log.new bits_to.new mask_to.new ≡ lent_overlay (state_of st) (transparency_mux_call bits_to.old mask_to.old log.old (state_of st) (given_of (given_memory m) nets.now trits.now) read write (overlay_of masked bits.now mask.now)) }
 {
     let given = c_memory::given_by(m, nets, trits);
-    let r = port_mux::transparency_mux(
-        log, st, bits_to, mask_to, given, read, write, bits, mask, masked,
-    );
+    let asked = Asked {
+        bits,
+        mask: masked.then_some(mask),
+    };
+    let r = port_mux::transparency_mux(log, st, bits_to, mask_to, given, read, write, asked);
     c_log::answer_struct(r, st)
 }

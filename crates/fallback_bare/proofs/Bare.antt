@@ -1,37 +1,28 @@
--- The loop over the read ports, and the memory of the rules.
-use mathlib.Core.Path.{◌≡◌, refl, sym, ap, ◌∙◌}
-use Prim.Native.Nat.{ℕ, zero, suc, ◌+◌, ◌<◌, ◌≤◌, min}
-use native.Mathlib.Numerals.{add-one}
+-- All read ports without flip-flops, and the memory of the rules.
+use mathlib.Core.Path.{◌≡◌, refl, ap, ◌∙◌}
+use Prim.Native.Nat.{ℕ, zero, suc, ◌<◌, min}
 use native.Mathlib.Omega.{arith}
-use mathlib.Core.List.{List, [], ◌∷◌, ◌++◌, map, append-nil}
-use lib.ListN.{length, get_or, set, take, drop, drop_of_length-le}
-use lib.Seq.{take_all, take-suc-set, drop-set-lt, drop-cons, append_snoc}
+use mathlib.Core.List.{List, [], ◌∷◌, map}
+use lib.ListN.{length, get_or, take, drop}
 use Rattle.lists.specs.Views.{views}
 use Rattle.rules.specs.Limits.{max_ports}
 use Rattle.rules.specs.Cell as rules
 use Rattle.rules.specs.Cell.{with_reads}
 use Rattle.net_memory.specs.declared.MemoryReadPort.{MemoryReadPort}
 use Rattle.net_memory.specs.declared.Memory.{Memory}
-use Rattle.net_memory.specs.View.{memory_of, no_read_port, read_ports_of, addr_size, trit_size, read_by, reads_start}
+use Rattle.net_memory.specs.View.{memory_of, read_ports_of, addr_size, trit_size, read_by, reads_start}
 use Rattle.port_unmap.specs.Call.{without}
 use Rattle.port_unmap_all.specs.All.{bare, all_bare}
 use Rattle.fallback_bare.specs.Bare.{bare_of}
 
--- ---- the loop: what is left from i on gives the whole
-abbrev pub left_from : ℕ → List MemoryReadPort → List MemoryReadPort
-left_from i ps = take i ps ++ map without (drop i ps)
-
-pub left_turn : (i : ℕ) (ps whole : List MemoryReadPort) (q : MemoryReadPort) → i < length ps → left_from i ps ≡ whole → q ≡ without (get_or ps i no_read_port) → left_from (i + 1) (set ps i q) ≡ whole
-left_turn i ps whole q h e f =
-    ap (λ (k : ℕ). left_from k (set ps i q)) (add-one i)
-    ∙ (λ j. take-suc-set ps i q h j ++ map without (drop-set-lt (suc i) ps i q (omega arith) j))
-    ∙ append_snoc (take i ps) q (map without (drop (suc i) ps))
-    ∙ ap (λ (x : MemoryReadPort). take i ps ++ x ∷ map without (drop (suc i) ps)) f
-    ∙ sym (ap (λ (l : List MemoryReadPort). take i ps ++ map without l) (drop-cons ps i no_read_port h))
-    ∙ e
-
-pub left_end : (i : ℕ) (ps whole : List MemoryReadPort) → length ps ≤ i → left_from i ps ≡ whole → ps ≡ whole
-left_end i ps whole h e = sym ((λ j. take_all i ps h j ++ map without (drop_of_length-le ps h j)) ∙ append-nil ps) ∙ e
+-- ---- an image that is known place by place
+pub by_place : (xs ys : List MemoryReadPort) (n : ℕ) → length xs ≡ n → length ys ≡ n → ((i : ℕ) (d e : MemoryReadPort) → i < n → get_or ys i e ≡ without (get_or xs i d)) → ys ≡ map without xs
+by_place [] [] n hx hy h = refl
+by_place [] (y ∷ ys) n hx hy h = absurd (omega arith)
+by_place (x ∷ xs) [] n hx hy h = absurd (omega arith)
+by_place (x ∷ xs) (y ∷ ys) zero hx hy h = absurd (omega arith)
+by_place (x ∷ xs) (y ∷ ys) (suc n) hx hy h =
+    λ i. h 0 x y (omega arith) i ∷ by_place xs ys n (omega arith) (omega arith) (λ k d e l. h (suc k) d e (omega arith)) i
 
 -- ---- the memory of the rules
 map_take : {A B : Type 0} (f : A → B) (n : ℕ) (l : List A) → take n (map f l) ≡ map f (take n l)

@@ -1,7 +1,7 @@
 // A memory whose read ports have no flip-flops: what all unmappings leave.
 #![tactic(auto)]
 
-ghost use Rattle.std.specs.Prelude.{◌≡◌, List, ℕ};
+ghost use Rattle.std.specs.Prelude.{◌≡◌, List, map, ℕ};
 ghost use Rattle.net_memory.specs.View.{memory_of};
 ghost use Rattle.port_unmap.specs.Call.{without};
 ghost use Rattle.port_unmap_all.specs.All.{all_bare};
@@ -19,14 +19,19 @@ fn bare_port(p: MemoryReadPort) -> MemoryReadPort
     }
 }
 
+fn bare_ports(ports: [MemoryReadPort; rules::MAX_PORTS]) -> [MemoryReadPort; rules::MAX_PORTS]
+    ensures { result ≡ map without ports }
+{
+    ports.map(bare_port)
+}
+
 // The same memory, in the same arrays, with no flip-flop.
 pub fn bare_memory(m: Memory) -> Memory
     ensures by_index { (nets trits : List ℕ) → memory_of result nets trits ≡ all_bare (memory_of m nets trits) }
     ensures value { result ≡ bare_of m }
 {
-    let mut out = m;
-    for i in 0..rules::MAX_PORTS {
-        out.read_ports[i] = bare_port(out.read_ports[i]);
+    Memory {
+        read_ports: bare_ports(m.read_ports),
+        ..m
     }
-    out
 }

@@ -1,5 +1,5 @@
 // memory/src/lib.rs, DesignExt: add_dedup_mux and add_bitwise_mux. Equal bits are kept once, in order of first appearance.
-ghost use Rattle.std.specs.Prelude.{◌≡◌, false, ◌+◌, ◌-◌, ◌<◌, ◌≤◌, min, length, drop, get_or};
+ghost use Rattle.std.specs.Prelude.{◌≡◌, false, not, ◌+◌, ◌-◌, ◌<◌, ◌≤◌, min, length, drop, get_or, eqb, position};
 ghost use Rattle.std.proofs.lemmas.List.Edits.{sets};
 ghost use Rattle.lists.specs.Lists.{part, up_from};
 ghost use Rattle.rules.specs.Limits.{max_merge, X};
@@ -11,8 +11,11 @@ ghost use Rattle.log_entries.specs.Emission.{is_over, run};
 ghost use Rattle.log_entries.specs.View.{state_of, lent_of};
 ghost use Rattle.merge_mux.specs.Runs.{run_at, Run, Bits, Within, bits_taken, bitwise_of};
 ghost use Rattle.merge_mux.specs.Results.{limited, results, Found};
+ghost use Rattle.merge_mux.specs.Room.{zero_keys};
 
 use log_entries::{Log, LogState};
+use merge_keys::columns::Columns;
+use merge_keys::table::Table;
 use net_value::{ControlNet, Net};
 
 // The keys that a merge keeps, and each bit's place among them: room that is lent, so that many merges clear it once.
@@ -21,14 +24,34 @@ pub struct Keys {
     pub x: [u32; rules::MAX_MERGE],
     pub y: [u32; rules::MAX_MERGE],
     pub at: [u32; rules::MAX_MERGE],
+    pub table: Table,
 }
 
 impl Keys {
+    // A room of zeros.
+    pub fn new() -> Keys
+        ensures { result ≡ zero_keys }
+    {
+        Keys {
+            x: [0; rules::MAX_MERGE],
+            y: [0; rules::MAX_MERGE],
+            at: [0; rules::MAX_MERGE],
+            table: Table::new(),
+        }
+    }
+
     // Keeps the keys of two columns, as many as a merge takes, and returns how many are kept.
     pub fn merge(&mut self, a: &[u32], b: &[u32]) -> usize
         ensures { Found a.now b.now self.new.x self.new.y self.new.at (min max_merge (min (length a.now) (length b.now))) result }
     {
-        merge_keys::merge(&mut self.x, &mut self.y, &mut self.at, a, b)
+        let given = Columns { x: a, y: b };
+        merge_keys::merge(
+            &mut self.x,
+            &mut self.y,
+            &mut self.at,
+            &mut self.table,
+            given,
+        )
     }
 }
 
@@ -110,19 +133,21 @@ pub fn emit_dedup_mux(
     );
 }
 
+// Where the first element stands that differs from x.
+fn first_other(s: &[u32], x: u32) -> Option<usize>
+    ensures { result ≡ position (λ y. not (eqb y x)) s.now }
+{
+    s.iter().position(|y| *y != x)
+}
+
 // The end of the run of equal neighbours that starts at i.
 fn run_end(s: &[u32], i: usize) -> usize
     requires { i < length s.now }
     ensures value { result ≡ i + run_at (drop i s.now) }
     ensures lower_bound { (i < result) × (result ≤ length s.now) }
 {
-    let first = s[i];
-    for e in i + 1..s.len() {
-        if s[e] != first {
-            return e;
-        }
-    }
-    s.len()
+    let rest = &s[i..];
+    i + first_other(rest, s[i]).unwrap_or(rest.len())
 }
 
 // The mux of one run: a merging mux of the bits from i to e, by one net.

@@ -3,3 +3,4 @@ pub mod FlipFlop
 pub mod Wide
 pub mod View
 pub mod Given
+pub mod Ports

@@ -5,14 +5,16 @@ ghost use Rattle.std.specs.Prelude.{◌≡◌, ℕ, ◌+◌, ◌*◌, ◌<◌, �
 ghost use Rattle.lists.specs.Lists.{part};
 ghost use Rattle.rules.specs.Limits.{max_ports};
 ghost use Rattle.rules.specs.Cell.{write_at, read_at_of, output_start};
-ghost use Rattle.net_memory.specs.View.{write_size, addr_size, trit_size, write_by, read_by, memory_of, reads_start, write_start, read_start, trit_start, nets_total, trits_total, write_nets, read_nets, read_trits};
+ghost use Rattle.net_memory.specs.Given.{mem_of};
+ghost use Rattle.net_memory.specs.Ports.{code_of, write_of, read_of};
+ghost use Rattle.net_memory.specs.View.{no_write_port, no_read_port, write_port, read_port, write_size, addr_size, trit_size, write_by, read_by, memory_of, reads_start, write_start, read_start, trit_start, nets_total, trits_total, write_nets, read_nets, read_trits};
 
 use net_flip_flop::Controls;
 use net_value::{ControlNet, Net};
 
 pub mod wide;
 
-#[derive(Clone, Copy)]
+#[derive(Clone, Copy, Debug, PartialEq, Eq)]
 pub struct MemoryWritePort {
     pub addr_len: u32,
     pub data_len: u32,
@@ -20,8 +22,29 @@ pub struct MemoryWritePort {
     pub clock: ControlNet,
 }
 
-// The flip-flop is none where the port has no clock. The relations are codes: 0 Undefined, 1 ReadBeforeWrite, 2 Transparent; without a heap
-// they stand in an array with their number beside it, as the ports of a memory do. Past that number anything may stand.
+// What a read port gives of a row that a write port writes at the same time.
+#[derive(Clone, Copy, Debug, PartialEq, Eq)]
+pub enum MemoryPortRelation {
+    Undefined,
+    ReadBeforeWrite,
+    Transparent,
+}
+
+impl MemoryPortRelation {
+    // Its code in a struct of C.
+    pub fn code(self) -> u8
+        ensures { result ≡ code_of self }
+    {
+        match self {
+            MemoryPortRelation::Undefined => 0,
+            MemoryPortRelation::ReadBeforeWrite => 1,
+            MemoryPortRelation::Transparent => 2,
+        }
+    }
+}
+
+// The flip-flop is none where the port has no clock. The relations are codes, since C may hand any byte (4 refuses it); without a heap they stand
+// in an array with their number beside it, as the ports of a memory do. Past that number anything may stand.
 #[derive(Clone, Copy)]
 pub struct MemoryReadPort {
     pub addr_len: u32,
@@ -32,6 +55,37 @@ pub struct MemoryReadPort {
     pub relations_len: u32,
     pub relations: [u8; rules::MAX_PORTS],
     pub flip_flop: Option<Controls>,
+}
+
+// What stands in for a port that is not there.
+impl Default for MemoryWritePort {
+    fn default() -> MemoryWritePort
+        ensures { result ≡ no_write_port }
+    {
+        MemoryWritePort {
+            addr_len: 0,
+            data_len: 0,
+            mask_len: 0,
+            clock: ControlNet::Pos(Net(0)),
+        }
+    }
+}
+
+impl Default for MemoryReadPort {
+    fn default() -> MemoryReadPort
+        ensures { read_by result [] [] ≡ read_by no_read_port [] [] }
+    {
+        MemoryReadPort {
+            addr_len: 0,
+            data_len: 0,
+            clear_len: 0,
+            reset_len: 0,
+            init_len: 0,
+            relations_len: 0,
+            relations: [0; rules::MAX_PORTS],
+            flip_flop: None,
+        }
+    }
 }
 
 #[derive(Clone, Copy)]
@@ -86,6 +140,90 @@ pub fn trit_size(p: MemoryReadPort) -> usize
     ensures { (result ≡ trit_size p) × (result < 0x300000000) }
 {
     p.clear_len as usize + p.reset_len as usize + p.init_len as usize
+}
+
+// A write port with its own nets.
+#[derive(Clone, Copy)]
+pub struct WritePort<'a> {
+    pub port: MemoryWritePort,
+    pub nets: &'a [u32],
+}
+
+impl<'a> WritePort<'a> {
+    pub fn addr(self) -> &'a [u32]
+        ensures { result.now ≡ (write_of self.entry).addr }
+    {
+        lists::part(self.nets, 0, self.port.addr_len as usize)
+    }
+
+    pub fn bits(self) -> &'a [u32]
+        ensures { (result.now ≡ (write_of self.entry).bits) × (length result.now < 0x100000000) }
+    {
+        lists::part(
+            self.nets,
+            self.port.addr_len as usize,
+            self.port.data_len as usize,
+        )
+    }
+
+    pub fn mask(self) -> &'a [u32]
+        ensures { result.now ≡ (write_of self.entry).mask }
+    {
+        lists::part(
+            self.nets,
+            self.port.addr_len as usize + self.port.data_len as usize,
+            self.port.mask_len as usize,
+        )
+    }
+}
+
+// A read port with its own nets and trits.
+#[derive(Clone, Copy)]
+pub struct ReadPort<'a> {
+    pub port: MemoryReadPort,
+    pub nets: &'a [u32],
+    pub trits: &'a [u8],
+}
+
+impl<'a> ReadPort<'a> {
+    pub fn addr(self) -> &'a [u32]
+        ensures { result.now ≡ (read_of self.entry).addr }
+    {
+        lists::part(self.nets, 0, self.port.addr_len as usize)
+    }
+
+    pub fn clear(self) -> &'a [u8]
+        ensures { result.now ≡ part 0 self.entry.port.clear_len self.entry.trits.now }
+    {
+        lists::part(self.trits, 0, self.port.clear_len as usize)
+    }
+
+    pub fn reset(self) -> &'a [u8]
+        ensures { result.now ≡ part self.entry.port.clear_len self.entry.port.reset_len self.entry.trits.now }
+    {
+        lists::part(
+            self.trits,
+            self.port.clear_len as usize,
+            self.port.reset_len as usize,
+        )
+    }
+
+    pub fn init(self) -> &'a [u8]
+        ensures { result.now ≡ part (self.entry.port.clear_len + self.entry.port.reset_len) self.entry.port.init_len self.entry.trits.now }
+    {
+        lists::part(
+            self.trits,
+            self.port.clear_len as usize + self.port.reset_len as usize,
+            self.port.init_len as usize,
+        )
+    }
+
+    // The relations that it names.
+    pub fn relations(&self) -> &[u8]
+        ensures { result.now ≡ part 0 self.now.port.relations_len self.now.port.relations }
+    {
+        lists::part(&self.port.relations, 0, self.port.relations_len as usize)
+    }
 }
 
 // The address of a write port with these nets.
@@ -143,13 +281,12 @@ pub fn init_of(p: MemoryReadPort, trits: &[u8]) -> &[u8]
     )
 }
 
-// Where the nets of write port i start.
+// Where the nets of write port i start. (Here and in the three sums below: of `map` and `sum` the proof that the sum fits did not close.)
 fn write_start(m: Memory, i: usize) -> usize
-    requires { i ≤ max_ports }
-    ensures { (result ≡ write_start m i) × (result ≤ i * 0x300000000) }
+    ensures { (result ≡ write_start m i) × (result ≤ 0x1800000000) }
 {
     let mut at = 0;
-    for port in &m.write_ports[..i] {
+    for port in &m.write_ports[..i.min(rules::MAX_PORTS)] {
         at += write_size(*port);
     }
     at
@@ -165,23 +302,21 @@ pub fn reads_start(m: Memory) -> usize
 
 // Where the nets of read port i start.
 fn read_start(m: Memory, i: usize) -> usize
-    requires { i ≤ max_ports }
-    ensures { (result ≡ read_start m i) × (result ≤ 0x1800000000 + i * 0x100000000) }
+    ensures { (result ≡ read_start m i) × (result ≤ 0x2000000000) }
 {
     let mut at = reads_start(m);
-    for port in &m.read_ports[..i] {
+    for port in &m.read_ports[..i.min(rules::MAX_PORTS)] {
         at += addr_size(*port);
     }
     at
 }
 
 // Where the trits of read port i start.
-fn trit_start(m: Memory, i: usize) -> usize
-    requires { i ≤ max_ports }
-    ensures { (result ≡ trit_start m i) × (result ≤ 0x100000000 + i * 0x300000000) }
+pub fn trit_start(m: Memory, i: usize) -> usize
+    ensures { (result ≡ trit_start m i) × (result ≤ 0x1900000000) }
 {
     let mut at = m.init_len as usize;
-    for port in &m.read_ports[..i] {
+    for port in &m.read_ports[..i.min(rules::MAX_PORTS)] {
         at += trit_size(*port);
     }
     at
@@ -200,6 +335,49 @@ pub fn trits_total(m: Memory) -> usize
 {
     let count = ports_used(m.read_count);
     trit_start(m, count)
+}
+
+impl<'a> Given<'a> {
+    // Write port i; one without nets where there is none.
+    pub fn write_port(self, i: usize) -> WritePort<'a>
+        ensures port { write_of result ≡ write_at (mem_of self.entry) i }
+        ensures nets { result.nets.now ≡ write_nets self.entry.memory self.entry.nets.now i }
+        ensures own { i < min max_ports self.entry.memory.write_count → result.port ≡ write_port self.entry.memory i }
+    {
+        if ports_used(self.memory.write_count) <= i {
+            return WritePort {
+                port: MemoryWritePort::default(),
+                nets: &self.nets[..0],
+            };
+        }
+        let port = self.memory.write_ports[i];
+        WritePort {
+            port,
+            nets: lists::part(self.nets, write_start(self.memory, i), write_size(port)),
+        }
+    }
+
+    // Read port i, with its trits also where it has no flip-flop; one without both where there is none.
+    pub fn read_port(self, i: usize) -> ReadPort<'a>
+        ensures port { read_of result ≡ read_at_of (mem_of self.entry) i }
+        ensures nets { (result.nets.now ≡ read_nets self.entry.memory self.entry.nets.now i) × (length result.nets.now < 0x100000000) }
+        ensures trits { (result.trits.now ≡ read_trits self.entry.memory self.entry.trits.now i) × (length result.trits.now < 0x300000000) }
+        ensures own { i < min max_ports self.entry.memory.read_count → result.port ≡ read_port self.entry.memory i }
+    {
+        if ports_used(self.memory.read_count) <= i {
+            return ReadPort {
+                port: MemoryReadPort::default(),
+                nets: &self.nets[..0],
+                trits: &self.trits[..0],
+            };
+        }
+        let port = self.memory.read_ports[i];
+        ReadPort {
+            port,
+            nets: lists::part(self.nets, read_start(self.memory, i), addr_size(port)),
+            trits: lists::part(self.trits, trit_start(self.memory, i), trit_size(port)),
+        }
+    }
 }
 
 // The nets of write port i; none where there is no such port.

@@ -10,6 +10,7 @@ ghost use Rattle.rules.specs.Refusal.{number_of};
 ghost use Rattle.net_memory.specs.Given.{view_given, mem_of};
 ghost use Rattle.swizzle_plan.specs.Calls.{params_by, view_plan};
 
+use net_check::Breaks;
 use net_memory::{Given, Memory};
 use rules::Refusal;
 
@@ -81,7 +82,14 @@ pub fn planned_refusal(given: Given<'_>, plan: Plan<'_>, long: bool) -> Result<(
     ensures { number_of result ≡ planned_number long (view_given given.entry) (view_plan plan.entry) }
 {
     let one = plan_too_large(plan) || long;
-    net_check::call_refusal(given, rules::MAX_NETS, one, false, false)?;
+    net_check::call_refusal(
+        given,
+        rules::MAX_NETS,
+        Breaks {
+            large: one,
+            ..Breaks::NOTHING
+        },
+    )?;
     check_parts(given, plan)
 }
 

@@ -90,15 +90,7 @@ fn rows_by<'a>(
     ensures same_rooms { SameRooms made.old made.new }
 {
     let mems = s.all_mems as u32;
-    let w = swizzle_writes::swizzle_writes(
-        log,
-        made.nets,
-        given.memory,
-        given.nets,
-        q,
-        mems,
-        writes,
-    );
+    let w = swizzle_writes::swizzle_writes(log, made.nets, given, q, mems, writes);
     let ports = w.ports;
     let unit = q.params.unit;
     made.memory = start_memory(

@@ -1,18 +1,13 @@
 -- `merge_keys::place_at` meets its contract.
-use mathlib.Core.Path.{◌≡◌}
-use Prim.Native.Nat.{◌-◌}
-use lib.ListN.{get_or}
+use mathlib.Core.Path.{sym, ◌∙◌}
+use Rattle.merge_keys.specs.Columns.{keys_in}
+use Rattle.merge_keys.proofs.Pairs.{key_at, keys_size}
 use Rattle.merge_keys.proofs.Kept.{past}
 use Rattle.merge_keys.proofs.place_at.Goals as goal
 
-pub returns-then-y-i : goal.returns-then-y-i
-returns-then-y-i c =
+pub returns-then-most-given-clause-place : goal.returns-then-most-given-clause-place
+returns-then-most-given-clause-place c =
     let v = c.args in
-    let e : get_or v.x.now (v.i - 1) 0 ≡ get_or v.x.now v.i 0 = c.if-x-i.true in
-    let f : get_or v.y.now (v.i - 1) 0 ≡ get_or v.y.now v.i 0 = c.if-y-i.true in
-    rw (← e, ← f) (c.requires.0.before c.if-i-gt0.true)
-
-pub returns-then-most-x : goal.returns-then-most-x
-returns-then-most-x c =
-    let v = c.args in
-    past v.kx.now v.ky.now v.count c.requires.0.columns (get_or v.x.now v.i 0) (get_or v.y.now v.i 0) v.most c.requires.1 c.if-most-x.true
+    let r = c.requires in
+    let k = key_at v.given v.i r.3 r.0 in
+    sym (keys_size v.kept r.4) ∙ past (keys_in v.kept) _ v.most r.2 (rw (← k) c.if-most-given.true)

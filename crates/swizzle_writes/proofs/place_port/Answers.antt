@@ -28,4 +28,4 @@ returns c =
     let t = split_addr q v.old v.new v.addr.now in
     let a = take_stored z x.new.hw t.addr _ g.splits.hw_is (g.splits.hw_len) (omega (arith, g.splits.hw_len, addr_short q v.old v.new v.addr.now g.can)) in
     let b = take_stored z x.new.mux t.mux_addr _ g.splits.mux_is (g.splits.mux_len) (omega (arith, g.splits.mux_len, mux_short q v.old v.new v.addr.now g.can)) in
-    port_gave q v.mems v.old v.new v.addr.now v.bits.now v.mask.now v.at v.to.now (lent_of v.log.now) _ _ _ _ _ g.can (wide_by q v.mems v.old v.new v.addr.now z x.new.hw z x.new.mux c.in-Some.s _ g.splits c.wide_port.ensures) (c.part.ensures.part ∙ a) (c.part-2.ensures.part ∙ b) c.place.ensures
+    port_gave q v.mems v.old v.new v.addr.now v.bits.now v.mask.now v.at v.to.now (lent_of v.log.now) _ _ _ _ _ g.can (wide_by q v.mems v.old v.new v.addr.now z x.new.hw z x.new.mux c.in-Some.s _ g.splits c.of.ensures) (c.part.ensures.part ∙ a) (c.part-2.ensures.part ∙ b) c.place.ensures
