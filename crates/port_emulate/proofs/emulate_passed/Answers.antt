@@ -21,7 +21,7 @@ returns-in_err-dry_refusal c =
     let x = v.nets.now in
     let y = v.trits.now in
     let b = all_x_is m x y c.init_size.result c.part.result.now c.is_undef-all_x.result c.init_size.ensures.0 c.part.ensures.part c.is_undef-all_x.ensures in
-    let n = refused_log m x y (length v.log.now) (state_of v.st) _ c.requires (c.in_err-dry_refusal.ensures y c.requires b) in
+    let n = refused_log m x y (length v.log.now) (state_of v.st) _ c.requires (c.in_err-dry_refusal.ensures c.requires b) in
     let e = err_from_is_err_and c.from_residual.result c.from_residual.ensures.1 in
     rw (e.1, e.2) (record { log_after = call_refused m x y v.log.now v.st _ n; emulated = refl })
 
@@ -38,7 +38,7 @@ returns c =
     let y = v.trits.now in
     let log = v.log.now in
     let b = all_x_is m x y c.init_size.result c.part.result.now c.is_undef-all_x.result c.init_size.ensures.0 c.part.ensures.part c.is_undef-all_x.ensures in
-    let z = c.in_ok-dry_refusal.ensures y c.requires b in
+    let z = c.in_ok-dry_refusal.ensures c.requires b in
     let n = refused_log m x y (length log) (state_of v.st) 0 c.requires z in
     let d = c.delay_ports in
     let t = c.turn_clocks-turned in
