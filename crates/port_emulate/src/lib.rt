@@ -116,42 +116,9 @@ fn dry_refusal(
     st.dry_refusal(room, dry.state)
 }
 
-// A memory without a number of its own: 20 and 21 by a dry run, then the same for good. The call writes the nets, so it takes
-// them apart from the memory and its trits.
-fn emulate_passed(
-    log: &mut [u32],
-    st: LogState,
-    nets: &mut [u32],
-    m: Memory,
-    trits: &[u8],
-) -> Result<Driven, Refusal>
-    requires { input_number st.next m nets.old trits.now ≡ 0 }
-    ensures log_after { driven_of m result nets.new trits.now [] log.new ≡ emulate_call (rooms_of nets.old trits.now) log.old (state_of st) (given_of m nets.old trits.now) }
-    ensures emulated { Emulated m nets.old nets.new result }
-{
-    let all_x = net_logic::is_undef(lists::part(trits, 0, net_memory::init_size(m)));
-    let mut delay = Room::new();
-    let given = Given {
-        memory: m,
-        nets,
-        trits,
-    };
-    dry_refusal(log.len(), st, &mut delay, all_x, given)?;
-    let turned = port_settle::turn_clocks(m);
-    // The flip-flops run by the clocks as they were: by `m`, not by `turned`.
-    let mut log = Log {
-        words: log,
-        state: st,
-    };
-    delay_ports(&mut log, nets, &mut delay, all_x, m);
-    Ok(Driven {
-        memory: port_settle::settle_relations(m, turned),
-        state: log.state,
-    })
-}
-
 // emulate_read_before_write: write ports that some read port reads before they write are delayed by half a cycle; relations to them are Undefined.
-// A refused call changes nothing. The call takes its log and the log's state apart, as C hands them.
+// A refused call changes nothing; 20 and 21 come by a dry run. The call takes its log and the log's state apart, as C hands them, and nets apart from the
+// memory and its trits, since it writes them.
 pub fn emulate_read_before_write(
     log: &mut [u32],
     st: LogState,
@@ -168,5 +135,18 @@ pub fn emulate_read_before_write(
         trits,
     };
     port_relations::input_refusal(given, st.next)?;
-    emulate_passed(log, st, nets, m, trits)
+    let all_x = net_logic::is_undef(lists::part(trits, 0, net_memory::init_size(m)));
+    let mut delay = Room::new();
+    dry_refusal(log.len(), st, &mut delay, all_x, given)?;
+    let turned = port_settle::turn_clocks(m);
+    // The flip-flops run by the clocks as they were: by `m`, not by `turned`.
+    let mut log = Log {
+        words: log,
+        state: st,
+    };
+    delay_ports(&mut log, nets, &mut delay, all_x, m);
+    Ok(Driven {
+        memory: port_settle::settle_relations(m, turned),
+        state: log.state,
+    })
 }
