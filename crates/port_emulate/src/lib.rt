@@ -71,7 +71,8 @@ fn delay_port(
     }
 }
 
-// All write ports in turn, their nets in place.
+// All write ports in turn, their nets in place. (That the ports fit stands in three contracts, here of nets that are written: a `Given` lends them to
+// be read, so one that knew it would serve two of the three. `j` is the number that relations go by.)
 fn delay_ports(log: &mut Log, nets: &mut [u32], delay: &mut Room, all_x: bool, m: Memory)
     requires { Fitting (writes_of m nets.old) × (reads_start m ≤ length nets.old) }
     ensures { PortsDone m all_x nets.old nets.new (lent_of log.old) (lent_of log.new) }
