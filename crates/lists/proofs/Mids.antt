@@ -1,5 +1,5 @@
 -- A part of a list that is written whole: what `to[start..start + n]` holds in the end goes back into its place.
-use Rattle.std.proofs.Common.{◌≡◌, ℕ, ◌+◌, ◌-◌, ◌≤◌, ◌<◌, min, List, [], ◌++◌, refl, sym, ap, ◌∙◌, arith, append_assoc, length, take, drop, get_or, set}
+use Rattle.std.proofs.Common.{◌≡◌, ℕ, ◌+◌, ◌-◌, ◌≤◌, ◌<◌, min, List, ◌++◌, sym, ap, ◌∙◌, arith, append_assoc, length, take, drop, get_or, set}
 use Rattle.std.proofs.lemmas.List.Edits.{sets}
 use lib.ListN.{drop_of_length-le, length-take, length-drop}
 use lib.Seq.{sets-eq, take_all, length-take-le, drop-drop, drop-length}

@@ -1,5 +1,5 @@
 -- Functions of lists, for any element.
-use Rattle.std.specs.Prelude.{ℕ, zero, suc, ◌+◌, Bool, true, false, ◌&&◌, ◌||◌, List, [], ◌∷◌, ◌++◌, take, drop, eqb}
+use Rattle.std.specs.Prelude.{ℕ, zero, suc, ◌+◌, Bool, true, false, ◌&&◌, List, [], ◌∷◌, ◌++◌, take, drop, eqb}
 use Rattle.std.specs.List.{list_all, list_any}
 use Rattle.lists.specs.Choice.{least}
 

@@ -31,11 +31,8 @@ pub fn store_run(to: &mut [u32], at: usize, first: u32, last: u32)
 {
     let start = at.min(to.len());
     let n = (last.saturating_sub(first) as usize).min(to.len() - start);
-    // A counter beside the places: over a `zip` the invariant has no index of a place.
-    let mut number = first;
-    for place in &mut to[start..start + n] {
-        *place = number;
-        number += 1;
+    for (i, place) in to[start..start + n].iter_mut().enumerate() {
+        *place = first + i as u32;
     }
 }
 

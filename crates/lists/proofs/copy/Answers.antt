@@ -1,7 +1,6 @@
 -- `lists::copy` meets its contract.
-use Rattle.std.proofs.Common.{◌∙◌, ap, arith, ◌++◌, take}
-use borrow.Rule.Slice.PartMut.{put_mid}
-use Rattle.lists.proofs.Mids.{stores_in_place, written}
+use Rattle.std.proofs.Common.{arith}
+use Rattle.lists.proofs.Mids.{written}
 use Rattle.lists.proofs.copy.Goals as goal
 
 pub returns : goal.returns

@@ -1,5 +1,5 @@
 -- The invariants of `lists::copy_u8_to_u32`.
-use Rattle.std.proofs.Common.{◌≡◌, ◌≤◌, ◌++◌, length, take}
+use Rattle.std.proofs.Common.{◌≡◌, take}
 use Rattle.std.proofs.lemmas.List.Edits.{sets}
 use Rattle.lists.proofs.copy_u8_to_u32.Given as goal
 

@@ -1,8 +1,6 @@
 -- `lists::fill` meets its contract.
-use Rattle.std.proofs.Common.{◌∙◌, ◌≡◌, ◌+◌, ◌-◌, ◌<◌, ap, sym, min, arith, length, refl, replicate}
-use lib.ListN.{length-replicate, length-take, length-drop, get_or-replicate}
-use Rattle.lists.specs.Lists.{up_from}
-use Rattle.lists.proofs.UpFrom.{length_up, up_at}
+use Rattle.std.proofs.Common.{◌+◌, ◌-◌, ◌<◌, sym, arith, replicate}
+use lib.ListN.{length-replicate, get_or-replicate}
 use Rattle.lists.proofs.Mids.{part_turn, part_done, part_room}
 use Rattle.lists.proofs.fill.Goals as goal
 

@@ -1,7 +1,6 @@
 -- The invariants of `lists::fill`.
-use Rattle.std.proofs.Common.{◌≡◌, ◌+◌, ◌-◌, take, replicate}
+use Rattle.std.proofs.Common.{◌≡◌, take, replicate}
 use Rattle.std.proofs.lemmas.List.Edits.{sets}
-use Rattle.lists.specs.Lists.{up_from}
 use Rattle.lists.proofs.fill.Given as goal
 
 abbrev pub invariant-loop-place : goal.invariant-loop-place
