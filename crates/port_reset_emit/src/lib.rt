@@ -135,6 +135,7 @@ fn emit_behind(
 }
 
 // No data and no mask yet: n nets X and n nets 0.
+#[tactic(auto, using(crate::proofs::Behind::first_filled))]
 fn start_over(overlay: &mut Overlay, mask: &mut Mask, n: usize)
     requires { n ≤ max_merge }
     ensures { (take n overlay.new.under ≡ replicate n X) × (take n mask.new.over ≡ replicate n 0) }
