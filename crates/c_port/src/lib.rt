@@ -39,7 +39,7 @@ fn driven_struct(m: Memory, st: LogState, r: Result<port_unmap::Driven, Refusal>
         },
         Ok(driven) => Driven {
             number: 0,
-            memory: c_memory::memory_struct(driven.memory),
+            memory: driven.memory.into(),
             state: driven.state,
         },
     }
@@ -78,7 +78,7 @@ pub fn tablegoose_unmap_read_init_reset_transparency(
     ensures log_after { driven_by result nets.now trits.new output.new log.new ≡ unmap_reset_call (rooms_of nets.now trits.old output.old) log.old (state_of st) (given_of (given_memory m) nets.now trits.old) port include_transparency output.old }
     ensures new_trits { NewTrits m st port include_transparency trits.old trits.new result }
 {
-    let given = c_memory::memory_of(m);
+    let given = net_memory::Memory::from(m);
     driven_struct(
         m,
         st,
@@ -106,7 +106,7 @@ pub fn tablegoose_emulate_read_before_write(
     ensures log_after { driven_by result nets.new trits.now [] log.new ≡ emulate_call (rooms_of nets.old trits.now []) log.old (state_of st) (given_of (given_memory m) nets.old trits.now) }
     ensures new_nets { NewNets m st nets.old nets.new result }
 {
-    let given = c_memory::memory_of(m);
+    let given = net_memory::Memory::from(m);
     driven_struct(
         m,
         st,

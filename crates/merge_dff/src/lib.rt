@@ -127,6 +127,7 @@ fn emit_merged(
 }
 
 // add_dedup_dff without its numbers: a flip-flop in which equal bits are kept once. `column` is room for each bit's packed trits.
+#[tactic(auto, using(crate::proofs::Dff::column, crate::proofs::Dff::rules_merge))]
 pub fn emit_dedup_dff(
     log: &mut Log,
     keys: &mut Keys,

@@ -19,6 +19,7 @@ pub mod table;
 
 // The place of the key at i among those kept. As often as not it is the key before it, whose place is `last`. A key whose first word is larger than
 // any that is kept is new: nets that were made one after the other need no search.
+#[tactic(auto, using(crate::proofs::Pairs::key_at, crate::proofs::Pairs::keys_size, crate::proofs::Kept::past))]
 fn place_at(
     given: Columns<'_>,
     i: usize,

@@ -12,7 +12,7 @@ use crate::columns::{Columns, Key};
 const SLOTS: usize = 1024;
 
 // `last` has for each slot the number after its last key, and `before` for each key the number after the key before it in its slot; 0 where there is
-// none. The first `count` keys are in it.
+// none. The first `count` keys are in it: a number beside fixed room, since there is no heap.
 #[derive(Drop)]
 pub struct Table {
     pub last: [u16; SLOTS],

@@ -9,7 +9,7 @@ ghost use Rattle.rules.specs.Value.{Pos};
 ghost use Rattle.net_value.specs.View.{control_of};
 ghost use Rattle.log_entries.specs.Emission.{is_over, run};
 ghost use Rattle.log_entries.specs.View.{state_of, lent_of};
-ghost use Rattle.merge_mux.specs.Runs.{run_at, Run, Bits, Within, bits_taken, bitwise_of};
+ghost use Rattle.merge_mux.specs.Runs.{run_at, Bits, Within, bits_taken, bitwise_of};
 ghost use Rattle.merge_mux.specs.Results.{limited, results, Found};
 ghost use Rattle.merge_mux.specs.Room.{zero_keys};
 
@@ -56,6 +56,7 @@ impl Keys {
 }
 
 // The net of a kept bit: `first` is that of the first of `width` kept bits.
+#[tactic(auto, using(lists::proofs::UpFrom::up_at, lists::proofs::UpFrom::up_past))]
 fn net_at(first: u32, width: u32, place: u32) -> u32
     requires { first + width ≤ X }
     ensures { result ≡ get_or (up_from first width) place X }
@@ -79,6 +80,7 @@ fn spread_nets(out: &mut [u32], to: usize, first: u32, width: u32, at: &[u32])
 }
 
 // The nets between two states, given to each bit by its place; nothing where the emission between them overflowed.
+#[tactic(auto, using(crate::proofs::Spread::results_none, crate::proofs::Spread::results_some))]
 pub fn spread_results(out: &mut [u32], to: usize, st: LogState, after: LogState, at: &[u32])
     ensures { out.new ≡ results (is_over (state_of after)) out.old to (spread at.now (up_from st.next (after.next - st.next))) }
 {
@@ -150,25 +152,6 @@ fn run_end(s: &[u32], i: usize) -> usize
     i + first_other(rest, s[i]).unwrap_or(rest.len())
 }
 
-// The mux of one run: a merging mux of the bits from i to e, by one net.
-fn mux_run(
-    log: &mut Log,
-    keys: &mut Keys,
-    nets: &mut [u32],
-    select: u32,
-    a: &[u32],
-    b: &[u32],
-    i: usize,
-    e: usize,
-)
-    requires { Run a.now b.now i e }
-    ensures log_after { lent_of log.new ≡ run (add_dedup_mux_of (Pos select) (part i (e - i) a.now) (part i (e - i) b.now)) (lent_of log.old) }
-    ensures nets_after { nets.new ≡ results (is_over (state_of log.new.state)) nets.old i (add_dedup_mux_of (Pos select) (part i (e - i) a.now) (part i (e - i) b.now) log.old.state.next).value }
-{
-    let select = ControlNet::Pos(Net(select));
-    emit_dedup_mux(log, keys, nets, i, select, &a[i..e], &b[i..e]);
-}
-
 // A merging mux for each run of equal neighbouring selects.
 fn mux_runs(log: &mut Log, keys: &mut Keys, nets: &mut [u32], s: &[u32], a: &[u32], b: &[u32])
     requires { Bits s.now a.now b.now }
@@ -179,12 +162,14 @@ fn mux_runs(log: &mut Log, keys: &mut Keys, nets: &mut [u32], s: &[u32], a: &[u3
     // goes from run to run, and not from index to index
     while i < s.len() {
         let e = run_end(s, i);
-        mux_run(log, keys, nets, s[i], a, b, i, e);
+        let select = ControlNet::Pos(Net(s[i]));
+        emit_dedup_mux(log, keys, nets, i, select, &a[i..e], &b[i..e]);
         i = e;
     }
 }
 
 // How many bits a bitwise mux of these values has.
+#[tactic(auto, using(crate::proofs::Bitwise::within_bits))]
 fn bits_of(s: &[u32], a: &[u32], b: &[u32]) -> usize
     ensures value { result ≡ bits_taken s.now a.now b.now }
     ensures within { Within s.now a.now b.now result }
@@ -194,6 +179,7 @@ fn bits_of(s: &[u32], a: &[u32], b: &[u32]) -> usize
 
 // add_bitwise_mux without its numbers: a merging mux for each run of equal neighbouring selects. The result net of each bit goes to `nets`, which is left
 // open where the emission overflowed.
+#[tactic(auto, using(crate::proofs::Bitwise::cut_bits, crate::proofs::Bitwise::cut_is))]
 pub fn emit_bitwise_mux(
     log: &mut Log,
     keys: &mut Keys,

@@ -5,6 +5,7 @@
 ghost use Rattle.std.specs.Prelude.{◌≡◌, List, ℕ, ◌+◌, ◌<◌, ◌≤◌, min, length, take, replicate};
 ghost use Rattle.log_entries.specs.View.{lent_of};
 ghost use Rattle.net_memory.specs.Given.{mem_of};
+ghost use Rattle.net_memory.specs.Ports.{write_of};
 ghost use Rattle.rules.specs.Limits.{max_ports};
 ghost use Rattle.image_geometry.specs.View.{layout_of};
 ghost use Rattle.port_transparency.specs.Gave.{Gave};
@@ -12,7 +13,7 @@ ghost use Rattle.swizzle_writes.specs.Placed.{nets_of, roomy, placed, placed_if,
 
 use image_geometry::Layout;
 use log_entries::Log;
-use net_memory::Given;
+use net_memory::{Given, WritePort};
 use net_value::{ControlNet, Net};
 use swizzle_columns::WidePort;
 use swizzle_result::WideWritePort;
@@ -99,18 +100,17 @@ fn place_port(
     log: &mut Log,
     to: &mut [u32],
     at: usize,
-    q: Layout,
+    q: Layout<'_>,
     mems: u32,
     old: u32,
     new: u32,
-    addr: &[u32],
-    bits: &[u32],
-    mask: &[u32],
+    write: WritePort<'_>,
 ) -> Placing
-    ensures { Gave (placed_if (layout_of q.entry) mems old new addr.now bits.now mask.now at to.old) (lent_of log.old) (lent_of log.new) (record { room = to.new; next = result.next; addr_len_of = result.addr_len }) }
+    ensures { Gave (placed_if (layout_of q.entry) mems old new (write_of write.entry).addr (write_of write.entry).bits (write_of write.entry).mask at to.old) (lent_of log.old) (lent_of log.new) (record { room = to.new; next = result.next; addr_len_of = result.addr_len }) }
 {
     let mut hw = [0u32; ADDR_ROOM];
     let mut mux = [0u32; ADDR_ROOM];
+    let addr = write.addr();
     let split = swizzle_split::split_addr(&mut hw, &mut mux, q.params, old, new, addr);
     let Some(s) = split else {
         return Placing {
@@ -123,8 +123,8 @@ fn place_port(
         hw: lists::part(&hw, 0, s.hw_len as usize),
         mux: lists::part(&mux, 0, s.mux_len as usize),
         entries: q.entries,
-        bits,
-        mask,
+        bits: write.bits(),
+        mask: write.mask(),
     };
     port.place(log, to, at)
 }
@@ -142,21 +142,9 @@ fn place_at(
 ) -> Placing
     ensures { Gave (placed_at (mem_of given.entry) (layout_of q.entry) mems j new at to.old) (lent_of log.old) (lent_of log.new) (record { room = to.new; next = result.next; addr_len_of = result.addr_len }) }
 {
-    let port = given.write_port(j);
-    let bits = port.bits();
-    let old = net_memory::wide::wide_log(given.memory.width, bits.len());
-    place_port(
-        log,
-        to,
-        at,
-        q,
-        mems,
-        old,
-        new,
-        port.addr(),
-        bits,
-        port.mask(),
-    )
+    let write = given.write_port(j);
+    let old = net_memory::wide::wide_log(given.memory.width, write.bits().len());
+    place_port(log, to, at, q, mems, old, new, write)
 }
 
 // The write ports of a memory with these new wide logs, one after the other: the requests in the log, the nets from the front of `to` on, and the

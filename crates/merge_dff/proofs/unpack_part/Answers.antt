@@ -1,8 +1,8 @@
 -- `merge_dff::unpack_part` meets its contract.
-use mathlib.Core.Path.{◌≡◌, ap, ◌∙◌}
+use mathlib.Core.Path.{ap, ◌∙◌}
 use Prim.Native.Nat.{ℕ}
 use native.Mathlib.Omega.{arith}
-use lib.ListN.{length-take, get_or, set}
+use lib.ListN.{length-take, set}
 use lib.Seq.{get_or-take}
 use Rattle.merge_dff.specs.Packs.{packed_byte}
 use Rattle.merge_dff.proofs.Packing.{part_turn, part-done}
