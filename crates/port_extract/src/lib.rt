@@ -45,7 +45,8 @@ fn clocked_trits(m: Memory, trits: &[u8], i: usize) -> &[u8]
     }
 }
 
-// Stores the listed ports' parts, as `part` gives them by a port's number, from `start` on, and says where they end.
+// Stores the listed ports' parts, as `part` gives them by a port's number, from `start` on, and says where they end. That the list is short is asked here and
+// of the three functions below: a struct that knew it would be made twice, and each clause would read the list through it.
 fn put_parts<'a, T: Copy + 'a, F: Fn(usize) -> &'a [T]>(
     room: &mut [T],
     start: usize,

@@ -110,7 +110,8 @@ fn dry_refusal(
     st.dry_refusal(size, dry.state)
 }
 
-// 20 and 21 by a dry run, then the same for good; the void nets become the port's outputs.
+// 20 and 21 by a dry run, then the same for good; the void nets become the port's outputs. (Log and state stay apart down to here: the dry run asks for the
+// log's length and for the state alone, and the answer holds the state.)
 fn unmap_clocked(
     log: &mut [u32],
     st: LogState,

@@ -117,7 +117,7 @@ fn related_short(given: Given<'_>, raddr: &[u32], kr: u32, x: u8, j: usize) -> b
     x == MemoryPortRelation::Transparent.code() && pair_short(given, raddr, kr, j)
 }
 
-// Some pair of these relations has too few.
+// Some pair of these relations has too few. (`Given` goes by value, here and below: behind a reference the length of its ports is not known.)
 fn pairs_short(given: Given<'_>, raddr: &[u32], kr: u32, rels: &[u8]) -> bool
     ensures { (r : rules.ReadPort) → kr ≡ read_wide_log2 (mem_of given.entry) r → raddr.now ≡ r.addr → result ≡ any (short_pair (mem_of given.entry) r) (transparent_from 0 rels.now) }
 {
@@ -169,7 +169,8 @@ fn unclock(m: Memory, i: usize) -> Memory
     out
 }
 
-// A port that has a flip-flop: 20 and 21 by a dry run, then the same for good.
+// A port that has a flip-flop: 20 and 21 by a dry run, then the same for good. (Log and state stay apart down to here: the dry run asks for the log's length
+// and for the state alone, and the answer holds the state.)
 fn unmap_clocked(
     log: &mut [u32],
     st: LogState,
