@@ -3,7 +3,7 @@ use Rattle.std.specs.Prelude.{ℕ, ◌+◌, ◌-◌, ◌*◌, Bool, List, [], ge
 use Rattle.lists.specs.Lists.{same_list}
 use Rattle.lists.specs.Views.{views}
 use Rattle.net_memory.specs.View.{write_size, no_trits, write_by}
-use Rattle.swizzle_entries.specs.declared.Writes.{Writes}
+use Rattle.swizzle_entries.specs.declared.writes.Writes.{Writes}
 use Rattle.rules.specs.Limits.{X}
 use Rattle.rules.specs.Cell.{Mem, WritePort}
 use Rattle.rules.specs.Geometry.{mask_slice}

@@ -7,7 +7,7 @@ ghost use Rattle.lists.specs.Choice.{when◌then◌else◌};
 ghost use Rattle.std.specs.List.{range_with_len};
 ghost use Rattle.lists.specs.Lists.{all};
 ghost use Rattle.rules.specs.Cell.{Mem};
-ghost use Rattle.rules.specs.Limits.{X, None, max_granularity, max_ports};
+ghost use Rattle.rules.specs.Limits.{X, None, max_granularity};
 ghost use Rattle.rules.specs.Geometry.{changing, aligned, padded, make_data_swizzle};
 ghost use Rattle.rules.specs.Conditions.{bad_granularities};
 ghost use Rattle.net_memory.specs.Ports.{write_of};
@@ -17,17 +17,11 @@ ghost use Rattle.rules.specs.Answers.{make_data_swizzle_call};
 ghost use Rattle.net_memory.specs.Given.{view_given, mem_of};
 ghost use Rattle.swizzle_entries.specs.Calls.{same_at, unchanged, writes_in, listed_of};
 
-use net_memory::{Given, MemoryWritePort, WritePort};
+use net_memory::{Given, WritePort};
 use rules::Refusal;
+use writes::Writes;
 
-// The write ports of a memory with so many bits to a row, their nets, and a granularity for each.
-#[derive(Clone, Copy)]
-pub(crate) struct Writes<'a> {
-    pub width: u32,
-    pub ports: &'a [MemoryWritePort],
-    pub nets: &'a [u32],
-    pub granularities: &'a [u32],
-}
+mod writes;
 
 // The net at a place, X past the end.
 fn net_at(s: &[u32], i: usize) -> u32
@@ -70,6 +64,7 @@ fn divides(g: usize, n: usize) -> bool
 }
 
 // How many None bring n entries to a multiple of each granularity; one past the row's limit is enough to refuse.
+// That n can be counted is a fact of its own here and where it is handed on: a struct for it would hold one number.
 fn padding_of(gs: &[u32], n: usize) -> usize
     requires { n ≤ 0x1000000000000 }
     ensures { (result ≡ padded gs.now n) × (result ≤ 257) }
@@ -107,7 +102,6 @@ fn keep(out: &mut [u32], found: usize, same: bool, g: u32) -> usize
 impl Writes<'_> {
     // Stores the granularities of the ports whose mask changes between a bit and the one before, and says how many they are.
     fn changing(self, out: &mut [u32], bit: u32) -> usize
-        requires { (0 < self.width) × (length self.ports.now ≤ max_ports) }
         ensures value { (m : Mem) → m.width ≡ self.entry.width → result ≡ length (changing m bit (writes_in self.entry) self.entry.granularities.now) }
         ensures out_after { (m : Mem) → m.width ≡ self.entry.width → out.new ≡ sets out.old 0 (changing m bit (writes_in self.entry) self.entry.granularities.now) }
     {
@@ -128,7 +122,7 @@ impl Writes<'_> {
 
     // How many None come before a bit when n entries are there.
     fn bit_padding(self, bit: u32, n: usize) -> usize
-        requires { (0 < self.width) × (length self.ports.now ≤ max_ports) × (n ≤ 0x1000000000000) }
+        requires { n ≤ 0x1000000000000 }
         ensures value { (m : Mem) → m.width ≡ self.entry.width → result ≡ padded (changing m bit (writes_in self.entry) self.entry.granularities.now) n }
         ensures upper_bound { result ≤ 257 }
     {
@@ -155,14 +149,15 @@ fn put_entries(out: &mut [u32], given: Given<'_>, gs: &[u32]) -> usize
     ensures out_after { out.new ≡ sets out.old 0 (make_data_swizzle (mem_of given.entry) gs.now) }
 {
     let m = given.memory;
-    let writes = Writes {
-        width: m.width,
-        ports: &m.write_ports[..net_memory::ports_used(m.write_count)],
-        nets: given.nets,
-        granularities: gs,
-    };
+    let ports = &m.write_ports[..net_memory::ports_used(m.write_count)];
     let mut n = 0;
     for bit in 0..m.width {
+        let writes = Writes {
+            width: m.width,
+            ports,
+            nets: given.nets,
+            granularities: gs,
+        };
         let count = writes.bit_padding(bit, n);
         n = put_bit(out, n, count, bit);
     }

@@ -1,4 +1,4 @@
--- The invariants of `swizzle_entries::Writes::changing`.
+-- The invariants of `swizzle_entries::writes::Writes::changing`.
 use Rattle.std.proofs.Common.{◌≡◌, ◌≤◌, ◌+◌, ◌*◌, length, take}
 use Rattle.std.proofs.lemmas.List.Edits.{sets}
 use Rattle.lists.specs.Lists.{sum_by}
@@ -7,7 +7,7 @@ use Rattle.rules.specs.Geometry.{changing}
 use Rattle.net_memory.specs.View.{write_size}
 use Rattle.swizzle_entries.specs.Calls.{writes_in}
 use Rattle.swizzle_entries.proofs.Changes.{rest}
-use Rattle.swizzle_entries.proofs.Writes.changing.Given as goal
+use Rattle.swizzle_entries.proofs.writes.Writes.changing.Given as goal
 
 abbrev pub invariant-loop-i : goal.invariant-loop-i
 invariant-loop-i l = record {

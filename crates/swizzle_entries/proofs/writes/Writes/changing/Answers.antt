@@ -1,4 +1,4 @@
--- `swizzle_entries::Writes::changing` meets its contract.
+-- `swizzle_entries::writes::Writes::changing` meets its contract.
 use Rattle.std.proofs.Common.{◌≡◌, ◌<◌, [], length, get_or, arith, refl, sym, ap, ◌∙◌}
 use lib.ListN.{length-take}
 use lib.Seq.{get_or-take}
@@ -10,7 +10,7 @@ use Rattle.rules.specs.Cell.{Mem}
 use Rattle.net_memory.specs.View.{write_size, no_trits, write_by, no_write_port}
 use Rattle.swizzle_entries.specs.Calls.{unchanged, writes_in}
 use Rattle.swizzle_entries.proofs.Changes.{rest, rest_end, turn_length, turn_store, port_unchanged}
-use Rattle.swizzle_entries.proofs.Writes.changing.Goals as goal
+use Rattle.swizzle_entries.proofs.writes.Writes.changing.Goals as goal
 
 pub loop-i-preserved : goal.loop-i-preserved
 loop-i-preserved c =
