@@ -28,11 +28,7 @@ pub struct MuxBits {
 fn mux_bits_result(r: Result<swizzle_sizes::MuxBits, Refusal>) -> MuxBits
     ensures { result ≡ bits_struct (answer_by bits_of r) }
 {
-    let none = swizzle_sizes::MuxBits {
-        writes: [0; rules::MAX_PORTS],
-        reads: [0; rules::MAX_PORTS],
-    };
-    let (refusal, made) = c_net::parts(r, none);
+    let (refusal, made) = c_net::parts(r, swizzle_sizes::MuxBits::default());
     let writes = made.writes;
     let reads = made.reads;
     MuxBits {

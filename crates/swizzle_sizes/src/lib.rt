@@ -20,7 +20,7 @@ use rules::Refusal;
 use swizzle_plan::{MemorySwizzle, Plan};
 
 // The mux bits of the write ports and of the listed read ports; 0 past the last.
-#[derive(Clone, Copy, Debug, PartialEq, Eq)]
+#[derive(Clone, Copy, Debug, Default, PartialEq, Eq)]
 pub struct MuxBits {
     pub writes: [u32; rules::MAX_PORTS],
     pub reads: [u32; rules::MAX_PORTS],

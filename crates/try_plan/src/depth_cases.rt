@@ -1,6 +1,9 @@
 // swizzle_depths.
-use crate::plans::{Wanted, depths, memories, plan, refusal};
-use rules::NO_BIT;
+use crate::plans::{Shape, depths, memories, plan};
+use rules::Refusal::{
+    BadDepth, BadEntries, BadShape, BadSoftMask, BadValue, NoRoom, ResultTooLarge, TooLarge,
+};
+use rules::{NO_BIT, Refusal};
 use swizzle_plan::{MemorySwizzle, Plan};
 use try_kit::samples::{memory, plain, pos, read_port, write_by, write_port};
 use try_kit::tally::Tally;
@@ -14,7 +17,7 @@ fn bare(
     s: MemorySwizzle,
     entries: &[u32],
     lent: usize,
-    want: Wanted,
+    want: Result<Shape, Refusal>,
 ) -> Tally {
     let none: [u32; 0] = [];
     depths(
@@ -38,7 +41,7 @@ fn long_row(
     s: MemorySwizzle,
     count: usize,
     lent: usize,
-    want: Wanted,
+    want: Result<Shape, Refusal>,
 ) -> Tally {
     let mut row = [NO_BIT; 257];
     row[0] = 0;
@@ -64,7 +67,7 @@ pub(crate) fn examples(t: Tally) -> Tally {
     let t = bare(t, 4, 1, 4, plan(2, 1, 1), &one, 2, memories(2, 2, 0, 0));
     let t = bare(t, 8, 1, 8, plan(4, 1, 1), &one, 4, memories(4, 2, 0, 0));
     let t = bare(t, 6, 1, 6, plan(1, 2, 1), &one, 2, memories(0, 0, 2, 3));
-    let t = bare(t, 5, 1, 5, plan(1, 2, 1), &one, 2, refusal(8));
+    let t = bare(t, 5, 1, 5, plan(1, 2, 1), &one, 2, Err(BadSoftMask));
     bare(
         t,
         32768,
@@ -80,25 +83,25 @@ pub(crate) fn examples(t: Tally) -> Tally {
 // Rooms that are one word short, and larger ones.
 pub(crate) fn rooms(t: Tally) -> Tally {
     let two = [0u32, 1];
-    let t = bare(t, 3, 2, 6, plan(0, 1, 2), &two, 1, refusal(20));
-    let t = bare(t, 3, 2, 6, plan(0, 1, 2), &two, 0, refusal(20));
+    let t = bare(t, 3, 2, 6, plan(0, 1, 2), &two, 1, Err(NoRoom));
+    let t = bare(t, 3, 2, 6, plan(0, 1, 2), &two, 0, Err(NoRoom));
     let t = bare(t, 3, 2, 6, plan(0, 1, 2), &two, 33000, memories(1, 2, 1, 1));
     let t = long_row(t, 128, plan(0, 0, 1), 256, 32768, memories(32768, 1, 0, 0));
-    long_row(t, 128, plan(0, 0, 1), 256, 32767, refusal(20))
+    long_row(t, 128, plan(0, 0, 1), 256, 32767, Err(NoRoom))
 }
 
 // Number 1 of a plan.
 pub(crate) fn plan_sizes(t: Tally) -> Tally {
     let t = long_row(t, 4, plan(0, 15, 256), 256, 1, memories(0, 0, 1, 4));
-    let t = long_row(t, 4, plan(0, 15, 256), 257, 9, refusal(1));
-    let t = long_row(t, 4, plan(0, 15, 257), 256, 9, refusal(1));
-    let t = long_row(t, 4, plan(0, 15, 0), 256, 9, refusal(1));
-    let t = long_row(t, 4, plan(0, 16, 256), 256, 9, refusal(1));
-    long_row(t, 4, plan(0, 4294967295, 256), 256, 9, refusal(1))
+    let t = long_row(t, 4, plan(0, 15, 256), 257, 9, Err(TooLarge));
+    let t = long_row(t, 4, plan(0, 15, 257), 256, 9, Err(TooLarge));
+    let t = long_row(t, 4, plan(0, 15, 0), 256, 9, Err(TooLarge));
+    let t = long_row(t, 4, plan(0, 16, 256), 256, 9, Err(TooLarge));
+    long_row(t, 4, plan(0, 4294967295, 256), 256, 9, Err(TooLarge))
 }
 
 // The new wide logs are tried for their size alone.
-fn logged(t: Tally, writes: &[u32], reads: &[u32], want: Wanted) -> Tally {
+fn logged(t: Tally, writes: &[u32], reads: &[u32], want: Result<Shape, Refusal>) -> Tally {
     let m = memory(2, 1, 2, 1, write_port(1, 1), 1, read_port(1, 1));
     let p = Plan {
         swizzle: plan(0, 1, 1),
@@ -114,11 +117,11 @@ pub(crate) fn logs(t: Tally) -> Tally {
     let four = [4u32];
     let five = [5u32];
     let t = logged(t, &four, &four, memories(1, 2, 0, 0));
-    let t = logged(t, &five, &four, refusal(1));
-    let t = logged(t, &four, &five, refusal(1));
+    let t = logged(t, &five, &four, Err(TooLarge));
+    let t = logged(t, &four, &five, Err(TooLarge));
     let t = logged(t, &none, &none, memories(1, 2, 0, 0));
     let t = logged(t, &[0u32; 9], &[4u32; 9], memories(1, 2, 0, 0));
-    logged(t, &[0u32, 0, 0, 0, 0, 0, 0, 0, 5], &none, refusal(1))
+    logged(t, &[0u32, 0, 0, 0, 0, 0, 0, 0, 5], &none, Err(TooLarge))
 }
 
 // Width 2, depth 2, and so many of three entries; the memories, or number 7.
@@ -126,7 +129,7 @@ fn named(t: Tally, count: usize, a: u32, b: u32, c: u32, mems: usize) -> Tally {
     let list = [a, b, c];
     let names = lists::part(&list, 0, count);
     if mems == 0 {
-        return bare(t, 2, 2, 4, plan(0, 1, 2), names, 0, refusal(7));
+        return bare(t, 2, 2, 4, plan(0, 1, 2), names, 0, Err(BadEntries));
     }
     bare(
         t,
@@ -166,7 +169,7 @@ fn masked(t: Tally, depth: u32, mask: u32, hard: u32, mems: usize, deep: u32) ->
             plan(mask, hard, 1),
             &[0u32],
             9,
-            refusal(8),
+            Err(BadSoftMask),
         );
     }
     let want = memories(mems, deep, 0, 0);
@@ -193,7 +196,7 @@ fn no_rows(t: Tally) -> Tally {
     let none = memories(0, 0, 0, 0);
     let t = bare(t, 0, 1, 0, plan(4294967295, 15, 1), &one, 0, none);
     let t = bare(t, 0, 1, 0, plan(2147483648, 0, 256), &one, 0, none);
-    bare(t, 0, 1, 0, plan(1, 0, 1), &[1u32], 0, refusal(7))
+    bare(t, 0, 1, 0, plan(1, 0, 1), &[1u32], 0, Err(BadEntries))
 }
 
 // Width 0 keeps the formula.
@@ -202,8 +205,8 @@ fn no_width(t: Tally) -> Tally {
     let row = [NO_BIT; 3];
     let t = bare(t, 3, 0, 0, plan(0, 1, 2), &none, 0, memories(0, 0, 0, 0));
     let t = bare(t, 3, 0, 0, plan(0, 1, 2), &row, 3, memories(2, 2, 1, 1));
-    let t = bare(t, 3, 0, 0, plan(0, 1, 2), &[0u32], 3, refusal(7));
-    bare(t, 3, 0, 0, plan(1, 1, 2), &none, 0, refusal(8))
+    let t = bare(t, 3, 0, 0, plan(0, 1, 2), &[0u32], 3, Err(BadEntries));
+    bare(t, 3, 0, 0, plan(1, 1, 2), &none, 0, Err(BadSoftMask))
 }
 
 pub(crate) fn nothing(t: Tally) -> Tally {
@@ -213,12 +216,12 @@ pub(crate) fn nothing(t: Tally) -> Tally {
 // Number 10: 32,768 columns after rounding up to the unit.
 pub(crate) fn columns(t: Tally) -> Tally {
     let t = long_row(t, 128, plan(0, 0, 1), 256, 32768, memories(32768, 1, 0, 0));
-    let t = long_row(t, 129, plan(0, 0, 1), 256, 33000, refusal(10));
-    let t = long_row(t, 129, plan(0, 0, 1), 256, 0, refusal(10));
+    let t = long_row(t, 129, plan(0, 0, 1), 256, 33000, Err(ResultTooLarge));
+    let t = long_row(t, 129, plan(0, 0, 1), 256, 0, Err(ResultTooLarge));
     let t = long_row(t, 128, plan(0, 0, 256), 256, 128, memories(128, 1, 0, 0));
-    let t = long_row(t, 128, plan(0, 0, 3), 256, 33000, refusal(10));
+    let t = long_row(t, 128, plan(0, 0, 3), 256, 33000, Err(ResultTooLarge));
     let t = long_row(t, 128, plan(0, 0, 3), 255, 10880, memories(10880, 1, 0, 0));
-    let t = long_row(t, 128, plan(127, 0, 255), 256, 33000, refusal(10));
+    let t = long_row(t, 128, plan(127, 0, 255), 256, 33000, Err(ResultTooLarge));
     let t = long_row(
         t,
         128,
@@ -227,25 +230,25 @@ pub(crate) fn columns(t: Tally) -> Tally {
         32768,
         memories(0, 0, 32768, 1),
     );
-    long_row(t, 256, plan(255, 0, 1), 256, 33000, refusal(10))
+    long_row(t, 256, plan(255, 0, 1), 256, 33000, Err(ResultTooLarge))
 }
 
 // Number 10: 131,072 trits, which padding counts among.
 pub(crate) fn trits(t: Tally) -> Tally {
     let t = long_row(t, 512, plan(0, 9, 256), 256, 1, memories(1, 512, 0, 0));
-    let t = long_row(t, 513, plan(0, 10, 256), 256, 2, refusal(10));
+    let t = long_row(t, 513, plan(0, 10, 256), 256, 2, Err(ResultTooLarge));
     let t = long_row(t, 512, plan(0, 10, 256), 256, 1, memories(0, 0, 1, 512));
-    let t = long_row(t, 513, plan(0, 9, 256), 256, 2, refusal(10));
+    let t = long_row(t, 513, plan(0, 9, 256), 256, 2, Err(ResultTooLarge));
     let t = long_row(t, 513, plan(0, 9, 255), 255, 2, memories(1, 512, 1, 1));
     let t = long_row(t, 32768, plan(0, 15, 4), 1, 1, memories(1, 32768, 0, 0));
-    let t = long_row(t, 32768, plan(0, 15, 5), 1, 1, refusal(10));
+    let t = long_row(t, 32768, plan(0, 15, 5), 1, 1, Err(ResultTooLarge));
     let t = long_row(t, 32767, plan(0, 15, 4), 1, 1, memories(0, 0, 1, 32767));
     let t = long_row(t, 32768, plan(0, 15, 1), 4, 4, memories(4, 32768, 0, 0));
-    long_row(t, 32768, plan(0, 15, 1), 5, 5, refusal(10))
+    long_row(t, 32768, plan(0, 15, 1), 5, 5, Err(ResultTooLarge))
 }
 
 // One write port, whose mask is not as long as its data or whose clock is no good net.
-fn broken(t: Tally, depth: u32, mask: u32, hard: u32, number: u32) -> Tally {
+fn broken(t: Tally, depth: u32, mask: u32, hard: u32, refusal: Refusal) -> Tally {
     let w = write_by(1, 2, mask, pos(16777216));
     let m = memory(depth, 1, depth, 1, w, 0, read_port(0, 0));
     let none: [u32; 0] = [];
@@ -255,19 +258,37 @@ fn broken(t: Tally, depth: u32, mask: u32, hard: u32, number: u32) -> Tally {
         writes: &none,
         reads: &none,
     };
-    depths(t, m, p, 0, refusal(number))
+    depths(t, m, p, 0, Err(refusal))
 }
 
 // Numbers in their order: 1 to 4 of the memory, 7, 8, 10 and 20.
 pub(crate) fn orders(t: Tally) -> Tally {
     let one = [0u32];
-    let t = broken(t, 3, 1, 16, 1);
-    let t = broken(t, 3, 1, 15, 2);
-    let t = broken(t, 3, 2, 15, 3);
-    let t = broken(t, 4, 2, 15, 4);
-    let t = bare(t, 3, 1, 3, plan(1, 15, 1), &[1u32], 0, refusal(7));
-    let t = bare(t, 3, 1, 3, plan(1, 15, 1), &one, 0, refusal(8));
-    let t = bare(t, 32766, 1, 32766, plan(4, 15, 5), &one, 0, refusal(8));
-    let t = bare(t, 32768, 1, 32768, plan(0, 15, 5), &one, 0, refusal(10));
-    bare(t, 32768, 1, 32768, plan(0, 15, 4), &one, 0, refusal(20))
+    let t = broken(t, 3, 1, 16, TooLarge);
+    let t = broken(t, 3, 1, 15, BadShape);
+    let t = broken(t, 3, 2, 15, BadDepth);
+    let t = broken(t, 4, 2, 15, BadValue);
+    let t = bare(t, 3, 1, 3, plan(1, 15, 1), &[1u32], 0, Err(BadEntries));
+    let t = bare(t, 3, 1, 3, plan(1, 15, 1), &one, 0, Err(BadSoftMask));
+    let t = bare(
+        t,
+        32766,
+        1,
+        32766,
+        plan(4, 15, 5),
+        &one,
+        0,
+        Err(BadSoftMask),
+    );
+    let t = bare(
+        t,
+        32768,
+        1,
+        32768,
+        plan(0, 15, 5),
+        &one,
+        0,
+        Err(ResultTooLarge),
+    );
+    bare(t, 32768, 1, 32768, plan(0, 15, 4), &one, 0, Err(NoRoom))
 }

@@ -1,7 +1,7 @@
 // make_data_swizzle: document 01's examples, masks that differ in one subport, and the borders.
 use crate::entries::made;
 use net_memory::{Given, Memory};
-use rules::NO_BIT;
+use rules::{NO_BIT, Refusal};
 use try_kit::samples::{memory, plain, read_port, write_port};
 use try_kit::tally::Tally;
 
@@ -26,8 +26,7 @@ fn three(
     c: u32,
     size: u32,
     lent: usize,
-    number: u32,
-    want: &[u32],
+    want: Result<&[u32], Refusal>,
 ) -> Tally {
     let nets = [5u32, 6, 7, a, b, c];
     let trits = [0u8, 1, 2];
@@ -40,14 +39,13 @@ fn three(
         },
         &[size],
         lent,
-        number,
         want,
     )
 }
 
 pub(crate) fn masks(t: Tally) -> Tally {
-    let t = three(t, 10, 10, 11, 2, 4, 0, &[0u32, 1, 2, NO_BIT]);
-    let t = three(t, 10, 11, 11, 2, 4, 0, &[0u32, NO_BIT, 1, 2]);
+    let t = three(t, 10, 10, 11, 2, 4, Ok(&[0u32, 1, 2, NO_BIT]));
+    let t = three(t, 10, 11, 11, 2, 4, Ok(&[0u32, NO_BIT, 1, 2]));
     let t = three(
         t,
         10,
@@ -55,17 +53,15 @@ pub(crate) fn masks(t: Tally) -> Tally {
         10,
         2,
         6,
-        0,
-        &[0u32, NO_BIT, 1, NO_BIT, 2, NO_BIT],
+        Ok(&[0u32, NO_BIT, 1, NO_BIT, 2, NO_BIT]),
     );
-    let t = three(t, 10, 10, 10, 2, 99, 0, &[0u32, 1, 2, NO_BIT]);
-    let t = three(t, 10, 10, 10, 3, 3, 0, &[0u32, 1, 2]);
-    let t = three(t, 10, 11, 12, 1, 3, 0, &[0u32, 1, 2]);
-    let none: [u32; 0] = [];
-    let t = three(t, 10, 10, 11, 2, 3, 20, &none);
-    let t = three(t, 10, 11, 10, 2, 5, 20, &none);
-    let t = three(t, 10, 11, 12, 1, 2, 20, &none);
-    three(t, 10, 11, 12, 1, 0, 20, &none)
+    let t = three(t, 10, 10, 10, 2, 99, Ok(&[0u32, 1, 2, NO_BIT]));
+    let t = three(t, 10, 10, 10, 3, 3, Ok(&[0u32, 1, 2]));
+    let t = three(t, 10, 11, 12, 1, 3, Ok(&[0u32, 1, 2]));
+    let t = three(t, 10, 10, 11, 2, 3, Err(Refusal::NoRoom));
+    let t = three(t, 10, 11, 10, 2, 5, Err(Refusal::NoRoom));
+    let t = three(t, 10, 11, 12, 1, 2, Err(Refusal::NoRoom));
+    three(t, 10, 11, 12, 1, 0, Err(Refusal::NoRoom))
 }
 
 // Two rows of two bits, and a port with two subports of these masks.
@@ -81,8 +77,7 @@ fn subports(t: Tally, a: u32, b: u32, c: u32, d: u32, want: &[u32]) -> Tally {
         },
         &[3u32],
         10,
-        0,
-        want,
+        Ok(want),
     )
 }
 
@@ -96,7 +91,7 @@ pub(crate) fn subport_masks(t: Tally) -> Tally {
 }
 
 // Two ports of width 4, with masks that start with nets 9 9 and 8 8 and end with these; granularities 3 and 4, which divide 12.
-fn two(t: Tally, a: u32, b: u32, lent: usize, number: u32, want: &[u32]) -> Tally {
+fn two(t: Tally, a: u32, b: u32, lent: usize, want: Result<&[u32], Refusal>) -> Tally {
     let nets = [2u32, 3, 4, 5, 9, 9, a, a, 2, 3, 4, 5, 8, 8, b, b];
     let trits = [0u8, 1, 2, 0];
     made(
@@ -108,7 +103,6 @@ fn two(t: Tally, a: u32, b: u32, lent: usize, number: u32, want: &[u32]) -> Tall
         },
         &[3u32, 4],
         lent,
-        number,
         want,
     )
 }
@@ -119,11 +113,10 @@ pub(crate) fn two_ports(t: Tally) -> Tally {
     let padded = [0u32, 1, 2, 3, n, n, n, n, n, n, n, n];
     let by_three = [0u32, 1, n, 2, 3, n, n, n, n, n, n, n];
     let by_four = [0u32, 1, n, n, 2, 3, n, n, n, n, n, n];
-    let none: [u32; 0] = [];
-    let t = two(t, 9, 8, 12, 0, &padded);
-    let t = two(t, 7, 8, 12, 0, &by_three);
-    let t = two(t, 9, 6, 12, 0, &by_four);
-    two(t, 9, 6, 11, 20, &none)
+    let t = two(t, 9, 8, 12, Ok(&padded));
+    let t = two(t, 7, 8, 12, Ok(&by_three));
+    let t = two(t, 9, 6, 12, Ok(&by_four));
+    two(t, 9, 6, 11, Err(Refusal::NoRoom))
 }
 
 // Two ports of width 1, an initial trit, and some of three granularities.
@@ -134,8 +127,7 @@ fn sizes(
     a: u32,
     b: u32,
     lent: usize,
-    number: u32,
-    want: &[u32],
+    want: Result<&[u32], Refusal>,
 ) -> Tally {
     let nets = [5u32, 9, 6, 9];
     let list = [a, b, 1];
@@ -148,23 +140,21 @@ fn sizes(
         },
         lists::part(&list, 0, count),
         lent,
-        number,
         want,
     )
 }
 
 // Number 5: one granularity to a write port, from 1 to 64.
 fn no_granularities(t: Tally) -> Tally {
-    let none: [u32; 0] = [];
-    let t = sizes(t, 0, 2, 1, 0, 99, 5, &none);
-    let t = sizes(t, 0, 2, 0, 1, 99, 5, &none);
-    let t = sizes(t, 0, 2, 65, 1, 99, 5, &none);
-    let t = sizes(t, 0, 2, 64, 65, 0, 5, &none);
-    let t = sizes(t, 0, 2, 1, 4294967295, 99, 5, &none);
-    let t = sizes(t, 0, 1, 1, 1, 99, 5, &none);
-    let t = sizes(t, 0, 3, 1, 1, 99, 5, &none);
-    let t = sizes(t, 0, 0, 1, 1, 99, 5, &none);
-    sizes(t, 3, 0, 1, 1, 99, 4, &none)
+    let t = sizes(t, 0, 2, 1, 0, 99, Err(Refusal::BadGranularity));
+    let t = sizes(t, 0, 2, 0, 1, 99, Err(Refusal::BadGranularity));
+    let t = sizes(t, 0, 2, 65, 1, 99, Err(Refusal::BadGranularity));
+    let t = sizes(t, 0, 2, 64, 65, 0, Err(Refusal::BadGranularity));
+    let t = sizes(t, 0, 2, 1, 4294967295, 99, Err(Refusal::BadGranularity));
+    let t = sizes(t, 0, 1, 1, 1, 99, Err(Refusal::BadGranularity));
+    let t = sizes(t, 0, 3, 1, 1, 99, Err(Refusal::BadGranularity));
+    let t = sizes(t, 0, 0, 1, 1, 99, Err(Refusal::BadGranularity));
+    sizes(t, 3, 0, 1, 1, 99, Err(Refusal::BadValue))
 }
 
 pub(crate) fn granularities(t: Tally) -> Tally {
@@ -172,8 +162,8 @@ pub(crate) fn granularities(t: Tally) -> Tally {
     let trits = [0u8, 1, 2];
     let want = [0u32, 1, 2];
     let t = no_granularities(t);
-    let t = sizes(t, 0, 2, 1, 1, 1, 0, &[0u32]);
-    let t = sizes(t, 0, 2, 1, 2, 2, 0, &[0u32, NO_BIT]);
+    let t = sizes(t, 0, 2, 1, 1, 1, Ok(&[0u32]));
+    let t = sizes(t, 0, 2, 1, 2, 2, Ok(&[0u32, NO_BIT]));
     made(
         t,
         Given {
@@ -183,13 +173,12 @@ pub(crate) fn granularities(t: Tally) -> Tally {
         },
         &none,
         3,
-        0,
-        &want,
+        Ok(&want),
     )
 }
 
 // Width 0, with a granularity or none.
-fn flat(t: Tally, size: u32, count: usize, number: u32) -> Tally {
+fn flat(t: Tally, size: u32, count: usize, want: Result<&[u32], Refusal>) -> Tally {
     let none: [u32; 0] = [];
     let codes: [u8; 0] = [];
     let list = [size];
@@ -203,8 +192,7 @@ fn flat(t: Tally, size: u32, count: usize, number: u32) -> Tally {
         },
         lists::part(&list, 0, count),
         0,
-        number,
-        &none,
+        want,
     )
 }
 
@@ -222,17 +210,16 @@ fn portless(t: Tally) -> Tally {
         },
         &none,
         0,
-        0,
-        &none,
+        Ok(&none),
     )
 }
 
 // Width 0 gives no entries; depth 0 gives those of any depth.
 pub(crate) fn nothing(t: Tally) -> Tally {
     let codes: [u8; 0] = [];
-    let t = flat(t, 64, 1, 0);
-    let t = flat(t, 65, 1, 5);
-    let t = flat(t, 64, 0, 5);
+    let t = flat(t, 64, 1, Ok(&[]));
+    let t = flat(t, 65, 1, Err(Refusal::BadGranularity));
+    let t = flat(t, 64, 0, Err(Refusal::BadGranularity));
     let m = memory(0, 2, 0, 1, write_port(0, 2), 0, read_port(0, 0));
     let nets = [5u32, 6, 9, 8];
     let want = [0u32, NO_BIT, 1, NO_BIT];
@@ -245,8 +232,7 @@ pub(crate) fn nothing(t: Tally) -> Tally {
         },
         &[2u32],
         4,
-        0,
-        &want,
+        Ok(&want),
     );
     portless(t)
 }
@@ -269,7 +255,7 @@ fn spread(want: &mut [u32], step: usize) {
 }
 
 // A row whose neighbouring mask nets differ, so that each bit starts a granule.
-fn granules(t: Tally, width: u32, size: u32, lent: usize, number: u32, want: &[u32]) -> Tally {
+fn granules(t: Tally, width: u32, size: u32, lent: usize, want: Result<&[u32], Refusal>) -> Tally {
     let mut nets = [0u32; 256];
     spread(&mut nets, 1);
     let trits = [0u8; 128];
@@ -283,7 +269,6 @@ fn granules(t: Tally, width: u32, size: u32, lent: usize, number: u32, want: &[u
         },
         &[size],
         lent,
-        number,
         want,
     )
 }
@@ -292,23 +277,22 @@ fn granules(t: Tally, width: u32, size: u32, lent: usize, number: u32, want: &[u
 fn exact(t: Tally, width: u32, size: u32, step: usize, count: usize) -> Tally {
     let mut want = [0u32; 256];
     spread(&mut want, step);
-    granules(t, width, size, count, 0, lists::part(&want, 0, count))
+    granules(t, width, size, count, Ok(lists::part(&want, 0, count)))
 }
 
-fn longer(t: Tally, width: u32, size: u32, lent: usize, number: u32) -> Tally {
-    let none: [u32; 0] = [];
-    granules(t, width, size, lent, number, &none)
+fn longer(t: Tally, width: u32, size: u32, lent: usize, refusal: Refusal) -> Tally {
+    granules(t, width, size, lent, Err(refusal))
 }
 
 // 256 entries are the most: 128 granules of 2, 85 of 3 (86 give 258), 64 of 4 (65 give 260), 4 of 64 (5 give 320).
 pub(crate) fn longest(t: Tally) -> Tally {
     let t = exact(t, 128, 2, 2, 256);
-    let t = longer(t, 128, 2, 255, 20);
+    let t = longer(t, 128, 2, 255, Refusal::NoRoom);
     let t = exact(t, 85, 3, 3, 255);
-    let t = longer(t, 86, 3, 300, 6);
-    let t = longer(t, 86, 3, 0, 6);
+    let t = longer(t, 86, 3, 300, Refusal::RowTooLong);
+    let t = longer(t, 86, 3, 0, Refusal::RowTooLong);
     let t = exact(t, 64, 4, 4, 256);
-    let t = longer(t, 65, 4, 300, 6);
+    let t = longer(t, 65, 4, 300, Refusal::RowTooLong);
     let t = exact(t, 4, 64, 64, 256);
-    longer(t, 5, 64, 300, 6)
+    longer(t, 5, 64, 300, Refusal::RowTooLong)
 }

@@ -1,7 +1,10 @@
 // swizzle_mux_bits.
-use crate::plans::{mux, mux_refused, plan};
+use crate::plans::{mux, plan};
 use net_memory::Memory;
+use rules::Refusal;
+use rules::Refusal::{BadEntries, BadSoftMask, BadWideLogs, OutOfRange, TooLarge};
 use swizzle_plan::{MemorySwizzle, Plan};
+use swizzle_sizes::MuxBits;
 use try_kit::samples::{memory, plain, read_port, with_read, with_write, write_port};
 use try_kit::tally::Tally;
 
@@ -33,9 +36,10 @@ fn two_and_two(
             writes: &writes,
             reads: &reads,
         },
-        0,
-        [want[0], want[1], 0, 0, 0, 0, 0, 0],
-        [want[2], want[3], 0, 0, 0, 0, 0, 0],
+        Ok(MuxBits {
+            writes: [want[0], want[1], 0, 0, 0, 0, 0, 0],
+            reads: [want[2], want[3], 0, 0, 0, 0, 0, 0],
+        }),
     )
 }
 
@@ -69,9 +73,10 @@ fn chunks(t: Tally, depth: u32, hard: u32, want: u32) -> Tally {
             writes: &[0u32],
             reads: &none,
         },
-        0,
-        [want, 0, 0, 0, 0, 0, 0, 0],
-        [0u32; 8],
+        Ok(MuxBits {
+            writes: [want, 0, 0, 0, 0, 0, 0, 0],
+            reads: [0; 8],
+        }),
     )
 }
 
@@ -98,7 +103,10 @@ pub(crate) fn nothing(t: Tally) -> Tally {
     let empty: [u32; 0] = [];
     let t = two_and_two(t, ports(0), [0, 2], all, [0, 4], [1, 0], [32, 34, 32, 29]);
     let t = two_and_two(t, ports(0), [0, 2], top, [0, 2], [1, 3], [1, 1, 1, 1]);
-    let none = [0u32; 8];
+    let none = MuxBits {
+        writes: [0; 8],
+        reads: [0; 8],
+    };
     let flat = plain(5, 0, 0);
     let bare = Plan {
         swizzle: plan(0, 0, 1),
@@ -106,12 +114,12 @@ pub(crate) fn nothing(t: Tally) -> Tally {
         writes: &empty,
         reads: &empty,
     };
-    let t = mux(t, flat, &empty, bare, 0, none, none);
+    let t = mux(t, flat, &empty, bare, Ok(none));
     let masked = Plan {
         swizzle: plan(1, 0, 1),
         ..bare
     };
-    mux_refused(t, flat, &empty, masked, 8)
+    mux(t, flat, &empty, masked, Err(BadSoftMask))
 }
 
 // 8 rows: so many times a listed port, a mask, the hard bits, one entry, so many write logs, of which the first is named, and so many read logs.
@@ -127,12 +135,12 @@ fn no_bits(
     other: u32,
     reads: usize,
     read: u32,
-    number: u32,
+    refusal: Refusal,
 ) -> Tally {
     let list = [port; 9];
     let logs = [first, other, 2];
     let read_logs = [read; 9];
-    mux_refused(
+    mux(
         t,
         ports(8),
         lists::part(&list, 0, ports_count),
@@ -142,29 +150,29 @@ fn no_bits(
             writes: lists::part(&logs, 0, writes),
             reads: lists::part(&read_logs, 0, reads),
         },
-        number,
+        Err(refusal),
     )
 }
 
 // Number 9: one log to a write port and to a listed read port.
 pub(crate) fn log_counts(t: Tally) -> Tally {
-    let t = no_bits(t, 1, 0, 0, 3, 0, 1, 0, 2, 1, 1, 9);
-    let t = no_bits(t, 1, 0, 0, 3, 0, 3, 0, 2, 1, 1, 9);
-    let t = no_bits(t, 1, 0, 0, 3, 0, 2, 0, 2, 0, 1, 9);
-    let t = no_bits(t, 1, 0, 0, 3, 0, 2, 0, 2, 2, 1, 9);
-    let t = no_bits(t, 0, 0, 0, 3, 0, 2, 0, 2, 3, 1, 9);
-    no_bits(t, 8, 1, 0, 3, 0, 2, 0, 2, 9, 0, 9)
+    let t = no_bits(t, 1, 0, 0, 3, 0, 1, 0, 2, 1, 1, BadWideLogs);
+    let t = no_bits(t, 1, 0, 0, 3, 0, 3, 0, 2, 1, 1, BadWideLogs);
+    let t = no_bits(t, 1, 0, 0, 3, 0, 2, 0, 2, 0, 1, BadWideLogs);
+    let t = no_bits(t, 1, 0, 0, 3, 0, 2, 0, 2, 2, 1, BadWideLogs);
+    let t = no_bits(t, 0, 0, 0, 3, 0, 2, 0, 2, 3, 1, BadWideLogs);
+    no_bits(t, 8, 1, 0, 3, 0, 2, 0, 2, 9, 0, BadWideLogs)
 }
 
 // Number 9: a log above the hard bits, or below the non-soft bits under the old one.
 pub(crate) fn log_sizes(t: Tally) -> Tally {
-    let t = no_bits(t, 1, 0, 0, 2, 0, 2, 3, 2, 1, 1, 9);
-    let t = no_bits(t, 1, 0, 0, 2, 0, 2, 2, 2, 1, 3, 9);
-    let t = no_bits(t, 1, 0, 0, 3, 0, 2, 0, 1, 1, 1, 9);
-    let t = no_bits(t, 1, 0, 0, 3, 0, 2, 0, 2, 1, 0, 9);
-    let t = no_bits(t, 1, 0, 1, 3, 0, 2, 0, 0, 1, 0, 9);
-    let t = no_bits(t, 1, 2, 4, 3, 0, 2, 0, 2, 1, 1, 9);
-    let t = no_bits(t, 1, 0, 4, 3, 0, 2, 0, 1, 1, 1, 9);
+    let t = no_bits(t, 1, 0, 0, 2, 0, 2, 3, 2, 1, 1, BadWideLogs);
+    let t = no_bits(t, 1, 0, 0, 2, 0, 2, 2, 2, 1, 3, BadWideLogs);
+    let t = no_bits(t, 1, 0, 0, 3, 0, 2, 0, 1, 1, 1, BadWideLogs);
+    let t = no_bits(t, 1, 0, 0, 3, 0, 2, 0, 2, 1, 0, BadWideLogs);
+    let t = no_bits(t, 1, 0, 1, 3, 0, 2, 0, 0, 1, 0, BadWideLogs);
+    let t = no_bits(t, 1, 2, 4, 3, 0, 2, 0, 2, 1, 1, BadWideLogs);
+    let t = no_bits(t, 1, 0, 4, 3, 0, 2, 0, 1, 1, 1, BadWideLogs);
     two_and_two(
         t,
         ports(8),
@@ -178,18 +186,20 @@ pub(crate) fn log_sizes(t: Tally) -> Tally {
 
 // Number 15 after 9, for ports that are not there.
 pub(crate) fn missing(t: Tally) -> Tally {
-    let t = no_bits(t, 1, 3, 0, 3, 0, 2, 0, 2, 1, 0, 15);
-    let t = no_bits(t, 1, 4294967295, 0, 3, 0, 2, 0, 2, 1, 3, 15);
-    let t = no_bits(t, 8, 3, 0, 3, 0, 2, 0, 2, 8, 0, 15);
-    let t = no_bits(t, 1, 3, 0, 3, 0, 2, 0, 1, 1, 0, 9);
-    let t = no_bits(t, 1, 3, 0, 3, 0, 2, 0, 2, 1, 4, 9);
-    no_bits(t, 1, 3, 0, 3, 0, 2, 0, 2, 2, 0, 9)
+    let t = no_bits(t, 1, 3, 0, 3, 0, 2, 0, 2, 1, 0, OutOfRange);
+    let t = no_bits(t, 1, 4294967295, 0, 3, 0, 2, 0, 2, 1, 3, OutOfRange);
+    let t = no_bits(t, 8, 3, 0, 3, 0, 2, 0, 2, 8, 0, OutOfRange);
+    let t = no_bits(t, 1, 3, 0, 3, 0, 2, 0, 1, 1, 0, BadWideLogs);
+    let t = no_bits(t, 1, 3, 0, 3, 0, 2, 0, 2, 1, 4, BadWideLogs);
+    no_bits(t, 1, 3, 0, 3, 0, 2, 0, 2, 2, 0, BadWideLogs)
 }
 
 // Port 1 eight times, whose new wide log is 3.
 fn eight_times(t: Tally) -> Tally {
-    let w = [0u32; 8];
-    let r = [3u32; 8];
+    let want = MuxBits {
+        writes: [0; 8],
+        reads: [3; 8],
+    };
     mux(
         t,
         ports(8),
@@ -200,20 +210,18 @@ fn eight_times(t: Tally) -> Tally {
             writes: &[0u32, 2],
             reads: &[3u32; 8],
         },
-        0,
-        w,
-        r,
+        Ok(want),
     )
 }
 
 // Lists of eight and nine, and the plan's other numbers.
 pub(crate) fn others(t: Tally) -> Tally {
     let t = eight_times(t);
-    let t = no_bits(t, 9, 1, 0, 3, 0, 2, 0, 2, 9, 3, 1);
-    let t = no_bits(t, 9, 9, 0, 3, 1, 1, 0, 2, 1, 5, 1);
-    let t = no_bits(t, 1, 0, 0, 3, 0, 2, 5, 2, 1, 1, 1);
-    let t = no_bits(t, 1, 0, 0, 3, 0, 2, 0, 2, 1, 5, 1);
-    let t = no_bits(t, 1, 0, 0, 16, 0, 2, 0, 2, 1, 1, 1);
-    let t = no_bits(t, 1, 0, 16, 3, 1, 1, 0, 2, 1, 1, 7);
-    no_bits(t, 1, 0, 16, 3, 0, 1, 0, 2, 1, 1, 8)
+    let t = no_bits(t, 9, 1, 0, 3, 0, 2, 0, 2, 9, 3, TooLarge);
+    let t = no_bits(t, 9, 9, 0, 3, 1, 1, 0, 2, 1, 5, TooLarge);
+    let t = no_bits(t, 1, 0, 0, 3, 0, 2, 5, 2, 1, 1, TooLarge);
+    let t = no_bits(t, 1, 0, 0, 3, 0, 2, 0, 2, 1, 5, TooLarge);
+    let t = no_bits(t, 1, 0, 0, 16, 0, 2, 0, 2, 1, 1, TooLarge);
+    let t = no_bits(t, 1, 0, 16, 3, 1, 1, 0, 2, 1, 1, BadEntries);
+    no_bits(t, 1, 0, 16, 3, 0, 1, 0, 2, 1, 1, BadSoftMask)
 }

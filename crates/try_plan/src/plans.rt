@@ -22,38 +22,31 @@ pub(crate) fn plan(mask: u32, hard: u32, unit: u32) -> MemorySwizzle {
     }
 }
 
-// A call's number; how many full memories there are, of which depth, and how many others, of which depth.
-#[derive(Clone, Copy)]
-pub(crate) struct Wanted {
-    pub(crate) number: u32,
+// How many full memories there are, of which depth, and how many others, of which depth.
+#[derive(Clone, Copy, Default)]
+pub(crate) struct Shape {
     pub(crate) full: usize,
     pub(crate) deep: u32,
     pub(crate) rest: usize,
     pub(crate) shallow: u32,
 }
 
-pub(crate) fn refusal(number: u32) -> Wanted {
-    Wanted {
-        number,
-        full: 0,
-        deep: 0,
-        rest: 0,
-        shallow: 0,
-    }
-}
-
-pub(crate) fn memories(full: usize, deep: u32, rest: usize, shallow: u32) -> Wanted {
-    Wanted {
-        number: 0,
+pub(crate) fn memories(
+    full: usize,
+    deep: u32,
+    rest: usize,
+    shallow: u32,
+) -> Result<Shape, Refusal> {
+    Ok(Shape {
         full,
         deep,
         rest,
         shallow,
-    }
+    })
 }
 
 // The call on nets and trits of one value each.
-fn call(m: Memory, plan: Plan<'_>, out: &mut [u32]) -> u32 {
+fn call(m: Memory, plan: Plan<'_>, out: &mut [u32]) -> Result<(), Refusal> {
     let nets = [5u32; NETS];
     let trits = [1u8; TRITS];
     let given = Given {
@@ -61,11 +54,11 @@ fn call(m: Memory, plan: Plan<'_>, out: &mut [u32]) -> u32 {
         nets: lists::part(&nets, 0, net_memory::nets_total(m)),
         trits: lists::part(&trits, 0, net_memory::trits_total(m)),
     };
-    rules::number_of(swizzle_sizes::swizzle_depths(out, given, plan))
+    swizzle_sizes::swizzle_depths(out, given, plan)
 }
 
 // The call with so many words of a room.
-fn call_in(m: Memory, plan: Plan<'_>, out: &mut [u32], lent: usize) -> u32 {
+fn call_in(m: Memory, plan: Plan<'_>, out: &mut [u32], lent: usize) -> Result<(), Refusal> {
     let n = lent.min(out.len());
     call(m, plan, &mut out[0..n])
 }
@@ -77,14 +70,21 @@ fn all_are(room: &[u32], at: usize, count: usize, word: u32) -> bool {
 }
 
 // swizzle_depths with so many words of a painted room.
-pub(crate) fn depths(t: Tally, m: Memory, plan: Plan<'_>, lent: usize, want: Wanted) -> Tally {
+pub(crate) fn depths(
+    t: Tally,
+    m: Memory,
+    plan: Plan<'_>,
+    lent: usize,
+    want: Result<Shape, Refusal>,
+) -> Tally {
     let mut out = [0u32; ROOM];
     paint(&mut out);
-    let n = call_in(m, plan, &mut out, lent);
-    let t = add(t, n == want.number);
-    let t = add(t, all_are(&out, 0, want.full, want.deep));
-    let t = add(t, all_are(&out, want.full, want.rest, want.shallow));
-    add(t, painted(&out, plus(want.full, want.rest)))
+    let answer = call_in(m, plan, &mut out, lent);
+    let t = add(t, answer.err() == want.err());
+    let made = want.unwrap_or(Shape::default());
+    let t = add(t, all_are(&out, 0, made.full, made.deep));
+    let t = add(t, all_are(&out, made.full, made.rest, made.shallow));
+    add(t, painted(&out, plus(made.full, made.rest)))
 }
 
 fn mux_call(m: Memory, list: &[u32], plan: Plan<'_>) -> Result<MuxBits, Refusal> {
@@ -98,32 +98,18 @@ fn mux_call(m: Memory, list: &[u32], plan: Plan<'_>) -> Result<MuxBits, Refusal>
     swizzle_sizes::swizzle_mux_bits(given, list, plan)
 }
 
-// swizzle_mux_bits: the number and all sixteen words of the answer.
+// swizzle_mux_bits: the refusal, and all sixteen words of the answer, which are 0 of a refused call.
 pub(crate) fn mux(
     t: Tally,
     m: Memory,
     list: &[u32],
     plan: Plan<'_>,
-    number: u32,
-    want_writes: [u32; 8],
-    want_reads: [u32; 8],
+    want: Result<MuxBits, Refusal>,
 ) -> Tally {
-    match mux_call(m, list, plan) {
-        Ok(bits) => {
-            let t = add(t, number == 0);
-            let t = add(t, bits.writes == want_writes);
-            add(t, bits.reads == want_reads)
-        }
-        Err(e) => {
-            let t = add(t, e.number() == number);
-            let t = add(t, [0; 8] == want_writes);
-            add(t, [0; 8] == want_reads)
-        }
-    }
-}
-
-// A refused call's words are 0.
-pub(crate) fn mux_refused(t: Tally, m: Memory, list: &[u32], plan: Plan<'_>, number: u32) -> Tally {
-    let none = [0u32; 8];
-    mux(t, m, list, plan, number, none, none)
+    let answer = mux_call(m, list, plan);
+    let t = add(t, answer.err() == want.err());
+    let bits = answer.unwrap_or(MuxBits::default());
+    let wanted = want.unwrap_or(MuxBits::default());
+    let t = add(t, bits.writes == wanted.writes);
+    add(t, bits.reads == wanted.reads)
 }
