@@ -1,7 +1,7 @@
 // memory/src/lib.rs, emulate_read_before_write of one write port: flip-flops before its address, data and mask.
 #![tactic(auto)]
 
-ghost use Rattle.std.specs.Prelude.{◌≡◌, [], ◌≤◌, length, take};
+ghost use Rattle.std.specs.Prelude.{◌≡◌, ◌≤◌, length, take};
 ghost use Rattle.rules.specs.Limits.{max_merge};
 ghost use Rattle.rules.specs.Cell.{new_flip_flop};
 ghost use Rattle.rules.specs.Log.{add_dff_of};
@@ -9,7 +9,7 @@ ghost use Rattle.rules.specs.Merge.{add_dedup_dff_of};
 ghost use Rattle.rules.specs.Ports.{delayed};
 ghost use Rattle.net_value.specs.View.{control_of};
 ghost use Rattle.log_entries.specs.View.{lent_of};
-ghost use Rattle.net_memory.specs.View.{write_by};
+ghost use Rattle.net_memory.specs.Ports.{write_of};
 ghost use Rattle.port_transparency.specs.Gave.{Gave};
 ghost use Rattle.port_delay.specs.Delay.{start_trit, mask_delay, port_of, cut, delayable, delayed_if, Delayable};
 ghost use Rattle.port_delay.specs.Room.{zero_room};
@@ -18,7 +18,7 @@ use log_entries::Log;
 use merge_dff::Trits;
 use merge_mux::emit::Keys;
 use net_flip_flop::{Controls, FlipFlop};
-use net_memory::MemoryWritePort;
+use net_memory::WritePort;
 use net_value::ControlNet;
 
 // Room for the flip-flops before a write port: their results, the trits that they start with, and what the mask's merge is found in. It is lent, so that
@@ -140,16 +140,16 @@ impl Room {
         self.emit_mask(log, all_x, clock, mask);
     }
 
-    // The three flip-flops of a write port with these nets: the results are the first nets of `addr`, `bits` and `mask`.
-    pub fn emit_delayed(&mut self, log: &mut Log, all_x: bool, p: MemoryWritePort, nets: &[u32])
-        ensures { Gave (delayed_if all_x (write_by p nets.now []) (cut (write_by p nets.now []) self.old.addr self.old.bits self.old.mask)) (lent_of log.old) (lent_of log.new) (cut (write_by p nets.now []) self.new.addr self.new.bits self.new.mask) }
+    // The three flip-flops of a write port: the results are the first nets of `addr`, `bits` and `mask`.
+    pub fn emit_delayed(&mut self, log: &mut Log, all_x: bool, w: WritePort<'_>)
+        ensures { Gave (delayed_if all_x (write_of w.entry) (cut (write_of w.entry) self.old.addr self.old.bits self.old.mask)) (lent_of log.old) (lent_of log.new) (cut (write_of w.entry) self.new.addr self.new.bits self.new.mask) }
     {
-        let addr = net_memory::addr_of(p, nets);
-        let bits = net_memory::data_of(p, nets);
-        let mask = net_memory::mask_of(p, nets);
+        let addr = w.addr();
+        let bits = w.bits();
+        let mask = w.mask();
         if !can_delay(addr.len(), bits.len(), mask.len()) {
             return;
         }
-        self.emit_three(log, all_x, p.clock, addr, bits, mask);
+        self.emit_three(log, all_x, w.port.clock, addr, bits, mask);
     }
 }

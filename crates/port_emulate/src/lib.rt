@@ -11,8 +11,9 @@ ghost use Rattle.rules.specs.Logic.{is_undef};
 ghost use Rattle.rules.specs.Answers.{emulate_call};
 ghost use Rattle.log_entries.specs.Emission.{run};
 ghost use Rattle.log_entries.specs.View.{state_of, lent_of};
-ghost use Rattle.net_memory.specs.View.{write_by, writes_of, reads_start, memory_of};
-ghost use Rattle.net_memory.specs.Given.{given_of};
+ghost use Rattle.net_memory.specs.View.{writes_of, reads_start};
+ghost use Rattle.net_memory.specs.Ports.{write_of};
+ghost use Rattle.net_memory.specs.Given.{given_of, mem_of};
 ghost use Rattle.port_transparency.specs.Gave.{Gave};
 ghost use Rattle.port_delay.specs.Delay.{cut};
 ghost use Rattle.port_settle.specs.Settled.{is_read};
@@ -20,27 +21,19 @@ ghost use Rattle.port_unmap.specs.Call.{driven_of};
 ghost use Rattle.port_emulate.specs.Delays.{delayed_by, cut_by, delays, Fitting, PortReady, PortDone, PortsDone, rooms_of, input_number, Emulated};
 
 use log_entries::{Log, LogState};
-use net_memory::{Given, Memory, MemoryPortRelation, MemoryWritePort};
+use net_memory::{Given, Memory, MemoryPortRelation, MemoryWritePort, WritePort};
 use port_delay::Room;
 use port_unmap::Driven;
 use rules::Refusal;
 
-// Write port j with these nets, delayed where a read port reads before it writes; the results are the first nets of the room's `addr`, `bits` and `mask`.
-fn emit_port(
-    log: &mut Log,
-    delay: &mut Room,
-    all_x: bool,
-    m: Memory,
-    j: usize,
-    p: MemoryWritePort,
-    own: &[u32],
-)
-    ensures { (nets trits : List ℕ) → Gave (delayed_by (is_read m nets trits j) all_x (write_by p own.now []) (cut (write_by p own.now []) delay.old.addr delay.old.bits delay.old.mask)) (lent_of log.old) (lent_of log.new) (cut_by (is_read m nets trits j) (write_by p own.now []) delay.new.addr delay.new.bits delay.new.mask) }
+// Write port j, delayed where a read port reads before it writes; the results are the first nets of the room's `addr`, `bits` and `mask`.
+fn emit_port(log: &mut Log, delay: &mut Room, all_x: bool, m: Memory, j: usize, w: WritePort<'_>)
+    ensures { (nets trits : List ℕ) → Gave (delayed_by (is_read m nets trits j) all_x (write_of w.entry) (cut (write_of w.entry) delay.old.addr delay.old.bits delay.old.mask)) (lent_of log.old) (lent_of log.new) (cut_by (is_read m nets trits j) (write_of w.entry) delay.new.addr delay.new.bits delay.new.mask) }
 {
     if !port_relations::relates_to(m, j, MemoryPortRelation::ReadBeforeWrite) {
         return;
     }
-    delay.emit_delayed(log, all_x, p, own);
+    delay.emit_delayed(log, all_x, w);
 }
 
 // Stores the room's first nets, as many as a write port has, from `at` on.
@@ -72,13 +65,14 @@ fn delay_port(
     ensures { PortDone m all_x j nets.old nets.new (lent_of log.old) (lent_of log.new) }
 {
     let own = lists::part(nets, at, net_memory::write_size(p));
-    emit_port(log, delay, all_x, m, j, p, own);
+    emit_port(log, delay, all_x, m, j, WritePort { port: p, nets: own });
     if port_relations::relates_to(m, j, MemoryPortRelation::ReadBeforeWrite) {
         store_port(nets, at, p, delay);
     }
 }
 
-// All write ports in turn, their nets in place.
+// All write ports in turn, their nets in place. (That the ports fit stands in three contracts, here of nets that are written: a `Given` lends them to
+// be read, so one that knew it would serve two of the three. `j` is the number that relations go by.)
 fn delay_ports(log: &mut Log, nets: &mut [u32], delay: &mut Room, all_x: bool, m: Memory)
     requires { Fitting (writes_of m nets.old) × (reads_start m ≤ length nets.old) }
     ensures { PortsDone m all_x nets.old nets.new (lent_of log.old) (lent_of log.new) }
@@ -93,18 +87,14 @@ fn delay_ports(log: &mut Log, nets: &mut [u32], delay: &mut Room, all_x: bool, m
 }
 
 // All write ports, one after the other. No net of the memory is stored.
-fn emit_ports(log: &mut Log, delay: &mut Room, all_x: bool, m: Memory, nets: &[u32])
-    requires { Fitting (writes_of m nets.now) }
-    ensures { (x y : List ℕ) → lent_of log.new ≡ run (delays (is_read m x y) all_x 0 (writes_of m nets.now)) (lent_of log.old) }
+fn emit_ports(log: &mut Log, delay: &mut Room, all_x: bool, given: Given<'_>)
+    requires { Fitting (writes_of given.memory given.nets.now) }
+    ensures { (x y : List ℕ) → lent_of log.new ≡ run (delays (is_read given.entry.memory x y) all_x 0 (writes_of given.entry.memory given.entry.nets.now)) (lent_of log.old) }
 {
+    let m = given.memory;
     let count = net_memory::ports_used(m.write_count);
-    let mut at: usize = 0;
     for j in 0..count {
-        let p = m.write_ports[j];
-        let size = net_memory::write_size(p);
-        let own = lists::part(nets, at, size);
-        emit_port(log, delay, all_x, m, j, p, own);
-        at += size;
+        emit_port(log, delay, all_x, m, j, given.write_port(j));
     }
 }
 
@@ -114,51 +104,22 @@ fn dry_refusal(
     st: LogState,
     delay: &mut Room,
     all_x: bool,
-    m: Memory,
-    nets: &[u32],
+    given: Given<'_>,
 ) -> Result<(), Refusal>
-    requires { Fitting (writes_of m nets.now) }
-    ensures { (trits : List ℕ) → input_number st.next m nets.now trits ≡ 0 → all_x ≡ is_undef (memory_of m nets.now trits).init → number_of result ≡ log_refusal room (state_of st) (emulate_read_before_write (memory_of m nets.now trits)) }
+    requires { Fitting (writes_of given.memory given.nets.now) }
+    ensures { input_number st.next given.entry.memory given.entry.nets.now given.entry.trits.now ≡ 0 → all_x ≡ is_undef (mem_of given.entry).init → number_of result ≡ log_refusal room (state_of st) (emulate_read_before_write (mem_of given.entry)) }
 {
     let mut dry = Log {
         words: &mut [],
         state: st.dry_start(),
     };
-    emit_ports(&mut dry, delay, all_x, m, nets);
+    emit_ports(&mut dry, delay, all_x, given);
     st.dry_refusal(room, dry.state)
 }
 
-// A memory without a number of its own: 20 and 21 by a dry run, then the same for good. The call writes the nets, so it takes
-// them apart from the memory and its trits.
-fn emulate_passed(
-    log: &mut [u32],
-    st: LogState,
-    nets: &mut [u32],
-    m: Memory,
-    trits: &[u8],
-) -> Result<Driven, Refusal>
-    requires { input_number st.next m nets.old trits.now ≡ 0 }
-    ensures log_after { driven_of m result nets.new trits.now [] log.new ≡ emulate_call (rooms_of nets.old trits.now) log.old (state_of st) (given_of m nets.old trits.now) }
-    ensures emulated { Emulated m nets.old nets.new result }
-{
-    let all_x = net_logic::is_undef(lists::part(trits, 0, net_memory::init_size(m)));
-    let mut delay = Room::new();
-    dry_refusal(log.len(), st, &mut delay, all_x, m, nets)?;
-    let turned = port_settle::turn_clocks(m);
-    // The flip-flops run by the clocks as they were: by `m`, not by `turned`.
-    let mut log = Log {
-        words: log,
-        state: st,
-    };
-    delay_ports(&mut log, nets, &mut delay, all_x, m);
-    Ok(Driven {
-        memory: port_settle::settle_relations(m, turned),
-        state: log.state,
-    })
-}
-
 // emulate_read_before_write: write ports that some read port reads before they write are delayed by half a cycle; relations to them are Undefined.
-// A refused call changes nothing. The call takes its log and the log's state apart, as C hands them.
+// A refused call changes nothing; 20 and 21 come by a dry run. The call takes its log and the log's state apart, as C hands them, and nets apart from the
+// memory and its trits, since it writes them.
 pub fn emulate_read_before_write(
     log: &mut [u32],
     st: LogState,
@@ -175,5 +136,18 @@ pub fn emulate_read_before_write(
         trits,
     };
     port_relations::input_refusal(given, st.next)?;
-    emulate_passed(log, st, nets, m, trits)
+    let all_x = net_logic::is_undef(lists::part(trits, 0, net_memory::init_size(m)));
+    let mut delay = Room::new();
+    dry_refusal(log.len(), st, &mut delay, all_x, given)?;
+    let turned = port_settle::turn_clocks(m);
+    // The flip-flops run by the clocks as they were: by `m`, not by `turned`.
+    let mut log = Log {
+        words: log,
+        state: st,
+    };
+    delay_ports(&mut log, nets, &mut delay, all_x, m);
+    Ok(Driven {
+        memory: port_settle::settle_relations(m, turned),
+        state: log.state,
+    })
 }

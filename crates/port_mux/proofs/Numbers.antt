@@ -18,10 +18,10 @@ use Rattle.rules.specs.Conditions.{short_pair, bad_port, not_below, no_room_of, 
 use Rattle.rules.specs.Ports.{Overlay}
 use Rattle.rules.specs.Refusals.{mem_number, overlay_values, bad_overlay_lens, no_pair, pair_ports_number, transparency_mux_number, overlay_refusal}
 use Rattle.net_memory.specs.declared.Memory.{Memory}
-use Rattle.net_memory.specs.View.{memory_of, reads_of, writes_of, read_port, read_nets}
+use Rattle.net_memory.specs.View.{memory_of, reads_of, writes_of, read_port}
 use Rattle.net_memory.specs.Given.{given_of}
 use Rattle.port_overlay.proofs.Laid.{width_is}
-use Rattle.port_unmap.proofs.Short.{view_at, addr_is}
+use Rattle.net_memory.proofs.Ports.{read_of_view, reads_at}
 use Rattle.port_mux.specs.Call.{overlay_of, given_mask}
 use Rattle.std.specs.Prelude.{Option, None, Some, is_some}
 use Rattle.std.specs.Borrow.{Bor}
@@ -61,10 +61,7 @@ module _ (m : Memory) (nets trits : List ℕ) (i : ℕ) (h : i < min max_ports m
   M = memory_of m nets trits
 
   pub data_at : (read_at_of M i).data_len ≡ (read_port m i).data_len
-  data_at = ap (λ (r : ReadPort). r.data_len) (view_at m nets trits i (read_port m i) h refl)
-
-  pub addr_at : read_nets m nets i ≡ (read_at_of M i).addr
-  addr_at = addr_is m nets trits i (read_port m i) h refl
+  data_at = ap (λ (r : ReadPort). r.data_len) (read_of_view m nets trits i ∙ reads_at m nets trits i h)
 
   pub wide_at : (kr n : ℕ) → kr ≡ wide_log2 m.width n → n ≡ (read_port m i).data_len → kr ≡ read_wide_log2 M (read_at_of M i)
   wide_at kr n e d = e ∙ (λ j. wide_log2 (width_is m nets trits j) ((d ∙ sym data_at) j)) ∙ wide_by M (read_at_of M i)

@@ -18,28 +18,6 @@ use net_flip_flop::FlipFlop;
 use net_memory::{Given, Memory, MemoryPortRelation};
 use port_transparency::{NoMask, Over, Overlay, Reading, Writing};
 
-// The address of write port i.
-pub fn write_addr(m: Memory, nets: &[u32], i: usize) -> &[u32]
-    ensures { (trits : List ℕ) → result.now ≡ (write_at (memory_of m nets.now trits) i).addr }
-{
-    if net_memory::ports_used(m.write_count) <= i {
-        return &nets[..0];
-    }
-    let p = m.write_ports[i];
-    net_memory::addr_of(p, net_memory::write_nets(m, nets, i))
-}
-
-// Its data.
-pub fn write_data(m: Memory, nets: &[u32], i: usize) -> &[u32]
-    ensures { (trits : List ℕ) → result.now ≡ (write_at (memory_of m nets.now trits) i).bits }
-{
-    if net_memory::ports_used(m.write_count) <= i {
-        return &nets[..0];
-    }
-    let p = m.write_ports[i];
-    net_memory::data_of(p, net_memory::write_nets(m, nets, i))
-}
-
 // Write port j, as a transparency reads it.
 pub fn writing<'a>(given: Given<'a>, j: usize) -> Writing<'a>
     ensures k_value { result.k ≡ write_wide_log2 (mem_of given.entry) (write_at (mem_of given.entry) j) }

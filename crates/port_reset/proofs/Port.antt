@@ -1,32 +1,33 @@
 -- The values that the code reads of port i are the view's, and its trace is the rules'.
 use mathlib.Core.Path.{◌≡◌, refl, sym, ap, ◌∙◌, subst}
-use Prim.Native.Nat.{ℕ, ◌+◌, ◌<◌, ◌≤◌}
+use Prim.Native.Nat.{ℕ, ◌<◌, ◌≤◌}
 use native.Mathlib.Omega.{arith}
 use mathlib.Core.Bool.{Bool, true, false, not}
 use mathlib.Core.List.{List, []}
 use lib.ListN.{length, replicate}
 use borrow.Author.Tests.{le-ltb}
 use Rattle.lists.specs.Choice.{when◌then◌else◌}
-use Rattle.lists.specs.Lists.{any, part}
+use Rattle.lists.specs.Lists.{any}
 use Rattle.rules.specs.Limits.{max_merge, X}
 use Rattle.rules.specs.Logic.{is_undef}
 use Rattle.rules.specs.Value.{Value, x_nets}
-use Rattle.rules.specs.Cell.{FlipFlop, ReadFlipFlop, ReadPort, Mem, read_at_of, wide_log2, read_wide_log2, flip_flop_of, or_empty, output_slice, output_start, with_output}
+use Rattle.rules.specs.Cell.{FlipFlop, ReadFlipFlop, ReadPort, Mem, read_at_of, read_wide_log2, flip_flop_of, or_empty, output_slice, with_output}
 use Rattle.rules.specs.Conditions.{short_pair}
 use Rattle.rules.specs.Log.{LogState, Trace, start_net, ◌>>=◌, ◌>>◌, done}
 use Rattle.rules.specs.Ports.{Overlay, transparencies, wanted, has_init, mask_flip_flop, unmap_reset}
 use Rattle.rules.proofs.Counted.{start_le}
+use Rattle.net_flip_flop.specs.declared.FlipFlop as machine
 use Rattle.net_flip_flop.specs.declared.Controls.{Controls}
 use Rattle.net_flip_flop.specs.View.{controls_of, flip_flop}
 use Rattle.log_entries.specs.Emission.{Lent, is_over, emit, run}
 use Rattle.net_memory.specs.declared.Memory.{Memory}
-use Rattle.net_memory.specs.declared.MemoryReadPort.{MemoryReadPort}
-use Rattle.net_memory.specs.View.{memory_of, read_port, read_nets, read_trits}
+use Rattle.net_memory.specs.View.{memory_of}
 use Rattle.port_transparency.specs.Gave.{Gave}
 use Rattle.port_transparency.specs.Pairs.{reading, with_mask}
-use Rattle.port_overlay.specs.Laid.{laid_from}
+use Rattle.port_overlay.specs.Laid.{with_bits, laid_from}
 use Rattle.port_unmap.specs.Ready.{own_flip_flop}
-use Rattle.port_unmap.proofs.Port.{data_is, addr_is, wide_is, slice_is, laid_all, small, read_few}
+use Rattle.port_unmap.specs.Trace.{FlipFlopOf}
+use Rattle.port_unmap.proofs.Port.{laid_all, small, read_few}
 use Rattle.port_reset_emit.specs.Behind.{mask_behind, choice, reset_behind, reset_laid, reset_if}
 use Rattle.port_reset.specs.Ready.{ResetReady}
 use Rattle.port_unreset.proofs.Plain.{wanted_is}
@@ -83,6 +84,10 @@ all-related : (incl : Bool) (l : List ℕ) (k : ℕ) → length l ≡ k → leng
 all-related true l k e = omega arith
 all-related false l k e = omega arith
 
+-- the mask's flip-flop, as port_reset_emit has it
+abbrev mask_from : machine.FlipFlop → ℕ → Value → FlipFlop
+mask_from cell n k = mask_behind (controls_of cell.controls) (not (is_undef cell.init.now)) n k
+
 module _ (m : Memory) (nets trits : List ℕ) (i : ℕ) (c : Controls) (incl : Bool) (g : ResetReady m nets trits i c incl) where
   abbrev M : Mem
   M = memory_of m nets trits
@@ -104,28 +109,22 @@ module _ (m : Memory) (nets trits : List ℕ) (i : ℕ) (c : Controls) (incl : B
       (ap (any (short_pair M (read_at_of M i))) (sym (wanted_is incl F)) ∙ g.long)
       ∙ ap (λ (js : List ℕ). transparencies M i js o) (sym (wanted_is incl F))
 
-  module _ (output : Value) (p : MemoryReadPort) (raddr rels own clear reset init from : List ℕ) (kr start : ℕ) (l l1 : Lent) (w : Value)
-      (ep : p ≡ read_port m i) (ek : kr ≡ wide_log2 m.width p.data_len) (ea : raddr ≡ read_nets m nets i) (er : rels ≡ (when incl then part 0 p.relations_len p.relations else [])) (eo : own ≡ read_trits m trits i)
-      (ec : clear ≡ part 0 p.clear_len own) (es : reset ≡ part p.clear_len p.reset_len own) (ei : init ≡ part (p.clear_len + p.reset_len) p.init_len own)
-      (et : start ≡ output_start M i) (ef : from ≡ part start p.data_len output)
-      (h : Gave (reset_if M kr (reading raddr p.data_len) p.data_len rels (λ b. flip_flop (controls_of c) b clear reset init) (λ k. mask_behind (controls_of c) (not (is_undef init)) p.data_len k) from) l l1 w) where
+  module _ (output : Value) (cell : machine.FlipFlop) (raddr rels from : List ℕ) (kr n : ℕ) (f : ReadFlipFlop) (l l1 : Lent) (w : Value)
+      (ek : kr ≡ read_wide_log2 M (read_at_of M i)) (ea : raddr ≡ (read_at_of M i).addr) (en : n ≡ (read_at_of M i).data_len) (ef : from ≡ output_slice M i output)
+      (eg : FlipFlopOf cell f) (er : rels ≡ (when incl then f.relations else [])) (e : f ≡ F)
+      (h : Gave (reset_if M kr (reading raddr n) n rels (with_bits cell) (mask_from cell n) from) l l1 w) where
     abbrev size : ℕ
     size = (read_at_of M i).data_len
 
-    long_of : p.data_len ≡ size
-    long_of = ap (λ (q : MemoryReadPort). q.data_len) ep ∙ sym (data_is m nets trits i c g.port)
-
-    trace_is : reset_if M kr (reading raddr p.data_len) p.data_len rels (λ b. flip_flop (controls_of c) b clear reset init) (λ k. mask_behind (controls_of c) (not (is_undef init)) p.data_len k) from
+    trace_is : reset_if M kr (reading raddr n) n rels (with_bits cell) (mask_from cell n) from
         ≡ reset_if M (read_wide_log2 M (read_at_of M i)) (reading (read_at_of M i).addr size) size own_rels (λ b. flip_flop F.controls b F.clear_value F.reset_value F.init_value) (λ k. mask_behind F.controls (not (is_undef F.init_value)) size k) (output_slice M i output)
     trace_is =
-        let k1 = ek ∙ ap (λ (q : MemoryReadPort). wide_log2 m.width q.data_len) ep ∙ wide_is m nets trits i c g.port in
-        let a1 = ea ∙ sym (addr_is m nets trits i c g.port) in
-        let r1 = er ∙ (λ k. when incl then part 0 (ep k).relations_len (ep k).relations else []) in
-        let c1 = ec ∙ (λ k. part 0 (ep k).clear_len (eo k)) in
-        let s1 = es ∙ (λ k. part (ep k).clear_len (ep k).reset_len (eo k)) in
-        let i1 = ei ∙ (λ k. part ((ep k).clear_len + (ep k).reset_len) (ep k).init_len (eo k)) in
-        let f1 = ef ∙ (λ k. part (et k) (ep k).data_len output) ∙ slice_is m nets trits i c g.port output in
-        λ k. reset_if M (k1 k) (reading (a1 k) (long_of k)) (long_of k) (r1 k) (λ b. flip_flop (controls_of c) b (c1 k) (s1 k) (i1 k)) (λ x. mask_behind (controls_of c) (not (is_undef (i1 k))) (long_of k) x) (f1 k)
+        let k1 = eg.controls_are ∙ ap (λ (x : ReadFlipFlop). x.controls) e in
+        let c1 = eg.clear_is ∙ ap (λ (x : ReadFlipFlop). x.clear_value) e in
+        let s1 = eg.reset_is ∙ ap (λ (x : ReadFlipFlop). x.reset_value) e in
+        let i1 = eg.init_is ∙ ap (λ (x : ReadFlipFlop). x.init_value) e in
+        let r1 = er ∙ ap (λ (x : ReadFlipFlop). when incl then x.relations else []) e in
+        λ k. reset_if M (ek k) (reading (ea k) (en k)) (en k) (r1 k) (λ b. flip_flop (k1 k) b (c1 k) (s1 k) (i1 k)) (λ x. mask_behind (k1 k) (not (is_undef (i1 k))) (en k) x) (ef k)
 
     as_rules : reset_if M (read_wide_log2 M (read_at_of M i)) (reading (read_at_of M i).addr size) size own_rels (λ b. flip_flop F.controls b F.clear_value F.reset_value F.init_value) (λ k. mask_behind F.controls (not (is_undef F.init_value)) size k) (output_slice M i output)
         ≡ reset_laid M (read_wide_log2 M (read_at_of M i)) (reading (read_at_of M i).addr size) size own_rels (flip_flop_of F) (λ k. mask_behind F.controls (has_init F) size k) (output_slice M i output)

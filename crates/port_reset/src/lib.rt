@@ -22,10 +22,10 @@ ghost use Rattle.port_reset.specs.Ready.{ResetReady};
 ghost use Rattle.port_reset.specs.Call.{Acted, ResetStruct};
 
 use log_entries::{Log, LogState};
-use net_flip_flop::{Controls, FlipFlop};
-use net_memory::{Given, Memory, MemoryReadPort};
+use net_flip_flop::Controls;
+use net_memory::{Given, Memory};
 use port_reset_emit::{Mask, ResetNets};
-use port_transparency::{Overlay, Reading};
+use port_transparency::Overlay;
 use port_unmap::Driven;
 use rules::Refusal;
 
@@ -73,32 +73,17 @@ fn emit_port(
     room: &mut Room,
     given: Given<'_>,
     i: usize,
-    p: MemoryReadPort,
     c: Controls,
     incl: bool,
     output: &[u32],
 ) -> ResetNets
-    requires { ResetReady given.memory given.nets.now given.trits.now i c incl × (p ≡ read_port given.memory i) }
+    requires { ResetReady given.memory given.nets.now given.trits.now i c incl }
     ensures log_after { lent_of log.new ≡ run (unmap_reset (mem_of given.entry) i incl output.now (own_flip_flop given.entry.memory given.entry.trits.now i c)) (lent_of log.old) }
     ensures output_value { is_over (state_of log.new.state) ≡ false → with_output (mem_of given.entry) i (up_from result.first (result.last - result.first)) output.now ≡ (unmap_reset (mem_of given.entry) i incl output.now (own_flip_flop given.entry.memory given.entry.trits.now i c) log.old.state.next).value.output }
 {
-    let relations = p.relations;
-    let all = lists::part(&relations, 0, p.relations_len as usize);
-    let rels = port_unreset::wanted_relations(all, incl);
-    let count = p.data_len as usize;
-    let r = Reading {
-        k: net_memory::wide::wide_log(given.memory.width, count),
-        addr: net_memory::read_nets(given.memory, given.nets, i),
-        count,
-    };
-    let own = net_memory::read_trits(given.memory, given.trits, i);
-    let f = FlipFlop {
-        controls: c,
-        bits: lists::part(output, net_memory::output_start(given.memory, i), count),
-        clear: net_memory::clear_of(p, own),
-        reset: net_memory::reset_of(p, own),
-        init: net_memory::init_of(p, own),
-    };
+    let own = given.read_port(i);
+    let (r, f) = port_unmap::parts_of(given, i, own, c, output);
+    let rels = port_unreset::wanted_relations(own.relations(), incl);
     let Room { overlay, mask } = room;
     port_reset_emit::emit_reset(log, overlay, mask, given, rels, r, f)
 }
@@ -110,19 +95,18 @@ fn dry_refusal(
     room: &mut Room,
     given: Given<'_>,
     i: usize,
-    p: MemoryReadPort,
     c: Controls,
     incl: bool,
     output: &[u32],
 ) -> Result<(), Refusal>
-    requires { ResetReady given.memory given.nets.now given.trits.now i c incl × (p ≡ read_port given.memory i) }
+    requires { ResetReady given.memory given.nets.now given.trits.now i c incl }
     ensures { number_of result ≡ log_refusal size (state_of st) (unmap_reset (mem_of given.entry) i incl output.now (own_flip_flop given.entry.memory given.entry.trits.now i c)) }
 {
     let mut dry = Log {
         words: &mut [],
         state: st.dry_start(),
     };
-    emit_port(&mut dry, room, given, i, p, c, incl, output);
+    emit_port(&mut dry, room, given, i, c, incl, output);
     st.dry_refusal(size, dry.state)
 }
 
@@ -135,11 +119,10 @@ fn unmap_clocked(
     m: Memory,
     nets: &[u32],
     i: usize,
-    p: MemoryReadPort,
     c: Controls,
     incl: bool,
 ) -> Result<Driven, Refusal>
-    requires { ResetReady m nets.now trits.old i c incl × (p ≡ read_port m i) }
+    requires { ResetReady m nets.now trits.old i c incl }
     ensures log_after { driven_of m result nets.now trits.new output.new log.new ≡ driven (log_refusal (length log.old) (state_of st) (unmap_reset (memory_of m nets.now trits.old) i incl output.old (own_flip_flop m trits.old i c))) log.old (state_of st) (driving m nets.now trits.old output.old) (unmap_reset (memory_of m nets.now trits.old) i incl output.old (own_flip_flop m trits.old i c)) }
     ensures acted { Acted m i c incl result trits.old trits.new }
 {
@@ -152,12 +135,12 @@ fn unmap_clocked(
         nets,
         trits,
     };
-    dry_refusal(log.len(), st, &mut room, given, i, p, c, incl, output)?;
+    dry_refusal(log.len(), st, &mut room, given, i, c, incl, output)?;
     let mut log = Log {
         words: log,
         state: st,
     };
-    let done = emit_port(&mut log, &mut room, given, i, p, c, incl, output);
+    let done = emit_port(&mut log, &mut room, given, i, c, incl, output);
     let start = net_memory::output_start(m, i);
     lists::store_run(output, start, done.first, done.last);
     port_unreset::blank(trits, m, i);
@@ -176,22 +159,26 @@ fn unmap_some(
     m: Memory,
     nets: &[u32],
     i: usize,
-    p: MemoryReadPort,
     c: Controls,
     incl: bool,
 ) -> Result<Driven, Refusal>
-    requires { ((read_port m i).flip_flop ≡ Some c) × (unmap_reset_number st.next (given_of m nets.now trits.old) i incl output.old ≡ 0) × (p ≡ read_port m i) }
+    requires { ((read_port m i).flip_flop ≡ Some c) × (unmap_reset_number st.next (given_of m nets.now trits.old) i incl output.old ≡ 0) }
     ensures log_after { driven_of m result nets.now trits.new output.new log.new ≡ driven (flip_flop_refusal (read_at_of (memory_of m nets.now trits.old) i) or_else driven_refusal (rooms_of nets.now trits.old output.old) (length log.old) (state_of st) (unmap_read_init_reset_transparency (memory_of m nets.now trits.old) i incl output.old)) log.old (state_of st) (driving m nets.now trits.old output.old) (unmap_read_init_reset_transparency (memory_of m nets.now trits.old) i incl output.old) }
     ensures reset_struct { ResetStruct m i incl result trits.old trits.new }
 {
-    if port_unreset::port_plain(m, trits, i, p, c, incl) {
+    let given = Given {
+        memory: m,
+        nets,
+        trits,
+    };
+    if port_unreset::port_plain(given.read_port(i), c, incl) {
         st.room_refusal(log.len(), 0, 0)?;
         return Ok(Driven {
             memory: m,
             state: st,
         });
     }
-    unmap_clocked(log, st, output, trits, m, nets, i, p, c, incl)
+    unmap_clocked(log, st, output, trits, m, nets, i, c, incl)
 }
 
 // A port that they pass: 22 where it has no flip-flop.
@@ -203,17 +190,20 @@ fn unmap_port(
     m: Memory,
     nets: &[u32],
     i: usize,
-    p: MemoryReadPort,
     incl: bool,
 ) -> Result<Driven, Refusal>
-    requires { (unmap_reset_number st.next (given_of m nets.now trits.old) i incl output.old ≡ 0) × (p ≡ read_port m i) }
+    requires { unmap_reset_number st.next (given_of m nets.now trits.old) i incl output.old ≡ 0 }
     ensures log_after { driven_of m result nets.now trits.new output.new log.new ≡ driven (flip_flop_refusal (read_at_of (memory_of m nets.now trits.old) i) or_else driven_refusal (rooms_of nets.now trits.old output.old) (length log.old) (state_of st) (unmap_read_init_reset_transparency (memory_of m nets.now trits.old) i incl output.old)) log.old (state_of st) (driving m nets.now trits.old output.old) (unmap_read_init_reset_transparency (memory_of m nets.now trits.old) i incl output.old) }
     ensures reset_struct { ResetStruct m i incl result trits.old trits.new }
 {
-    let f = p.flip_flop;
-    match f {
+    let given = Given {
+        memory: m,
+        nets,
+        trits,
+    };
+    match given.read_port(i).port.flip_flop {
         None => Err(Refusal::Unclocked),
-        Some(c) => unmap_some(log, st, output, trits, m, nets, i, p, c, incl),
+        Some(c) => unmap_some(log, st, output, trits, m, nets, i, c, incl),
     }
 }
 
@@ -239,6 +229,5 @@ pub fn unmap_read_init_reset_transparency(
         trits,
     };
     reset_refusal(given, port, incl, output, st.next)?;
-    let p = m.read_ports[port];
-    unmap_port(log, st, output, trits, m, nets, port, p, incl)
+    unmap_port(log, st, output, trits, m, nets, port, incl)
 }

@@ -58,6 +58,8 @@ fn start_trit(initial: bool) -> u8
     if initial { 1 } else { rules::TRIT_X }
 }
 
+// Here and below `n ≤ max_merge` stands in each contract: a type that knew it would be taken apart for its number in each function, and be made by a
+// test that `emit_reset` has already.
 // The merging flip-flop of the mask of n nets, whose results are the first nets of the overlay's mask.
 fn emit_mask(
     log: &mut Log,

@@ -109,7 +109,8 @@ fn addr_rest(addr: &[u32], k: u32, own: u32) -> &[u32]
     &addr[d..]
 }
 
-// A value moved up to its place among n nets.
+// A value moved up to its place among n nets. (Here and below `n ≤ max_merge` goes with the lengths of other slices: one fact of several, which
+// `Fit` joins for a pair of ports.)
 fn shl_into(log: &mut Log, out: &mut [u32], z: &mut [u32], select: &[u32], v: &[u32], n: usize)
     requires { (length v.now ≤ n) × (n ≤ max_merge) × (n ≤ length out.old) × (n ≤ length z.old) }
     ensures { Gave (add_shl_of (length v.now) select.now (zext v.now n)) (lent_of log.old) (lent_of log.new) (take n out.new) }

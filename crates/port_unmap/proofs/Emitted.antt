@@ -1,26 +1,22 @@
 -- The values that the code reads of a clocked port are the view's.
 use mathlib.Core.Path.{◌≡◌, refl, sym, ap, ◌∙◌}
-use Prim.Native.Nat.{ℕ, ◌+◌, ◌<◌, min}
-use native.Mathlib.Nat.{le_refl}
+use Prim.Native.Nat.{ℕ, ◌≤◌}
 use native.Mathlib.Omega.{arith}
 use mathlib.Core.List.{List}
-use lib.ListN.{length, take, drop, length-take}
-use lib.Seq.{take-take, take_all}
+use lib.ListN.{length, take}
+use lib.Seq.{take_all}
 use Rattle.lists.specs.Lists.{part}
 use Rattle.rules.specs.Limits.{max_ports}
 use Rattle.rules.specs.Value.{Value}
 use Rattle.rules.specs.Cell.{ReadFlipFlop, ReadPort, Mem, read_at_of, wide_log2, read_wide_log2, flip_flop_of, output_start, output_slice}
-use Rattle.net_flip_flop.specs.declared.Controls.{Controls}
-use Rattle.net_flip_flop.specs.View.{controls_of, flip_flop}
+use Rattle.net_flip_flop.specs.declared.FlipFlop.{FlipFlop}
+use Rattle.net_flip_flop.specs.View.{flip_flop}
 use Rattle.log_entries.specs.Emission.{Lent, run}
 use Rattle.net_memory.specs.declared.Memory.{Memory}
-use Rattle.net_memory.specs.declared.MemoryReadPort.{MemoryReadPort}
-use Rattle.net_memory.specs.View.{memory_of, read_port, read_by, read_start, trit_start, addr_size, trit_size, read_nets, read_trits}
-use Rattle.net_memory.proofs.Ports.{read_of_view, reads_at, nets_at}
+use Rattle.net_memory.specs.View.{memory_of}
 use Rattle.port_transparency.specs.Pairs.{reading}
-use Rattle.port_overlay.specs.Laid.{unmapped_if}
-use Rattle.port_unmap.specs.Ready.{own_flip_flop}
-use Rattle.port_unmap.specs.Trace.{related, port_trace}
+use Rattle.port_overlay.specs.Laid.{with_bits, unmapped_if}
+use Rattle.port_unmap.specs.Trace.{FlipFlopOf, related, port_trace}
 
 wide_by : (v : Mem) (r : ReadPort) → wide_log2 v.width r.data_len ≡ read_wide_log2 v r
 unfolding read_wide_log2
@@ -34,46 +30,22 @@ behind_is : (f : ReadFlipFlop) → (λ (b : Value). flip_flop f.controls b f.cle
 unfolding flip_flop_of
 behind_is f = refl
 
-slice_of : (v : Mem) (i n : ℕ) (output : Value) → n ≡ (read_at_of v i).data_len → part (output_start v i) n output ≡ output_slice v i output
+-- the values that the code reads of the port r as the view has it
+pub wide_from : (m : Memory) (nets trits : List ℕ) (r : ReadPort) (n k : ℕ) → k ≡ wide_log2 m.width n → n ≡ r.data_len → k ≡ read_wide_log2 (memory_of m nets trits) r
+wide_from m nets trits r n k e d = e ∙ (λ j. wide_log2 (width_of m nets trits j) (d j)) ∙ wide_by (memory_of m nets trits) r
+
+pub slice_from : (v : Mem) (i start n : ℕ) (output bits : Value) → start ≡ output_start v i → n ≡ (read_at_of v i).data_len → bits ≡ part start n output → bits ≡ output_slice v i output
 unfolding output_slice
-slice_of v i n output e = ap (λ (k : ℕ). part (output_start v i) k output) e
+slice_from v i start n output bits es en e = e ∙ (λ k. part (es k) (en k) output)
 
-eight : (n : ℕ) (l : List ℕ) → length l ≡ 8 → take n l ≡ take max_ports (take n l)
-eight n l e = sym (take_all max_ports (take n l) (omega (arith, length-take n l)))
+few : (l : List ℕ) → length l ≤ 8 → l ≡ take max_ports l
+few l h = sym (take_all max_ports l (omega arith))
 
-module _ (m : Memory) (nets trits : List ℕ) (i : ℕ) (c : Controls) (p : MemoryReadPort) (h : i < min max_ports m.read_count) (ep : p ≡ read_port m i) where
-  abbrev M : Mem
-  M = memory_of m nets trits
-
-  abbrev F : ReadFlipFlop
-  F = own_flip_flop m trits i c
-
-  view_at : read_at_of M i ≡ read_by p (part (read_start m i) (addr_size p) nets) (part (trit_start m i) (trit_size p) trits)
-  view_at = read_of_view m nets trits i ∙ reads_at m nets trits i h ∙ (λ k. read_by (sym ep k) (part (read_start m i) (addr_size (sym ep k)) nets) (part (trit_start m i) (trit_size (sym ep k)) trits))
-
-  addr_is : read_nets m nets i ≡ (read_at_of M i).addr
-  addr_is =
-      nets_at m nets trits i h ∙ (λ k. part (read_start m i) (addr_size (sym ep k)) nets)
-      ∙ sym (take-take (addr_size p) (addr_size p) (drop (read_start m i) nets) (le_refl (addr_size p))) ∙ sym (ap (λ (r : ReadPort). r.addr) view_at)
-
-  pub data_is : p.data_len ≡ (read_at_of M i).data_len
-  data_is = sym (ap (λ (r : ReadPort). r.data_len) view_at)
-
-  wide_is : wide_log2 m.width p.data_len ≡ read_wide_log2 M (read_at_of M i)
-  wide_is = (λ j. wide_log2 (width_of m nets trits j) (data_is j)) ∙ wide_by M (read_at_of M i)
-
-  -- the run of port_overlay is the port's
-  pub port_from : (output : Value) (raddr rels own clear reset init from : List ℕ) (kr start : ℕ) (l l1 : Lent) → length p.relations ≡ 8 → kr ≡ wide_log2 m.width p.data_len → raddr ≡ read_nets m nets i
-      → rels ≡ part 0 p.relations_len p.relations → own ≡ read_trits m trits i → clear ≡ part 0 p.clear_len own → reset ≡ part p.clear_len p.reset_len own
-      → init ≡ part (p.clear_len + p.reset_len) p.init_len own → start ≡ output_start M i → from ≡ part start p.data_len output
-      → l1 ≡ run (unmapped_if M kr (reading raddr p.data_len) p.data_len rels (λ b. flip_flop (controls_of c) b clear reset init) from) l
-      → l1 ≡ run (port_trace M i output F) l
-  port_from output raddr rels own clear reset init from kr start l l1 e8 ek ea er eo ec es ei et ef q =
-      let a1 = ea ∙ addr_is in
-      let r1 : rels ≡ related F = er ∙ eight p.relations_len p.relations e8 ∙ (λ k. take max_ports (part 0 (ep k).relations_len (ep k).relations)) in
-      let c1 = ec ∙ (λ k. part 0 (ep k).clear_len (eo k)) in
-      let s1 = es ∙ (λ k. part (ep k).clear_len (ep k).reset_len (eo k)) in
-      let i1 = ei ∙ (λ k. part ((ep k).clear_len + (ep k).reset_len) (ep k).init_len (eo k)) in
-      let f1 = ef ∙ (λ k. part (et k) p.data_len output) ∙ slice_of M i p.data_len output data_is in
-      q ∙ (λ k. run (unmapped_if M ((ek ∙ wide_is) k) (reading (a1 k) (data_is k)) (data_is k) (r1 k) (λ b. flip_flop (controls_of c) b (c1 k) (s1 k) (i1 k)) (f1 k)) l)
-      ∙ (λ k. run (unmapped_if M (read_wide_log2 M (read_at_of M i)) (reading (read_at_of M i).addr (read_at_of M i).data_len) (read_at_of M i).data_len (related F) (behind_is F k) (output_slice M i output)) l)
+-- the run of port_overlay is the port's
+pub port_from : (v : Mem) (i : ℕ) (output : Value) (g f : ReadFlipFlop) (cell : FlipFlop) (raddr rels from : List ℕ) (kr n : ℕ) (l l1 : Lent) → kr ≡ read_wide_log2 v (read_at_of v i) → raddr ≡ (read_at_of v i).addr
+    → n ≡ (read_at_of v i).data_len → from ≡ output_slice v i output → FlipFlopOf cell g → rels ≡ g.relations → length rels ≤ 8 → g ≡ f
+    → l1 ≡ run (unmapped_if v kr (reading raddr n) n rels (with_bits cell) from) l → l1 ≡ run (port_trace v i output f) l
+port_from v i output g f cell raddr rels from kr n l l1 ek ea en ef eg er e8 e q =
+    q ∙ (λ k. run (unmapped_if v (ek k) (reading (ea k) (en k)) (en k) ((few rels e8 ∙ ap (take max_ports) er) k) (λ b. flip_flop (eg.controls_are k) b (eg.clear_is k) (eg.reset_is k) (eg.init_is k)) (ef k)) l)
+    ∙ (λ k. run (unmapped_if v (read_wide_log2 v (read_at_of v i)) (reading (read_at_of v i).addr (read_at_of v i).data_len) (read_at_of v i).data_len (related g) (behind_is g k) (output_slice v i output)) l)
+    ∙ (λ k. run (port_trace v i output (e k)) l)

@@ -27,7 +27,6 @@ use Rattle.net_flip_flop.specs.declared.Controls.{Controls}
 use Rattle.net_flip_flop.specs.View.{flip_flop}
 use Rattle.log_entries.specs.Emission.{Lent, run}
 use Rattle.net_memory.specs.declared.Memory.{Memory}
-use Rattle.net_memory.specs.declared.MemoryReadPort.{MemoryReadPort}
 use Rattle.net_memory.specs.View.{memory_of, read_port, read_start, trit_start, addr_size, trit_size, read_nets, read_trits, read_by, flip_flop_by}
 use Rattle.net_memory.proofs.Ports.{reads_at, read_of_view, nets_at, trits_at}
 use Rattle.port_transparency.specs.Pairs.{reading}
@@ -159,5 +158,5 @@ module _ (m : Memory) (nets trits : List ℕ) (i : ℕ) (c : Controls) (g : Read
   own_ran n output l l1 e = unnamed (unmap_dff Mv i output own-flip) n l l1 (e ∙ own_run output l)
 
   -- its few nets
-  pub port_few : (p : MemoryReadPort) → p ≡ read_port m i → (A : Type 0) (last next : ℕ) → (p.data_len ≤ max_merge → A → last ≡ next + p.data_len) → A → last ≡ next + (read_port m i).data_len
-  port_few p e A last next h a = h (rw e (data_few m nets trits i c g.port)) a ∙ ap (λ (q : MemoryReadPort). next + q.data_len) e
+  pub port_few : (A : Type 0) (last next : ℕ) → ((read_at_of Mv i).data_len ≤ max_merge → A → last ≡ next + (read_at_of Mv i).data_len) → A → last ≡ next + (read_port m i).data_len
+  port_few A last next h a = h (omega (arith, read_few m nets trits i c g.port)) a ∙ ap (λ (n : ℕ). next + n) (data_is m nets trits i c g.port)

@@ -8,7 +8,6 @@ ghost use Rattle.std.proofs.lemmas.List.Edits.{sets};
 ghost use Rattle.rules.specs.Limits.{max_ports};
 ghost use Rattle.rules.specs.Conditions.{short_ports};
 ghost use Rattle.log_entries.specs.View.{lent_of};
-ghost use Rattle.net_memory.specs.View.{memory_of, read_port};
 ghost use Rattle.port_transparency.specs.Gave.{Gave};
 ghost use Rattle.port_unmap.specs.Ready.{own_flip_flop};
 ghost use Rattle.port_unmap_all.specs.All.{unmapped_of, unmapped_at, unmapped_all};
@@ -16,20 +15,14 @@ ghost use Rattle.net_memory.specs.Given.{mem_of};
 
 use log_entries::Log;
 use net_flip_flop::Controls;
-use net_memory::{Given, Memory, MemoryReadPort};
+use net_memory::Given;
 use port_transparency::Overlay;
 
 // Some transparent pair of a clocked read port has too few address bits.
 pub fn ports_short(given: Given<'_>) -> bool
     ensures { result ≡ short_ports (mem_of given.entry) }
 {
-    let count = net_memory::ports_used(given.memory.read_count);
-    for i in 0..count {
-        if port_unmap::port_short(given, i) {
-            return true;
-        }
-    }
-    false
+    (0..net_memory::ports_used(given.memory.read_count)).any(|i| port_unmap::port_short(given, i))
 }
 
 // Port i, whose controls are c, and its void nets in its place among the outputs after.
@@ -39,18 +32,17 @@ fn emit_clocked(
     after: &mut [u32],
     given: Given<'_>,
     i: usize,
-    p: MemoryReadPort,
     c: Controls,
     output: &[u32],
 )
-    requires { (i < min max_ports given.memory.read_count) × (p ≡ read_port given.memory i) }
+    requires { i < min max_ports given.memory.read_count }
     ensures { Gave (unmapped_of (some (own_flip_flop given.entry.memory given.entry.trits.now i c)) (mem_of given.entry) i output.now after.old) (lent_of log.old) (lent_of log.new) after.new }
 {
-    if rules::MAX_MERGE < p.data_len as usize {
+    if rules::MAX_MERGE < net_memory::read_data_len(given.memory, i) {
         return;
     }
     let first = log.state.next;
-    let last = port_unmap::emit_port(log, overlay, given, i, p, c, output);
+    let last = port_unmap::emit_port(log, overlay, given, i, c, output);
     lists::store_run(
         after,
         net_memory::output_start(given.memory, i),
@@ -71,11 +63,9 @@ fn emit_at(
     requires { i < min max_ports given.memory.read_count }
     ensures { Gave (unmapped_at (mem_of given.entry) i output.now after.old) (lent_of log.old) (lent_of log.new) after.new }
 {
-    let p = given.memory.read_ports[i];
-    let f = p.flip_flop;
-    match f {
+    match given.read_port(i).port.flip_flop {
         None => {}
-        Some(c) => emit_clocked(log, overlay, after, given, i, p, c, output),
+        Some(c) => emit_clocked(log, overlay, after, given, i, c, output),
     }
 }
 

@@ -6,7 +6,7 @@ use native.Mathlib.Omega.{arith}
 use mathlib.Core.Bool.{Bool, false}
 use mathlib.Core.Option.{some}
 use mathlib.Core.List.{List}
-use lib.ListN.{length, take, replicate, length-replicate, replicate-append-replicate, get_or-eq_default}
+use lib.ListN.{length, replicate, length-replicate, replicate-append-replicate, get_or-eq_default}
 use lib.Seq.{sets, take-take, get_or-take, set_out, length-sets}
 use Rattle.lists.proofs.Stores.{sets_then}
 use borrow.Author.Tests.{eqb-true, not-false}
@@ -29,15 +29,7 @@ use Rattle.net_memory.proofs.Changes.{with_read, read_changed}
 use Rattle.port_unreset.specs.Struct.{unreset_controls, unreset_port, unreset, blanked}
 use Rattle.port_unreset.proofs.Plain.{kept-part}
 
--- ---- where a port's trits start, and that they are there
-pub start_is : (m : Memory) (i : ℕ) → i < 8
-    → trits_total (record { depth = m.depth; width = m.width; init_len = m.init_len; write_count = m.write_count; read_count = i; write_ports = m.write_ports; read_ports = m.read_ports }) ≡ trit_start m i
-unfolding trits_total
-start_is m i h = ap (λ (k : ℕ). m.init_len + sum_by trit_size (take k m.read_ports)) (least i h)
-  where
-    least : (j : ℕ) → j < 8 → min max_ports j ≡ j
-    least j g = omega arith
-
+-- ---- the trits of a port are there
 pub trits_there_lem : (m : Memory) (trits : List ℕ) (i : ℕ) → i < min max_ports m.read_count → length trits ≡ trits_total m → trit_start m i + trit_size (read_port m i) ≤ length trits
 unfolding trits_total
 trits_there_lem m trits i h e =

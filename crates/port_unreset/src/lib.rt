@@ -6,11 +6,11 @@ ghost use Rattle.lists.specs.Choice.{when◌then◌else◌};
 ghost use Rattle.rules.specs.Cell.{transparent_from};
 ghost use Rattle.rules.specs.Ports.{is_empty, is_plain, no_transparent};
 ghost use Rattle.net_flip_flop.specs.View.{controls_of};
-ghost use Rattle.net_memory.specs.View.{clocked_by, read_trits, trit_start};
+ghost use Rattle.net_memory.specs.View.{clocked_by};
 ghost use Rattle.port_unreset.specs.Struct.{kept_relations, unreset_port, unreset, blanked};
 
 use net_flip_flop::Controls;
-use net_memory::{Memory, MemoryReadPort};
+use net_memory::{Memory, MemoryPortRelation, MemoryReadPort, ReadPort};
 use net_value::{ControlNet, Net};
 
 // The relations that are to go.
@@ -25,7 +25,8 @@ pub fn wanted_relations(rels: &[u8], incl: bool) -> &[u8]
 fn any_transparent(rels: &[u8]) -> bool
     ensures { result ≡ not (is_empty (transparent_from 0 rels.now)) }
 {
-    rels.contains(&2)
+    let transparent = MemoryPortRelation::Transparent.code();
+    rels.contains(&transparent)
 }
 
 // There is nothing to unmap: no init, no reset, no clear, and no relation that is to go.
@@ -39,22 +40,12 @@ fn is_plain(c: Controls, init: &[u8], rels: &[u8], incl: bool) -> bool
         && !any_transparent(wanted_relations(rels, incl))
 }
 
-// There is nothing to unmap of port i, whose struct and controls these are.
-#[tactic(auto, using(net_memory::proofs::Sized::relations_8, crate::proofs::Plain::plain_as))]
-pub fn port_plain(
-    m: Memory,
-    trits: &[u8],
-    i: usize,
-    p: MemoryReadPort,
-    c: Controls,
-    incl: bool,
-) -> bool
-    ensures { result ≡ is_plain incl (clocked_by c p (read_trits m trits.now i)) }
+// There is nothing to unmap of this port, whose controls these are.
+#[tactic(auto, using(crate::proofs::Plain::plain_as))]
+pub fn port_plain(own: ReadPort<'_>, c: Controls, incl: bool) -> bool
+    ensures { result ≡ is_plain incl (clocked_by c own.entry.port own.entry.trits.now) }
 {
-    let relations = p.relations;
-    let rels = lists::part(&relations, 0, p.relations_len as usize);
-    let own = net_memory::read_trits(m, trits, i);
-    is_plain(c, net_memory::init_of(p, own), rels, incl)
+    is_plain(c, own.init(), own.relations(), incl)
 }
 
 // A relation's code without Transparent.
@@ -62,7 +53,10 @@ pub fn port_plain(
 fn kept_relation(x: u8) -> u8
     ensures { result ≡ no_transparent x }
 {
-    if x == 2 { 0 } else { x }
+    if x == MemoryPortRelation::Transparent.code() {
+        return MemoryPortRelation::Undefined.code();
+    }
+    x
 }
 
 // The codes of a port's relations without Transparent, where these are to go.
@@ -103,17 +97,6 @@ pub fn unreset(m: Memory, i: usize, c: Controls, incl: bool) -> Memory
     out
 }
 
-// Where the trits of port i start: a memory of i read ports has as many.
-#[tactic(auto, using(crate::proofs::View::start_is))]
-fn trit_start(m: Memory, i: usize) -> usize
-    requires { i < 8 }
-    ensures { (result ≡ trit_start m i) × (result ≤ 0x1900000000) }
-{
-    let mut front = m;
-    front.read_count = i as u32;
-    net_memory::trits_total(front)
-}
-
 // The trits of port i become X.
 pub fn blank(trits: &mut [u8], m: Memory, i: usize)
     ensures { trits.new ≡ blanked m i trits.old }
@@ -122,7 +105,7 @@ pub fn blank(trits: &mut [u8], m: Memory, i: usize)
         return;
     }
     let p = m.read_ports[i];
-    let start = trit_start(m, i);
+    let start = net_memory::trit_start(m, i);
     let clear = p.clear_len as usize;
     let reset = p.reset_len as usize;
     let init = p.init_len as usize;

@@ -14,14 +14,15 @@ emit_ports-requires c = c.requires
 
 pub returns : goal.returns
 returns c =
-    λ y z b.
+    λ z b.
     let v = c.args in
-    let m = v.m in
-    let x = v.nets.now in
+    let m = v.given.memory in
+    let x = v.given.nets.now in
+    let y = v.given.trits.now in
     let M = memory_of m x y in
     let p = c.emit_ports in
     let q = c.dry_refusal in
-    let f = few_writes m x y (writes_length m _ c.well_formed.1.1.1.1.0 x) in
+    let f = few_writes m x y (writes_length m _ c.well_formed.1.1.1.1.0.1.1.0 x) in
     let e = dry_run m x y v.all_x _ _ b (p.ensures x y) in
     let n = run_name (emulate_read_before_write M) _ _ e in
     dry_called (emulate_read_before_write M) v.room (state_of v.st) _ (chains_emulate M) (below M (thin_is v.st.next m x y z) (shapes v.st.next m x y z) f (state_of v.st))

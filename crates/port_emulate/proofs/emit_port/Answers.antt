@@ -1,8 +1,7 @@
 -- `port_emulate::emit_port` meets its contract.
 use mathlib.Core.Path.{sym, ap, ◌∙◌}
-use mathlib.Core.List.{[]}
 use borrow.Author.Tests.{not-true, not-false}
-use Rattle.net_memory.specs.View.{write_by}
+use Rattle.net_memory.specs.Ports.{write_of}
 use Rattle.log_entries.specs.View.{lent_of}
 use Rattle.port_delay.specs.Delay.{cut}
 use Rattle.port_emulate.proofs.Delays.{port_not, port_yes}
@@ -13,7 +12,7 @@ pub returns-then-not-relates_to : goal.returns-then-not-relates_to
 returns-then-not-relates_to c =
     λ nets trits.
     let v = c.args in
-    let p = write_by v.p v.own.now [] in
+    let p = write_of v.w in
     let l = lent_of v.log.now in
     port_not v.all_x p (cut p v.delay.now.addr v.delay.now.bits v.delay.now.mask) v.delay.now.addr v.delay.now.bits v.delay.now.mask l l _ (sym (c.relates_to.ensures nets trits) ∙ not-true _ (ap not c.if-not-relates_to.true))
 
@@ -21,5 +20,5 @@ pub returns : goal.returns
 returns c =
     λ nets trits.
     let v = c.args in
-    let p = write_by v.p v.own.now [] in
+    let p = write_of v.w in
     port_yes v.all_x p (cut p v.delay.now.addr v.delay.now.bits v.delay.now.mask) c.emit_delayed.new.self.addr c.emit_delayed.new.self.bits c.emit_delayed.new.self.mask (lent_of v.log.now) (lent_of c.emit_delayed.new.log) _ (sym (c.relates_to.ensures nets trits) ∙ not-false _ (ap not c.if-not-relates_to.false)) c.emit_delayed.ensures

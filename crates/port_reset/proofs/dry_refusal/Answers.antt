@@ -8,9 +8,6 @@ use Rattle.port_reset.proofs.Bounds.{chains_reset}
 use Rattle.port_reset.proofs.Port.{reset_below}
 use Rattle.port_reset.proofs.dry_refusal.Goals as goal
 
-pub emit_port-requires : goal.emit_port-requires
-emit_port-requires c = (c.requires.0, c.requires.1)
-
 pub returns : goal.returns
 returns c =
     let v = c.args in
@@ -20,4 +17,4 @@ returns c =
     let f = own_flip_flop v.given.memory v.given.trits.now v.i v.c in
     let w = memory_of v.given.memory v.given.nets.now v.given.trits.now in
     let n = run_name (unmap_reset w v.i v.incl v.output.now f) _ _ p.ensures.log_after in
-    dry_called (unmap_reset w v.i v.incl v.output.now f) v.size s _ (chains_reset w v.i v.incl v.output.now f) (reset_below v.given.memory v.given.nets.now v.given.trits.now v.i v.c v.incl c.requires.0 v.output.now s) p.new.log.words.now _ (state_of p.new.log.state) _ c.dry_start.ensures (unnamed (unmap_reset w v.i v.incl v.output.now f) 0 _ _ p.ensures.log_after) q.ensures
+    dry_called (unmap_reset w v.i v.incl v.output.now f) v.size s _ (chains_reset w v.i v.incl v.output.now f) (reset_below v.given.memory v.given.nets.now v.given.trits.now v.i v.c v.incl c.requires v.output.now s) p.new.log.words.now _ (state_of p.new.log.state) _ c.dry_start.ensures (unnamed (unmap_reset w v.i v.incl v.output.now f) 0 _ _ p.ensures.log_after) q.ensures

@@ -1,9 +1,7 @@
 -- `port_reset::unmap_read_init_reset_transparency` meets its contract.
 use mathlib.Core.Path.{refl, sym}
 use Rattle.std.proofs.lemmas.Result.{err_from_is_err_and}
-use native.Mathlib.Omega.{arith}
-use Rattle.net_memory.proofs.Sized.{reads_length, writes_length}
-use Rattle.port_reset.proofs.Passed.{is_there_lem, call_refused, call_passed}
+use Rattle.port_reset.proofs.Passed.{call_refused, call_passed}
 use Rattle.port_reset.proofs.unmap_read_init_reset_transparency.Goals as goal
 
 pub returns-in_err-reset_refusal : goal.returns-in_err-reset_refusal
@@ -11,20 +9,6 @@ returns-in_err-reset_refusal c =
     let v = c.args in
     let e = err_from_is_err_and c.from_residual.result c.from_residual.ensures.1 in
     rw (e.1, e.2) (record { log_after = call_refused v.m v.nets.now v.trits.now v.port v.incl v.output.now v.log.now v.st _ c.in_err-reset_refusal.ensures; reset_struct = refl })
-
-pub offset_bounds-m-port : goal.offset_bounds-m-port
-offset_bounds-m-port c =
-    let v = c.args in
-    let x = reads_length v.m _ c.well_formed.1.1.1.1.0 v.nets.now v.trits.now in
-    let y = writes_length v.m _ c.well_formed.1.1.1.1.0 v.nets.now in
-    omega (arith, is_there_lem v.st.next v.m v.nets.now v.trits.now v.port v.incl v.output.now (sym c.in_ok-reset_refusal.ensures) x y)
-
-pub bounds-m-port : goal.bounds-m-port
-bounds-m-port c =
-    let v = c.args in
-    let x = reads_length v.m _ c.well_formed.1.1.1.1.0 v.nets.now v.trits.now in
-    let y = writes_length v.m _ c.well_formed.1.1.1.1.0 v.nets.now in
-    omega (arith, is_there_lem v.st.next v.m v.nets.now v.trits.now v.port v.incl v.output.now (sym c.in_ok-reset_refusal.ensures) x y)
 
 pub shape_of-log : goal.shape_of-log
 shape_of-log c = c.unmap_port.auto.log

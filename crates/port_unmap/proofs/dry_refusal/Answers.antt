@@ -16,6 +16,6 @@ returns c =
     let q = c.dry_refusal in
     let s = state_of v.st in
     let f = own_flip_flop v.given.memory v.given.trits.now v.i v.c in
-    let n = run_name (port_trace (memory_of v.given.memory v.given.nets.now v.given.trits.now) v.i v.output.now f) _ _ (p.ensures.log_after c.requires.0.port.there c.requires.1) in
-    dry_called (unmap_dff (memory_of v.given.memory v.given.nets.now v.given.trits.now) v.i v.output.now f) v.room s _ (chains_unmap (memory_of v.given.memory v.given.nets.now v.given.trits.now) v.i v.output.now f) (unmap_below v.given.memory v.given.nets.now v.given.trits.now v.i v.c c.requires.0 v.output.now s)
-    p.new.log.words.now _ (state_of p.new.log.state) _ c.dry_start.ensures (own_ran v.given.memory v.given.nets.now v.given.trits.now v.i v.c c.requires.0 0 v.output.now _ _ (p.ensures.log_after c.requires.0.port.there c.requires.1)) q.ensures
+    let n = run_name (port_trace (memory_of v.given.memory v.given.nets.now v.given.trits.now) v.i v.output.now f) _ _ (p.ensures.log_after c.requires.port.there) in
+    dry_called (unmap_dff (memory_of v.given.memory v.given.nets.now v.given.trits.now) v.i v.output.now f) v.room s _ (chains_unmap (memory_of v.given.memory v.given.nets.now v.given.trits.now) v.i v.output.now f) (unmap_below v.given.memory v.given.nets.now v.given.trits.now v.i v.c c.requires v.output.now s)
+    p.new.log.words.now _ (state_of p.new.log.state) _ c.dry_start.ensures (own_ran v.given.memory v.given.nets.now v.given.trits.now v.i v.c c.requires 0 v.output.now _ _ (p.ensures.log_after c.requires.port.there)) q.ensures

@@ -14,18 +14,18 @@ pub returns-in_err-dry_refusal : goal.returns-in_err-dry_refusal
 returns-in_err-dry_refusal c =
     let v = c.args in
     let e = err_from_is_err_and c.from_residual.result c.from_residual.ensures.1 in
-    rw (e.1, e.2) (record { log_after = clocked_err v.given.memory v.given.nets.now v.given.trits.now v.i v.c c.requires.0 v.output.now v.log.now v.st _ c.in_err-dry_refusal.ensures; new_struct = tt })
+    rw (e.1, e.2) (record { log_after = clocked_err v.given.memory v.given.nets.now v.given.trits.now v.i v.c c.requires v.output.now v.log.now v.st _ c.in_err-dry_refusal.ensures; new_struct = tt })
 
 pub unclock-requires : goal.unclock-requires
-unclock-requires c = (omega (arith, c.requires.0.port.there), c.requires.1)
+unclock-requires c = omega (arith, c.requires.port.there)
 
 pub returns : goal.returns
 returns c =
     let v = c.args in
     let u = c.emit_port-last in
-    let g = c.requires.0 in
-    let e = own_ran v.given.memory v.given.nets.now v.given.trits.now v.i v.c g 0 v.output.now _ _ (u.ensures.log_after c.requires.0.port.there c.requires.1) in
-    let n = run_name (port_trace (memory_of v.given.memory v.given.nets.now v.given.trits.now) v.i v.output.now (own_flip_flop v.given.memory v.given.trits.now v.i v.c)) _ _ (u.ensures.log_after c.requires.0.port.there c.requires.1) in
+    let g = c.requires in
+    let e = own_ran v.given.memory v.given.nets.now v.given.trits.now v.i v.c g 0 v.output.now _ _ (u.ensures.log_after c.requires.port.there) in
+    let n = run_name (port_trace (memory_of v.given.memory v.given.nets.now v.given.trits.now) v.i v.output.now (own_flip_flop v.given.memory v.given.trits.now v.i v.c)) _ _ (u.ensures.log_after c.requires.port.there) in
     let w = clocked_ok v.given.memory v.given.nets.now v.given.trits.now v.i v.c g v.output.now v.log.now v.st u.result c.output_start-start.result c.unclock.result u.new.log.state c.store_run.new.to u.new.log.words.now c.in_ok-dry_refusal.ensures e
-    (port_few v.given.memory v.given.nets.now v.given.trits.now v.i v.c g v.p c.requires.1 _ _ _ u.ensures.last_value) (c.output_start-start.ensures.by_index v.given.nets.now v.given.trits.now) c.store_run.ensures c.unclock.ensures in
+    (port_few v.given.memory v.given.nets.now v.given.trits.now v.i v.c g _ _ _ u.ensures.last_value) (c.output_start-start.ensures.by_index v.given.nets.now v.given.trits.now) c.store_run.ensures c.unclock.ensures in
     record { log_after = search rules; new_struct = c.unclock.ensures }

@@ -17,16 +17,17 @@ unmap_clocked-requires c =
     let v = c.args in
     let x = reads_length v.given.memory _ c.well_formed.1.1.1.0.1.1.0 v.given.nets.now v.given.trits.now in
     let y = writes_length v.given.memory _ c.well_formed.1.1.1.0.1.1.0 v.given.nets.now in
-    let e = ap (λ (q : MemoryReadPort). q.flip_flop) (sym c.requires.1) ∙ c.in-Some.is in
-    (ready v.st.next v.given.memory v.given.nets.now v.given.trits.now v.i v.output.now c.requires.0 x y c.in-Some.c e, c.requires.1)
+    let h = is_there_lem v.st.next v.given.memory v.given.nets.now v.given.trits.now v.i v.output.now c.requires x y in
+    let e = ap (λ (q : MemoryReadPort). q.flip_flop) (sym (c.read_port.ensures.own h)) ∙ c.in-Some.is in
+    ready v.st.next v.given.memory v.given.nets.now v.given.trits.now v.i v.output.now c.requires x y c.in-Some.c e
 
 pub returns-in_err-room_refusal-in-None : goal.returns-in_err-room_refusal-in-None
 returns-in_err-room_refusal-in-None c =
     let v = c.args in
     let x = reads_length v.given.memory _ c.well_formed.1.1.1.0.1.1.0 v.given.nets.now v.given.trits.now in
     let y = writes_length v.given.memory _ c.well_formed.1.1.1.0.1.1.0 v.given.nets.now in
-    let q = ap (λ (q : MemoryReadPort). q.flip_flop) (sym c.requires.1) ∙ c.in-None.is in
-    let h = is_there_lem v.st.next v.given.memory v.given.nets.now v.given.trits.now v.i v.output.now c.requires.0 x y in
+    let h = is_there_lem v.st.next v.given.memory v.given.nets.now v.given.trits.now v.i v.output.now c.requires x y in
+    let q = ap (λ (q : MemoryReadPort). q.flip_flop) (sym (c.read_port.ensures.own h)) ∙ c.in-None.is in
     let e = err_from_is_err_and c.from_residual.result c.from_residual.ensures.1 in
     rw (e.1, e.2) (record { log_after = none_refused v.given.memory v.given.nets.now v.given.trits.now v.i v.output.now v.log.now v.st (flip_none v.given.memory v.given.nets.now v.given.trits.now v.i h q) _ c.in_err-room_refusal-in-None.ensures; new_struct = tt })
 
@@ -35,8 +36,8 @@ returns-in_ok-room_refusal-in-None c =
     let v = c.args in
     let x = reads_length v.given.memory _ c.well_formed.1.1.1.0.1.1.0 v.given.nets.now v.given.trits.now in
     let y = writes_length v.given.memory _ c.well_formed.1.1.1.0.1.1.0 v.given.nets.now in
-    let q = ap (λ (q : MemoryReadPort). q.flip_flop) (sym c.requires.1) ∙ c.in-None.is in
-    let h = is_there_lem v.st.next v.given.memory v.given.nets.now v.given.trits.now v.i v.output.now c.requires.0 x y in
+    let h = is_there_lem v.st.next v.given.memory v.given.nets.now v.given.trits.now v.i v.output.now c.requires x y in
+    let q = ap (λ (q : MemoryReadPort). q.flip_flop) (sym (c.read_port.ensures.own h)) ∙ c.in-None.is in
     record { log_after = none_done v.given.memory v.given.nets.now v.given.trits.now v.i v.output.now v.log.now v.st (flip_none v.given.memory v.given.nets.now v.given.trits.now v.i h q) c.in_ok-room_refusal-in-None.ensures; new_struct = struct_none v.given.memory v.i q }
 
 pub returns-in-Some : goal.returns-in-Some
@@ -44,9 +45,9 @@ returns-in-Some c =
     let v = c.args in
     let x = reads_length v.given.memory _ c.well_formed.1.1.1.0.1.1.0 v.given.nets.now v.given.trits.now in
     let y = writes_length v.given.memory _ c.well_formed.1.1.1.0.1.1.0 v.given.nets.now in
+    let h = is_there_lem v.st.next v.given.memory v.given.nets.now v.given.trits.now v.i v.output.now c.requires x y in
     let k = c.in-Some.c in
-    let e = ap (λ (q : MemoryReadPort). q.flip_flop) (sym c.requires.1) ∙ c.in-Some.is in
-    let h = is_there_lem v.st.next v.given.memory v.given.nets.now v.given.trits.now v.i v.output.now c.requires.0 x y in
+    let e = ap (λ (q : MemoryReadPort). q.flip_flop) (sym (c.read_port.ensures.own h)) ∙ c.in-Some.is in
     let w = memory_of v.given.memory v.given.nets.now v.given.trits.now in
     let f = own_flip_flop v.given.memory v.given.trits.now v.i k in
     record { log_after = driven_as (driving v.given.memory v.given.nets.now v.given.trits.now v.output.now) v.log.now (state_of v.st) (length v.log.now) (unmap_dff w v.i v.output.now f) (unmap_read_dff w v.i v.output.now) _ (dff_some w v.i v.output.now f (flip_some v.given.memory v.given.nets.now v.given.trits.now v.i h k e)) c.unmap_clocked.ensures.log_after; new_struct = c.unmap_clocked.ensures.new_struct }

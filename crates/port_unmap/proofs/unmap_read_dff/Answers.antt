@@ -1,6 +1,5 @@
 -- `port_unmap::unmap_read_dff` meets its contract.
 use mathlib.Core.Path.{sym}
-use native.Mathlib.Omega.{arith}
 use Rattle.std.proofs.lemmas.Result.{err_from_is_err_and}
 use Rattle.net_memory.proofs.Sized.{reads_length, writes_length}
 use Rattle.port_unmap.proofs.Passed.{is_there_lem, call_refused, call_passed}
@@ -14,16 +13,6 @@ returns-in_err-unmap_refusal c =
     let v = c.args in
     let e = err_from_is_err_and c.from_residual.result c.from_residual.ensures.1 in
     rw (e.1, e.2) (record { log_after = call_refused v.given.memory v.given.nets.now v.given.trits.now v.port v.output.now v.log.now v.st _ c.in_err-unmap_refusal.ensures; new_struct = tt })
-
-pub offset_bounds-given-port : goal.offset_bounds-given-port
-offset_bounds-given-port c =
-    let v = c.args in
-    omega (arith, is_there_lem v.st.next v.given.memory v.given.nets.now v.given.trits.now v.port v.output.now (sym c.in_ok-unmap_refusal.ensures) (reads_length v.given.memory _ c.well_formed.1.1.1.0.1.1.0 v.given.nets.now v.given.trits.now) (writes_length v.given.memory _ c.well_formed.1.1.1.0.1.1.0 v.given.nets.now))
-
-pub bounds-given-port : goal.bounds-given-port
-bounds-given-port c =
-    let v = c.args in
-    omega (arith, is_there_lem v.st.next v.given.memory v.given.nets.now v.given.trits.now v.port v.output.now (sym c.in_ok-unmap_refusal.ensures) (reads_length v.given.memory _ c.well_formed.1.1.1.0.1.1.0 v.given.nets.now v.given.trits.now) (writes_length v.given.memory _ c.well_formed.1.1.1.0.1.1.0 v.given.nets.now))
 
 pub returns : goal.returns
 returns c =

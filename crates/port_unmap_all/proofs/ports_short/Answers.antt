@@ -1,25 +1,18 @@
 -- `port_unmap_all::ports_short` meets its contract.
-use mathlib.Core.Path.{refl, sym, ◌∙◌}
 use native.Mathlib.Omega.{arith}
+use mathlib.Core.Path.{refl, sym, ◌∙◌}
+use Rattle.std.proofs.Common.{rules, tests, ℕ}
+use Rattle.std.proofs.lemmas.Iterator.{YieldsList-from_range}
+use Rattle.std.proofs.lemmas.Iterator.Search.{any_from_yields_List}
+use Rattle.rules.specs.Cell.{read_at_of}
+use Rattle.rules.specs.Conditions.{short_port}
 use Rattle.net_memory.specs.Given.{mem_of}
 use Rattle.net_memory.proofs.Sized.{reads_length}
-use Rattle.port_unmap_all.proofs.Short.{reads_are, left_pass, left_found, left_end}
+use Rattle.port_unmap_all.proofs.Short.{reads_are, ports_are}
 use Rattle.port_unmap_all.proofs.ports_short.Goals as goal
-
-pub loop-i-init : goal.loop-i-init
-loop-i-init c = refl
-
-pub returns-then-port_short : goal.returns-then-port_short
-returns-then-port_short c =
-    let v = c.args in
-    left_found (mem_of v.given) c.loop-i.i (omega (arith, c.ports_used-count.ensures.0, (reads_are v.given.memory v.given.nets.now v.given.trits.now (reads_length v.given.memory _ c.well_formed.0.1.1.0 v.given.nets.now v.given.trits.now)))) (sym c.if-port_short.true ∙ c.port_short.ensures) c.loop-i.invariant
-
-pub loop-i-preserved : goal.loop-i-preserved
-loop-i-preserved c =
-    let v = c.args in
-    left_pass (mem_of v.given) c.loop-i.i (omega (arith, c.ports_used-count.ensures.0, (reads_are v.given.memory v.given.nets.now v.given.trits.now (reads_length v.given.memory _ c.well_formed.0.1.1.0 v.given.nets.now v.given.trits.now)))) (sym c.if-port_short.false ∙ c.port_short.ensures) c.loop-i.invariant
 
 pub returns : goal.returns
 returns c =
-    let v = c.args in
-    left_end (mem_of v.given) c.loop-i.i (omega (arith, c.ports_used-count.ensures.0, (reads_are v.given.memory v.given.nets.now v.given.trits.now (reads_length v.given.memory _ c.well_formed.0.1.1.0 v.given.nets.now v.given.trits.now)))) c.loop-i.invariant
+    let g = c.args.given in
+    any_from_yields_List (λ (i : ℕ). short_port (mem_of g) (read_at_of (mem_of g) i)) _ _ _ c.any.ensures.ran (YieldsList-from_range 0 c.ports_used.result c.ports_used.result refl (omega arith)) (λ x b q k. search (rules, tests))
+    ∙ ports_are (mem_of g) _ (c.ports_used.ensures.0 ∙ sym (reads_are g.memory g.nets.now g.trits.now (reads_length g.memory _ c.well_formed.0.1.1.0 g.nets.now g.trits.now)))
