@@ -8,6 +8,7 @@ pub struct Key {
     pub y: u32,
 }
 
+// That they have one length is no ghost field, but `Even` in four contracts: what `merge` is given may have any lengths.
 #[derive(Clone, Copy)]
 pub struct Columns<'a> {
     pub x: &'a [u32],

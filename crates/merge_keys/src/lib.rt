@@ -69,6 +69,7 @@ fn merge_all(
     ensures kx_after { kx.new ≡ sets kx.old 0 (firsts (kept same2 (keys_in given.entry))) }
     ensures ky_after { ky.new ≡ sets ky.old 0 (seconds (kept same2 (keys_in given.entry))) }
     ensures at_after { at.new ≡ sets at.old 0 (places same2 (keys_in given.entry)) }
+    ensures table_after { Stands (kept same2 (keys_in given.entry)) table.new.last table.new.before table.new.count }
 {
     let mut count = 0;
     let mut last = 0;
@@ -89,7 +90,7 @@ fn merge_all(
 }
 
 // Keeps the keys of two columns in kx and ky, stores each key's place among them in `at`, and returns how many are kept. Keys past the limit of a
-// merge, and past the end of kx, ky or `at`, are left out. What the table holds before does not matter.
+// merge, and past the end of kx, ky or `at`, are left out. What the table holds before does not matter; after it, kept keys stand in it.
 pub fn merge(
     kx: &mut [u32],
     ky: &mut [u32],
@@ -101,6 +102,7 @@ pub fn merge(
     ensures kx_after { kx.new ≡ sets kx.old 0 (firsts (kept same2 (merging given.entry.x.now given.entry.y.now kx.old ky.old at.old))) }
     ensures ky_after { ky.new ≡ sets ky.old 0 (seconds (kept same2 (merging given.entry.x.now given.entry.y.now kx.old ky.old at.old))) }
     ensures at_after { at.new ≡ sets at.old 0 (places same2 (merging given.entry.x.now given.entry.y.now kx.old ky.old at.old)) }
+    ensures table_after { Stands (kept same2 (merging given.entry.x.now given.entry.y.now kx.old ky.old at.old)) table.new.last table.new.before table.new.count }
 {
     let lent = kx.len().min(ky.len().min(at.len()));
     let n = rules::MAX_MERGE

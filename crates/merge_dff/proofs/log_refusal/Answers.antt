@@ -2,7 +2,7 @@
 use Rattle.rules.specs.Merge.{add_dedup_dff_of}
 use Rattle.rules.proofs.Chain.{chains_dedup_dff}
 use Rattle.log_entries.specs.View.{state_of}
-use Rattle.log_entries.proofs.Emission.{dry_called, unnamed, run_name}
+use Rattle.log_entries.proofs.Emission.{dry_called, unnamed}
 use Rattle.net_flip_flop.specs.View.{controls_of}
 use Rattle.merge_dff.proofs.Call.{dedup_below}
 use Rattle.merge_dff.specs.Packs.{limited_dff}
@@ -13,7 +13,6 @@ returns c =
     let v = c.args in
     let f = limited_dff v.f in
     let p = c.emit_dedup_dff in
-    let n = run_name (add_dedup_dff_of f) _ _ p.ensures.log_after in
     let e = unnamed (add_dedup_dff_of f) 0 _ _ p.ensures.log_after in
     let q = c.dry_refusal in
     dry_called (add_dedup_dff_of f) v.room (state_of v.st) _ (chains_dedup_dff f) (dedup_below (controls_of v.f.controls) v.f.bits.now v.f.clear.now v.f.reset.now v.f.init.now (state_of v.st))

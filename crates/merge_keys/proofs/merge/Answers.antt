@@ -35,4 +35,5 @@ returns c =
       kx_after = q.ensures.kx_after ∙ ap (λ (ps : List Key2). sets v.kx.now 0 (firsts (kept same2 ps))) e;
       ky_after = q.ensures.ky_after ∙ ap (λ (ps : List Key2). sets v.ky.now 0 (seconds (kept same2 ps))) e;
       at_after = q.ensures.at_after ∙ ap (λ (ps : List Key2). sets v.at.now 0 (places same2 ps)) e;
+      table_after = rw e at q.ensures.table_after;
     }

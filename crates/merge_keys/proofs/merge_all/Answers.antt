@@ -103,4 +103,4 @@ returns c =
     let l = c.loop-i in
     let m = l.invariant.merged in
     let e : take l.i (keys_in v.given) ≡ keys_in v.given = take_all l.i (keys_in v.given) (omega (arith, keys_size v.given c.requires.1, c.loop-i-test.false)) in
-    record { value = rw e at m.counted; kx_after = rw e at m.in_kx; ky_after = rw e at m.in_ky; at_after = rw e at m.in_at }
+    record { value = rw e at m.counted; kx_after = rw e at m.in_kx; ky_after = rw e at m.in_ky; at_after = rw e at m.in_at; table_after = rw e at l.invariant.stands }
