@@ -1,14 +1,6 @@
-// Comparison of memories, field by field, with all eight places for ports. The structs derive no equality: past the number of ports, or of relations,
-// anything may stand, and two memories that mean the same could differ there.
-use net_memory::{Memory, MemoryReadPort, MemoryWritePort};
-
-// A write port has no such array and could derive it; it is compared here alone.
-fn same_write(a: MemoryWritePort, b: MemoryWritePort) -> bool {
-    a.addr_len == b.addr_len
-        && a.data_len == b.data_len
-        && a.mask_len == b.mask_len
-        && a.clock == b.clock
-}
+// Comparison of memories, field by field, with all eight places for ports. Read ports and memories derive no equality: past the number of relations, or of
+// ports, anything may stand, and two that mean the same could differ there.
+use net_memory::{Memory, MemoryReadPort};
 
 fn same_lens(a: MemoryReadPort, b: MemoryReadPort) -> bool {
     a.addr_len == b.addr_len
@@ -32,9 +24,6 @@ fn same_sizes(a: Memory, b: Memory) -> bool {
 }
 
 pub(crate) fn same_memory(a: Memory, b: Memory) -> bool {
-    let mut writes = a.write_ports.iter().zip(b.write_ports.iter());
     let mut reads = a.read_ports.iter().zip(b.read_ports.iter());
-    same_sizes(a, b)
-        && writes.all(|(p, q)| same_write(*p, *q))
-        && reads.all(|(p, q)| same_read(*p, *q))
+    same_sizes(a, b) && a.write_ports == b.write_ports && reads.all(|(p, q)| same_read(*p, *q))
 }
