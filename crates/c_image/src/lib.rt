@@ -40,29 +40,14 @@ pub struct PlacedResult {
 fn measured_result(answer: Result<Shape, Refusal>) -> MeasuredResult
     ensures { result ≡ measured_struct (measured_of answer) }
 {
-    let none = Shape {
-        full_mems: 0,
-        all_mems: 0,
-        full_depth: 0,
-        part_depth: 0,
-        columns: 0,
-        trits: 0,
-        image_size: 0,
-    };
-    let (number, shape) = c_net::parts(answer, none);
+    let (number, shape) = c_net::parts(answer, Shape::default());
     MeasuredResult { number, shape }
 }
 
 fn placed_result(answer: Result<Place, Refusal>) -> PlacedResult
     ensures { result ≡ placed_struct (placed_of answer) }
 {
-    let none = Place {
-        memory: 0,
-        row: 0,
-        bit: 0,
-        index: 0,
-    };
-    let (number, place) = c_net::parts(answer, none);
+    let (number, place) = c_net::parts(answer, Place::default());
     PlacedResult { number, place }
 }
 

@@ -10,7 +10,6 @@ ghost use Rattle.c_log.specs.View.{given_controls, controls_struct, logged_struc
 use c_net::Control;
 use log_entries::LogState;
 use log_requests::{PosNet, Remapped};
-use net_value::ControlNet;
 use rules::Refusal;
 
 pub mod merges;
@@ -54,35 +53,32 @@ pub struct ControlsLogged {
 }
 
 // The controls that a struct gives. A reset_over_enable above 1 makes the reset Neg(0), so that calls refuse it by 4.
-pub fn controls_net(c: Controls) -> net_flip_flop::Controls
-    ensures { controls_of result ≡ given_controls c }
-{
-    let clock = ControlNet::from(c.clock);
-    let clear = ControlNet::from(c.clear);
-    let reset = c_net::flagged_control(c.reset, c.reset_over_enable);
-    let enable = ControlNet::from(c.enable);
-    net_flip_flop::Controls {
-        clock,
-        clear,
-        reset,
-        enable,
-        reset_over_enable: c.reset_over_enable == 1,
+#[tactic(auto, unfolding(crate::specs::View::given_controls))]
+impl From<Controls> for net_flip_flop::Controls {
+    ghost from_gives = { λ c r. controls_of r ≡ given_controls c };
+
+    fn from(given: Controls) -> net_flip_flop::Controls {
+        net_flip_flop::Controls {
+            clock: given.clock.into(),
+            clear: given.clear.into(),
+            reset: c_net::flagged_control(given.reset, given.reset_over_enable),
+            enable: given.enable.into(),
+            reset_over_enable: given.reset_over_enable == 1,
+        }
     }
 }
 
-pub fn controls_struct(c: net_flip_flop::Controls) -> Controls
-    ensures { result ≡ controls_struct (controls_of c) }
-{
-    let clock = c.clock;
-    let clear = c.clear;
-    let reset = c.reset;
-    let enable = c.enable;
-    Controls {
-        clock: clock.into(),
-        clear: clear.into(),
-        reset: reset.into(),
-        enable: enable.into(),
-        reset_over_enable: u32::from(c.reset_over_enable),
+impl From<net_flip_flop::Controls> for Controls {
+    ghost from_gives = { λ c r. r ≡ controls_struct (controls_of c) };
+
+    fn from(made: net_flip_flop::Controls) -> Controls {
+        Controls {
+            clock: made.clock.into(),
+            clear: made.clear.into(),
+            reset: made.reset.into(),
+            enable: made.enable.into(),
+            reset_over_enable: u32::from(made.reset_over_enable),
+        }
     }
 }
 
@@ -105,7 +101,7 @@ fn net_answer_struct(r: Result<PosNet, Refusal>, st: LogState) -> NetLogged
 fn controls_answer_struct(r: Result<Remapped, Refusal>, st: LogState) -> ControlsLogged
     ensures { result ≡ new_controls_struct st (controls_answer_of r) }
 {
-    let made = r.map(|made| (controls_struct(made.controls), made.state));
+    let made = r.map(|made| (made.controls.into(), made.state));
     let (number, (controls, state)) = c_net::parts(made, (Controls::default(), st));
     ControlsLogged {
         number,

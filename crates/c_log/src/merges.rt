@@ -58,7 +58,7 @@ pub fn tablegoose_add_dedup_dff(
     ensures { merge_left_by (add_dedup_dff_of (flip_flop (given_controls c) bits.now clear.now reset.now init.now) st.next).value result log.new out.new ≡ lent_merge (state_of st) (add_dedup_dff_call out.old log.old (state_of st) (flip_flop (given_controls c) bits.now clear.now reset.now init.now)) }
 {
     let f = FlipFlop {
-        controls: crate::controls_net(c),
+        controls: c.into(),
         bits,
         clear,
         reset,

@@ -110,7 +110,7 @@ pub fn tablegoose_add_dff(
     ensures { left_by (up_from st.next (length bits.now)) result log.new ≡ lent_call (state_of st) (add_dff_call log.old (state_of st) (flip_flop (given_controls c) bits.now clear.now reset.now init.now)) }
 {
     let f = FlipFlop {
-        controls: crate::controls_net(c),
+        controls: c.into(),
         bits,
         clear,
         reset,
@@ -147,7 +147,7 @@ pub fn tablegoose_remap_reset_over_enable(
     ensures value { result ≡ new_controls_struct st (remap_call log.old (state_of st) (given_controls c)).answer }
     ensures log_after { log.new ≡ (remap_call log.old (state_of st) (given_controls c)).log }
 {
-    let given = crate::controls_net(c);
+    let given = net_flip_flop::Controls::from(c);
     let r = log_requests::remap_reset_over_enable(log, st, given);
     crate::controls_answer_struct(r, st)
 }

@@ -87,17 +87,19 @@ pub struct Extracted {
 
 // The library's memory. A flag of a port above 1 gives a control that is none: calls refuse it by 4.
 #[tactic(auto, unfolding(crate::specs::View::given_memory))]
-pub fn memory_of(m: Memory) -> net_memory::Memory
-    ensures { result ≡ given_memory m }
-{
-    net_memory::Memory {
-        depth: m.depth,
-        width: m.width,
-        init_len: m.init_len,
-        write_count: m.write_count,
-        read_count: m.read_count,
-        write_ports: ports::writes_of(m.write_ports),
-        read_ports: ports::reads_of(m.read_ports),
+impl From<Memory> for net_memory::Memory {
+    ghost from_gives = { λ m r. r ≡ given_memory m };
+
+    fn from(m: Memory) -> net_memory::Memory {
+        net_memory::Memory {
+            depth: m.depth,
+            width: m.width,
+            init_len: m.init_len,
+            write_count: m.write_count,
+            read_count: m.read_count,
+            write_ports: ports::writes_of(m.write_ports),
+            read_ports: ports::reads_of(m.read_ports),
+        }
     }
 }
 
@@ -106,7 +108,7 @@ pub fn given_by<'a>(m: Memory, nets: &'a [u32], trits: &'a [u8]) -> Given<'a>
     ensures { (result.memory ≡ given_memory m) × (result.nets.now ≡ nets.now) × (result.trits.now ≡ trits.now) }
 {
     Given {
-        memory: memory_of(m),
+        memory: m.into(),
         nets,
         trits,
     }
@@ -114,17 +116,19 @@ pub fn given_by<'a>(m: Memory, nets: &'a [u32], trits: &'a [u8]) -> Given<'a>
 
 // The struct of a library's memory, which read again is that memory.
 #[tactic(auto, using(crate::proofs::Back::memory_back), unfolding(crate::specs::View::memory_struct))]
-pub fn memory_struct(m: net_memory::Memory) -> Memory
-    ensures { (result ≡ memory_struct m) × (given_memory result ≡ m) }
-{
-    Memory {
-        depth: m.depth,
-        width: m.width,
-        init_len: m.init_len,
-        write_count: m.write_count,
-        read_count: m.read_count,
-        write_ports: ports::write_structs(m.write_ports),
-        read_ports: ports::read_structs(m.read_ports),
+impl From<net_memory::Memory> for Memory {
+    ghost from_gives = { λ m r. (r ≡ memory_struct m) × (given_memory r ≡ m) };
+
+    fn from(m: net_memory::Memory) -> Memory {
+        Memory {
+            depth: m.depth,
+            width: m.width,
+            init_len: m.init_len,
+            write_count: m.write_count,
+            read_count: m.read_count,
+            write_ports: ports::write_structs(m.write_ports),
+            read_ports: ports::read_structs(m.read_ports),
+        }
     }
 }
 
@@ -143,7 +147,7 @@ fn slice_result(a: Result<OutputSlice, Refusal>) -> Slice
 fn extracted_struct(a: Result<net_memory::Memory, Refusal>) -> Extracted
     ensures { result ≡ extracted_struct a }
 {
-    let (number, memory) = c_net::parts(a.map(memory_struct), Memory::default());
+    let (number, memory) = c_net::parts(a.map(Memory::from), Memory::default());
     Extracted { number, memory }
 }
 

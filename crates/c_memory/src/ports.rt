@@ -9,14 +9,16 @@ use net_value::{ControlNet, Net};
 
 // ---- from a caller's struct
 
-fn write_of(p: WritePort) -> MemoryWritePort
-    ensures { result ≡ given_write p }
-{
-    MemoryWritePort {
-        addr_len: p.addr_len,
-        data_len: p.data_len,
-        mask_len: p.mask_len,
-        clock: p.clock.into(),
+impl From<WritePort> for MemoryWritePort {
+    ghost from_gives = { λ p r. r ≡ given_write p };
+
+    fn from(p: WritePort) -> MemoryWritePort {
+        MemoryWritePort {
+            addr_len: p.addr_len,
+            data_len: p.data_len,
+            mask_len: p.mask_len,
+            clock: p.clock.into(),
+        }
     }
 }
 
@@ -46,41 +48,47 @@ fn controls_of(p: FlipFlop) -> Controls
 }
 
 #[tactic(auto, unfolding(crate::specs::View::given_flip_flop))]
-pub fn flip_flop_of(p: FlipFlop) -> Option<Controls>
-    ensures { result ≡ given_flip_flop p }
-{
-    if p.clocked == 0 {
-        return None;
-    }
-    Some(controls_of(p))
-}
+impl From<FlipFlop> for Option<Controls> {
+    ghost from_gives = { λ p r. r ≡ given_flip_flop p };
 
-fn fields_of(r: ReadPort) -> FlipFlop
-    ensures { result ≡ fields_of r }
-{
-    FlipFlop {
-        clocked: r.clocked,
-        clock: r.clock,
-        clear: r.clear,
-        reset: r.reset,
-        enable: r.enable,
-        reset_over_enable: r.reset_over_enable,
+    fn from(p: FlipFlop) -> Option<Controls> {
+        if p.clocked == 0 {
+            return None;
+        }
+        Some(controls_of(p))
     }
 }
 
-fn read_of(p: ReadPort) -> MemoryReadPort
-    ensures { result ≡ given_read p }
-{
-    let relations = p.relations;
-    MemoryReadPort {
-        addr_len: p.addr_len,
-        data_len: p.data_len,
-        clear_len: p.clear_len,
-        reset_len: p.reset_len,
-        init_len: p.init_len,
-        relations_len: p.relations_len,
-        relations,
-        flip_flop: flip_flop_of(fields_of(p)),
+impl From<ReadPort> for FlipFlop {
+    ghost from_gives = { λ p r. r ≡ fields_of p };
+
+    fn from(p: ReadPort) -> FlipFlop {
+        FlipFlop {
+            clocked: p.clocked,
+            clock: p.clock,
+            clear: p.clear,
+            reset: p.reset,
+            enable: p.enable,
+            reset_over_enable: p.reset_over_enable,
+        }
+    }
+}
+
+impl From<ReadPort> for MemoryReadPort {
+    ghost from_gives = { λ p r. r ≡ given_read p };
+
+    fn from(p: ReadPort) -> MemoryReadPort {
+        let relations = p.relations;
+        MemoryReadPort {
+            addr_len: p.addr_len,
+            data_len: p.data_len,
+            clear_len: p.clear_len,
+            reset_len: p.reset_len,
+            init_len: p.init_len,
+            relations_len: p.relations_len,
+            relations,
+            flip_flop: FlipFlop::from(p).into(),
+        }
     }
 }
 
@@ -88,41 +96,45 @@ fn read_of(p: ReadPort) -> MemoryReadPort
 pub(crate) fn writes_of(ports: [WritePort; rules::MAX_PORTS]) -> [MemoryWritePort; rules::MAX_PORTS]
     ensures { result ≡ map given_write ports }
 {
-    ports.map(write_of)
+    ports.map(MemoryWritePort::from)
 }
 
 pub(crate) fn reads_of(ports: [ReadPort; rules::MAX_PORTS]) -> [MemoryReadPort; rules::MAX_PORTS]
     ensures { result ≡ map given_read ports }
 {
-    ports.map(read_of)
+    ports.map(MemoryReadPort::from)
 }
 
 // ---- to a caller's struct
 
-fn write_struct(p: MemoryWritePort) -> WritePort
-    ensures { result ≡ write_struct p }
-{
-    WritePort {
-        addr_len: p.addr_len,
-        data_len: p.data_len,
-        mask_len: p.mask_len,
-        clock: p.clock.into(),
+impl From<MemoryWritePort> for WritePort {
+    ghost from_gives = { λ p r. r ≡ write_struct p };
+
+    fn from(p: MemoryWritePort) -> WritePort {
+        WritePort {
+            addr_len: p.addr_len,
+            data_len: p.data_len,
+            mask_len: p.mask_len,
+            clock: p.clock.into(),
+        }
     }
 }
 
-pub fn flip_flop_struct(f: Option<Controls>) -> FlipFlop
-    ensures { result ≡ flip_flop_struct f }
-{
-    match f {
-        None => FlipFlop::default(),
-        Some(c) => FlipFlop {
-            clocked: 1,
-            clock: c.clock.into(),
-            clear: c.clear.into(),
-            reset: c.reset.into(),
-            enable: c.enable.into(),
-            reset_over_enable: u32::from(c.reset_over_enable),
-        },
+impl From<Option<Controls>> for FlipFlop {
+    ghost from_gives = { λ f r. r ≡ flip_flop_struct f };
+
+    fn from(f: Option<Controls>) -> FlipFlop {
+        match f {
+            None => FlipFlop::default(),
+            Some(c) => FlipFlop {
+                clocked: 1,
+                clock: c.clock.into(),
+                clear: c.clear.into(),
+                reset: c.reset.into(),
+                enable: c.enable.into(),
+                reset_over_enable: u32::from(c.reset_over_enable),
+            },
+        }
     }
 }
 
@@ -148,10 +160,12 @@ fn read_with(p: MemoryReadPort, f: FlipFlop) -> ReadPort
     }
 }
 
-fn read_struct(p: MemoryReadPort) -> ReadPort
-    ensures { result ≡ read_struct p }
-{
-    read_with(p, flip_flop_struct(p.flip_flop))
+impl From<MemoryReadPort> for ReadPort {
+    ghost from_gives = { λ p r. r ≡ read_struct p };
+
+    fn from(p: MemoryReadPort) -> ReadPort {
+        read_with(p, p.flip_flop.into())
+    }
 }
 
 pub(crate) fn write_structs(
@@ -159,7 +173,7 @@ pub(crate) fn write_structs(
 ) -> [WritePort; rules::MAX_PORTS]
     ensures { result ≡ map write_struct ports }
 {
-    ports.map(write_struct)
+    ports.map(WritePort::from)
 }
 
 pub(crate) fn read_structs(
@@ -167,5 +181,5 @@ pub(crate) fn read_structs(
 ) -> [ReadPort; rules::MAX_PORTS]
     ensures { result ≡ map read_struct ports }
 {
-    ports.map(read_struct)
+    ports.map(ReadPort::from)
 }

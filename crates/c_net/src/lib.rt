@@ -1,5 +1,6 @@
 // Trits, constants, nets and controls for callers in C and Rust: numbers, slices and `repr(C)` structs, no enums.
-// Here are the structs and what they are in the library's terms; the exported functions are in `logic` and `value`.
+// Here are the structs, what they are in the library's terms, and `parts`, which the answers' structs of all c_ crates are made of; the exported functions
+// are in `logic` and `value`.
 #![tactic(auto)]
 
 ghost use Rattle.std.specs.Prelude.{◌≡◌};
@@ -105,7 +106,8 @@ impl From<ControlNet> for Control {
     }
 }
 
-// A refusal's number and a value that stands for none, or 0 and the answer's value: what the answers' structs are made of.
+// A refusal's number and a value that stands for none, or 0 and the answer's value: what the answers' structs are made of. Each `.._result` is two lines
+// over it: it fills another struct of C.
 pub fn parts<T: Copy>(answer: result::Result<T, Refusal>, none: T) -> (u32, T)
     ensures { result ≡ parts_of answer none }
 {

@@ -15,6 +15,7 @@ ghost use Rattle.c_port.specs.View.{driven_struct, driven_by, NewMemory, NewTrit
 use c_log::Logged;
 use c_memory::Memory;
 use log_entries::LogState;
+use port_mux::Asked;
 use rules::Refusal;
 
 // A refusal's number, or 0; the memory and the log's state after the call.
@@ -38,7 +39,7 @@ fn driven_struct(m: Memory, st: LogState, r: Result<port_unmap::Driven, Refusal>
         },
         Ok(driven) => Driven {
             number: 0,
-            memory: c_memory::memory_struct(driven.memory),
+            memory: driven.memory.into(),
             state: driven.state,
         },
     }
@@ -77,7 +78,7 @@ pub fn tablegoose_unmap_read_init_reset_transparency(
     ensures log_after { driven_by result nets.now trits.new output.new log.new ≡ unmap_reset_call (rooms_of nets.now trits.old output.old) log.old (state_of st) (given_of (given_memory m) nets.now trits.old) port include_transparency output.old }
     ensures new_trits { NewTrits m st port include_transparency trits.old trits.new result }
 {
-    let given = c_memory::memory_of(m);
+    let given = net_memory::Memory::from(m);
     driven_struct(
         m,
         st,
@@ -105,7 +106,7 @@ pub fn tablegoose_emulate_read_before_write(
     ensures log_after { driven_by result nets.new trits.now [] log.new ≡ emulate_call (rooms_of nets.old trits.now []) log.old (state_of st) (given_of (given_memory m) nets.old trits.now) }
     ensures new_nets { NewNets m st nets.old nets.new result }
 {
-    let given = c_memory::memory_of(m);
+    let given = net_memory::Memory::from(m);
     driven_struct(
         m,
         st,
@@ -131,8 +132,10 @@ pub fn tablegoose_transparency_mux(
     ensures { overlay_left_by (overlay_of masked (take (length bits.now) bits_to.new) (take (length bits.now) mask_to.new)) result log.new bits_to.new mask_to.new ≡ lent_overlay (state_of st) (transparency_mux_call bits_to.old mask_to.old log.old (state_of st) (given_of (given_memory m) nets.now trits.now) read write (overlay_of masked bits.now mask.now)) }
 {
     let given = c_memory::given_by(m, nets, trits);
-    let r = port_mux::transparency_mux(
-        log, st, bits_to, mask_to, given, read, write, bits, mask, masked,
-    );
+    let asked = Asked {
+        bits,
+        mask: masked.then_some(mask),
+    };
+    let r = port_mux::transparency_mux(log, st, bits_to, mask_to, given, read, write, asked);
     c_log::answer_struct(r, st)
 }

@@ -36,27 +36,14 @@ pub struct SummaryResult {
 pub fn head_result(answer: Result<Sizes, Refusal>) -> Head
     ensures { result ≡ head_struct (view_head answer) }
 {
-    let none = Sizes {
-        unit: 0,
-        full: 0,
-        full_depth: 0,
-        partial: 0,
-        partial_depth: 0,
-    };
-    let (number, sizes) = c_net::parts(answer, none);
+    let (number, sizes) = c_net::parts(answer, Sizes::default());
     Head { number, sizes }
 }
 
 fn summary_result(answer: Result<Summary, Refusal>) -> SummaryResult
     ensures { result ≡ summary_struct (view_summarized answer) }
 {
-    let none = Summary {
-        index: 0,
-        depth: 0,
-        known: 0,
-        ones: 0,
-    };
-    let (number, summary) = c_net::parts(answer, none);
+    let (number, summary) = c_net::parts(answer, Summary::default());
     SummaryResult { number, summary }
 }
 

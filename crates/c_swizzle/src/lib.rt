@@ -21,7 +21,6 @@ use c_memory::Memory;
 use c_net::Control;
 use image_state::Laid;
 use log_entries::LogState;
-use net_memory::Given;
 use record_sizes::Sizes;
 use rules::Refusal;
 use swizzle_plan::{MemorySwizzle, Plan};
@@ -103,7 +102,7 @@ fn accepted_struct(x: swizzle_call::Swizzled) -> Swizzled
     Swizzled {
         number: 0,
         state,
-        memory: wide::memory_struct(memory),
+        memory: memory.into(),
         nets_used: made.nets_at,
         trits_used: made.trits_at,
         laid,
@@ -120,7 +119,7 @@ fn refused_struct(st: LogState, refusal: Refusal) -> Swizzled
     Swizzled {
         number: head.number,
         state: st,
-        memory: wide::memory_struct(swizzle_rows::no_memories()),
+        memory: swizzle_rows::no_memories().into(),
         nets_used: 0,
         trits_used: 0,
         laid: Laid::unset(),
@@ -176,12 +175,7 @@ pub fn tablegoose_swizzle<'a>(
     ensures swizzles { Swizzles (given_memory m) nets.now trits.now output.now s entries.now writes.now reads.now st log.old image.old nets_to.old trits_to.old scratch.old (given_swizzled result) log.new image.new nets_to.new trits_to.new scratch.new }
     ensures value { result ≡ swizzled_struct (given_swizzled result) }
 {
-    let memory = c_memory::memory_of(m);
-    let given = Given {
-        memory,
-        nets,
-        trits,
-    };
+    let given = c_memory::given_by(m, nets, trits);
     let plan = Plan {
         swizzle: s,
         entries,
@@ -218,12 +212,7 @@ pub fn tablegoose_swizzle_and_patch<'a>(
     ensures kept { Kept st log.old image.old nets_to.old trits_to.old scratch.old (given_patches result) log.new image.new nets_to.new trits_to.new scratch.new }
     ensures value { result ≡ patches_struct (given_patches result) }
 {
-    let memory = c_memory::memory_of(m);
-    let given = Given {
-        memory,
-        nets,
-        trits,
-    };
+    let given = c_memory::given_by(m, nets, trits);
     let plan = Plan {
         swizzle: s,
         entries,

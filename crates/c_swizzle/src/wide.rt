@@ -7,41 +7,47 @@ use c_memory::FlipFlop;
 
 // ---- from a caller's struct
 
-fn write_of(p: WideWritePort) -> swizzle_result::WideWritePort
-    ensures { result ≡ given_write p }
-{
-    swizzle_result::WideWritePort {
-        addr_len: p.addr_len,
-        wide: p.wide,
-        clock: p.clock.into(),
+impl From<WideWritePort> for swizzle_result::WideWritePort {
+    ghost from_gives = { λ p r. r ≡ given_write p };
+
+    fn from(p: WideWritePort) -> swizzle_result::WideWritePort {
+        swizzle_result::WideWritePort {
+            addr_len: p.addr_len,
+            wide: p.wide,
+            clock: p.clock.into(),
+        }
     }
 }
 
 // (As c_memory's of another struct of C: a trait over six fields would be longer than both.)
-fn fields_of(r: WideReadPort) -> FlipFlop
-    ensures { result ≡ fields_of r }
-{
-    FlipFlop {
-        clocked: r.clocked,
-        clock: r.clock,
-        clear: r.clear,
-        reset: r.reset,
-        enable: r.enable,
-        reset_over_enable: r.reset_over_enable,
+impl From<WideReadPort> for FlipFlop {
+    ghost from_gives = { λ p r. r ≡ fields_of p };
+
+    fn from(p: WideReadPort) -> FlipFlop {
+        FlipFlop {
+            clocked: p.clocked,
+            clock: p.clock,
+            clear: p.clear,
+            reset: p.reset,
+            enable: p.enable,
+            reset_over_enable: p.reset_over_enable,
+        }
     }
 }
 
-fn read_of(p: WideReadPort) -> swizzle_result::WideReadPort
-    ensures { result ≡ given_read p }
-{
-    let relations = p.relations;
-    swizzle_result::WideReadPort {
-        addr_len: p.addr_len,
-        wide: p.wide,
-        first: p.first,
-        relations_len: p.relations_len,
-        relations,
-        flip_flop: c_memory::ports::flip_flop_of(fields_of(p)),
+impl From<WideReadPort> for swizzle_result::WideReadPort {
+    ghost from_gives = { λ p r. r ≡ given_read p };
+
+    fn from(p: WideReadPort) -> swizzle_result::WideReadPort {
+        let relations = p.relations;
+        swizzle_result::WideReadPort {
+            addr_len: p.addr_len,
+            wide: p.wide,
+            first: p.first,
+            relations_len: p.relations_len,
+            relations,
+            flip_flop: FlipFlop::from(p).into(),
+        }
     }
 }
 
@@ -51,7 +57,7 @@ fn writes_of(
 ) -> [swizzle_result::WideWritePort; rules::MAX_PORTS]
     ensures { result ≡ map given_write ports }
 {
-    ports.map(write_of)
+    ports.map(swizzle_result::WideWritePort::from)
 }
 
 fn reads_of(
@@ -59,36 +65,40 @@ fn reads_of(
 ) -> [swizzle_result::WideReadPort; rules::MAX_PORTS]
     ensures { result ≡ map given_read ports }
 {
-    ports.map(read_of)
+    ports.map(swizzle_result::WideReadPort::from)
 }
 
 // The library's struct. A flag or polarity above 1 is read as c_memory reads it.
 #[tactic(auto, unfolding(crate::specs::View::given_wide))]
-pub fn memory_of(g: WideMemory) -> swizzle_result::WideMemory
-    ensures { result ≡ given_wide g }
-{
-    swizzle_result::WideMemory {
-        full: g.full,
-        mems: g.mems,
-        full_depth: g.full_depth,
-        part_depth: g.part_depth,
-        unit: g.unit,
-        write_count: g.write_count,
-        read_count: g.read_count,
-        write_ports: writes_of(g.write_ports),
-        read_ports: reads_of(g.read_ports),
+impl From<WideMemory> for swizzle_result::WideMemory {
+    ghost from_gives = { λ g r. r ≡ given_wide g };
+
+    fn from(g: WideMemory) -> swizzle_result::WideMemory {
+        swizzle_result::WideMemory {
+            full: g.full,
+            mems: g.mems,
+            full_depth: g.full_depth,
+            part_depth: g.part_depth,
+            unit: g.unit,
+            write_count: g.write_count,
+            read_count: g.read_count,
+            write_ports: writes_of(g.write_ports),
+            read_ports: reads_of(g.read_ports),
+        }
     }
 }
 
 // ---- to a caller's struct
 
-fn write_struct(p: swizzle_result::WideWritePort) -> WideWritePort
-    ensures { result ≡ write_struct p }
-{
-    WideWritePort {
-        addr_len: p.addr_len,
-        wide: p.wide,
-        clock: p.clock.into(),
+impl From<swizzle_result::WideWritePort> for WideWritePort {
+    ghost from_gives = { λ p r. r ≡ write_struct p };
+
+    fn from(p: swizzle_result::WideWritePort) -> WideWritePort {
+        WideWritePort {
+            addr_len: p.addr_len,
+            wide: p.wide,
+            clock: p.clock.into(),
+        }
     }
 }
 
@@ -112,10 +122,12 @@ fn read_with(p: swizzle_result::WideReadPort, f: FlipFlop) -> WideReadPort
     }
 }
 
-fn read_struct(p: swizzle_result::WideReadPort) -> WideReadPort
-    ensures { result ≡ read_struct p }
-{
-    read_with(p, c_memory::ports::flip_flop_struct(p.flip_flop))
+impl From<swizzle_result::WideReadPort> for WideReadPort {
+    ghost from_gives = { λ p r. r ≡ read_struct p };
+
+    fn from(p: swizzle_result::WideReadPort) -> WideReadPort {
+        read_with(p, p.flip_flop.into())
+    }
 }
 
 fn write_structs(
@@ -123,7 +135,7 @@ fn write_structs(
 ) -> [WideWritePort; rules::MAX_PORTS]
     ensures { result ≡ map write_struct ports }
 {
-    ports.map(write_struct)
+    ports.map(WideWritePort::from)
 }
 
 fn read_structs(
@@ -131,23 +143,25 @@ fn read_structs(
 ) -> [WideReadPort; rules::MAX_PORTS]
     ensures { result ≡ map read_struct ports }
 {
-    ports.map(read_struct)
+    ports.map(WideReadPort::from)
 }
 
 // The struct of the library's, which read again is that.
 #[tactic(auto, using(crate::proofs::Back::wide_back), unfolding(crate::specs::View::wide_struct))]
-pub fn memory_struct(g: swizzle_result::WideMemory) -> WideMemory
-    ensures { (result ≡ wide_struct g) × (given_wide result ≡ g) }
-{
-    WideMemory {
-        full: g.full,
-        mems: g.mems,
-        full_depth: g.full_depth,
-        part_depth: g.part_depth,
-        unit: g.unit,
-        write_count: g.write_count,
-        read_count: g.read_count,
-        write_ports: write_structs(g.write_ports),
-        read_ports: read_structs(g.read_ports),
+impl From<swizzle_result::WideMemory> for WideMemory {
+    ghost from_gives = { λ g r. (r ≡ wide_struct g) × (given_wide r ≡ g) };
+
+    fn from(g: swizzle_result::WideMemory) -> WideMemory {
+        WideMemory {
+            full: g.full,
+            mems: g.mems,
+            full_depth: g.full_depth,
+            part_depth: g.part_depth,
+            unit: g.unit,
+            write_count: g.write_count,
+            read_count: g.read_count,
+            write_ports: write_structs(g.write_ports),
+            read_ports: read_structs(g.read_ports),
+        }
     }
 }

@@ -109,7 +109,7 @@ fn lower_refusal(given: Given<'_>, output: &[u32], next: u32) -> Result<(), Refu
     if !port_outputs::clocks_same(given.memory) {
         return Err(Refusal::WriteClocksDiffer);
     }
-    if port_unmap_all::ports_short(given.memory, given.nets) {
+    if port_unmap_all::ports_short(given) {
         return Err(Refusal::ShortAddress);
     }
     Ok(())

@@ -165,11 +165,7 @@ pub fn emit_lowered(log: &mut Log, g: WideMemory, nets: &[u32], image: &[u8])
     let mut row = Row {
         nets: [0; rules::MAX_MERGE],
         spare: [0; rules::MAX_MERGE],
-        keys: Keys {
-            x: [0; rules::MAX_MERGE],
-            y: [0; rules::MAX_MERGE],
-            at: [0; rules::MAX_MERGE],
-        },
+        keys: Keys::new(),
     };
     let mut q = [0; rules::MAX_MERGE];
     Memories { g, nets, image }.emit_each(log, &mut row, &mut q);

@@ -22,25 +22,16 @@ pub record Roomy (w : Walk) (bit : ℕ) : Type 0 where
   pub chunk_bit_max : w.cb ≤ 4294967296
   pub row_bit_max : w.rb ≤ 4294967296
 
+-- the next bit is a chunk bit, or a row bit: the chunk or the row becomes the one that is given
+abbrev pub moved : Bool → ℕ → ℕ → Walk → Walk
+moved true chunk row w = record { chunk = chunk; cb = 2 * w.cb; row = w.row; rb = w.rb; hard = w.hard }
+moved false chunk row w = record { chunk = w.chunk; cb = w.cb; row = row; rb = 2 * w.rb; hard = w.hard - 1 }
+
 -- a bit that goes to the chunk number, or to the row number
 abbrev pub stepped : Bool → ℕ → Walk → Walk
-stepped true b w = record {
-  chunk = w.chunk + b * w.cb;
-  cb = 2 * w.cb;
-  row = w.row;
-  rb = w.rb;
-  hard = w.hard;
-}
-stepped false b w = record {
-  chunk = w.chunk;
-  cb = w.cb;
-  row = w.row + b * w.rb;
-  rb = 2 * w.rb;
-  hard = w.hard - 1;
-}
+stepped t b w = moved t (w.chunk + b * w.cb) (w.row + b * w.rb) w
 
 -- ---- the next row
 -- a bit that was 1, of the chunk number or of the row number
 abbrev pub taken_away : Bool → Walk → Walk
-taken_away true w = record { chunk = w.chunk - w.cb; cb = 2 * w.cb; row = w.row; rb = w.rb; hard = w.hard }
-taken_away false w = record { chunk = w.chunk; cb = w.cb; row = w.row - w.rb; rb = 2 * w.rb; hard = w.hard - 1 }
+taken_away t w = moved t (w.chunk - w.cb) (w.row - w.rb) w

@@ -11,7 +11,7 @@ ghost use Rattle.rules.specs.Beside.Shape.{shape_of, shape_call, depths_call, so
 ghost use Rattle.rules.specs.Answers.{filled_with};
 ghost use Rattle.rules.specs.Refusal.{number_of};
 ghost use Rattle.image_geometry.specs.View.{view_spot, layout_by, layout_of, shape_by, measured_of};
-ghost use Rattle.image_geometry.specs.Steps.{Narrow, mems_of, Roomy, stepped, taken_away};
+ghost use Rattle.image_geometry.specs.Steps.{Narrow, mems_of, Roomy, moved, stepped, taken_away};
 
 use rules::Refusal;
 
@@ -43,7 +43,7 @@ pub struct Spot {
 // What a layout gives: the full memories and all, the depth of a full one and of the others, columns rounded up to the unit, the trits of all
 // memories, and those of the image, which has none where the width is 0.
 #[repr(C)]
-#[derive(Clone, Copy, Debug, PartialEq, Eq)]
+#[derive(Clone, Copy, Debug, Default, PartialEq, Eq)]
 pub struct Shape {
     pub full_mems: u64,
     pub all_mems: u64,
@@ -235,24 +235,35 @@ impl Walk {
         }
     }
 
-    // A bit of a row number: a soft one, or any once the hard bits are taken, is the next chunk bit; another is the next row bit.
-    fn step(self, mask: u32, bit: u64) -> Walk
-        requires { Roomy self bit }
-        ensures { result ≡ stepped (to_chunk mask self.hard) bit self }
+    // After a bit: a soft one, or any once the hard bits are taken, is the next chunk bit; another is the next row bit. The chunk or the row becomes the
+    // one that is given.
+    fn moved(self, mask: u32, chunk: u64, row: u64) -> Walk
+        requires { (self.cb ≤ 4294967296) × (self.rb ≤ 4294967296) }
+        ensures { result ≡ moved (to_chunk mask self.hard) chunk row self }
     {
         if mask % 2 == 1 || self.hard == 0 {
             return Walk {
-                chunk: self.chunk + bit * self.cb,
+                chunk,
                 cb: 2 * self.cb,
                 ..self
             };
         }
         Walk {
-            row: self.row + bit * self.rb,
+            row,
             rb: 2 * self.rb,
             hard: self.hard - 1,
             ..self
         }
+    }
+
+    // A bit of a row number: its weight is added to the chunk or to the row.
+    fn step(self, mask: u32, bit: u64) -> Walk
+        requires { Roomy self bit }
+        ensures { result ≡ stepped (to_chunk mask self.hard) bit self }
+    {
+        let chunk = self.chunk + bit * self.cb;
+        let row = self.row + bit * self.rb;
+        self.moved(mask, chunk, row)
     }
 
     // A bit that is 1 becomes 0: its weight is taken away from the chunk or from the row.
@@ -260,19 +271,9 @@ impl Walk {
         requires { Roomy self 1 }
         ensures { result ≡ taken_away (to_chunk mask self.hard) self }
     {
-        if mask % 2 == 1 || self.hard == 0 {
-            return Walk {
-                chunk: self.chunk.saturating_sub(self.cb),
-                cb: 2 * self.cb,
-                ..self
-            };
-        }
-        Walk {
-            row: self.row.saturating_sub(self.rb),
-            rb: 2 * self.rb,
-            hard: self.hard - 1,
-            ..self
-        }
+        let chunk = self.chunk.saturating_sub(self.cb);
+        let row = self.row.saturating_sub(self.rb);
+        self.moved(mask, chunk, row)
     }
 
     // Where the walk has come; a number that no walk of a row reaches is cut to the largest.

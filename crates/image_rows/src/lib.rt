@@ -21,7 +21,7 @@ pub mod entry;
 
 // The place of an entry: the memory, the row in it, the bit of that row, and the index in the flat image.
 #[repr(C)]
-#[derive(Clone, Copy, Debug, PartialEq, Eq)]
+#[derive(Clone, Copy, Debug, Default, PartialEq, Eq)]
 pub struct Place {
     pub memory: u64,
     pub row: u64,

@@ -19,7 +19,7 @@ use image_geometry::{Layout, Params, Shape, row_bad};
 use rules::Refusal;
 
 // What a swizzle hands on for patches: the layout's numbers, and the entries of a row, of which the first `len` are in use: C keeps it as it is,
-// without a heap. The unit is 0 where no swizzle was accepted yet.
+// without a heap, and names each number, so they stand here and not in a `Params`. The unit is 0 where no swizzle was accepted yet.
 #[repr(C)]
 #[derive(Clone, Copy)]
 pub struct Laid {

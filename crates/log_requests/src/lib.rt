@@ -335,6 +335,7 @@ fn into_pos_refusal(room: usize, st: LogState, c: ControlNet) -> Result<(), Refu
 }
 
 // The net of a control, with a not where it is Neg.
+#[tactic(auto, using(crate::proofs::Remap::pos_run, crate::proofs::Remap::pos_value, crate::proofs::Remap::neg_run, crate::proofs::Remap::neg_value))]
 fn emit_into_pos(log: &mut Log, c: ControlNet) -> Net
     ensures log_after { lent_of log.new ≡ run (into_pos_of (control_of c)) (lent_of log.old) }
     ensures net_value { result.0 ∷ [] ≡ (into_pos_of (control_of c) log.old.state.next).value }

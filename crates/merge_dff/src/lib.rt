@@ -17,6 +17,7 @@ ghost use Rattle.log_entries.specs.Emission.{is_over, run};
 ghost use Rattle.log_entries.specs.View.{state_of, lent_of};
 ghost use Rattle.merge_mux.specs.Results.{limited, results};
 ghost use Rattle.merge_dff.specs.Packs.{pack_of, packed_byte, packs, unpacked, merge_packed, limited_dff, Bytes};
+ghost use Rattle.merge_dff.specs.Room.{zero_trits};
 
 use log_entries::{Log, LogState};
 use merge_mux::emit::Keys;
@@ -38,6 +39,7 @@ fn pack_trits(to: &mut [u32], reset: &[u8], clear: &[u8], init: &[u8]) -> usize
     ensures bytes { Bytes reset.now clear.now init.now }
 {
     let n = to.len().min(reset.len().min(clear.len().min(init.len())));
+    // four arrays side by side: over a `zip` the invariant has no index of a place
     for i in 0..n {
         to[i] = pack(reset[i], clear[i], init[i]);
     }
@@ -50,8 +52,8 @@ fn unpack_part(to: &mut [u8], ps: &[u32], by: u32)
     ensures { to.new ≡ sets to.old 0 (map (packed_byte by) ps.now) }
 {
     let n = ps.len().min(to.len());
-    for i in 0..n {
-        to[i] = (ps[i] / by % 256) as u8;
+    for (i, p) in ps[..n].iter().enumerate() {
+        to[i] = (*p / by % 256) as u8;
     }
 }
 
@@ -64,6 +66,18 @@ pub struct Trits {
 }
 
 impl Trits {
+    // A room of zeros.
+    #[tactic(auto, unfolding(crate::specs::Room::zero_trits))]
+    pub fn new() -> Trits
+        ensures { result ≡ zero_trits }
+    {
+        Trits {
+            clear: [0; rules::MAX_MERGE],
+            reset: [0; rules::MAX_MERGE],
+            init: [0; rules::MAX_MERGE],
+        }
+    }
+
     // A flip-flop of kept bits, whose result nets go to each bit by its place; their trits are unpacked.
     fn emit_kept(
         &mut self,
@@ -113,6 +127,7 @@ fn emit_merged(
 }
 
 // add_dedup_dff without its numbers: a flip-flop in which equal bits are kept once. `column` is room for each bit's packed trits.
+#[tactic(auto, using(crate::proofs::Dff::column, crate::proofs::Dff::rules_merge))]
 pub fn emit_dedup_dff(
     log: &mut Log,
     keys: &mut Keys,
@@ -178,16 +193,8 @@ pub fn add_dedup_dff(
     ensures { merged_of (add_dedup_dff_of (flip_flop_of f.entry) st.next).value result log.new out.new ≡ add_dedup_dff_call out.old log.old (state_of st) (flip_flop_of f.entry) }
 {
     input_refusal(out.len(), st.next, f)?;
-    let mut keys = Keys {
-        x: [0; rules::MAX_MERGE],
-        y: [0; rules::MAX_MERGE],
-        at: [0; rules::MAX_MERGE],
-    };
-    let mut trits = Trits {
-        clear: [0; rules::MAX_MERGE],
-        reset: [0; rules::MAX_MERGE],
-        init: [0; rules::MAX_MERGE],
-    };
+    let mut keys = Keys::new();
+    let mut trits = Trits::new();
     let mut column = [0; rules::MAX_MERGE];
     log_refusal(log.len(), st, &mut keys, &mut trits, &mut column, f)?;
     let mut log = Log {

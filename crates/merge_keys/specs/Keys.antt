@@ -1,4 +1,4 @@
--- Keys of two columns of words.
+-- What a merge of keys gives, and what its parts need.
 use Rattle.std.specs.Prelude.{◌≡◌, ℕ, ◌-◌, ◌<◌, ◌≤◌, min, List, map, length, take, get_or}
 use Rattle.lists.specs.Lists.{pairs}
 use Rattle.lists.specs.Distinct.{place_in}
@@ -20,27 +20,17 @@ room kx ky at = min max_merge (min (length kx) (min (length ky) (length at)))
 unfoldable pub merging : List ℕ → List ℕ → List ℕ → List ℕ → List ℕ → List Key2
 merging x y kx ky at = take (room kx ky at) (pairs x y)
 
--- count keys stand in the columns
-pub record Columns (kx ky : List ℕ) (count : ℕ) : Type 0 where
-  pub first : count ≤ length kx
-  pub second : count ≤ length ky
-
--- there is a key at i, and the key before it has the place last among the keys kept
-pub record Ready (x y : List ℕ) (i : ℕ) (kx ky : List ℕ) (count last : ℕ) : Type 0 where
-  pub in_x : i < length x
-  pub in_y : i < length y
-  pub columns : Columns kx ky count
-  pub before : 0 < i → last ≡ place_in same2 (get_or x (i - 1) 0, get_or y (i - 1) 0) (take count (pairs kx ky))
+-- the key before i has the place last among the keys kept
+abbrev pub Last : List Key2 → ℕ → List Key2 → ℕ → Type 0
+Last given i kept last = 0 < i → last ≡ place_in same2 (get_or given (i - 1) (0, 0)) kept
 
 -- no first word of the keys kept is larger
-abbrev pub Bounded : List ℕ → ℕ → ℕ → Type 0
-Bounded kx count most = (j : ℕ) → j < count → get_or kx j 0 ≤ most
+abbrev pub Bounded : List Key2 → ℕ → Type 0
+Bounded kept most = (j : ℕ) → j < length kept → (get_or kept j (0, 0)).0 ≤ most
 
--- n keys are given, and have room
-pub record Roomy (x y kx ky at : List ℕ) (n : ℕ) : Type 0 where
-  pub in_x : n ≤ length x
-  pub in_y : n ≤ length y
-  pub in_kx : n ≤ length kx
-  pub in_ky : n ≤ length ky
-  pub in_at : n ≤ length at
-  pub few : n ≤ max_merge
+-- the keys have room
+pub record Roomy (given : List Key2) (kx ky at : List ℕ) : Type 0 where
+  pub in_kx : length given ≤ length kx
+  pub in_ky : length given ≤ length ky
+  pub in_at : length given ≤ length at
+  pub few : length given ≤ max_merge

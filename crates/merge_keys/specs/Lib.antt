@@ -1,2 +1,4 @@
 -- The definitions that the contracts of merge_keys cite.
+pub mod Columns
 pub mod Keys
+pub mod Slots

@@ -1,3 +1,4 @@
 -- The definitions that the contracts of merge_mux cite.
 pub mod Results
+pub mod Room
 pub mod Runs

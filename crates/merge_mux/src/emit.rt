@@ -1,5 +1,5 @@
 // memory/src/lib.rs, DesignExt: add_dedup_mux and add_bitwise_mux. Equal bits are kept once, in order of first appearance.
-ghost use Rattle.std.specs.Prelude.{◌≡◌, false, ◌+◌, ◌-◌, ◌<◌, ◌≤◌, min, length, drop, get_or};
+ghost use Rattle.std.specs.Prelude.{◌≡◌, false, not, ◌+◌, ◌-◌, ◌<◌, ◌≤◌, min, length, drop, get_or, eqb, position};
 ghost use Rattle.std.proofs.lemmas.List.Edits.{sets};
 ghost use Rattle.lists.specs.Lists.{part, up_from};
 ghost use Rattle.rules.specs.Limits.{max_merge, X};
@@ -9,10 +9,13 @@ ghost use Rattle.rules.specs.Value.{Pos};
 ghost use Rattle.net_value.specs.View.{control_of};
 ghost use Rattle.log_entries.specs.Emission.{is_over, run};
 ghost use Rattle.log_entries.specs.View.{state_of, lent_of};
-ghost use Rattle.merge_mux.specs.Runs.{run_at, Run, Bits, Within, bits_taken, bitwise_of};
+ghost use Rattle.merge_mux.specs.Runs.{run_at, Bits, Within, bits_taken, bitwise_of};
 ghost use Rattle.merge_mux.specs.Results.{limited, results, Found};
+ghost use Rattle.merge_mux.specs.Room.{zero_keys};
 
 use log_entries::{Log, LogState};
+use merge_keys::columns::Columns;
+use merge_keys::table::Table;
 use net_value::{ControlNet, Net};
 
 // The keys that a merge keeps, and each bit's place among them: room that is lent, so that many merges clear it once.
@@ -21,18 +24,39 @@ pub struct Keys {
     pub x: [u32; rules::MAX_MERGE],
     pub y: [u32; rules::MAX_MERGE],
     pub at: [u32; rules::MAX_MERGE],
+    pub table: Table,
 }
 
 impl Keys {
+    // A room of zeros.
+    pub fn new() -> Keys
+        ensures { result ≡ zero_keys }
+    {
+        Keys {
+            x: [0; rules::MAX_MERGE],
+            y: [0; rules::MAX_MERGE],
+            at: [0; rules::MAX_MERGE],
+            table: Table::new(),
+        }
+    }
+
     // Keeps the keys of two columns, as many as a merge takes, and returns how many are kept.
     pub fn merge(&mut self, a: &[u32], b: &[u32]) -> usize
         ensures { Found a.now b.now self.new.x self.new.y self.new.at (min max_merge (min (length a.now) (length b.now))) result }
     {
-        merge_keys::merge(&mut self.x, &mut self.y, &mut self.at, a, b)
+        let given = Columns { x: a, y: b };
+        merge_keys::merge(
+            &mut self.x,
+            &mut self.y,
+            &mut self.at,
+            &mut self.table,
+            given,
+        )
     }
 }
 
 // The net of a kept bit: `first` is that of the first of `width` kept bits.
+#[tactic(auto, using(lists::proofs::UpFrom::up_at, lists::proofs::UpFrom::up_past))]
 fn net_at(first: u32, width: u32, place: u32) -> u32
     requires { first + width ≤ X }
     ensures { result ≡ get_or (up_from first width) place X }
@@ -56,6 +80,7 @@ fn spread_nets(out: &mut [u32], to: usize, first: u32, width: u32, at: &[u32])
 }
 
 // The nets between two states, given to each bit by its place; nothing where the emission between them overflowed.
+#[tactic(auto, using(crate::proofs::Spread::results_none, crate::proofs::Spread::results_some))]
 pub fn spread_results(out: &mut [u32], to: usize, st: LogState, after: LogState, at: &[u32])
     ensures { out.new ≡ results (is_over (state_of after)) out.old to (spread at.now (up_from st.next (after.next - st.next))) }
 {
@@ -110,38 +135,21 @@ pub fn emit_dedup_mux(
     );
 }
 
+// Where the first element stands that differs from x.
+fn first_other(s: &[u32], x: u32) -> Option<usize>
+    ensures { result ≡ position (λ y. not (eqb y x)) s.now }
+{
+    s.iter().position(|y| *y != x)
+}
+
 // The end of the run of equal neighbours that starts at i.
 fn run_end(s: &[u32], i: usize) -> usize
     requires { i < length s.now }
     ensures value { result ≡ i + run_at (drop i s.now) }
     ensures lower_bound { (i < result) × (result ≤ length s.now) }
 {
-    let first = s[i];
-    for e in i + 1..s.len() {
-        if s[e] != first {
-            return e;
-        }
-    }
-    s.len()
-}
-
-// The mux of one run: a merging mux of the bits from i to e, by one net.
-fn mux_run(
-    log: &mut Log,
-    keys: &mut Keys,
-    nets: &mut [u32],
-    select: u32,
-    a: &[u32],
-    b: &[u32],
-    i: usize,
-    e: usize,
-)
-    requires { Run a.now b.now i e }
-    ensures log_after { lent_of log.new ≡ run (add_dedup_mux_of (Pos select) (part i (e - i) a.now) (part i (e - i) b.now)) (lent_of log.old) }
-    ensures nets_after { nets.new ≡ results (is_over (state_of log.new.state)) nets.old i (add_dedup_mux_of (Pos select) (part i (e - i) a.now) (part i (e - i) b.now) log.old.state.next).value }
-{
-    let select = ControlNet::Pos(Net(select));
-    emit_dedup_mux(log, keys, nets, i, select, &a[i..e], &b[i..e]);
+    let rest = &s[i..];
+    i + first_other(rest, s[i]).unwrap_or(rest.len())
 }
 
 // A merging mux for each run of equal neighbouring selects.
@@ -154,12 +162,14 @@ fn mux_runs(log: &mut Log, keys: &mut Keys, nets: &mut [u32], s: &[u32], a: &[u3
     // goes from run to run, and not from index to index
     while i < s.len() {
         let e = run_end(s, i);
-        mux_run(log, keys, nets, s[i], a, b, i, e);
+        let select = ControlNet::Pos(Net(s[i]));
+        emit_dedup_mux(log, keys, nets, i, select, &a[i..e], &b[i..e]);
         i = e;
     }
 }
 
 // How many bits a bitwise mux of these values has.
+#[tactic(auto, using(crate::proofs::Bitwise::within_bits))]
 fn bits_of(s: &[u32], a: &[u32], b: &[u32]) -> usize
     ensures value { result ≡ bits_taken s.now a.now b.now }
     ensures within { Within s.now a.now b.now result }
@@ -169,6 +179,7 @@ fn bits_of(s: &[u32], a: &[u32], b: &[u32]) -> usize
 
 // add_bitwise_mux without its numbers: a merging mux for each run of equal neighbouring selects. The result net of each bit goes to `nets`, which is left
 // open where the emission overflowed.
+#[tactic(auto, using(crate::proofs::Bitwise::cut_bits, crate::proofs::Bitwise::cut_is))]
 pub fn emit_bitwise_mux(
     log: &mut Log,
     keys: &mut Keys,

@@ -66,11 +66,7 @@ pub fn add_dedup_mux(
     ensures { merged_of (add_dedup_mux_of (control_of select) a.now b.now st.next).value result log.new out.new ≡ add_dedup_mux_call out.old log.old (state_of st) (control_of select) a.now b.now }
 {
     mux_input_refusal(out.len(), st.next, select, a, b)?;
-    let mut keys = Keys {
-        x: [0; rules::MAX_MERGE],
-        y: [0; rules::MAX_MERGE],
-        at: [0; rules::MAX_MERGE],
-    };
+    let mut keys = Keys::new();
     mux_log_refusal(log.len(), st, &mut keys, select, a, b)?;
     let mut log = Log {
         words: log,
@@ -156,11 +152,7 @@ pub fn add_bitwise_mux(
     ensures { merged_of (add_bitwise_mux_of s.now a.now b.now st.next).value result log.new out.new ≡ add_bitwise_mux_call out.old log.old (state_of st) s.now a.now b.now }
 {
     bitwise_input_refusal(out.len(), st.next, s, a, b)?;
-    let mut keys = Keys {
-        x: [0; rules::MAX_MERGE],
-        y: [0; rules::MAX_MERGE],
-        at: [0; rules::MAX_MERGE],
-    };
+    let mut keys = Keys::new();
     bitwise_log_refusal(log.len(), st, &mut keys, s, a, b)?;
     let mut log = Log {
         words: log,

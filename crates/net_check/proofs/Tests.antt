@@ -1,13 +1,11 @@
 -- Laws of tests in a row, and of the relations of a port.
 use mathlib.Core.Path.{◌≡◌, refl, sym, ap, ◌∙◌}
-use Prim.Native.Nat.{ℕ, min}
-use native.Mathlib.Omega.{arith}
+use Prim.Native.Nat.{ℕ}
 use mathlib.Core.Bool.{Bool, true, false, not, ◌&&◌, ◌||◌}
 use mathlib.Core.List.{List, [], ◌∷◌}
-use lib.ListN.{length, length-take}
 use lib.Dec.{ltb, leb}
 use borrow.Author.Tests.{le-leb, lt-leb, lt-ltb, le-ltb}
-use Rattle.lists.specs.Lists.{any, all, part}
+use Rattle.lists.specs.Lists.{any, all}
 use Rattle.lists.proofs.Choice.{cases_le}
 use Rattle.rules.specs.Logic.{are_trits}
 use Rattle.rules.specs.Conditions.{bad_relation}
@@ -31,7 +29,3 @@ pub relations_trits : (l : List ℕ) → any bad_relation l ≡ not (are_trits l
 unfolding are_trits bad_relation
 relations_trits [] = refl
 relations_trits (a ∷ l) = (λ i. high a 2 i || relations_trits l i) ∙ not_and (leb a 2) (all (λ (t : ℕ). leb t 2) l)
-
--- as many as are named, of eight
-pub few : (l : List ℕ) (n : ℕ) → length l ≡ 8 → length (part 0 n l) ≡ min 8 n
-few l n e = omega (arith, length-take n l)

@@ -1,12 +1,9 @@
 -- The numbers 2 to 4 of a memory port by port, as the code tries them.
-use Rattle.std.specs.Prelude.{◌≡◌, ℕ, ◌<◌, min, []}
-use Rattle.rules.specs.Limits.{max_ports}
+use Rattle.std.specs.Prelude.{ℕ, []}
 use Rattle.rules.specs.Cell.{WritePort, ReadPort, Mem, write_wide_log2, read_wide_log2}
 use Rattle.rules.specs.Refusals.{number_by_of}
 use Rattle.rules.specs.Conditions.{bad_write_shape, bad_read_shape, indivisible, bad_write_nets, bad_read_nets}
-use Rattle.net_memory.specs.declared.Memory.{Memory}
-use Rattle.net_check.specs.declared.Read.{Read}
-use Rattle.net_memory.specs.View.{no_read_port, read_by, read_start, trit_start}
+use Rattle.net_memory.specs.View.{no_read_port, read_by}
 
 unfoldable pub write_number : ℕ → Mem → WritePort → ℕ
 write_number next m p = number_by_of (bad_write_shape m p) (indivisible m.depth (write_wide_log2 m p)) (bad_write_nets next p)
@@ -14,16 +11,6 @@ write_number next m p = number_by_of (bad_write_shape m p) (indivisible m.depth 
 unfoldable pub read_number : ℕ → Mem → ReadPort → ℕ
 read_number next m p = number_by_of (bad_read_shape m p) (indivisible m.depth (read_wide_log2 m p)) (bad_read_nets next p)
 
--- a read port with its own nets and trits
-abbrev pub read_of : Read → ReadPort
-read_of r = read_by r.port r.nets.now r.trits.now
-
 -- what stands where there is no read port
 abbrev pub no_read_of : ReadPort
 no_read_of = read_by no_read_port [] []
-
--- read port i is there, and its nets and trits start at these places
-pub record ReadsFrom (m : Memory) (i at from : ℕ) : Type 0 where
-  pub there : i < min max_ports m.read_count
-  pub nets_at : at ≡ read_start m i
-  pub trits_at : from ≡ trit_start m i

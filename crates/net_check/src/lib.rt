@@ -7,14 +7,15 @@ ghost use Rattle.lists.specs.Lists.{any, least_by, part};
 ghost use Rattle.rules.specs.Cell.{Mem};
 ghost use Rattle.net_flip_flop.specs.declared.Controls.{Controls};
 ghost use Rattle.rules.specs.Conditions.{too_large, bad_trits, bad_write_shape, bad_write_nets, bad_flip_flop_shape, bad_flip_flop_nets, bad_relation, bad_read_shape, bad_read_nets, bad_shape, bad_depth, bad_nets};
-ghost use Rattle.net_memory.specs.View.{write_by, clocked_by, read_by, writes_of, reads_of, read_ports_of, memory_of};
+ghost use Rattle.net_memory.specs.View.{clocked_by, writes_of, reads_of, read_ports_of, memory_of};
+ghost use Rattle.net_memory.specs.Ports.{write_of, read_of};
 ghost use Rattle.net_memory.specs.Given.{too_many_ports, long_relations, bad_lens, view_given, mem_of};
 ghost use Rattle.rules.specs.Refusal.{number_of, number_if};
 ghost use Rattle.rules.specs.Refusals.{mem_number, mem_refusal, number_by_of};
-ghost use Rattle.net_check.specs.Number.{write_number, read_number, ReadsFrom, read_of, no_read_of};
+ghost use Rattle.net_check.specs.Number.{write_number, read_number};
 
 use net_flip_flop::Controls;
-use net_memory::{Given, Memory, MemoryReadPort, MemoryWritePort};
+use net_memory::{Given, Memory, MemoryReadPort, ReadPort, WritePort};
 use rules::Refusal;
 
 fn product(a: u32, b: u32) -> u64
@@ -60,46 +61,38 @@ fn refusal_by(shape: bool, depth: bool, nets: bool) -> Option<Refusal>
     None
 }
 
-// The shape of a write port with these nets is bad.
+// The shape of a write port is bad.
 #[tactic(auto, unfolding(rules::specs::Conditions::bad_write_shape, rules::specs::Cell::write_wide_log2, rules::specs::Conditions::unequal, rules::specs::Conditions::bad_addr_len))]
-fn write_shape_bad(width: u32, p: MemoryWritePort, nets: &[u32]) -> bool
-    ensures { (m : Mem) → m.width ≡ width → result ≡ bad_write_shape m (write_by p nets.now []) }
+fn write_shape_bad(width: u32, w: WritePort<'_>) -> bool
+    ensures { (m : Mem) → m.width ≡ width → result ≡ bad_write_shape m (write_of w.entry) }
 {
-    let bits = net_memory::data_of(p, nets);
-    let addr = net_memory::addr_of(p, nets);
+    let bits = w.bits();
     let k = net_memory::wide::wide_log(width, bits.len());
     net_memory::wide::data_len_bad(width, bits.len())
-        || net_memory::mask_of(p, nets).len() != bits.len()
-        || (rules::ADDR_BITS as usize) < addr.len() + (k as usize)
+        || w.mask().len() != bits.len()
+        || (rules::ADDR_BITS as usize) < w.addr().len() + (k as usize)
 }
 
 // A net or the clock of a write port is bad.
 #[tactic(auto, unfolding(rules::specs::Conditions::bad_write_nets, rules::specs::Conditions::bad_value, rules::specs::Conditions::bad_control))]
-fn write_nets_bad(next: u32, p: MemoryWritePort, nets: &[u32]) -> bool
-    ensures { result ≡ bad_write_nets next (write_by p nets.now []) }
+fn write_nets_bad(next: u32, w: WritePort<'_>) -> bool
+    ensures { result ≡ bad_write_nets next (write_of w.entry) }
 {
-    !net_value::value_good(next, net_memory::addr_of(p, nets))
-        || !net_value::value_good(next, net_memory::data_of(p, nets))
-        || !net_value::value_good(next, net_memory::mask_of(p, nets))
-        || !net_value::control_good(next, p.clock)
+    !net_value::value_good(next, w.addr())
+        || !net_value::value_good(next, w.bits())
+        || !net_value::value_good(next, w.mask())
+        || !net_value::control_good(next, w.port.clock)
 }
 
-// By what a write port with these nets is refused.
+// By what a write port is refused.
 #[tactic(auto, unfolding(crate::specs::Number::write_number, rules::specs::Cell::write_wide_log2))]
-fn write_refusal(
-    depth: u32,
-    width: u32,
-    next: u32,
-    p: MemoryWritePort,
-    nets: &[u32],
-) -> Option<Refusal>
-    ensures { (m : Mem) → m.depth ≡ depth → m.width ≡ width → number_if result ≡ write_number next m (write_by p nets.now []) }
+fn write_refusal(depth: u32, width: u32, next: u32, w: WritePort<'_>) -> Option<Refusal>
+    ensures { (m : Mem) → m.depth ≡ depth → m.width ≡ width → number_if result ≡ write_number next m (write_of w.entry) }
 {
-    let bits = net_memory::data_of(p, nets);
-    let k = net_memory::wide::wide_log(width, bits.len());
-    let shape = write_shape_bad(width, p, nets);
+    let k = net_memory::wide::wide_log(width, w.bits().len());
+    let shape = write_shape_bad(width, w);
     let rows = net_memory::wide::is_indivisible(depth, k);
-    refusal_by(shape, rows, write_nets_bad(next, p, nets))
+    refusal_by(shape, rows, write_nets_bad(next, w))
 }
 
 // By what a write port is refused, the lowest of all.
@@ -109,93 +102,77 @@ fn writes_refusal(m: Memory, nets: &[u32], next: u32) -> Option<Refusal>
     let count = net_memory::ports_used(m.write_count);
     let mut refusal = None;
     let mut at = 0;
-    for i in 0..count {
-        let p = m.write_ports[i];
-        let size = net_memory::write_size(p);
-        let part = lists::part(nets, at, size);
-        refusal = lower(refusal, write_refusal(m.depth, m.width, next, p, part));
+    for port in &m.write_ports[..count] {
+        let size = net_memory::write_size(*port);
+        let w = WritePort {
+            port: *port,
+            nets: lists::part(nets, at, size),
+        };
+        refusal = lower(refusal, write_refusal(m.depth, m.width, next, w));
         at += size;
     }
     refusal
 }
 
-// How many relations a port has: as many as it says, up to the eight that there is place for.
-#[tactic(auto, using(crate::proofs::Tests::few, net_memory::proofs::Sized::relations_8))]
-fn relations_len(p: MemoryReadPort) -> usize
-    ensures { result ≡ length (part 0 p.relations_len p.relations) }
-{
-    net_memory::ports_used(p.relations_len)
-}
-
-// A relation is bad.
-#[tactic(auto, using(crate::proofs::Tests::relations_trits))]
-fn relations_bad(p: MemoryReadPort) -> bool
-    ensures { result ≡ any bad_relation (part 0 p.relations_len p.relations) }
-{
-    let relations = p.relations;
-    let named = lists::part(&relations, 0, p.relations_len as usize);
-    !net_logic::trits_good(named)
-}
-
 // A length of a clocked port's flip-flop is bad.
 #[tactic(auto, unfolding(rules::specs::Conditions::bad_flip_flop_shape, rules::specs::Conditions::bad_trit_lens))]
-fn flip_flop_shape_bad(writes: usize, p: MemoryReadPort, trits: &[u8]) -> bool
-    ensures { (m : Mem) (f : Controls) → length m.writes ≡ writes → result ≡ bad_flip_flop_shape m p.data_len (clocked_by f p trits.now) }
+fn flip_flop_shape_bad(writes: usize, r: ReadPort<'_>) -> bool
+    ensures { (m : Mem) (f : Controls) → length m.writes ≡ writes → result ≡ bad_flip_flop_shape m r.entry.port.data_len (clocked_by f r.entry.port r.entry.trits.now) }
 {
-    let len = p.data_len as usize;
-    net_memory::clear_of(p, trits).len() != len
-        || net_memory::reset_of(p, trits).len() != len
-        || net_memory::init_of(p, trits).len() != len
-        || relations_len(p) != writes
+    let len = r.port.data_len as usize;
+    r.clear().len() != len
+        || r.reset().len() != len
+        || r.init().len() != len
+        || r.relations().len() != writes
 }
 
 // A control, a trit or a relation of a clocked port's flip-flop is bad.
-#[tactic(auto, unfolding(rules::specs::Conditions::bad_flip_flop_nets, rules::specs::Conditions::bad_trits))]
-fn flip_flop_nets_bad(next: u32, f: Controls, p: MemoryReadPort, trits: &[u8]) -> bool
-    ensures { result ≡ bad_flip_flop_nets next (clocked_by f p trits.now) }
+#[tactic(auto, unfolding(rules::specs::Conditions::bad_flip_flop_nets, rules::specs::Conditions::bad_trits), using(crate::proofs::Tests::relations_trits))]
+fn flip_flop_nets_bad(next: u32, f: Controls, r: ReadPort<'_>) -> bool
+    ensures { result ≡ bad_flip_flop_nets next (clocked_by f r.entry.port r.entry.trits.now) }
 {
     f.is_bad(next)
-        || !net_logic::trits_good(net_memory::clear_of(p, trits))
-        || !net_logic::trits_good(net_memory::reset_of(p, trits))
-        || !net_logic::trits_good(net_memory::init_of(p, trits))
-        || relations_bad(p)
-}
-
-// A read port with its own nets and trits.
-#[derive(Clone, Copy)]
-struct Read<'a> {
-    port: MemoryReadPort,
-    nets: &'a [u32],
-    trits: &'a [u8],
+        || !net_logic::trits_good(r.clear())
+        || !net_logic::trits_good(r.reset())
+        || !net_logic::trits_good(r.init())
+        || !net_logic::trits_good(r.relations())
 }
 
 // The shape of a read port is bad, `writes` being the number of write ports.
 #[tactic(auto, unfolding(rules::specs::Conditions::bad_read_shape, rules::specs::Conditions::bad_addr_len, rules::specs::Cell::read_wide_log2, rules::specs::Cell::held))]
-fn read_shape_bad(width: u32, writes: usize, r: Read<'_>) -> bool
+fn read_shape_bad(width: u32, writes: usize, r: ReadPort<'_>) -> bool
     ensures { (m : Mem) → m.width ≡ width → length m.writes ≡ writes → result ≡ bad_read_shape m (read_of r.entry) }
 {
     let len = r.port.data_len as usize;
-    let addr = net_memory::read_addr_of(r.port, r.nets);
     let k = net_memory::wide::wide_log(width, len);
     net_memory::wide::data_len_bad(width, len)
-        || (rules::ADDR_BITS as usize) < addr.len() + (k as usize)
-        || r.port.flip_flop.is_some() && flip_flop_shape_bad(writes, r.port, r.trits)
+        || (rules::ADDR_BITS as usize) < r.addr().len() + (k as usize)
+        || r.port.flip_flop.is_some() && flip_flop_shape_bad(writes, r)
 }
 
 // A net, a control, a trit or a relation of a read port is bad.
 #[tactic(auto, unfolding(rules::specs::Conditions::bad_read_nets, rules::specs::Conditions::bad_value, rules::specs::Cell::held))]
-fn read_nets_bad(next: u32, r: Read<'_>) -> bool
+fn read_nets_bad(next: u32, r: ReadPort<'_>) -> bool
     ensures { result ≡ bad_read_nets next (read_of r.entry) }
 {
-    !net_value::value_good(next, net_memory::read_addr_of(r.port, r.nets))
-        || r.port
-            .flip_flop
-            .is_some_and(|c| flip_flop_nets_bad(next, c, r.port, r.trits))
+    if !net_value::value_good(next, r.addr()) {
+        return true;
+    }
+    match r.port.flip_flop {
+        None => false,
+        Some(c) => flip_flop_nets_bad(next, c, r),
+    }
 }
 
 // By what a read port is refused.
 #[tactic(auto, unfolding(crate::specs::Number::read_number, rules::specs::Cell::read_wide_log2))]
-fn read_refusal(depth: u32, width: u32, next: u32, writes: usize, r: Read<'_>) -> Option<Refusal>
+fn read_refusal(
+    depth: u32,
+    width: u32,
+    next: u32,
+    writes: usize,
+    r: ReadPort<'_>,
+) -> Option<Refusal>
     ensures { (m : Mem) → m.depth ≡ depth → m.width ≡ width → length m.writes ≡ writes → number_if result ≡ read_number next m (read_of r.entry) }
 {
     let k = net_memory::wide::wide_log(width, r.port.data_len as usize);
@@ -204,36 +181,25 @@ fn read_refusal(depth: u32, width: u32, next: u32, writes: usize, r: Read<'_>) -
     refusal_by(shape, rows, read_nets_bad(next, r))
 }
 
-// By what read port i is refused, whose nets and trits start at these places.
-fn read_refusal_at(given: Given<'_>, next: u32, i: usize, at: usize, from: usize) -> Option<Refusal>
-    requires { ReadsFrom given.memory i at from }
-    ensures { number_if result ≡ read_number next (mem_of given.entry) (get_or (reads_of given.entry.memory given.entry.nets.now given.entry.trits.now) i no_read_of) }
-{
-    let m = given.memory;
-    let port = m.read_ports[i];
-    let r = Read {
-        port,
-        nets: lists::part(given.nets, at, net_memory::addr_size(port)),
-        trits: lists::part(given.trits, from, net_memory::trit_size(port)),
-    };
-    let writes = net_memory::ports_used(m.write_count);
-    read_refusal(m.depth, m.width, next, writes, r)
-}
-
 // By what a read port is refused, the lowest of all.
 fn reads_refusal(given: Given<'_>, next: u32) -> Option<Refusal>
     ensures { number_if result ≡ least_by (read_number next (mem_of given.entry)) (reads_of given.entry.memory given.entry.nets.now given.entry.trits.now) }
 {
     let m = given.memory;
+    let writes = net_memory::ports_used(m.write_count);
     let count = net_memory::ports_used(m.read_count);
     let mut at = net_memory::reads_start(m);
     let mut from = net_memory::init_size(m);
     let mut refusal = None;
-    for i in 0..count {
-        let p = m.read_ports[i];
-        refusal = lower(refusal, read_refusal_at(given, next, i, at, from));
-        at += net_memory::addr_size(p);
-        from += net_memory::trit_size(p);
+    for port in &m.read_ports[..count] {
+        let r = ReadPort {
+            port: *port,
+            nets: lists::part(given.nets, at, net_memory::addr_size(*port)),
+            trits: lists::part(given.trits, from, net_memory::trit_size(*port)),
+        };
+        refusal = lower(refusal, read_refusal(m.depth, m.width, next, writes, r));
+        at += net_memory::addr_size(*port);
+        from += net_memory::trit_size(*port);
     }
     refusal
 }
@@ -304,31 +270,41 @@ fn parts_refusal(given: Given<'_>, next: u32) -> Option<Refusal>
     lower(a, lower(b, reads_refusal(given, next)))
 }
 
-// 1 to 4 of a call over a memory. `one`, `two` and `four` say what else of the call breaks these numbers.
+// What of a call beside its memory breaks 1, 2 and 4.
+#[derive(Clone, Copy)]
+pub struct Breaks {
+    pub large: bool,
+    pub shape: bool,
+    pub value: bool,
+}
+
+impl Breaks {
+    pub const NOTHING: Breaks = Breaks {
+        large: false,
+        shape: false,
+        value: false,
+    };
+}
+
+// 1 to 4 of a call over a memory.
 #[tactic(auto, using(crate::proofs::Sizes::by_one, crate::proofs::Sizes::by_large, crate::proofs::Sizes::by_two, crate::proofs::Sizes::by_lens, crate::proofs::Sizes::by_four, crate::proofs::Sizes::by_parts))]
-pub fn call_refusal(
-    given: Given<'_>,
-    next: u32,
-    one: bool,
-    two: bool,
-    four: bool,
-) -> Result<(), Refusal>
-    ensures { number_of result ≡ mem_number one two four next (view_given given.entry) }
+pub fn call_refusal(given: Given<'_>, next: u32, beside: Breaks) -> Result<(), Refusal>
+    ensures { number_of result ≡ mem_number beside.large beside.shape beside.value next (view_given given.entry) }
 {
-    if one {
+    if beside.large {
         return Err(Refusal::TooLarge);
     }
     if too_large(given.memory) {
         return Err(Refusal::TooLarge);
     }
-    if two {
+    if beside.shape {
         return Err(Refusal::BadShape);
     }
     if lens_bad(given) {
         return Err(Refusal::BadShape);
     }
     let refusal = parts_refusal(given, next);
-    if four {
+    if beside.value {
         return answer(lower(refusal, Some(Refusal::BadValue)));
     }
     answer(refusal)
@@ -339,5 +315,5 @@ pub fn call_refusal(
 pub fn memory_refusal(given: Given<'_>) -> Result<(), Refusal>
     ensures { number_of result ≡ mem_refusal (view_given given.entry) }
 {
-    call_refusal(given, rules::MAX_NETS, false, false, false)
+    call_refusal(given, rules::MAX_NETS, Breaks::NOTHING)
 }

@@ -69,6 +69,7 @@ impl Controls {
     }
 
     // The words of the controls in a flip-flop's entry.
+    #[tactic(auto, using(crate::proofs::Words::nine, crate::proofs::Words::flag_byte))]
     pub fn words(self) -> [u32; 9]
         ensures { result ≡ controls_words (controls_of self) }
     {

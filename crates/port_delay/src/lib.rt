@@ -81,7 +81,6 @@ fn can_delay(addr: usize, bits: usize, mask: usize) -> bool
 
 impl Room {
     // A room of zeros.
-    #[tactic(auto, unfolding(crate::specs::Room::zero_room))]
     pub fn new() -> Room
         ensures { result ≡ zero_room }
     {
@@ -91,16 +90,8 @@ impl Room {
             mask: [0; rules::MAX_MERGE],
             starts: [0; rules::MAX_MERGE],
             column: [0; rules::MAX_MERGE],
-            keys: Keys {
-                x: [0; rules::MAX_MERGE],
-                y: [0; rules::MAX_MERGE],
-                at: [0; rules::MAX_MERGE],
-            },
-            trits: Trits {
-                clear: [0; rules::MAX_MERGE],
-                reset: [0; rules::MAX_MERGE],
-                init: [0; rules::MAX_MERGE],
-            },
+            keys: Keys::new(),
+            trits: Trits::new(),
         }
     }
 

@@ -20,7 +20,7 @@ ghost use Rattle.port_unmap.specs.Call.{driven_of};
 ghost use Rattle.port_emulate.specs.Delays.{delayed_by, cut_by, delays, Fitting, PortReady, PortDone, PortsDone, rooms_of, input_number, Emulated};
 
 use log_entries::{Log, LogState};
-use net_memory::{Given, Memory, MemoryWritePort};
+use net_memory::{Given, Memory, MemoryPortRelation, MemoryWritePort};
 use port_delay::Room;
 use port_unmap::Driven;
 use rules::Refusal;
@@ -37,7 +37,7 @@ fn emit_port(
 )
     ensures { (nets trits : List ℕ) → Gave (delayed_by (is_read m nets trits j) all_x (write_by p own.now []) (cut (write_by p own.now []) delay.old.addr delay.old.bits delay.old.mask)) (lent_of log.old) (lent_of log.new) (cut_by (is_read m nets trits j) (write_by p own.now []) delay.new.addr delay.new.bits delay.new.mask) }
 {
-    if !port_relations::relates_to(m, j, port_relations::READ_BEFORE_WRITE) {
+    if !port_relations::relates_to(m, j, MemoryPortRelation::ReadBeforeWrite) {
         return;
     }
     delay.emit_delayed(log, all_x, p, own);
@@ -73,7 +73,7 @@ fn delay_port(
 {
     let own = lists::part(nets, at, net_memory::write_size(p));
     emit_port(log, delay, all_x, m, j, p, own);
-    if port_relations::relates_to(m, j, port_relations::READ_BEFORE_WRITE) {
+    if port_relations::relates_to(m, j, MemoryPortRelation::ReadBeforeWrite) {
         store_port(nets, at, p, delay);
     }
 }

@@ -45,53 +45,36 @@ fn clocked_trits(m: Memory, trits: &[u8], i: usize) -> &[u8]
     }
 }
 
-// Stores the addresses of the listed ports from `start` on, and says where they end.
-//
-// `put_values` and `put_outputs` have the same loop over other arrays, of other items and by other starts and sizes: one loop over a closure would be
-// no plainer.
-fn put_addrs(room: &mut [u32], start: usize, m: Memory, nets: &[u32], list: &[u32]) -> usize
-    requires { (start ≤ 0x1800000000) × (length list.now ≤ max_ports) }
-    ensures value { result ≡ start + length (concat_map (read_nets m nets.now) list.now) }
-    ensures room_after { room.new ≡ sets room.old start (concat_map (read_nets m nets.now) list.now) }
+// Stores the listed ports' parts, as `part` gives them by a port's number, from `start` on, and says where they end.
+fn put_parts<'a, T: Copy + 'a, F: Fn(usize) -> &'a [T]>(
+    room: &mut [T],
+    start: usize,
+    list: &[u32],
+    part: F,
+) -> usize
+    requires callable { F.IsAlwaysCallable part }
+    requires few { (start ≤ 0x1800000000) × (length list.now ≤ max_ports) }
+    requires small { (k : ℕ) (r : _) → F.post part k r → length r.now < 0x300000000 }
+    ensures value { (f : ℕ → List T) → ((k : ℕ) (r : _) → F.post part k r → r.now ≡ f k) → result ≡ start + length (concat_map f list.now) }
+    ensures room_after { (f : ℕ → List T) → ((k : ℕ) (r : _) → F.post part k r → r.now ≡ f k) → room.new ≡ sets room.old start (concat_map f list.now) }
 {
     let mut at = start;
-    for j in 0..list.len() {
-        let addr = net_memory::read_nets(m, nets, list[j] as usize);
-        lists::copy(room, at, addr);
-        at += addr.len();
-    }
-    at
-}
-
-// Stores the trits of the listed ports from `start` on, and says where they end.
-fn put_values(room: &mut [u8], start: usize, m: Memory, trits: &[u8], list: &[u32]) -> usize
-    requires { (start ≤ 0x1800000000) × (length list.now ≤ max_ports) }
-    ensures value { result ≡ start + length (concat_map (kept_trits m trits.now) list.now) }
-    ensures room_after { room.new ≡ sets room.old start (concat_map (kept_trits m trits.now) list.now) }
-{
-    let mut at = start;
-    for j in 0..list.len() {
-        let values = clocked_trits(m, trits, list[j] as usize);
-        lists::copy(room, at, values);
-        at += values.len();
+    for k in list {
+        let bits = part(*k as usize);
+        lists::copy(room, at, bits);
+        at += bits.len();
     }
     at
 }
 
 // Stores the outputs of the listed ports, and says where they end.
+#[tactic(auto, unfolding(rules::specs::Ports::extract_read_ports))]
 fn put_outputs(room: &mut [u32], m: Memory, output: &[u32], list: &[u32]) -> usize
     requires { length list.now ≤ max_ports }
     ensures by_index { (nets trits : List ℕ) → result ≡ length (new_output m nets trits list.now output.now) }
     ensures by_index_2 { (nets trits : List ℕ) → room.new ≡ sets room.old 0 (new_output m nets trits list.now output.now) }
 {
-    let mut at: usize = 0;
-    for j in 0..list.len() {
-        let k = list[j] as usize;
-        let bits = output_part(m, output, k);
-        lists::copy(room, at, bits);
-        at += bits.len();
-    }
-    at
+    put_parts(room, 0, list, |k| output_part(m, output, k))
 }
 
 // Stores the new nets, and says how many they are.
@@ -103,7 +86,12 @@ fn put_nets(room: &mut [u32], m: Memory, nets: &[u32], list: &[u32]) -> usize
 {
     let front = lists::part(nets, 0, net_memory::reads_start(m));
     lists::copy(room, 0, front);
-    put_addrs(room, front.len(), m, nets, list)
+    put_parts(
+        room,
+        front.len(),
+        list,
+        |k| net_memory::read_nets(m, nets, k),
+    )
 }
 
 // Stores the new trits, and says how many they are.
@@ -115,7 +103,7 @@ fn put_trits(room: &mut [u8], m: Memory, trits: &[u8], list: &[u32]) -> usize
 {
     let front = lists::part(trits, 0, net_memory::init_size(m));
     lists::copy(room, 0, front);
-    put_values(room, front.len(), m, trits, list)
+    put_parts(room, front.len(), list, |k| clocked_trits(m, trits, k))
 }
 
 // A port as the new memory has it: without a flip-flop it keeps no trits.
@@ -139,11 +127,8 @@ fn pick_ports(m: Memory, list: &[u32]) -> Memory
 {
     let mut out = m;
     out.read_count = list.len() as u32;
-    for j in 0..list.len() {
-        let k = list[j] as usize;
-        let p = m.read_ports[k];
-        let q = kept_port(p);
-        out.read_ports[j] = q;
+    for (j, k) in list.iter().enumerate() {
+        out.read_ports[j] = kept_port(m.read_ports[*k as usize]);
     }
     out
 }

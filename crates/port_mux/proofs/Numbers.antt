@@ -22,7 +22,16 @@ use Rattle.net_memory.specs.View.{memory_of, reads_of, writes_of, read_port, rea
 use Rattle.net_memory.specs.Given.{given_of}
 use Rattle.port_overlay.proofs.Laid.{width_is}
 use Rattle.port_unmap.proofs.Short.{view_at, addr_is}
-use Rattle.port_mux.specs.Call.{overlay_of}
+use Rattle.port_mux.specs.Call.{overlay_of, given_mask}
+use Rattle.std.specs.Prelude.{Option, None, Some, is_some}
+use Rattle.std.specs.Borrow.{Bor}
+
+-- ---- a mask that is handed, or none
+pub none_is : (o : Option (Bor Value)) → o ≡ None → is_some o ≡ false
+none_is o e = ap (λ (x : Option (Bor Value)). is_some x) e
+
+pub some_is : (o : Option (Bor Value)) (k : Bor Value) → o ≡ Some k → (is_some o ≡ true) × (k.now ≡ given_mask o)
+some_is o k e = (ap (λ (x : Option (Bor Value)). is_some x) e, sym (ap given_mask e))
 
 -- ---- a test of the overlay's values
 or_none : (a : Bool) → a ≡ (a || false)

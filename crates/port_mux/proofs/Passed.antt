@@ -23,8 +23,7 @@ use Rattle.rules.specs.Refusals.{mem_number, overlay_values, bad_overlay_lens, n
 use Rattle.rules.proofs.Counted.{start_le}
 use Rattle.log_entries.specs.Emission.{Lent}
 use Rattle.net_memory.specs.declared.Memory.{Memory}
-use Rattle.net_memory.specs.declared.MemoryReadPort.{MemoryReadPort}
-use Rattle.net_memory.specs.View.{memory_of, reads_of, read_port, read_nets}
+use Rattle.net_memory.specs.View.{memory_of, reads_of, read_port}
 use Rattle.net_memory.specs.Given.{given_of}
 use Rattle.net_check.proofs.Accept.{Valid, valid, sizes}
 use Rattle.port_transparency.specs.Gave.{Gave}
@@ -34,7 +33,7 @@ use Rattle.port_overlay.proofs.Laid.{width_is}
 use Rattle.port_overlay.proofs.Fits.{Reads, Writes, writes_shaped, reads_shaped, size_few, laid_is}
 use Rattle.port_overlay.proofs.Bounds.{Small, FewMask, most_mux}
 use Rattle.port_mux.specs.Call.{overlay_of, Paired}
-use Rattle.port_mux.proofs.Numbers.{data_at, addr_at, wide_at}
+use Rattle.port_mux.proofs.Numbers.{data_at, wide_at}
 
 -- ---- what the numbers tell
 and_false : (a b : Bool) → (not a && b) ≡ false → a ≡ false → b ≡ false
@@ -166,10 +165,6 @@ module _ (m : Memory) (nets trits : List ℕ) (i j : ℕ) (masked : Bool) (bits 
   pub data_few : (read_port m i).data_len ≤ 2048
   data_few = omega (arith, read_few, data_at m nets trits i g.there)
 
-  -- the length of the data
-  pub size_is : (p : MemoryReadPort) → p ≡ read_port m i → p.data_len ≡ length bits
-  size_is p e = ap (λ (q : MemoryReadPort). q.data_len) e ∙ sym g.bits_like
-
   pub len_is : length bits ≡ (read_at_of W i).data_len
   len_is = g.bits_like ∙ sym (data_at m nets trits i g.there)
 
@@ -184,37 +179,34 @@ module _ (m : Memory) (nets trits : List ℕ) (i j : ℕ) (masked : Bool) (bits 
       mask_few q = omega (arith, g.mask_like q, data_few)
 
   -- the pair as the code has it
-  pub pair_is : (kr n : ℕ) (raddr : Value) (x : Overlay) → kr ≡ wide_log2 m.width n → n ≡ (read_port m i).data_len → raddr ≡ read_nets m nets i
+  pub pair_is : (kr n : ℕ) (raddr : Value) (x : Overlay) → kr ≡ wide_log2 m.width n → n ≡ (read_port m i).data_len → raddr ≡ (read_at_of W i).addr
       → laid_by W kr (reading raddr n) j x ≡ transparency_mux W i j x
   pair_is kr n raddr x ek en ea =
       let k = wide_at m nets trits i g.there kr n ek en in
-      let a = ea ∙ addr_at m nets trits i g.there in
       let d = en ∙ sym (data_at m nets trits i g.there) in
-      (λ q. laid_by W (k q) (reading (a q) (d q)) j x) ∙ laid_is W i g.writes_good reads_of_lem thin_of j x g.written g.enough
+      (λ q. laid_by W (k q) (reading (ea q) (d q)) j x) ∙ laid_is W i g.writes_good reads_of_lem thin_of j x g.written g.enough
 
-  module _ (p : MemoryReadPort) (ep : p ≡ read_port m i) (kr n : ℕ) (raddr under under1 under2 : List ℕ) (l l1 : Lent) (ek : kr ≡ wide_log2 m.width n) (en : n ≡ p.data_len)
-      (ea : raddr ≡ read_nets m nets i) (eu : under1 ≡ sets under 0 bits) (ru : 4096 ≤ length under) where
-    n_is : n ≡ (read_port m i).data_len
-    n_is = en ∙ ap (λ (q : MemoryReadPort). q.data_len) ep
+  module _ (kr : ℕ) (raddr under under1 under2 : List ℕ) (l l1 : Lent) (ek : kr ≡ wide_log2 m.width (length bits))
+      (ea : raddr ≡ (read_at_of W i).addr) (eu : under1 ≡ sets under 0 bits) (ru : 4096 ≤ length under) where
+    abbrev n : ℕ
+    n = length bits
 
     bits_are : take n under1 ≡ bits
-    bits_are = take_stored under under1 bits n eu (n_is ∙ sym g.bits_like) (omega (arith, n_is, data_few))
+    bits_are = take_stored under under1 bits n eu refl (omega (arith, g.bits_like, data_few))
 
     pub gave_plain : (over2 : List ℕ) → masked ≡ false → Gave (laid_by W kr (reading raddr n) j (plain (take n under1))) l l1 (plain (take n under2))
-        → Gave (transparency_mux W i j (overlay_of masked bits mask)) l l1 (overlay_of masked (take p.data_len under2) (take p.data_len over2))
+        → Gave (transparency_mux W i j (overlay_of masked bits mask)) l l1 (overlay_of masked (take n under2) (take n over2))
     gave_plain over2 q h =
-        subst (λ (b : Bool). Gave (transparency_mux W i j (overlay_of b bits mask)) l l1 (overlay_of b (take p.data_len under2) (take p.data_len over2))) (sym q)
-        (subst (λ (k : ℕ). Gave (transparency_mux W i j (plain bits)) l l1 (plain (take k under2))) en
+        subst (λ (b : Bool). Gave (transparency_mux W i j (overlay_of b bits mask)) l l1 (overlay_of b (take n under2) (take n over2))) (sym q)
         (subst (λ (v : Value). Gave (transparency_mux W i j (plain v)) l l1 (plain (take n under2))) bits_are
-        (rw (pair_is kr n raddr (plain (take n under1)) ek n_is ea) at h)))
+        (rw (pair_is kr n raddr (plain (take n under1)) ek g.bits_like ea) at h))
 
     pub gave_masked : (over over1 over2 : List ℕ) → masked ≡ true → over1 ≡ sets over 0 mask → 4096 ≤ length over
         → Gave (laid_by W kr (reading raddr n) j (with_mask (take n under1) (take n over1))) l l1 (with_mask (take n under2) (take n over2))
-        → Gave (transparency_mux W i j (overlay_of masked bits mask)) l l1 (overlay_of masked (take p.data_len under2) (take p.data_len over2))
+        → Gave (transparency_mux W i j (overlay_of masked bits mask)) l l1 (overlay_of masked (take n under2) (take n over2))
     gave_masked over over1 over2 q eo ro h =
-        let b = take_stored over over1 mask n eo (n_is ∙ sym (g.mask_like q)) (omega (arith, n_is, data_few)) in
-        subst (λ (t : Bool). Gave (transparency_mux W i j (overlay_of t bits mask)) l l1 (overlay_of t (take p.data_len under2) (take p.data_len over2))) (sym q)
-        (subst (λ (k : ℕ). Gave (transparency_mux W i j (with_mask bits mask)) l l1 (with_mask (take k under2) (take k over2))) en
+        let b = take_stored over over1 mask n eo (g.bits_like ∙ sym (g.mask_like q)) (omega (arith, g.bits_like, data_few)) in
+        subst (λ (t : Bool). Gave (transparency_mux W i j (overlay_of t bits mask)) l l1 (overlay_of t (take n under2) (take n over2))) (sym q)
         (subst (λ (v : Value). Gave (transparency_mux W i j (with_mask bits v)) l l1 (with_mask (take n under2) (take n over2))) b
         (subst (λ (v : Value). Gave (transparency_mux W i j (with_mask v (take n over1))) l l1 (with_mask (take n under2) (take n over2))) bits_are
-        (rw (pair_is kr n raddr (with_mask (take n under1) (take n over1)) ek n_is ea) at h))))
+        (rw (pair_is kr n raddr (with_mask (take n under1) (take n over1)) ek g.bits_like ea) at h)))

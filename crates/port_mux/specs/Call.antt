@@ -1,5 +1,6 @@
 -- `transparency_mux` on a machine's memory: the overlay, the whole answer as the rules have it, and what numbers 1 to 4, 14 and 15 leave true.
-use Rattle.std.specs.Prelude.{◌≡◌, ℕ, ◌<◌, ◌≤◌, min, Bool, true, false, List, [], length, take, Result}
+use Rattle.std.specs.Prelude.{◌≡◌, ℕ, ◌<◌, ◌≤◌, min, Bool, true, false, List, [], length, take, Result, Option, None, Some, is_some}
+use Rattle.std.specs.Borrow.{Bor}
 use Rattle.std.proofs.Math.Option.{none, some}
 use Rattle.std.proofs.lemmas.List.Edits.{sets}
 use Rattle.lists.specs.Choice.{when◌then◌else◌, leaves}
@@ -16,10 +17,20 @@ use Rattle.log_entries.specs.declared.LogState as machine
 use Rattle.log_requests.specs.Answers.{logged_of}
 use Rattle.net_memory.specs.declared.Memory.{Memory}
 use Rattle.net_memory.specs.View.{memory_of, read_port}
+use Rattle.port_mux.specs.declared.Asked.{Asked}
 
 -- data, and a mask where one is wanted
 abbrev pub overlay_of : Bool → Value → Value → Overlay
 overlay_of masked bits mask = record { bits = bits; mask = when masked then some mask else none }
+
+-- the mask that is handed
+abbrev pub given_mask : Option (Bor Value) → Value
+given_mask None = []
+given_mask (Some k) = k.now
+
+-- data and mask as they are handed
+abbrev pub asked_of : Asked → Overlay
+asked_of o = overlay_of (is_some o.mask) o.bits.now (given_mask o.mask)
 
 -- a value where it is wanted
 abbrev pub wanted_of : Bool → Value → Value

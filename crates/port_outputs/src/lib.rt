@@ -16,6 +16,7 @@ ghost use Rattle.rules.specs.Answers.{output_len_call, output_slice_call, can_lo
 ghost use Rattle.net_memory.specs.Given.{view_given};
 ghost use Rattle.port_outputs.specs.View.{slice_of};
 
+use net_check::Breaks;
 use net_memory::{Given, Memory, MemoryWritePort};
 use net_value::ControlNet;
 use rules::Refusal;
@@ -54,7 +55,15 @@ pub fn driving_refusal(
 {
     let two = output_len_bad(given.memory, output.len());
     let good = net_value::value_good(next, output);
-    net_check::call_refusal(given, next, one, two, !good)
+    net_check::call_refusal(
+        given,
+        next,
+        Breaks {
+            large: one,
+            shape: two,
+            value: !good,
+        },
+    )
 }
 
 // The read ports' data bits in all.

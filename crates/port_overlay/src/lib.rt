@@ -8,14 +8,15 @@ ghost use Rattle.rules.specs.Cell.{write_at, write_wide_log2};
 ghost use Rattle.log_entries.specs.Emission.{is_over, run};
 ghost use Rattle.log_entries.specs.View.{state_of, lent_of};
 ghost use Rattle.net_memory.specs.View.{memory_of};
+ghost use Rattle.net_memory.specs.Given.{mem_of};
 ghost use Rattle.port_transparency.specs.Gave.{Gave};
-ghost use Rattle.port_transparency.specs.Pairs.{writing, write_of, read_of, plain};
+ghost use Rattle.port_transparency.specs.Pairs.{writing, write_of, read_of, data_and};
 ghost use Rattle.port_overlay.specs.Laid.{laid_by, laid_as, laid_from, behind, with_bits, unmapped, unmapped_if};
 
 use log_entries::Log;
 use net_flip_flop::FlipFlop;
-use net_memory::Memory;
-use port_transparency::{Overlay, Reading, Writing};
+use net_memory::{Given, Memory, MemoryPortRelation};
+use port_transparency::{NoMask, Over, Overlay, Reading, Writing};
 
 // The address of write port i.
 pub fn write_addr(m: Memory, nets: &[u32], i: usize) -> &[u32]
@@ -40,64 +41,65 @@ pub fn write_data(m: Memory, nets: &[u32], i: usize) -> &[u32]
 }
 
 // Write port j, as a transparency reads it.
-pub fn writing(m: Memory, nets: &[u32], j: usize) -> Writing
-    ensures k_value { (trits : List ℕ) → result.k ≡ write_wide_log2 (memory_of m nets.now trits) (write_at (memory_of m nets.now trits) j) }
-    ensures port { (trits : List ℕ) → write_of result ≡ writing (write_at (memory_of m nets.now trits) j).addr (write_at (memory_of m nets.now trits) j).bits (write_at (memory_of m nets.now trits) j).mask }
+pub fn writing<'a>(given: Given<'a>, j: usize) -> Writing<'a>
+    ensures k_value { result.k ≡ write_wide_log2 (mem_of given.entry) (write_at (mem_of given.entry) j) }
+    ensures port { write_of result ≡ writing (write_at (mem_of given.entry) j).addr (write_at (mem_of given.entry) j).bits (write_at (mem_of given.entry) j).mask }
 {
-    let bits = write_data(m, nets, j);
+    let w = given.write_port(j);
+    let bits = w.bits();
     Writing {
-        k: net_memory::wide::wide_log(m.width, bits.len()),
-        addr: write_addr(m, nets, j),
+        k: net_memory::wide::wide_log(given.memory.width, bits.len()),
+        addr: w.addr(),
         bits,
-        mask: net_memory::write_mask(m, nets, j),
+        mask: w.mask(),
     }
 }
 
-// Write port j over what a read port reads.
-pub fn emit_pair<'a>(
+// Write port j over what a read port reads, and over its mask where there is one.
+pub fn emit_pair<'a, O: Over>(
     log: &mut Log,
     overlay: &mut Overlay,
-    m: Memory,
-    nets: &'a [u32],
+    over: &mut O,
+    given: Given<'a>,
     j: usize,
     r: Reading<'a>,
 )
-    ensures { (trits : List ℕ) → Gave (laid_by (memory_of m nets.now trits) r.entry.k (read_of r.entry) j (plain (take r.entry.count overlay.old.under))) (lent_of log.old) (lent_of log.new) (plain (take r.entry.count overlay.new.under)) }
+    ensures { Gave (laid_by (mem_of given.entry) r.entry.k (read_of r.entry) j (data_and (take r.entry.count overlay.old.under) (O.mask over.old r.entry.count))) (lent_of log.old) (lent_of log.new) (data_and (take r.entry.count overlay.new.under) (O.mask over.new r.entry.count)) }
 {
-    overlay.emit_transparency(log, writing(m, nets, j), r);
+    overlay.emit_transparency(log, over, writing(given, j), r);
 }
 
 // The same where the relation to it is Transparent.
-fn emit_related<'a>(
+fn emit_related<'a, O: Over>(
     log: &mut Log,
     overlay: &mut Overlay,
-    m: Memory,
-    nets: &'a [u32],
+    over: &mut O,
+    given: Given<'a>,
     x: u8,
     j: usize,
     r: Reading<'a>,
 )
-    ensures { (trits : List ℕ) → Gave (laid_as (memory_of m nets.now trits) r.entry.k (read_of r.entry) x j (plain (take r.entry.count overlay.old.under))) (lent_of log.old) (lent_of log.new) (plain (take r.entry.count overlay.new.under)) }
+    ensures { Gave (laid_as (mem_of given.entry) r.entry.k (read_of r.entry) x j (data_and (take r.entry.count overlay.old.under) (O.mask over.old r.entry.count))) (lent_of log.old) (lent_of log.new) (data_and (take r.entry.count overlay.new.under) (O.mask over.new r.entry.count)) }
 {
-    if x != 2 {
+    if x != MemoryPortRelation::Transparent.code() {
         return;
     }
-    emit_pair(log, overlay, m, nets, j, r);
+    emit_pair(log, overlay, over, given, j, r);
 }
 
 // The write ports that these relations are Transparent to, one after the other.
-fn emit_pairs<'a>(
+pub fn emit_pairs<'a, O: Over>(
     log: &mut Log,
     overlay: &mut Overlay,
-    m: Memory,
-    nets: &'a [u32],
+    over: &mut O,
+    given: Given<'a>,
     rels: &[u8],
     r: Reading<'a>,
 )
-    ensures { (trits : List ℕ) → Gave (laid_from (memory_of m nets.now trits) r.entry.k (read_of r.entry) 0 rels.now (plain (take r.entry.count overlay.old.under))) (lent_of log.old) (lent_of log.new) (plain (take r.entry.count overlay.new.under)) }
+    ensures { Gave (laid_from (mem_of given.entry) r.entry.k (read_of r.entry) 0 rels.now (data_and (take r.entry.count overlay.old.under) (O.mask over.old r.entry.count))) (lent_of log.old) (lent_of log.new) (data_and (take r.entry.count overlay.new.under) (O.mask over.new r.entry.count)) }
 {
     for (j, x) in rels.iter().enumerate() {
-        emit_related(log, overlay, m, nets, *x, j, r);
+        emit_related(log, overlay, over, given, *x, j, r);
     }
 }
 
@@ -118,19 +120,18 @@ fn emit_behind(log: &mut Log, overlay: &mut Overlay, f: FlipFlop, n: usize)
 fn emit_unmapped<'a>(
     log: &mut Log,
     overlay: &mut Overlay,
-    m: Memory,
-    nets: &'a [u32],
+    given: Given<'a>,
     rels: &[u8],
     r: Reading<'a>,
     f: FlipFlop,
 ) -> u32
     requires { r.count ≤ max_merge }
-    ensures by_index { (trits : List ℕ) → lent_of log.new ≡ run (unmapped (memory_of m nets.now trits) r.entry.k (read_of r.entry) r.entry.count rels.now (with_bits f.entry) f.entry.bits.now) (lent_of log.old) }
+    ensures by_index { lent_of log.new ≡ run (unmapped (mem_of given.entry) r.entry.k (read_of r.entry) r.entry.count rels.now (with_bits f.entry) f.entry.bits.now) (lent_of log.old) }
     ensures last_value { is_over (state_of log.new.state) ≡ false → result ≡ log.old.state.next + r.entry.count }
 {
     port_transparency::void_into(log, &mut overlay.under, r.count as u32);
     let last = log.state.next;
-    emit_pairs(log, overlay, m, nets, rels, r);
+    emit_pairs(log, overlay, &mut NoMask, given, rels, r);
     emit_behind(log, overlay, f, r.count);
     last
 }
@@ -139,17 +140,16 @@ fn emit_unmapped<'a>(
 pub fn emit_unmap<'a>(
     log: &mut Log,
     overlay: &mut Overlay,
-    m: Memory,
-    nets: &'a [u32],
+    given: Given<'a>,
     rels: &[u8],
     r: Reading<'a>,
     f: FlipFlop,
 ) -> u32
-    ensures by_index { (trits : List ℕ) → lent_of log.new ≡ run (unmapped_if (memory_of m nets.now trits) r.entry.k (read_of r.entry) r.entry.count rels.now (with_bits f.entry) f.entry.bits.now) (lent_of log.old) }
+    ensures by_index { lent_of log.new ≡ run (unmapped_if (mem_of given.entry) r.entry.k (read_of r.entry) r.entry.count rels.now (with_bits f.entry) f.entry.bits.now) (lent_of log.old) }
     ensures last_value { r.entry.count ≤ max_merge → is_over (state_of log.new.state) ≡ false → result ≡ log.old.state.next + r.entry.count }
 {
     if rules::MAX_MERGE < r.count {
         return log.state.next;
     }
-    emit_unmapped(log, overlay, m, nets, rels, r, f)
+    emit_unmapped(log, overlay, given, rels, r, f)
 }

@@ -12,7 +12,7 @@ use Rattle.lists.specs.Choice.{when◌then◌else◌, ◌or_else◌}
 use Rattle.lists.specs.Lists.{any, part, up_from}
 use Rattle.lists.proofs.Choice.{else_first, else_rest, hit, miss}
 use Rattle.rules.specs.Limits.{max_ports}
-use Rattle.rules.specs.Value.{Control, same_control}
+use Rattle.rules.specs.Value.{Control}
 use Rattle.rules.specs.Cell.{ReadFlipFlop, ReadPort, Mem, flip_flops, held, is_some, is_transparent, is_read_before_write, ReadBeforeWrite, Transparent}
 use Rattle.rules.specs.Ports.{relates_to}
 use Rattle.rules.specs.Conditions.{clocks_differ, read_clocks_differ, mixed_relations, unclocked}
@@ -29,7 +29,7 @@ use Rattle.net_memory.specs.Given.{clocked, given_of}
 use Rattle.std.specs.List.{range_with_len}
 use Rattle.lists.specs.Views.{views}
 use Rattle.net_memory.specs.View.{read_by, flip_flop_by, writes_of, addr_size, trit_size, read_ports_of, memory_of}
-use Rattle.port_relations.specs.Clocked.{clock_of, other_clock, port_differs, clocks_differ_of, has_relation, port_relates, mixed_ports, flip_flops_from}
+use Rattle.port_relations.specs.Clocked.{other_clock, differs, port_differs, first_differs, clocks_differ_of, has_relation, port_relates, mixed_ports, flip_flops_from}
 
 any_append : {A : Type 0} (f : A → Bool) (a b : List A) → any f (a ++ b) ≡ (any f a || any f b)
 any_append f [] b = refl
@@ -44,7 +44,7 @@ or_none true = refl
 or_none false = refl
 
 -- a port's own flip-flop, by the struct
-pub differs_by : (k : Control) (p : MemoryReadPort) (y : List ℕ) (f : MemoryReadFlipFlop) → any (other_clock k) (held (flip_flop_by f p y)) ≡ (clocked f && not (same_control (control_of (clock_of f)) k))
+pub differs_by : (k : Control) (p : MemoryReadPort) (y : List ℕ) (f : MemoryReadFlipFlop) → any (other_clock k) (held (flip_flop_by f p y)) ≡ differs k f
 unfolding held
 differs_by k p y None = refl
 differs_by k p y (Some c) = or_none _
@@ -79,18 +79,17 @@ module _ (nets : List ℕ) where
       ∙ sym (any_append f (held (flip_flop_by p.flip_flop p (take (trit_size p) y))) (flip_flops (views_of ps (drop (addr_size p) x) (drop (trit_size p) y))))
 
   clock_by : (f : MemoryReadFlipFlop) (p : MemoryReadPort) (z : List ℕ) (ps : List MemoryReadPort) (rest : List ReadFlipFlop)
-      → any (port_differs (control_of (clock_of f))) ps ≡ any (other_clock (control_of (clock_of f))) rest → clocks_differ_of ps ≡ clocks_differ rest
-      → (when clocked f then any (port_differs (control_of (clock_of f))) ps else clocks_differ_of ps) ≡ clocks_differ (held (flip_flop_by f p z) ++ rest)
+      → ((k : Control) → any (port_differs k) ps ≡ any (other_clock k) rest) → clocks_differ_of ps ≡ clocks_differ rest
+      → first_differs f ps (clocks_differ_of ps) ≡ clocks_differ (held (flip_flop_by f p z) ++ rest)
   unfolding held clocks_differ
   clock_by None p z ps rest a b = b
-  clock_by (Some c) p z ps rest a b = a
+  clock_by (Some c) p z ps rest a b = a (control_of c.clock)
 
   clocks_views : (ps : List MemoryReadPort) (x y : List ℕ) → clocks_differ_of ps ≡ clocks_differ (flip_flops (views_of ps x y))
   unfolding flip_flops clocks_differ
   clocks_views [] x y = refl
   clocks_views (p ∷ ps) x y =
-      let k = control_of (clock_of p.flip_flop) in
-      clock_by p.flip_flop p (take (trit_size p) y) ps _ (any_views (other_clock k) (port_differs k) (λ q z. differs_by k q z q.flip_flop) ps _ _) (clocks_views ps _ _)
+      clock_by p.flip_flop p (take (trit_size p) y) ps _ (λ k. any_views (other_clock k) (port_differs k) (λ q z. differs_by k q z q.flip_flop) ps _ _) (clocks_views ps _ _)
 
   open_views : (ps : List MemoryReadPort) (x y : List ℕ) → any (λ (p : MemoryReadPort). not (clocked p.flip_flop)) ps ≡ any unclocked (views_of ps x y)
   unfolding unclocked

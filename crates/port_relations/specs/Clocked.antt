@@ -1,11 +1,8 @@
 -- What the code asks of the structs of read ports, and their flip-flops as the rules have them.
 use Rattle.std.specs.Prelude.{ℕ, Bool, false, ◌&&◌, not, List, [], ◌∷◌, drop, get_or, eqb}
-use Rattle.lists.specs.Choice.{when◌then◌else◌}
 use Rattle.lists.specs.Lists.{any, part}
 use Rattle.rules.specs.Value.{Control, same_control}
 use Rattle.rules.specs.Cell.{ReadFlipFlop, flip_flops, Undefined, ReadBeforeWrite, Transparent}
-use Rattle.net_value.specs.declared.ControlNet.{ControlNet}
-use Rattle.net_value.specs.declared.ControlNet.TheVariants.{Pos}
 use Rattle.net_value.specs.View.{control_of}
 use Rattle.net_memory.specs.FlipFlop.{MemoryReadFlipFlop}
 use Rattle.std.specs.Prelude.{None, Some}
@@ -14,22 +11,25 @@ use Rattle.net_memory.specs.declared.Memory.{Memory}
 use Rattle.net_memory.specs.Given.{clocked}
 use Rattle.net_memory.specs.View.{reads_of}
 
--- the clock of a port; of one without a flip-flop, any
-abbrev pub clock_of : MemoryReadFlipFlop → ControlNet
-clock_of None = Pos (record { 0 = 0 })
-clock_of (Some f) = f.clock
-
 -- a flip-flop of another clock
 abbrev pub other_clock : Control → ReadFlipFlop → Bool
 other_clock k f = not (same_control f.controls.clock k)
 
-abbrev pub port_differs : Control → MemoryReadPort → Bool
-port_differs k p = clocked p.flip_flop && not (same_control (control_of (clock_of p.flip_flop)) k)
+abbrev pub differs : Control → MemoryReadFlipFlop → Bool
+differs k None = false
+differs k (Some c) = not (same_control (control_of c.clock) k)
 
--- two clocked ports of these have different clocks
+abbrev pub port_differs : Control → MemoryReadPort → Bool
+port_differs k p = differs k p.flip_flop
+
+-- two clocked ports of these have different clocks: one of those behind the first clocked one has another
+abbrev pub first_differs : MemoryReadFlipFlop → List MemoryReadPort → Bool → Bool
+first_differs None ps rest = rest
+first_differs (Some c) ps rest = any (port_differs (control_of c.clock)) ps
+
 abbrev pub clocks_differ_of : List MemoryReadPort → Bool
 clocks_differ_of [] = false
-clocks_differ_of (p ∷ ps) = when clocked p.flip_flop then any (port_differs (control_of (clock_of p.flip_flop))) ps else clocks_differ_of ps
+clocks_differ_of (p ∷ ps) = first_differs p.flip_flop ps (clocks_differ_of ps)
 
 -- a flip-flop with this relation to write port j
 abbrev pub has_relation : ℕ → ℕ → ReadFlipFlop → Bool

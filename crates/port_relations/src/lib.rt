@@ -10,43 +10,21 @@ ghost use Rattle.rules.specs.Refusal.{number_of};
 ghost use Rattle.rules.specs.Refusals.{emulate_number};
 ghost use Rattle.net_value.specs.View.{control_of};
 ghost use Rattle.net_memory.specs.declared.MemoryReadPort.{MemoryReadPort};
+ghost use Rattle.net_memory.specs.Ports.{code_of};
 ghost use Rattle.net_memory.specs.Given.{clocked, view_given, mem_of};
-ghost use Rattle.port_relations.specs.Clocked.{clock_of, port_differs, clocks_differ_of, has_relation, port_relates, mixed_ports, flip_flops_from};
+ghost use Rattle.port_relations.specs.Clocked.{port_differs, clocks_differ_of, has_relation, port_relates, mixed_ports, flip_flops_from};
 
-use net_memory::{Given, Memory, MemoryReadPort};
-use net_value::{ControlNet, Net};
+use net_check::Breaks;
+use net_memory::{Given, Memory, MemoryPortRelation, MemoryReadPort};
+use net_value::ControlNet;
 use rules::Refusal;
-
-// The codes of a relation, as rules/specs/Cell.antt has them.
-pub const UNDEFINED: u8 = 0;
-
-pub const READ_BEFORE_WRITE: u8 = 1;
-
-pub const TRANSPARENT: u8 = 2;
-
-// The port has a flip-flop.
-fn is_clocked(p: MemoryReadPort) -> bool
-    ensures { result ≡ clocked p.flip_flop }
-{
-    p.flip_flop.is_some()
-}
-
-// Its clock.
-fn clock_of(p: MemoryReadPort) -> ControlNet
-    ensures { result ≡ clock_of p.flip_flop }
-{
-    match p.flip_flop {
-        None => ControlNet::Pos(Net(0)),
-        Some(c) => c.clock,
-    }
-}
 
 // The port is clocked, and not by this clock.
 #[tactic(auto, unfolding(rules::specs::Value::same_control))]
 fn port_differs(p: MemoryReadPort, clock: ControlNet) -> bool
     ensures { result ≡ port_differs (control_of clock) p }
 {
-    is_clocked(p) && clock_of(p) != clock
+    p.flip_flop.is_some_and(|c| c.clock != clock)
 }
 
 // One of these ports is clocked by another clock.
@@ -63,51 +41,49 @@ fn clocks_differ(ports: &[MemoryReadPort]) -> bool
     let Some((port, rest)) = ports.split_first() else {
         return false;
     };
-    if is_clocked(*port) {
-        return any_differs(rest, clock_of(*port));
+    match port.flip_flop {
+        Some(c) => any_differs(rest, c.clock),
+        None => clocks_differ(rest),
     }
-    clocks_differ(rest)
 }
 
-// The relation of a port to write port j; Undefined where it names none.
+// The code of a port's relation to write port j; Undefined where it names none.
 fn relation_to(p: MemoryReadPort, j: usize) -> u8
     ensures { result ≡ get_or (part 0 p.relations_len p.relations) j 0 }
 {
-    let relations = p.relations;
-    let named = lists::part(&relations, 0, p.relations_len as usize);
-    if named.len() <= j {
-        return UNDEFINED;
-    }
-    named[j]
+    let named = lists::part(&p.relations, 0, p.relations_len as usize);
+    let undefined = MemoryPortRelation::Undefined.code();
+    named.get(j).copied().unwrap_or(undefined)
 }
 
 // The port is clocked, and has this relation to write port j.
-fn port_relates(p: MemoryReadPort, j: usize, code: u8) -> bool
-    ensures { result ≡ port_relates code j p }
+fn port_relates(p: MemoryReadPort, j: usize, relation: MemoryPortRelation) -> bool
+    ensures { result ≡ port_relates (code_of relation) j p }
 {
-    is_clocked(p) && relation_to(p, j) == code
+    p.flip_flop.is_some() && relation_to(p, j) == relation.code()
 }
 
 // One of these ports is clocked, and has this relation to write port j.
-fn any_relates(ports: &[MemoryReadPort], j: usize, code: u8) -> bool
-    ensures { result ≡ any (port_relates code j) ports.now }
+pub fn any_relates(ports: &[MemoryReadPort], j: usize, relation: MemoryPortRelation) -> bool
+    ensures { result ≡ any (port_relates (code_of relation) j) ports.now }
 {
-    ports.iter().any(|port| port_relates(*port, j, code))
+    ports.iter().any(|port| port_relates(*port, j, relation))
 }
 
 // Some clocked read port has this relation to write port j.
-pub fn relates_to(m: Memory, j: usize, code: u8) -> bool
-    ensures { (nets trits : List ℕ) → result ≡ any (has_relation code j) (flip_flops_from m nets trits 0) }
+pub fn relates_to(m: Memory, j: usize, relation: MemoryPortRelation) -> bool
+    ensures { (nets trits : List ℕ) → result ≡ any (has_relation (code_of relation) j) (flip_flops_from m nets trits 0) }
 {
     let count = net_memory::ports_used(m.read_count);
-    any_relates(&m.read_ports[..count], j, code)
+    any_relates(&m.read_ports[..count], j, relation)
 }
 
 // Both ReadBeforeWrite and Transparent relate these ports to write port j.
 fn ports_mixed(ports: &[MemoryReadPort], j: usize) -> bool
     ensures { result ≡ mixed_ports ports.now j }
 {
-    any_relates(ports, j, READ_BEFORE_WRITE) && any_relates(ports, j, TRANSPARENT)
+    any_relates(ports, j, MemoryPortRelation::ReadBeforeWrite)
+        && any_relates(ports, j, MemoryPortRelation::Transparent)
 }
 
 // Both relate them to one of so many write ports.
@@ -121,14 +97,14 @@ fn any_mixed(ports: &[MemoryReadPort], count: usize) -> bool
 fn any_unclocked(ports: &[MemoryReadPort]) -> bool
     ensures { result ≡ any (λ (p : MemoryReadPort). not (clocked p.flip_flop)) ports.now }
 {
-    ports.iter().any(|port| !is_clocked(*port))
+    ports.iter().any(|port| port.flip_flop.is_none())
 }
 
 // 1 to 4, 12, 13 and 22.
 pub fn input_refusal(given: Given<'_>, next: u32) -> Result<(), Refusal>
     ensures { number_of result ≡ (emulate_number next (view_given given.entry) or_else (when any unclocked (mem_of given.entry).reads then 22 else 0)) }
 {
-    net_check::call_refusal(given, next, false, false, false)?;
+    net_check::call_refusal(given, next, Breaks::NOTHING)?;
     let ports = &given.memory.read_ports[..net_memory::ports_used(given.memory.read_count)];
     if clocks_differ(ports) {
         return Err(Refusal::ReadClocksDiffer);

@@ -37,13 +37,13 @@ struct Room {
 }
 
 // 14, where Transparent relations are to go.
-fn wanted_short(m: Memory, nets: &[u32], i: usize, incl: bool) -> bool
-    ensures { (trits : List ℕ) → result ≡ (incl && short_port (memory_of m nets.now trits) (read_at_of (memory_of m nets.now trits) i)) }
+fn wanted_short(given: Given<'_>, i: usize, incl: bool) -> bool
+    ensures { result ≡ (incl && short_port (mem_of given.entry) (read_at_of (mem_of given.entry) i)) }
 {
     if !incl {
         return false;
     }
-    port_unmap::port_short(m, nets, i)
+    port_unmap::port_short(given, i)
 }
 
 // 1 to 4, 14 and 15.
@@ -58,7 +58,7 @@ fn reset_refusal(
     ensures { number_of result ≡ unmap_reset_number next (view_given given.entry) i incl output.now }
 {
     port_outputs::driving_refusal(given, output, next, false)?;
-    if wanted_short(given.memory, given.nets, i, incl) {
+    if wanted_short(given, i, incl) {
         return Err(Refusal::ShortAddress);
     }
     if net_memory::ports_used(given.memory.read_count) <= i {
@@ -100,7 +100,7 @@ fn emit_port(
         init: net_memory::init_of(p, own),
     };
     let Room { overlay, mask } = room;
-    port_reset_emit::emit_reset(log, overlay, mask, given.memory, given.nets, rels, r, f)
+    port_reset_emit::emit_reset(log, overlay, mask, given, rels, r, f)
 }
 
 // 20 and 21 of it, by a run without a log.

@@ -8,7 +8,7 @@ ghost use Rattle.rules.specs.Limits.{max_merge, X};
 ghost use Rattle.rules.specs.Merge.{add_dedup_dff_of};
 ghost use Rattle.net_flip_flop.specs.View.{controls_of};
 ghost use Rattle.log_entries.specs.View.{lent_of};
-ghost use Rattle.net_memory.specs.View.{memory_of};
+ghost use Rattle.net_memory.specs.Given.{mem_of};
 ghost use Rattle.port_transparency.specs.Gave.{Gave};
 ghost use Rattle.port_transparency.specs.Pairs.{read_of};
 ghost use Rattle.port_overlay.specs.Laid.{with_bits};
@@ -18,7 +18,7 @@ ghost use Rattle.port_reset_emit.specs.Room.{zero_mask};
 use log_entries::Log;
 use merge_dff::Trits;
 use net_flip_flop::{Controls, FlipFlop};
-use net_memory::Memory;
+use net_memory::Given;
 use port_transparency::{Overlay, Reading};
 
 // Room for the mask of an unmapping: the mask, and the trits of its flip-flop.
@@ -32,17 +32,12 @@ pub struct Mask {
 
 impl Mask {
     // A room of zeros.
-    #[tactic(auto, unfolding(crate::specs::Room::zero_mask))]
     pub fn new() -> Mask
         ensures { result ≡ zero_mask }
     {
         Mask {
             over: [0; rules::MAX_MERGE],
-            trits: Trits {
-                clear: [0; rules::MAX_MERGE],
-                reset: [0; rules::MAX_MERGE],
-                init: [0; rules::MAX_MERGE],
-            },
+            trits: Trits::new(),
             ones: [0; rules::MAX_MERGE],
             starts: [0; rules::MAX_MERGE],
         }
@@ -151,17 +146,16 @@ fn emit_laid<'a>(
     log: &mut Log,
     overlay: &mut Overlay,
     mask: &mut Mask,
-    m: Memory,
-    nets: &'a [u32],
+    given: Given<'a>,
     rels: &[u8],
     r: Reading<'a>,
     f: FlipFlop,
 ) -> ResetNets
     requires { r.count ≤ max_merge }
-    ensures { (trits : List ℕ) → Gave (reset_laid (memory_of m nets.now trits) r.entry.k (read_of r.entry) r.entry.count rels.now (with_bits f.entry) (mask_of f.entry r.entry.count) f.entry.bits.now) (lent_of log.old) (lent_of log.new) (up_from result.first (result.last - result.first)) }
+    ensures { Gave (reset_laid (mem_of given.entry) r.entry.k (read_of r.entry) r.entry.count rels.now (with_bits f.entry) (mask_of f.entry r.entry.count) f.entry.bits.now) (lent_of log.old) (lent_of log.new) (up_from result.first (result.last - result.first)) }
 {
     start_over(overlay, mask, r.count);
-    port_masked::emit_masked_pairs(log, overlay, &mut mask.over, m, nets, rels, r);
+    port_overlay::emit_pairs(log, overlay, &mut mask.over, given, rels, r);
     emit_behind(log, overlay, mask, f, r.count)
 }
 
@@ -170,13 +164,12 @@ pub fn emit_reset<'a>(
     log: &mut Log,
     overlay: &mut Overlay,
     mask: &mut Mask,
-    m: Memory,
-    nets: &'a [u32],
+    given: Given<'a>,
     rels: &[u8],
     r: Reading<'a>,
     f: FlipFlop,
 ) -> ResetNets
-    ensures { (trits : List ℕ) → Gave (reset_if (memory_of m nets.now trits) r.entry.k (read_of r.entry) r.entry.count rels.now (with_bits f.entry) (mask_of f.entry r.entry.count) f.entry.bits.now) (lent_of log.old) (lent_of log.new) (up_from result.first (result.last - result.first)) }
+    ensures { Gave (reset_if (mem_of given.entry) r.entry.k (read_of r.entry) r.entry.count rels.now (with_bits f.entry) (mask_of f.entry r.entry.count) f.entry.bits.now) (lent_of log.old) (lent_of log.new) (up_from result.first (result.last - result.first)) }
 {
     if rules::MAX_MERGE < r.count {
         let next = log.state.next;
@@ -185,5 +178,5 @@ pub fn emit_reset<'a>(
             last: next,
         };
     }
-    emit_laid(log, overlay, mask, m, nets, rels, r, f)
+    emit_laid(log, overlay, mask, given, rels, r, f)
 }

@@ -10,7 +10,7 @@ use Rattle.lists.specs.Lists.{sum_by, part}
 use Rattle.lists.specs.Views.{views}
 use Rattle.rules.specs.Limits.{max_ports}
 use Rattle.rules.specs.Value.{Control, Pos, Neg, inverse}
-use Rattle.rules.specs.Cell.{Mem, Undefined, is_read_before_write}
+use Rattle.rules.specs.Cell.{Mem, Undefined, ReadBeforeWrite, is_read_before_write}
 use Rattle.rules.specs.Ports.{relates_to, settled, settled_flip_flop, settled_port}
 use Rattle.net_value.specs.View.{control_of}
 use Rattle.net_flip_flop.specs.View.{controls_of}
@@ -20,8 +20,8 @@ use Rattle.net_memory.specs.declared.MemoryWritePort.{MemoryWritePort}
 use Rattle.net_memory.specs.declared.MemoryReadPort.{MemoryReadPort}
 use Rattle.net_memory.specs.declared.Memory.{Memory}
 use Rattle.net_memory.specs.View.{write_size, addr_size, trit_size, no_trits, write_by, read_by, flip_flop_by, read_ports_of, reads_start, writes_of, memory_of}
-use Rattle.port_relations.proofs.Clocks.{before_is}
-use Rattle.port_settle.specs.Settled.{is_read, turned_by, turned_from, turned_mem, settled_mem, net_of, turned_port, undefined_if, first_changed, settled_by, turning, settling}
+use Rattle.port_relations.proofs.Clocks.{relates_are, before_is}
+use Rattle.port_settle.specs.Settled.{is_read, reads_before, turned_by, turned_from, turned_mem, settled_mem, net_of, turned_port, undefined_if, first_changed, settled_by, turning, settling}
 
 -- ---- a control to the machine's and back
 net_view : (c : Control) → control_of (net_of c) ≡ c
@@ -83,6 +83,10 @@ module _ (is : ℕ → Bool) (M : Mem) (e : (j : ℕ) → is j ≡ relates_to is
   settled-views [] s (suc n) x y = refl
   settled-views (p ∷ ps) s (suc n) x y =
       λ k. port_settled p (take (addr_size p) x) (take (trit_size p) y) k ∷ settled-views ps (suc s) n (drop (addr_size p) x) (drop (trit_size p) y) k
+
+-- ---- which write ports are read before they write
+pub before_are : (m : Memory) (nets trits : List ℕ) (n : ℕ) → n ≡ min max_ports m.read_count → (j : ℕ) → reads_before (take n m.read_ports) j ≡ is_read m nets trits j
+before_are m nets trits n e j = ap (λ (k : ℕ). reads_before (take k m.read_ports) j) e ∙ relates_are m nets trits ReadBeforeWrite j
 
 -- ---- the memory
 module _ (m : Memory) (nets nets' trits : List ℕ) where

@@ -13,11 +13,15 @@ use Rattle.net_value.specs.View.{control_of}
 use Rattle.net_memory.specs.declared.MemoryWritePort.{MemoryWritePort}
 use Rattle.net_memory.specs.declared.MemoryReadPort.{MemoryReadPort}
 use Rattle.net_memory.specs.declared.Memory.{Memory}
-use Rattle.port_relations.specs.Clocked.{has_relation, flip_flops_from}
+use Rattle.port_relations.specs.Clocked.{has_relation, port_relates, flip_flops_from}
 
 -- some read port reads before write port j writes
 abbrev pub is_read : Memory → List ℕ → List ℕ → ℕ → Bool
 is_read m nets trits j = any (has_relation ReadBeforeWrite j) (flip_flops_from m nets trits 0)
+
+-- the same of the structs of the read ports
+abbrev pub reads_before : List MemoryReadPort → ℕ → Bool
+reads_before ps j = any (port_relates ReadBeforeWrite j) ps
 
 -- ---- the memory
 -- a port at the other edge of its clock, by this test

@@ -5,9 +5,9 @@
 ghost use Rattle.std.specs.Prelude.{◌≡◌, List, ℕ, min};
 ghost use Rattle.rules.specs.Limits.{max_ports};
 ghost use Rattle.net_memory.specs.View.{memory_of};
-ghost use Rattle.port_settle.specs.Settled.{is_read, turned_mem, settled_mem, other_edge_of, turned_port, undefined_if, settled_by, turning, settling};
+ghost use Rattle.port_settle.specs.Settled.{is_read, reads_before, turned_mem, settled_mem, other_edge_of, turned_port, undefined_if, settled_by, turning, settling};
 
-use net_memory::{Memory, MemoryReadPort, MemoryWritePort};
+use net_memory::{Memory, MemoryPortRelation, MemoryReadPort, MemoryWritePort};
 
 // A write port at the other edge of its clock.
 fn other_edge(p: MemoryWritePort) -> MemoryWritePort
@@ -19,11 +19,11 @@ fn other_edge(p: MemoryWritePort) -> MemoryWritePort
     }
 }
 
-// Write port j, turned where a read port of `m` reads before it writes.
-fn turn_port(m: Memory, p: MemoryWritePort, j: usize) -> MemoryWritePort
-    ensures { (x y : List ℕ) → result ≡ turned_port (is_read m x y j) p }
+// Write port j, turned where one of these read ports reads before it writes.
+fn turn_port(reads: &[MemoryReadPort], p: MemoryWritePort, j: usize) -> MemoryWritePort
+    ensures { result ≡ turned_port (reads_before reads.now j) p }
 {
-    if port_relations::relates_to(m, j, port_relations::READ_BEFORE_WRITE) {
+    if port_relations::any_relates(reads, j, MemoryPortRelation::ReadBeforeWrite) {
         return other_edge(p);
     }
     p
@@ -34,30 +34,32 @@ pub fn turn_clocks(m: Memory) -> Memory
     ensures by_index { (nets nets' trits : List ℕ) → memory_of result nets' trits ≡ turned_mem (is_read m nets trits) (memory_of m nets' trits) }
     ensures by_index_2 { (x y : List ℕ) → result ≡ turning (is_read m x y) (min max_ports m.write_count) m }
 {
+    let reads = &m.read_ports[..net_memory::ports_used(m.read_count)];
     let mut out = m;
+    // By number, here and below: of a part of an array that was lent by `iter_mut` a proof knows the length alone.
     for j in 0..net_memory::ports_used(m.write_count) {
-        out.write_ports[j] = turn_port(m, out.write_ports[j], j);
+        out.write_ports[j] = turn_port(reads, out.write_ports[j], j);
     }
     out
 }
 
 // A relation to write port j: Undefined where that one is delayed.
-fn settle_relation(m: Memory, relation: u8, j: usize) -> u8
-    ensures { (x y : List ℕ) → result ≡ undefined_if (is_read m x y j) relation }
+fn settle_relation(reads: &[MemoryReadPort], relation: u8, j: usize) -> u8
+    ensures { result ≡ undefined_if (reads_before reads.now j) relation }
 {
-    if port_relations::relates_to(m, j, port_relations::READ_BEFORE_WRITE) {
-        return port_relations::UNDEFINED;
+    if port_relations::any_relates(reads, j, MemoryPortRelation::ReadBeforeWrite) {
+        return MemoryPortRelation::Undefined.code();
     }
     relation
 }
 
 // All relations that the port names.
-fn settle_port(m: Memory, p: MemoryReadPort) -> MemoryReadPort
-    ensures { (x y : List ℕ) → result ≡ settled_by (is_read m x y) p }
+fn settle_port(reads: &[MemoryReadPort], p: MemoryReadPort) -> MemoryReadPort
+    ensures { result ≡ settled_by (reads_before reads.now) p }
 {
     let mut out = p;
     for j in 0..net_memory::ports_used(p.relations_len) {
-        out.relations[j] = settle_relation(m, out.relations[j], j);
+        out.relations[j] = settle_relation(reads, out.relations[j], j);
     }
     out
 }
@@ -67,9 +69,10 @@ pub fn settle_relations(m: Memory, from: Memory) -> Memory
     ensures by_index { (nets nets' trits : List ℕ) → memory_of result nets' trits ≡ settled_mem (memory_of m nets trits) (memory_of from nets' trits) }
     ensures by_index_2 { (x y : List ℕ) → result ≡ settling (is_read m x y) (min max_ports from.read_count) from }
 {
+    let reads = &m.read_ports[..net_memory::ports_used(m.read_count)];
     let mut out = from;
     for i in 0..net_memory::ports_used(from.read_count) {
-        out.read_ports[i] = settle_port(m, out.read_ports[i]);
+        out.read_ports[i] = settle_port(reads, out.read_ports[i]);
     }
     out
 }

@@ -4,7 +4,7 @@
 #![tactic(auto)]
 
 ghost use Rattle.std.specs.Prelude.{◌≡◌, List, ℕ, ◌-◌, ◌<◌, ◌≤◌, max, length, take, drop};
-ghost use Rattle.std.proofs.Math.Option.{Option, some};
+ghost use Rattle.std.proofs.Math.Option.{Option, none, some};
 ghost use Rattle.std.proofs.lemmas.List.Edits.{sets};
 ghost use Rattle.lists.specs.Lists.{up_from};
 ghost use Rattle.rules.specs.Limits.{max_merge};
@@ -15,7 +15,7 @@ ghost use Rattle.log_entries.specs.Emission.{Lent};
 ghost use Rattle.net_flip_flop.specs.View.{flip_flop_of};
 ghost use Rattle.log_entries.specs.View.{lent_of};
 ghost use Rattle.port_transparency.specs.Gave.{Gave};
-ghost use Rattle.port_transparency.specs.Pairs.{writing, reading, write_of, read_of, plain, with_mask, covered, laid_over, laid_if, like_wide, fitting, Fit};
+ghost use Rattle.port_transparency.specs.Pairs.{writing, reading, write_of, read_of, data_and, covered, laid_over, laid_if, like_wide, fitting, Fit};
 ghost use Rattle.port_transparency.specs.Room.{zero_overlay};
 
 use log_entries::Log;
@@ -50,6 +50,37 @@ pub struct Overlay {
     pub select: [u32; rules::MAX_MERGE],
     pub spare: [u32; rules::MAX_MERGE],
     pub keys: Keys,
+}
+
+// What lies beside an overlay's data: a mask, to which the write ports add theirs, or none.
+pub trait Over {
+    // The first nets of the mask, where there is one.
+    ghost mask: { Self → ℕ → Option Value };
+
+    // The overlay's write mask of n nets added where the addresses are equal, by the net of the address test.
+    fn add(&mut self, overlay: &mut Overlay, log: &mut Log, same: u32, n: usize)
+        requires { n ≤ max_merge }
+        ensures mask_after { Gave (overlaid_mask same (take n overlay.old.mask) (mask self.old n)) (lent_of log.old) (lent_of log.new) (mask self.new n) }
+        ensures data_stays { overlay.new.under ≡ overlay.old.under };
+}
+
+// No mask.
+#[derive(Clone, Copy)]
+pub struct NoMask;
+
+impl Over for NoMask {
+    ghost mask = { λ over n. none };
+
+    fn add(&mut self, overlay: &mut Overlay, log: &mut Log, same: u32, n: usize) {}
+}
+
+// A mask, in room for as many nets as a merge takes.
+impl Over for [u32; rules::MAX_MERGE] {
+    ghost mask = { λ over n. some (take n over) };
+
+    fn add(&mut self, overlay: &mut Overlay, log: &mut Log, same: u32, n: usize) {
+        overlay.emit_over(log, self, same, n);
+    }
 }
 
 // Void nets, which become the first of `out`.
@@ -217,7 +248,6 @@ fn pair_fits(w: Writing, r: Reading) -> bool
 
 impl Overlay {
     // A room of zeros.
-    #[tactic(auto, unfolding(crate::specs::Room::zero_overlay))]
     pub fn new() -> Overlay
         ensures { result ≡ zero_overlay }
     {
@@ -227,11 +257,7 @@ impl Overlay {
             mask: [0; rules::MAX_MERGE],
             select: [0; rules::MAX_MERGE],
             spare: [0; rules::MAX_MERGE],
-            keys: Keys {
-                x: [0; rules::MAX_MERGE],
-                y: [0; rules::MAX_MERGE],
-                at: [0; rules::MAX_MERGE],
-            },
+            keys: Keys::new(),
         }
     }
 
@@ -298,30 +324,21 @@ impl Overlay {
         lists::copy(over, 0, &self.select[..n]);
     }
 
-    // transparency_mux without a mask and without its numbers: the nets that are read become those with the write port's data laid over them.
-    pub fn emit_transparency<'a>(&mut self, log: &mut Log, w: Writing<'a>, r: Reading<'a>)
-        ensures { Gave (laid_if w.entry.k r.entry.k (write_of w.entry) (read_of r.entry) (plain (take r.entry.count self.old.under))) (lent_of log.old) (lent_of log.new) (plain (take r.entry.count self.new.under)) }
-    {
-        if !pair_fits(w, r) {
-            return;
-        }
-        self.emit_laid(log, w, r);
-    }
-
-    // The same with a mask: the first nets of `over` become those with the write mask added where the addresses are equal.
-    pub fn emit_transparency_masked<'a>(
+    // transparency_mux without its numbers: the nets that are read become those with the write port's data laid over them, and where there is a mask,
+    // the write mask is added to it where the addresses are equal.
+    pub fn emit_transparency<'a, O: Over>(
         &mut self,
         log: &mut Log,
-        over: &mut [u32; rules::MAX_MERGE],
+        over: &mut O,
         w: Writing<'a>,
         r: Reading<'a>,
     )
-        ensures { Gave (laid_if w.entry.k r.entry.k (write_of w.entry) (read_of r.entry) (with_mask (take r.entry.count self.old.under) (take r.entry.count over.old))) (lent_of log.old) (lent_of log.new) (with_mask (take r.entry.count self.new.under) (take r.entry.count over.new)) }
+        ensures { Gave (laid_if w.entry.k r.entry.k (write_of w.entry) (read_of r.entry) (data_and (take r.entry.count self.old.under) (O.mask over.old r.entry.count))) (lent_of log.old) (lent_of log.new) (data_and (take r.entry.count self.new.under) (O.mask over.new r.entry.count)) }
     {
         if !pair_fits(w, r) {
             return;
         }
         let same = self.emit_laid(log, w, r);
-        self.emit_over(log, over, same, r.count);
+        over.add(self, log, same, r.count);
     }
 }

@@ -60,7 +60,7 @@ pub fn emit_port(
         reset: net_memory::reset_of(p, own),
         init: net_memory::init_of(p, own),
     };
-    port_overlay::emit_unmap(log, overlay, given.memory, given.nets, rels, r, f)
+    port_overlay::emit_unmap(log, overlay, given, rels, r, f)
 }
 
 // 20 and 21 of it, by a run without a log.
@@ -87,31 +87,31 @@ fn dry_refusal(
 
 // The pair of a read port of this k and address and write port j has too few address bits.
 #[tactic(auto, using(crate::proofs::Short::short_is))]
-pub fn pair_short(m: Memory, nets: &[u32], raddr: &[u32], kr: u32, j: usize) -> bool
-    ensures { (trits : List ℕ) (r : ReadPort) → kr ≡ read_wide_log2 (memory_of m nets.now trits) r → raddr.now ≡ r.addr → result ≡ short_pair (memory_of m nets.now trits) r j }
+pub fn pair_short(given: Given<'_>, raddr: &[u32], kr: u32, j: usize) -> bool
+    ensures { (r : ReadPort) → kr ≡ read_wide_log2 (mem_of given.entry) r → raddr.now ≡ r.addr → result ≡ short_pair (mem_of given.entry) r j }
 {
-    let w = port_overlay::writing(m, nets, j);
+    let w = port_overlay::writing(given, j);
     net_value::narrower_select_refusal(w.addr, raddr, w.k, kr).is_err()
 }
 
 // The same where the relation to it is Transparent.
 #[tactic(auto, using(crate::proofs::Short::rel_not, crate::proofs::Short::rel_yes))]
-fn related_short(m: Memory, nets: &[u32], raddr: &[u32], kr: u32, x: u8, j: usize) -> bool
-    ensures { (trits : List ℕ) (r : ReadPort) → kr ≡ read_wide_log2 (memory_of m nets.now trits) r → raddr.now ≡ r.addr → result ≡ (is_transparent x && short_pair (memory_of m nets.now trits) r j) }
+fn related_short(given: Given<'_>, raddr: &[u32], kr: u32, x: u8, j: usize) -> bool
+    ensures { (r : ReadPort) → kr ≡ read_wide_log2 (mem_of given.entry) r → raddr.now ≡ r.addr → result ≡ (is_transparent x && short_pair (mem_of given.entry) r j) }
 {
     if x != 2 {
         return false;
     }
-    pair_short(m, nets, raddr, kr, j)
+    pair_short(given, raddr, kr, j)
 }
 
 // Some pair of these relations has too few.
 #[tactic(auto, using(crate::proofs::Short::left_found, crate::proofs::Short::left_next, crate::proofs::Short::left_end))]
-fn pairs_short(m: Memory, nets: &[u32], raddr: &[u32], kr: u32, rels: &[u8]) -> bool
-    ensures { (trits : List ℕ) (r : ReadPort) → kr ≡ read_wide_log2 (memory_of m nets.now trits) r → raddr.now ≡ r.addr → result ≡ any (short_pair (memory_of m nets.now trits) r) (transparent_from 0 rels.now) }
+fn pairs_short(given: Given<'_>, raddr: &[u32], kr: u32, rels: &[u8]) -> bool
+    ensures { (r : ReadPort) → kr ≡ read_wide_log2 (mem_of given.entry) r → raddr.now ≡ r.addr → result ≡ any (short_pair (mem_of given.entry) r) (transparent_from 0 rels.now) }
 {
     for (j, x) in rels.iter().enumerate() {
-        if related_short(m, nets, raddr, kr, *x, j) {
+        if related_short(given, raddr, kr, *x, j) {
             return true;
         }
     }
@@ -119,30 +119,35 @@ fn pairs_short(m: Memory, nets: &[u32], raddr: &[u32], kr: u32, rels: &[u8]) -> 
 }
 
 // A transparent pair of port i has too few.
-fn port_short_at(m: Memory, nets: &[u32], i: usize, p: MemoryReadPort) -> bool
-    requires { (i < min max_ports m.read_count) × (p ≡ read_port m i) }
-    ensures { (trits : List ℕ) → result ≡ short_port (memory_of m nets.now trits) (read_at_of (memory_of m nets.now trits) i) }
+fn port_short_at(given: Given<'_>, i: usize, p: MemoryReadPort) -> bool
+    requires { (i < min max_ports given.memory.read_count) × (p ≡ read_port given.memory i) }
+    ensures { result ≡ short_port (mem_of given.entry) (read_at_of (mem_of given.entry) i) }
 {
     let f = p.flip_flop;
     let relations = p.relations;
     let rels = lists::part(&relations, 0, p.relations_len as usize);
-    let kr = net_memory::wide::wide_log(m.width, p.data_len as usize);
+    let kr = net_memory::wide::wide_log(given.memory.width, p.data_len as usize);
     match f {
         None => false,
-        Some(_) => pairs_short(m, nets, net_memory::read_nets(m, nets, i), kr, rels),
+        Some(_) => pairs_short(
+            given,
+            net_memory::read_nets(given.memory, given.nets, i),
+            kr,
+            rels,
+        ),
     }
 }
 
 // The same of any port: one that is not there has none.
 #[tactic(auto, using(crate::proofs::Short::short_none, crate::proofs::Short::none_there))]
-pub fn port_short(m: Memory, nets: &[u32], i: usize) -> bool
-    ensures { (trits : List ℕ) → result ≡ short_port (memory_of m nets.now trits) (read_at_of (memory_of m nets.now trits) i) }
+pub fn port_short(given: Given<'_>, i: usize) -> bool
+    ensures { result ≡ short_port (mem_of given.entry) (read_at_of (mem_of given.entry) i) }
 {
-    if net_memory::ports_used(m.read_count) <= i {
+    if net_memory::ports_used(given.memory.read_count) <= i {
         return false;
     }
-    let p = m.read_ports[i];
-    port_short_at(m, nets, i, p)
+    let p = given.memory.read_ports[i];
+    port_short_at(given, i, p)
 }
 
 // 1 to 4, 14 and 15.
@@ -151,7 +156,7 @@ fn unmap_refusal(given: Given<'_>, i: usize, output: &[u32], next: u32) -> Resul
     ensures { number_of result ≡ unmap_read_dff_number next (view_given given.entry) i output.now }
 {
     port_outputs::driving_refusal(given, output, next, false)?;
-    if port_short(given.memory, given.nets, i) {
+    if port_short(given, i) {
         return Err(Refusal::ShortAddress);
     }
     if net_memory::ports_used(given.memory.read_count) <= i {

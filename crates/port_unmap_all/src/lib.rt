@@ -20,12 +20,12 @@ use net_memory::{Given, Memory, MemoryReadPort};
 use port_transparency::Overlay;
 
 // Some transparent pair of a clocked read port has too few address bits.
-pub fn ports_short(m: Memory, nets: &[u32]) -> bool
-    ensures { (trits : List ℕ) → result ≡ short_ports (memory_of m nets.now trits) }
+pub fn ports_short(given: Given<'_>) -> bool
+    ensures { result ≡ short_ports (mem_of given.entry) }
 {
-    let count = net_memory::ports_used(m.read_count);
+    let count = net_memory::ports_used(given.memory.read_count);
     for i in 0..count {
-        if port_unmap::port_short(m, nets, i) {
+        if port_unmap::port_short(given, i) {
             return true;
         }
     }

@@ -21,19 +21,8 @@ fn text_room() -> [u8; TEXT] {
     [0u8; TEXT]
 }
 
-// The lines of a table behind the record are counted by themselves.
 fn write_refused(rt: &impl Eprint, refused: Refused) -> io::Result<()> {
-    match refused {
-        Refused::Text(fault) => rt.eprint(fault)?,
-        Refused::Table(fault) => {
-            rt.eprint("table ")?;
-            rt.eprint(fault)?
-        }
-        Refused::Call(refusal) => {
-            rt.eprint("refused ")?;
-            rt.eprint(refusal.number())?
-        }
-    }
+    rt.eprint(refused)?;
     rt.eprint("\n")
 }
 

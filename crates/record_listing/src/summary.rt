@@ -15,7 +15,7 @@ use rules::Refusal;
 
 // Of memory `index`: its depth, its known trits and its ones.
 #[repr(C)]
-#[derive(Clone, Copy, Debug, PartialEq, Eq)]
+#[derive(Clone, Copy, Debug, Default, PartialEq, Eq)]
 pub struct Summary {
     pub index: usize,
     pub depth: usize,

@@ -1,4 +1,5 @@
 // Pieces of text, stored one after another in a lent array: what lies past its end is not stored. Each function gives the place after its piece.
+// (Array and place go side by side: a struct of both would have to promise with each piece that the same array is still lent, where `Put` says all at once.)
 ghost use Rattle.std.specs.Prelude.{◌≡◌, ◌+◌, ◌≤◌, length, drop};
 ghost use Rattle.rules.specs.Lister.{decimal};
 ghost use Rattle.record_listing.specs.Put.{max_place, Put};

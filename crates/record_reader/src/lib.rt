@@ -1,7 +1,7 @@
 // A reader holds a record's bytes and a place in them, which counts bytes in the head and trits behind it: after six words it stands at trit 0.
 #![tactic(auto)]
 
-ghost use Rattle.std.specs.Prelude.{◌≡◌, ◌≤◌, length, get_or};
+ghost use Rattle.std.specs.Prelude.{◌≡◌, ◌+◌, ◌≤◌, IfSome, length, get_or};
 ghost use Rattle.std.proofs.lemmas.List.Edits.{sets};
 ghost use Rattle.rules.specs.Record.{size_trits, word_at, array_bytes, bits_of, head_sizes};
 ghost use Rattle.record_sizes.specs.View.{view_sizes};
@@ -16,38 +16,12 @@ const MANY: u64 = 1125899906842624;
 
 // ---- words
 
-// Both bytes of the word at a place are there.
-fn has_word(bytes: &[u8], at: usize) -> bool
-    ensures { result ≡ has_word bytes.now at }
-{
-    at < bytes.len() && 2 <= bytes.len() - at
-}
-
-// The word whose first byte stands at a place.
-#[tactic(auto, unfolding(crate::specs::Reading::word_there, rules::specs::Record::next_word, rules::specs::Record::word_at))]
-fn word_there(bytes: &[u8], at: usize) -> Option<u16>
-    ensures { result ≡ word_there bytes.now at }
-{
-    if has_word(bytes, at) {
-        Some(u16::from_le_bytes([bytes[at], bytes[at + 1]]))
-    } else {
-        None
-    }
-}
-
-// The place after that word, or the same place where there is none.
-#[tactic(auto, unfolding(crate::specs::Reading::place_after_word, rules::specs::Record::after_word))]
-fn place_after_word(bytes: &[u8], at: usize) -> usize
-    ensures { result ≡ place_after_word bytes.now at }
-{
-    if has_word(bytes, at) { at + 2 } else { at }
-}
-
 // The word at a place as a number; a byte that is not there counts 0.
 fn word_at(bytes: &[u8], at: usize) -> u16
     ensures { result ≡ word_at bytes.now at }
 {
-    match word_there(bytes, at) {
+    let reader = Reader { bytes, at };
+    match reader.word_there() {
         Some(word) => word,
         None => u16::from(bytes.get(at).copied().unwrap_or(0)),
     }
@@ -126,7 +100,8 @@ pub fn head_trits(bytes: &[u8]) -> u64
 
 // The trit of that number.
 pub fn trit_numbered(bytes: &[u8], at: usize) -> Option<u8>
-    ensures { result ≡ trit_numbered bytes.now at }
+    ensures value { result ≡ trit_numbered bytes.now at }
+    ensures small { IfSome result (λ t. at ≤ many_trits) }
 {
     let count = head_trits(bytes) as usize;
     if count <= at {
@@ -140,26 +115,6 @@ pub fn trit_numbered(bytes: &[u8], at: usize) -> Option<u8>
     let k = record_bits::bit_at(bytes[known], at % 8);
     let v = record_bits::bit_at(bytes[value], at % 8);
     Some(record_bits::trit_by(k, v))
-}
-
-// The trit at a reader's place: behind the head the place counts trits.
-fn trit_there(bytes: &[u8], at: usize) -> Option<u8>
-    ensures { result ≡ trit_there bytes.now at }
-{
-    if at < rules::HEAD_BYTES {
-        return None;
-    }
-    trit_numbered(bytes, at - rules::HEAD_BYTES)
-}
-
-// The place after that trit, or the same where there is none.
-fn place_after_trit(bytes: &[u8], at: usize) -> usize
-    ensures { result ≡ place_after_trit bytes.now at }
-{
-    match trit_there(bytes, at) {
-        Some(_) => at + 1,
-        None => at,
-    }
 }
 
 // The first two trits of a record, as far as they are there.
@@ -191,16 +146,6 @@ fn array_bytes(count: usize) -> usize
     count.div_ceil(8)
 }
 
-// A byte of trits starts at the place, and the record is as long as so many trits take.
-fn has_trits(bytes: &[u8], at: usize, count: usize) -> bool
-    ensures { result ≡ has_trits count bytes.now at }
-{
-    rules::HEAD_BYTES <= at
-        && (at - rules::HEAD_BYTES) % 8 == 0
-        && count as u64 <= MANY
-        && bytes.len() == rules::HEAD_BYTES + 2 * array_bytes(count)
-}
-
 // Stores the trits of two arrays, a byte of each at a time.
 fn put_groups(image: &mut [u8], count: usize, ks: &[u8], vs: &[u8])
     requires { (length ks.now ≡ length vs.now) × (length ks.now ≤ many_bytes) }
@@ -213,24 +158,6 @@ fn put_groups(image: &mut [u8], count: usize, ks: &[u8], vs: &[u8])
         };
         group.spread(image, 8 * j, count.saturating_sub(8 * j));
     }
-}
-
-// Stores the trits from a place on, all that are left of a record of `count` trits; the place after them.
-fn put_rest(image: &mut [u8], bytes: &[u8], at: usize, count: usize) -> usize
-    ensures { (image.new ≡ sets image.old 0 (trits_there count bytes.now at)) × (result ≡ place_after_trits count bytes.now at) }
-{
-    if !has_trits(bytes, at, count) {
-        return at;
-    }
-    let from = at - rules::HEAD_BYTES;
-    if count <= from {
-        return at;
-    }
-    let middle = rules::HEAD_BYTES + array_bytes(count);
-    let known = rules::HEAD_BYTES + from / 8;
-    let value = middle + from / 8;
-    put_groups(image, count - from, &bytes[known..middle], &bytes[value..]);
-    rules::HEAD_BYTES + count
 }
 
 // ---- the reader
@@ -249,14 +176,44 @@ impl<'a> Reader<'a> {
         Reader { bytes, at: 0 }
     }
 
+    // Both bytes of the word at a place are there.
+    fn has_word(self) -> bool
+        ensures { result ≡ has_word self.entry.bytes.now self.entry.at }
+    {
+        self.at < self.bytes.len() && 2 <= self.bytes.len() - self.at
+    }
+
+    // The word whose first byte stands at a place.
+    #[tactic(auto, unfolding(crate::specs::Reading::word_there, rules::specs::Record::next_word, rules::specs::Record::word_at))]
+    fn word_there(self) -> Option<u16>
+        ensures { result ≡ word_there self.entry.bytes.now self.entry.at }
+    {
+        if self.has_word() {
+            Some(u16::from_le_bytes([self.bytes[self.at], self.bytes[self.at + 1]]))
+        } else {
+            None
+        }
+    }
+
+    // The place after that word, or the same place where there is none.
+    #[tactic(auto, unfolding(crate::specs::Reading::place_after_word, rules::specs::Record::after_word))]
+    fn place_after_word(self) -> usize
+        ensures { result ≡ place_after_word self.entry.bytes.now self.entry.at }
+    {
+        if self.has_word() {
+            self.at + 2
+        } else {
+            self.at
+        }
+    }
+
     // Takes the next word: the reader goes on behind it.
     pub fn next_word(&mut self) -> Option<u16>
         ensures { (result ≡ word_there self.old.bytes.now self.old.at) × (self.new.bytes ≡ self.old.bytes) × (self.new.at ≡ place_after_word self.old.bytes.now self.old.at) }
     {
-        let bytes = self.bytes;
-        let at = self.at;
-        self.at = place_after_word(bytes, at);
-        word_there(bytes, at)
+        let word = self.word_there();
+        self.at = self.place_after_word();
+        word
     }
 
     // Takes the next six words: the reader goes on behind them.
@@ -273,22 +230,73 @@ impl<'a> Reader<'a> {
         }
     }
 
+    // The trit at a reader's place: behind the head the place counts trits.
+    fn trit_there(self) -> Option<u8>
+        ensures value { result ≡ trit_there self.entry.bytes.now self.entry.at }
+        ensures small { IfSome result (λ t. self.entry.at ≤ many_trits + 12) }
+    {
+        if self.at < rules::HEAD_BYTES {
+            return None;
+        }
+        trit_numbered(self.bytes, self.at - rules::HEAD_BYTES)
+    }
+
+    // The place after that trit, or the same where there is none.
+    fn place_after_trit(self) -> usize
+        ensures { result ≡ place_after_trit self.entry.bytes.now self.entry.at }
+    {
+        match self.trit_there() {
+            Some(_) => self.at + 1,
+            None => self.at,
+        }
+    }
+
     // Takes the next trit: the reader goes on behind it.
     pub fn next_trit(&mut self) -> Option<u8>
         ensures { (result ≡ trit_there self.old.bytes.now self.old.at) × (self.new.bytes ≡ self.old.bytes) × (self.new.at ≡ place_after_trit self.old.bytes.now self.old.at) }
     {
-        let bytes = self.bytes;
-        let at = self.at;
-        self.at = place_after_trit(bytes, at);
-        trit_there(bytes, at)
+        let trit = self.trit_there();
+        self.at = self.place_after_trit();
+        trit
+    }
+
+    // A byte of trits starts at the place, and the record is as long as so many trits take.
+    fn has_trits(self, count: usize) -> bool
+        ensures { result ≡ has_trits count self.entry.bytes.now self.entry.at }
+    {
+        rules::HEAD_BYTES <= self.at
+            && (self.at - rules::HEAD_BYTES) % 8 == 0
+            && count as u64 <= MANY
+            && self.bytes.len() == rules::HEAD_BYTES + 2 * array_bytes(count)
+    }
+
+    // Stores the trits from a place on, all that are left of a record of `count` trits; the place after them.
+    fn put_rest(self, image: &mut [u8], count: usize) -> usize
+        ensures { (image.new ≡ sets image.old 0 (trits_there count self.entry.bytes.now self.entry.at)) × (result ≡ place_after_trits count self.entry.bytes.now self.entry.at) }
+    {
+        if !self.has_trits(count) {
+            return self.at;
+        }
+        let from = self.at - rules::HEAD_BYTES;
+        if count <= from {
+            return self.at;
+        }
+        let middle = rules::HEAD_BYTES + array_bytes(count);
+        let known = rules::HEAD_BYTES + from / 8;
+        let value = middle + from / 8;
+        put_groups(
+            image,
+            count - from,
+            &self.bytes[known..middle],
+            &self.bytes[value..],
+        );
+        rules::HEAD_BYTES + count
     }
 
     // Takes all the trits that are left of a record of `count` trits into the image: the reader goes on behind them.
     pub fn next_trits(&mut self, image: &mut [u8], count: usize)
         ensures { (image.new ≡ sets image.old 0 (trits_there count self.old.bytes.now self.old.at)) × (self.new.bytes ≡ self.old.bytes) × (self.new.at ≡ place_after_trits count self.old.bytes.now self.old.at) }
     {
-        let bytes = self.bytes;
-        let at = self.at;
-        self.at = put_rest(image, bytes, at, count);
+        self.at = self.put_rest(image, count);
     }
 }

@@ -9,7 +9,7 @@ ghost use Rattle.record_sizes.specs.View.{view_sizes};
 
 // `full` memories of depth `full_depth`, then `partial` ones of depth `partial_depth`, each `unit` bits wide.
 #[repr(C)]
-#[derive(Clone, Copy, Debug, PartialEq, Eq)]
+#[derive(Clone, Copy, Debug, Default, PartialEq, Eq)]
 pub struct Sizes {
     pub unit: u32,
     pub full: u32,
@@ -110,6 +110,7 @@ impl Sizes {
     }
 
     // The image in a lent array: its first trits, as many as the sizes say.
+    #[tactic(auto, unfolding(rules::specs::Record::record_image))]
     pub fn image_of(self, image: &[u8]) -> &[u8]
         ensures { result.now ≡ record_image (view_sizes self) image.now }
     {

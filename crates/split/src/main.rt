@@ -16,13 +16,7 @@ fn record_room() -> [u8; rules::MAX_RECORD] {
 }
 
 fn write_refused(rt: &impl Eprint, refused: Refused) -> io::Result<()> {
-    match refused {
-        Refused::Text(fault) => rt.eprint(fault)?,
-        Refused::Call(refusal) => {
-            rt.eprint("refused ")?;
-            rt.eprint(refusal.number())?
-        }
-    }
+    rt.eprint(refused)?;
     rt.eprint("\n")
 }
 

@@ -1,21 +1,17 @@
 -- The loops over a row of data or trits: an entry that names no bit is blank.
 use mathlib.Core.Path.{◌≡◌, refl, sym, ap, ◌∙◌}
-use Prim.Native.Nat.{ℕ, zero, suc, ◌+◌, ◌-◌, ◌*◌, ◌/◌, ◌%◌, ◌<◌, ◌≤◌}
-use native.Mathlib.Nat.{add-zero, sub-zero, zero-add, add-mul, zero-mul, suc-mul, mul-le-mul_right}
-use native.Mathlib.Numerals.{add-one}
+use Prim.Native.Nat.{ℕ, ◌+◌, ◌*◌, ◌<◌, ◌≤◌}
 use native.Mathlib.Omega.{arith}
-use mathlib.Core.List.{List, [], ◌∷◌, ◌++◌, map, append_assoc, append-nil}
+use mathlib.Core.List.{List, ◌++◌, map}
 use lib.Dec.{eqb}
-use lib.ListN.{length, take, drop, get_or, set, length-map, length-append, length-take, length-drop, get_or-map, drop_of_length-le}
-use lib.Seq.{sets, drop-cons, drop-drop, take_all, take-suc-set}
+use lib.ListN.{length, take, get_or, set, length-map, get_or-map}
+use lib.Seq.{sets, take_all}
 use Rattle.lists.specs.Choice.{when◌then◌else◌}
-use Rattle.lists.specs.Lists.{part, up_from, concat_map}
-use Rattle.lists.proofs.UpFrom.{count_step, count_end}
 use Rattle.lists.proofs.Joined.{map_joined}
 use Rattle.lists.proofs.Store.{copy_turn, sets_append}
 use Rattle.rules.specs.Limits.{None}
 use Rattle.rules.specs.Swizzle.{arrange}
-use Rattle.swizzle_columns.specs.Rows.{source_of, row_sources, sources_from, all_sources}
+use Rattle.swizzle_columns.specs.Rows.{source_of, row_sources}
 use Rattle.swizzle_columns.proofs.Rows.{length_row, row_at, from_row_of, from_step, from_end}
 
 module _ {A : Type 0} (blank : A) where

@@ -1,17 +1,14 @@
 -- The cursor over the columns of a grid, and the loop that stores a run of them.
 use mathlib.Core.Path.{◌≡◌, refl, sym, ap, ◌∙◌}
-use mathlib.Core.Bool.{Bool, true, false}
 use Prim.Native.Nat.{ℕ, suc, ◌+◌, ◌-◌, ◌*◌, ◌/◌, ◌%◌, ◌<◌, ◌≤◌, min}
-use native.Mathlib.Nat.{add-zero, add_assoc, zero-mul, one-mul, add-mul, mul-add, mul_assoc, mul_comm, mul_left_comm, mul-le-mul_left, mul-le-mul_right, mod-lt, div-add-mod'}
+use native.Mathlib.Nat.{add-zero, zero-mul, one-mul, add-mul, mul_assoc, mul_left_comm, mul-le-mul_left, mul-le-mul_right, mod-lt, div-add-mod'}
 use native.Mathlib.Numerals.{add-one}
 use native.Mathlib.Omega.{arith}
 use mathlib.Core.List.{List, [], ◌∷◌}
 use lib.Arith.{digits_div, digits_mod}
-use lib.Dec.{ltb}
-use borrow.Author.Tests.{lt-ltb, le-ltb, ltb-true, ltb-false}
+use borrow.Author.Tests.{lt-ltb, le-ltb}
 use lib.ListN.{length, take, drop, get_or, set, drop_of_length-le}
 use lib.Seq.{drop-cons, get_or-take, length-take-le}
-use Rattle.lists.specs.Choice.{when◌then◌else◌}
 use Rattle.lists.proofs.Choice.{cases_le}
 use Rattle.swizzle_laws.specs.Order.{flip, home, spill}
 use Rattle.swizzle_laws.specs.Stores.{spill_fit}
@@ -141,8 +138,9 @@ module _ (g : Grid) (size : ℕ) (o : Good g size) where
         back : {x y b b' z : ℕ} → x ≡ y → b ≡ b' → z + b' ≡ y + 1 → x + 1 - b ≡ z
         back p q r = omega arith
 
-    pub steppable : i < size → size < 4611686018427387904 → Steppable c g
-    steppable h m =
+    pub steppable : i < size → Steppable c g
+    steppable h =
+        let m = o.low in
         let p = mod-lt i o.unit_pos in
         let q = mod-lt (i / U) o.mems_pos in
         let x = index_lt i h in record {

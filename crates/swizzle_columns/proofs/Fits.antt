@@ -1,21 +1,19 @@
 -- A port within the limits, as tests and as facts, and what its parts ask.
-use mathlib.Core.Path.{◌≡◌, refl, sym, ap, ◌∙◌, subst}
+use mathlib.Core.Path.{◌≡◌, refl, ◌∙◌, subst}
 use Prim.Native.Nat.{ℕ, zero, suc, ◌+◌, ◌-◌, ◌*◌, ◌<◌, ◌≤◌}
-use native.Mathlib.Nat.{mul-le-mul, mul-zero, zero-mul, mul_assoc, mul_left_comm, one-mul}
+use native.Mathlib.Nat.{mul-le-mul, mul-zero, zero-mul, mul_left_comm, one-mul}
 use native.Mathlib.Omega.{arith}
-use mathlib.Core.Bool.{Bool, true, false, ◌&&◌}
+use mathlib.Core.Bool.{true, false}
 use mathlib.Core.List.{List}
 use lib.ListN.{length}
 use lib.Seq.{sets}
 use lib.Dec.{eqb, leb, ltb}
 use borrow.Author.Tests.{le-leb, lt-leb, leb-true, eqb-true, eq-eqb, ne_eqb, ltb-true, lt-ltb}
-use Rattle.lists.specs.Choice.{when◌then◌else◌}
 use Rattle.lists.proofs.Choice.{and_true}
 use Rattle.rules.specs.Limits.{X, max_columns, max_row, max_width, max_nets, max_merge}
 use Rattle.rules.specs.Swizzle.{repeating}
 use Rattle.swizzle_laws.specs.Stores.{spill_at}
 use Rattle.swizzle_columns.specs.declared.WidePort.{WidePort}
-use Rattle.swizzle_columns.specs.declared.Grid.{Grid}
 use Rattle.swizzle_columns.specs.Steps.{Good}
 use Rattle.swizzle_columns.specs.Rows.{Bases, all_sources}
 use Rattle.swizzle_columns.specs.Jobs.{Narrow, Port}
@@ -163,7 +161,7 @@ module _ (p : WidePort) (len size : ℕ) (f : PortFits p len size) where
   size_low = omega (arith, f.size_is, bounded p.rows (p.mems * p.unit) 16 32768 f.rows_max f.columns_max)
 
   pub grid_good : Good (grid_of p len) size
-  grid_good = record { mems_pos = mems_pos; rows_pos = rows_pos; unit_pos = unit_pos; size_is = f.size_is; hop_is = refl; back_is = refl }
+  grid_good = record { mems_pos = mems_pos; rows_pos = rows_pos; unit_pos = unit_pos; size_is = f.size_is; low = size_low; hop_is = refl; back_is = refl }
 
   pub port_narrow : Narrow p.olds (p.mems * p.unit) len p.pieces
   port_narrow =

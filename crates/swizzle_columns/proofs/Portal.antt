@@ -1,11 +1,10 @@
 -- The machine's numbers of a port are the port's.
-use mathlib.Core.Path.{◌≡◌, refl, sym, ap, ◌∙◌, subst}
-use Prim.Native.Nat.{ℕ, ◌+◌, ◌-◌, ◌*◌, ◌<◌, ◌≤◌}
+use mathlib.Core.Path.{◌≡◌, refl}
+use Prim.Native.Nat.{ℕ, ◌*◌, ◌<◌}
 use native.Mathlib.Omega.{arith}
 use mathlib.Core.List.{List}
 use lib.ListN.{length, replicate}
 use Rattle.lists.specs.Lists.{up_from}
-use Rattle.rules.specs.Limits.{X, trit_x}
 use Rattle.rules.specs.Swizzle.{arrange}
 use Rattle.swizzle_laws.specs.Stores.{spill_at, spill_each}
 use Rattle.swizzle_columns.specs.declared.WidePort.{WidePort}
@@ -14,12 +13,12 @@ use Rattle.swizzle_columns.specs.Rows.{all_sources, starts_by}
 use Rattle.swizzle_columns.specs.Steps.{Good}
 use Rattle.swizzle_columns.specs.Jobs.{Narrow, Port}
 use Rattle.swizzle_columns.specs.Wide.{PortFits, grid_of, port_starts, port_columns}
-use Rattle.swizzle_columns.proofs.Fits.{grid_good, port_asks, port_narrow, size_low}
+use Rattle.swizzle_columns.proofs.Fits.{grid_good, port_asks, port_narrow}
 use Rattle.swizzle_columns.proofs.Walks.{narrow_less}
 
 pub port_by_lem : (p : WidePort) (len size : ℕ) (g : Grid) (olds width : ℕ) → g ≡ grid_of p len → olds ≡ p.olds → width ≡ p.width → PortFits p len size
-    → Port g olds width len size × (size ≤ 4611686018427387903)
-port_by_lem p len size g olds width e o d f = rw (e, o, d) (port_asks p len size f, size_low p len size f)
+    → Port g olds width len size
+port_by_lem p len size g olds width e o d f = rw (e, o, d) (port_asks p len size f)
 
 pub narrow_by : (p : WidePort) (len size : ℕ) (g : Grid) (cs n o : ℕ) → g ≡ grid_of p len → cs ≡ p.mems * p.unit → n ≡ p.pieces → o ≡ p.olds → PortFits p len size
     → Narrow o cs g.entries n
@@ -36,8 +35,8 @@ pub narrow_one : (p : WidePort) (len size x : ℕ) (g : Grid) (cs o : ℕ) → g
     → Narrow o cs g.entries x
 narrow_one p len size x g cs o e ec eo h f = rw (e, ec, eo) (narrow_less p.olds p.olds (p.mems * p.unit) len x p.pieces refl (omega arith) (port_narrow p len size f))
 
-pub grid_by : (p : WidePort) (len size : ℕ) (g : Grid) → g ≡ grid_of p len → PortFits p len size → Good g size × (size ≤ 4611686018427387903)
-grid_by p len size g e f = rw e (grid_good p len size f, size_low p len size f)
+pub grid_by : (p : WidePort) (len size : ℕ) (g : Grid) → g ≡ grid_of p len → PortFits p len size → Good g size
+grid_by p len size g e f = rw e (grid_good p len size f)
 
 pub store_rows_lem : (p : WidePort) (len : ℕ) (g : Grid) (o n : ℕ) → g ≡ grid_of p len → o ≡ p.olds → n ≡ p.olds * len → n ≡ o * g.entries
 store_rows_lem p len g o n e eo h = rw (e, eo) h

@@ -1,20 +1,19 @@
 -- The loops over the entries of a row and over the old rows, each from what is left to do.
 use mathlib.Core.Path.{◌≡◌, refl, sym, ap, ◌∙◌}
-use Prim.Native.Nat.{ℕ, zero, suc, ◌+◌, ◌-◌, ◌*◌, ◌/◌, ◌%◌, ◌<◌, ◌≤◌}
-use native.Mathlib.Nat.{add-zero, sub-zero, zero-add, add-mul, zero-mul, suc-mul, mul-le-mul_right}
+use Prim.Native.Nat.{ℕ, zero, suc, ◌+◌, ◌-◌, ◌*◌, ◌<◌, ◌≤◌}
+use native.Mathlib.Nat.{sub-zero, add-mul, mul-le-mul_right}
 use native.Mathlib.Numerals.{add-one}
 use native.Mathlib.Omega.{arith}
-use mathlib.Core.List.{List, [], ◌∷◌, ◌++◌, map, append_assoc, append-nil}
+use mathlib.Core.List.{List, [], ◌∷◌, ◌++◌}
 use lib.Dec.{eqb}
-use lib.ListN.{length, take, drop, get_or, set, length-map, length-append, length-take, length-drop, get_or-map, drop_of_length-le}
-use lib.Seq.{sets, drop-cons, drop-drop, take_all, take-suc-set}
+use lib.ListN.{length, take, drop, get_or, set, length-map, length-take, length-drop, get_or-map, drop_of_length-le}
+use lib.Seq.{sets, drop-cons, drop-drop}
 use Rattle.lists.specs.Choice.{when◌then◌else◌}
-use Rattle.lists.specs.Lists.{part, up_from, concat_map}
+use Rattle.lists.specs.Lists.{up_from, concat_map}
 use Rattle.lists.proofs.UpFrom.{count_step, count_end}
-use Rattle.lists.proofs.Joined.{map_joined}
-use Rattle.lists.proofs.Store.{copy_turn, sets_append}
+use Rattle.lists.proofs.Store.{sets_append}
 use Rattle.rules.specs.Limits.{X, None}
-use Rattle.rules.specs.Swizzle.{arrange, repeating}
+use Rattle.rules.specs.Swizzle.{repeating}
 use Rattle.swizzle_laws.specs.Stores.{spill_fit, spill_at}
 use Rattle.swizzle_columns.specs.Rows.{source_of, row_sources, sources_from, all_sources, last_of}
 

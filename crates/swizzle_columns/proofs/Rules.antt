@@ -2,7 +2,7 @@
 use mathlib.Core.Path.{◌≡◌, refl, ap, ◌∙◌}
 use Prim.Native.Nat.{ℕ, zero, suc, ◌+◌, ◌*◌, ◌^◌, ◌<◌}
 use native.Mathlib.Omega.{arith}
-use mathlib.Core.List.{List, [], ◌∷◌, map}
+use mathlib.Core.List.{List, ◌∷◌, map}
 use Rattle.lists.specs.Lists.{up_from}
 use Rattle.rules.specs.Geometry.{Layout, row_len_of, columns}
 use Rattle.rules.specs.Swizzle.{Split, piece_start, old_rows, sources}

@@ -4,15 +4,13 @@ use Prim.Native.Nat.{ℕ, ◌+◌, ◌-◌, ◌*◌, ◌^◌, ◌<◌, ◌≤◌
 use native.Mathlib.Nat.{sub-zero}
 use native.Mathlib.Omega.{arith}
 use mathlib.Core.List.{List, [], ◌∷◌}
-use lib.ListN.{length, take, replicate}
-use lib.Seq.{sets}
+use lib.ListN.{replicate}
 use Rattle.lists.specs.Lists.{up_from}
 use Rattle.lists.proofs.UpFrom.{count_step, count_end}
-use Rattle.lists.proofs.Stores.{take_stored}
 use Rattle.rules.specs.Limits.{trit_x}
 use Rattle.rules.specs.Geometry as rules
 use Rattle.rules.specs.Geometry.{Layout, row_len_of, all_mems}
-use Rattle.rules.specs.Swizzle.{Split, piece_start, sources, arrange, const_columns}
+use Rattle.rules.specs.Swizzle.{Split, piece_start, arrange, const_columns}
 use Rattle.swizzle_laws.specs.Order.{ordered}
 use Rattle.swizzle_laws.specs.Stores.{starts_of, spill_at, spill_each}
 use Rattle.swizzle_laws.proofs.Whole.{order_const}
@@ -20,8 +18,6 @@ use Rattle.swizzle_columns.specs.declared.Grid.{Grid}
 use Rattle.swizzle_columns.specs.Steps.{Good}
 use Rattle.swizzle_columns.specs.Rows.{start_of, starts_by, all_sources}
 use Rattle.swizzle_columns.specs.Matches.{Laid}
-use Rattle.swizzle_columns.proofs.Arrange.{length_arrange}
-use Rattle.swizzle_columns.proofs.Ports.{length_sources}
 use Rattle.swizzle_columns.proofs.Rules.{sources_are, each_starts, starts_are}
 
 -- ---- the pieces in turn

@@ -1,19 +1,14 @@
 -- The walk over the bits of a piece's number, and the starts of a piece's rows.
 use mathlib.Core.Path.{◌≡◌, refl, sym, ap, ◌∙◌}
-use mathlib.Core.Bool.{Bool, true, false}
-use mathlib.Core.Logic.{◌≢◌}
-use Prim.Native.Nat.{ℕ, zero, suc, ◌+◌, ◌-◌, ◌*◌, ◌/◌, ◌%◌, ◌<◌, ◌≤◌}
-use native.Mathlib.Nat.{zero-add, add-zero, zero-mul, one-mul, add-mul, mul-add, mul_assoc, mul_comm, mul-le-mul_left, mul-le-mul_right, mod-lt, div-add-mod'}
-use native.Mathlib.Numerals.{add-one}
+use Prim.Native.Nat.{ℕ, ◌+◌, ◌*◌, ◌<◌, ◌≤◌}
+use native.Mathlib.Nat.{zero-add, mul-add, mul-le-mul_left, mul-le-mul_right}
 use native.Mathlib.Omega.{arith}
-use mathlib.Core.List.{List, [], ◌∷◌, map}
-use lib.Dec.{eqb}
-use lib.ListN.{length, take, drop, get_or, set, length-map, drop_of_length-le}
-use lib.Seq.{sets, length-sets, take-length, take_all, drop-cons}
-use Rattle.lists.specs.Choice.{when◌then◌else◌}
+use mathlib.Core.List.{List}
+use lib.ListN.{length, take, get_or, set, length-map}
+use lib.Seq.{sets, length-sets, take_all}
 use Rattle.lists.specs.Lists.{up_from}
 use Rattle.lists.proofs.UpFrom.{length_up, up_at}
-use Rattle.lists.proofs.Maps.{map_turn, map_done}
+use Rattle.lists.proofs.Maps.{map_turn}
 use Rattle.lists.proofs.Stores.{take_stored}
 use Rattle.rules.specs.Limits.{addr_bits}
 use Rattle.rules.specs.Geometry.{walk}

@@ -1,5 +1,5 @@
 -- What the functions over pieces ask.
-use Rattle.std.specs.Prelude.{◌≡◌, ℕ, ◌+◌, ◌*◌, ◌≤◌}
+use Rattle.std.specs.Prelude.{◌≡◌, ℕ, ◌+◌, ◌*◌, ◌<◌, ◌≤◌}
 use Rattle.rules.specs.Limits.{max_merge}
 use Rattle.swizzle_columns.specs.declared.Grid.{Grid}
 use Rattle.swizzle_columns.specs.Steps.{Good}
@@ -15,4 +15,4 @@ pub record Port (g : Grid) (olds width el tl : ℕ) : Type 0 where
   pub entries_are : el ≡ g.entries
   pub few : olds * g.entries ≤ max_merge
   pub few_olds : olds ≤ 16
-  pub low : olds * width ≤ 4294967296
+  pub low : olds * width < 4294967296

@@ -1,5 +1,5 @@
 -- The entries of a row for each old row of a port, and where pieces start.
-use Rattle.std.specs.Prelude.{◌≡◌, ℕ, ◌+◌, ◌*◌, ◌≤◌, List, [], ◌∷◌, map, get_or, eqb}
+use Rattle.std.specs.Prelude.{ℕ, ◌+◌, ◌*◌, ◌<◌, ◌≤◌, List, [], ◌∷◌, map, get_or, eqb}
 use Rattle.lists.specs.Choice.{when◌then◌else◌}
 use Rattle.lists.specs.Lists.{up_from, concat_map}
 use Rattle.rules.specs.Limits.{X, None, addr_bits}
@@ -24,12 +24,9 @@ unfoldable pub last_of : ℕ → List ℕ → List ℕ → ℕ
 last_of last [] v = last
 last_of last (e ∷ es) v = last_of (when eqb e None then last else get_or v e X) es v
 
-pub record Based (base : ℕ) : Type 0 where
-  pub low : base ≤ 4294967296
-
 -- few and narrow rows, whose entries have room
 pub record Bases (olds width size room : ℕ) : Type 0 where
-  pub low : olds * width ≤ 4294967296
+  pub low : olds * width < 4294967296
   pub enough : olds * size ≤ room
 
 -- where a piece starts, by the bits of its number that are chunk bits

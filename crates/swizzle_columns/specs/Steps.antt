@@ -1,7 +1,6 @@
 -- What the private functions ask and give: a grid of columns, a cursor over it, and arrays of its size.
-use Rattle.std.specs.Prelude.{◌≡◌, ℕ, ◌+◌, ◌-◌, ◌*◌, ◌/◌, ◌%◌, ◌<◌, ◌≤◌, List, [], ◌∷◌, map, length, get_or, eqb, ltb}
+use Rattle.std.specs.Prelude.{◌≡◌, ℕ, ◌+◌, ◌-◌, ◌*◌, ◌/◌, ◌%◌, ◌<◌, ◌≤◌, List, length, ltb}
 use Rattle.lists.specs.Choice.{when◌then◌else◌}
-use Rattle.rules.specs.Limits.{X, None}
 use Rattle.swizzle_laws.specs.Order.{home}
 use Rattle.swizzle_columns.specs.declared.Grid.{Grid}
 use Rattle.swizzle_columns.specs.declared.Cursor.{Cursor}
@@ -12,6 +11,7 @@ pub record Good (g : Grid) (size : ℕ) : Type 0 where
   pub rows_pos : 0 < g.rows
   pub unit_pos : 0 < g.unit
   pub size_is : size ≡ g.rows * (g.mems * g.unit)
+  pub low : size ≤ 4611686018427387903
   pub hop_is : g.hop ≡ (g.rows - 1) * g.unit
   pub back_is : g.back ≡ (g.mems - 1) * (g.rows * g.unit)
 

@@ -1,14 +1,29 @@
 -- What the functions over a port leave, for any numbers: nothing where they pass the limits.
-use Rattle.std.specs.Prelude.{◌≡◌, ℕ, ◌+◌, ◌-◌, ◌*◌, ◌<◌, ◌≤◌, Bool, ◌&&◌, List, length, replicate, eqb, leb, ltb}
+use Rattle.std.specs.Prelude.{◌≡◌, ℕ, ◌-◌, ◌*◌, ◌<◌, ◌≤◌, Bool, ◌&&◌, List, length, replicate, eqb, leb, ltb}
 use Rattle.std.proofs.lemmas.List.Edits.{sets}
 use Rattle.lists.specs.Choice.{when◌then◌else◌}
 use Rattle.lists.specs.Lists.{up_from}
 use Rattle.rules.specs.Limits.{X, trit_x, max_columns, max_row, max_width, max_nets}
 use Rattle.rules.specs.Swizzle.{arrange, repeating}
 use Rattle.swizzle_laws.specs.Stores.{spill_at, spill_each}
+use Rattle.image_geometry.specs.declared.Params.{Params}
+use Rattle.swizzle_split.specs.declared.Split.{Split}
+use Rattle.swizzle_split.specs.Rows.{rows_of}
 use Rattle.swizzle_columns.specs.declared.WidePort.{WidePort}
 use Rattle.swizzle_columns.specs.declared.Grid.{Grid}
 use Rattle.swizzle_columns.specs.Rows.{all_sources, starts_by}
+
+-- a port's numbers by its split, among so many memories
+abbrev pub wide_of : Params → ℕ → Split → WidePort
+wide_of p mems s = record {
+  mems = mems;
+  unit = p.unit;
+  rows = rows_of s.new;
+  olds = rows_of s.old;
+  width = p.width;
+  chunks = s.mask;
+  pieces = s.pieces;
+}
 
 -- the rows of a port with the largest wide log
 abbrev pub max_rows : ℕ

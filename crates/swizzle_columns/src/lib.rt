@@ -9,9 +9,12 @@ ghost use Rattle.rules.specs.Limits.{X, None, max_merge};
 ghost use Rattle.rules.specs.Swizzle.{arrange, repeating};
 ghost use Rattle.swizzle_laws.specs.Stores.{spill_fit, spill_at, spill_each};
 ghost use Rattle.swizzle_columns.specs.Steps.{Good, At, next_of, Steppable, Rowed};
-ghost use Rattle.swizzle_columns.specs.Rows.{source_of, row_sources, all_sources, last_of, Based, Bases, start_of, starts_by};
-ghost use Rattle.swizzle_columns.specs.Wide.{sizes_fit, rows_fit, PortFits, grid_of, port_starts, can_store, Stores, stored_of, mask_row, port_columns, bits_of, trits_of};
+ghost use Rattle.swizzle_columns.specs.Rows.{source_of, row_sources, all_sources, last_of, Bases, start_of, starts_by};
+ghost use Rattle.swizzle_columns.specs.Wide.{wide_of, sizes_fit, rows_fit, PortFits, grid_of, port_starts, can_store, Stores, stored_of, mask_row, port_columns, bits_of, trits_of};
 ghost use Rattle.swizzle_columns.specs.Jobs.{Narrow};
+
+use image_geometry::Params;
+use swizzle_split::Split;
 
 // How the columns of a port stand: so many memories, rows of the port, columns of a memory, and entries of a row; and the steps from the last
 // column of a memory's row to the same row of the next memory, and back to the first memory.
@@ -36,6 +39,23 @@ pub struct WidePort {
     pub width: u32,
     pub chunks: u32,
     pub pieces: u32,
+}
+
+impl WidePort {
+    // A port with this split of a layout, among so many memories.
+    pub fn of(p: Params, mems: u32, s: Split) -> WidePort
+        ensures { result ≡ wide_of p mems s }
+    {
+        WidePort {
+            mems,
+            unit: p.unit,
+            rows: swizzle_split::rows_of(s.new),
+            olds: swizzle_split::rows_of(s.old),
+            width: p.width,
+            chunks: s.mask,
+            pieces: s.pieces,
+        }
+    }
 }
 
 // The rows of a port with the largest wide log.
@@ -143,103 +163,74 @@ fn next(c: Cursor, g: Grid) -> Cursor
 }
 
 // The bit of the data that an entry names, by where its old row starts, or none.
-fn source(base: usize, e: u32) -> usize
-    requires { Based base }
+fn source(base: u32, e: u32) -> usize
     ensures { result ≡ source_of base e }
 {
     if e == rules::NO_BIT {
         return rules::NO_BIT as usize;
     }
-    base + (e as usize)
+    base as usize + e as usize
 }
 
-// The net of a bit, or `none`; X where there is no such bit.
-fn net_of(v: &[u32], n: usize, none: u32) -> u32
-    ensures { result ≡ (when eqb n None then none else get_or v.now n X) }
+// The net or trit of a bit: `none` where there is none, and `past` where the data ends before it.
+fn bit_of<T: Copy>(v: &[T], n: usize, none: T, past: T) -> T
+    ensures { result ≡ (when eqb n None then none else get_or v.now n past) }
 {
     if n == (rules::NO_BIT as usize) {
         return none;
     }
-    if n < v.len() {
-        return v[n];
-    }
-    rules::NET_X
-}
-
-// The bit's net or trit; blank where there is no such bit.
-fn bit_of<T: Copy>(v: &[T], n: usize, blank: T) -> T
-    ensures { result ≡ (when eqb n None then blank else get_or v.now n blank) }
-{
-    if n != (rules::NO_BIT as usize) && n < v.len() {
-        return v[n];
-    }
-    blank
+    v.get(n).copied().unwrap_or(past)
 }
 
 // Stores the data of an old row, or the trits of one kind, entry after entry.
-fn arrange_row<T: Copy>(out: &mut [T], at: usize, base: usize, entries: &[u32], v: &[T], blank: T)
-    requires { Based base × (at + length entries.now ≤ length out.old) }
+fn arrange_row<T: Copy>(out: &mut [T], at: usize, base: u32, entries: &[u32], v: &[T], blank: T)
+    requires { at + length entries.now ≤ length out.old }
     ensures { out.new ≡ sets out.old at (arrange blank (row_sources base entries.now) v.now) }
 {
     for (i, entry) in entries.iter().enumerate() {
-        out[at + i] = bit_of(v, source(base, *entry), blank);
+        out[at + i] = bit_of(v, source(base, *entry), blank, blank);
     }
 }
 
 // Stores the mask of an old row, where a none repeats what is before it, and returns its last net.
-fn repeat_row(
-    out: &mut [u32],
-    at: usize,
-    base: usize,
-    entries: &[u32],
-    v: &[u32],
-    before: u32,
-) -> u32
-    requires { Based base × (at + length entries.now ≤ length out.old) }
+fn repeat_row(out: &mut [u32], at: usize, base: u32, entries: &[u32], v: &[u32], before: u32) -> u32
+    requires { at + length entries.now ≤ length out.old }
     ensures value { result ≡ last_of before (row_sources base entries.now) v.now }
     ensures out_after { out.new ≡ sets out.old at (repeating before (row_sources base entries.now) v.now) }
 {
     let mut last = before;
     for (i, entry) in entries.iter().enumerate() {
-        last = net_of(v, source(base, *entry), last);
+        last = bit_of(v, source(base, *entry), last, rules::NET_X);
         out[at + i] = last;
     }
     last
 }
 
 // Stores the data of all old rows.
-fn arrange_rows<T: Copy>(
-    out: &mut [T],
-    olds: usize,
-    width: usize,
-    entries: &[u32],
-    v: &[T],
-    blank: T,
-)
+fn arrange_rows<T: Copy>(out: &mut [T], olds: u32, width: u32, entries: &[u32], v: &[T], blank: T)
     requires { Bases olds width (length entries.now) (length out.old) }
     ensures { out.new ≡ sets out.old 0 (arrange blank (all_sources olds width entries.now) v.now) }
 {
-    let mut at = 0;
-    let mut base = 0;
     for j in 0..olds {
-        arrange_row(out, at, base, entries, v, blank);
-        at += entries.len();
-        base += width;
+        arrange_row(
+            out,
+            j as usize * entries.len(),
+            j * width,
+            entries,
+            v,
+            blank,
+        );
     }
 }
 
 // Stores the mask of all old rows; only the very first none is X.
-fn repeat_rows(out: &mut [u32], olds: usize, width: usize, entries: &[u32], v: &[u32])
+fn repeat_rows(out: &mut [u32], olds: u32, width: u32, entries: &[u32], v: &[u32])
     requires { Bases olds width (length entries.now) (length out.old) }
     ensures { out.new ≡ sets out.old 0 (repeating X (all_sources olds width entries.now) v.now) }
 {
     let mut last = rules::NET_X;
-    let mut at = 0;
-    let mut base = 0;
     for j in 0..olds {
-        last = repeat_row(out, at, base, entries, v, last);
-        at += entries.len();
-        base += width;
+        last = repeat_row(out, j as usize * entries.len(), j * width, entries, v, last);
     }
 }
 
@@ -258,20 +249,20 @@ fn piece_starts(starts: &mut [usize], chunks: u32, columns: usize, entries: usiz
     ensures { starts.new ≡ starts_by chunks columns entries (length starts.old) x }
 {
     let first = starts.len() * x;
-    for j in 0..starts.len() {
-        starts[j] = start_of(chunks, columns, entries, (j + first) as u32);
+    for (j, start) in starts.iter_mut().enumerate() {
+        *start = start_of(chunks, columns, entries, (j + first) as u32);
     }
 }
 
 // Stores a run of nets from a column on.
 fn store_from<T: Copy>(to: &mut [T], g: Grid, start: usize, n: usize, v: &[T])
     requires good { Good g (length to.old) }
-    requires n_nonzero { (0 < n) × (n ≡ min (length v.now) (length to.old - start)) × (length to.old ≤ 4611686018427387903) }
+    requires n_nonzero { (0 < n) × (n ≡ min (length v.now) (length to.old - start)) }
     ensures { to.new ≡ spill_fit g.mems g.rows g.unit to.old start v.now }
 {
     let mut c = cursor_at(g, to.len(), start);
-    for i in 0..n {
-        lists::put(to, c.index, v[i]);
+    for bit in &v[..n] {
+        lists::put(to, c.index, *bit);
         c = next(c, g);
     }
 }
@@ -285,7 +276,7 @@ fn fitting(room: usize, at: usize, want: usize) -> usize
 
 // The same where there may be none.
 fn store_run<T: Copy>(to: &mut [T], g: Grid, start: usize, v: &[T])
-    requires { Good g (length to.old) × (length to.old ≤ 4611686018427387903) }
+    requires { Good g (length to.old) }
     ensures { to.new ≡ spill_fit g.mems g.rows g.unit to.old start v.now }
 {
     let n = fitting(to.len(), start, v.len());
@@ -297,7 +288,7 @@ fn store_run<T: Copy>(to: &mut [T], g: Grid, start: usize, v: &[T])
 
 // Stores a piece: so many entries from each start on.
 fn store_piece<T: Copy>(to: &mut [T], g: Grid, starts: &[usize], v: &[T])
-    requires good { Good g (length to.old) × (length to.old ≤ 4611686018427387903) }
+    requires good { Good g (length to.old) }
     requires rowed { Rowed g starts.now v.now }
     ensures { to.new ≡ spill_at g.mems g.rows g.unit g.entries starts.now v.now to.old }
 {
@@ -307,6 +298,24 @@ fn store_piece<T: Copy>(to: &mut [T], g: Grid, starts: &[usize], v: &[T])
         store_run(to, g, *start, &v[at..end]);
         at = end;
     }
+}
+
+// Stores piece x; its starts stand in lent scratch.
+fn store_at<T: Copy>(
+    to: &mut [T],
+    g: Grid,
+    columns: usize,
+    chunks: u32,
+    starts: &mut [usize],
+    v: &[T],
+    x: usize,
+)
+    requires good { Good g (length to.old) }
+    requires v_len { (length v.now ≡ length starts.old * g.entries) × Narrow (length starts.old) columns g.entries x }
+    ensures { to.new ≡ spill_at g.mems g.rows g.unit g.entries (starts_by chunks columns g.entries (length starts.old) x) v.now to.old }
+{
+    piece_starts(starts, chunks, columns, g.entries, x);
+    store_piece(to, g, starts, v);
 }
 
 // A row stored as each piece.
@@ -319,32 +328,13 @@ fn store_pieces<T: Copy>(
     starts: &mut [usize],
     v: &[T],
 )
-    requires good { Good g (length to.old) × (length to.old ≤ 4611686018427387903) }
+    requires good { Good g (length to.old) }
     requires v_len { (length v.now ≡ length starts.old * g.entries) × Narrow (length starts.old) columns g.entries pieces }
     ensures { to.new ≡ spill_each g.mems g.rows g.unit g.entries (starts_by chunks columns g.entries (length starts.old)) (up_from 0 pieces) v.now to.old }
 {
     for x in 0..pieces {
-        piece_starts(starts, chunks, columns, g.entries, x);
-        store_piece(to, g, starts, v);
+        store_at(to, g, columns, chunks, starts, v, x);
     }
-}
-
-// Stores piece x; its starts stand in lent scratch.
-fn store_at(
-    to: &mut [u32],
-    g: Grid,
-    columns: usize,
-    chunks: u32,
-    starts: &mut [usize],
-    v: &[u32],
-    x: usize,
-)
-    requires good { Good g (length to.old) × (length to.old ≤ 4611686018427387903) }
-    requires v_len { (length v.now ≡ length starts.old * g.entries) × Narrow (length starts.old) columns g.entries x }
-    ensures { to.new ≡ spill_at g.mems g.rows g.unit g.entries (starts_by chunks columns g.entries (length starts.old) x) v.now to.old }
-{
-    piece_starts(starts, chunks, columns, g.entries, x);
-    store_piece(to, g, starts, v);
 }
 
 // The same from a port within the limits.
@@ -384,7 +374,7 @@ pub fn mask_row(out: &mut [u32; rules::MAX_MERGE], p: WidePort, entries: &[u32],
     ensures { out.new ≡ mask_row p entries.now v.now out.old }
 {
     if rows_fit(p, entries.len()) {
-        repeat_rows(out, p.olds as usize, p.width as usize, entries, v);
+        repeat_rows(out, p.olds, p.width, entries, v);
     }
 }
 
@@ -401,7 +391,7 @@ fn columns_in<T: Copy>(to: &mut [T], row: &mut [T], p: WidePort, entries: &[u32]
     let olds = p.olds as usize;
     let n = olds * g.entries;
     let mut starts = [0usize; 16];
-    arrange_rows(row, olds, p.width as usize, entries, v, blank);
+    arrange_rows(row, p.olds, p.width, entries, v, blank);
     lists::fill(to, 0, size, blank);
     store_pieces(
         to,

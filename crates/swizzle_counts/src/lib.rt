@@ -10,6 +10,8 @@ ghost use Rattle.swizzle_split.specs.Steps.{can_split};
 ghost use Rattle.swizzle_counts.specs.Needs.{no_needs, plus_needs, Most, port_most, split_of, Lengths, Ranges, read_from, read_needs, ReadFits, ReadsFit, reads_needs, write_from, kept_nets, MaskFits, write_needs, WriteFits, WritesFit, writes_needs};
 
 use image_geometry::Params;
+use merge_keys::columns::Columns;
+use merge_keys::table::Table;
 use net_memory::Memory;
 use swizzle_columns::WidePort;
 use swizzle_split::Split;
@@ -156,7 +158,11 @@ fn mask_count(w: WidePort, n: usize, entries: &[u32], mask: &[u32]) -> usize
     let mut at = [0u32; rules::MAX_MERGE];
     let zeros = [0u32; rules::MAX_MERGE];
     swizzle_columns::mask_row(&mut row, w, entries, mask);
-    merge_keys::merge(&mut kx, &mut ky, &mut at, &row[..n], &zeros[..n])
+    let given = Columns {
+        x: &row[..n],
+        y: &zeros[..n],
+    };
+    merge_keys::merge(&mut kx, &mut ky, &mut at, &mut Table::new(), given)
 }
 
 // Those of a port with so many old rows.

@@ -1,29 +1,38 @@
 -- Laws of the granularities whose masks change: a turn of the loop over the ports, and its end.
 use mathlib.Core.Path.{◌≡◌, refl, sym, ap, ◌∙◌}
-use Prim.Native.Nat.{ℕ, suc, ◌+◌, ◌-◌, ◌/◌, ◌<◌, ◌≤◌, min}
+use Prim.Native.Nat.{ℕ, suc, ◌+◌, ◌-◌, ◌*◌, ◌/◌, ◌<◌, ◌≤◌, min}
 use native.Mathlib.Numerals.{add-one}
 use native.Mathlib.Omega.{arith}
 use mathlib.Core.Bool.{Bool, true, false}
-use mathlib.Core.List.{List, [], ◌∷◌}
-use lib.ListN.{length, drop, get_or, set, drop_of_length-le}
+use mathlib.Core.List.{List, [], ◌∷◌, map}
+use lib.ListN.{length, take, drop, get_or, set, drop_of_length-le}
 use lib.Seq.{sets, drop-cons}
 use Rattle.lists.specs.Choice.{when◌then◌else◌}
-use Rattle.lists.specs.Lists.{part, same_list}
+use Rattle.std.specs.List.{range_with_len}
+use Rattle.lists.specs.Lists.{all, part, sum_by, up_from, same_list}
+use Rattle.lists.specs.Views.{views}
+use Rattle.lists.proofs.Views.{get_d_views}
+use Rattle.rules.specs.Limits.{X}
 use Rattle.lists.proofs.Choice.{cases_le}
 use Rattle.lists.proofs.Store.{part_sets}
 use Rattle.rules.specs.Cell.{Mem, WritePort}
 use Rattle.rules.specs.Geometry.{mask_slice, changing}
-use Rattle.net_memory.specs.declared.Memory.{Memory}
-use Rattle.net_memory.specs.View.{memory_of, writes_of, write_by, write_port, write_start, write_size}
-use Rattle.net_memory.proofs.Ports.{no_write_of, writes_at}
-use Rattle.swizzle_entries.specs.Calls.{slice, unchanged}
+use Rattle.net_memory.specs.declared.MemoryWritePort.{MemoryWritePort}
+use Rattle.net_memory.specs.View.{no_write_port, no_trits, write_by, write_size}
+use Rattle.net_memory.proofs.Ports.{no_write_of}
+use Rattle.swizzle_entries.specs.Calls.{same_at, unchanged}
+use Rattle.swizzle_entries.proofs.Slices.{all_same}
 
 -- the masks of a port, by its nets
+abbrev slice : List ℕ → ℕ → ℕ → ℕ → List ℕ
+slice mask width b count = map (λ (j : ℕ). get_or mask (j * width + b) X) (up_from 0 count)
+
 pub unchanged_by : (m : Mem) (p : WritePort) (b width count : ℕ) (mask : List ℕ) → m.width ≡ width → mask ≡ p.mask → count ≡ length p.bits / width
-    → same_list (slice mask width b count) (slice mask width (b - 1) count) ≡ unchanged m b p
+    → all (same_at mask width b) (range_with_len 0 count) ≡ unchanged m b p
 unfolding mask_slice
 unchanged_by m p b width count mask w e c =
-    λ i. same_list (slice (e i) (sym w i) b ((c ∙ ap (λ (n : ℕ). length p.bits / n) (sym w)) i)) (slice (e i) (sym w i) (b - 1) ((c ∙ ap (λ (n : ℕ). length p.bits / n) (sym w)) i))
+    all_same (λ (j : ℕ). get_or mask (j * width + b) X) (λ (j : ℕ). get_or mask (j * width + (b - 1)) X) count 0
+    ∙ (λ i. same_list (slice (e i) (sym w i) b ((c ∙ ap (λ (n : ℕ). length p.bits / n) (sym w)) i)) (slice (e i) (sym w i) (b - 1) ((c ∙ ap (λ (n : ℕ). length p.bits / n) (sym w)) i)))
 
 no_more : (m : Mem) (b : ℕ) (ps : List WritePort) → changing m b ps [] ≡ []
 unfolding changing
@@ -84,14 +93,13 @@ module _ (m : Mem) (b : ℕ) (W : List WritePort) (gs : List ℕ) where
         on false x y z = (λ j. sets (z j) ((x ∙ add-one found) j) (rest (i + 1))) ∙ sym (ap (sets out found) y) ∙ q
 
 -- a port of the machine, by its place
-pub port_unchanged : (m : Memory) (nets trits : List ℕ) (b i : ℕ) (r : Bool) (x : List ℕ) → i < min 8 m.write_count
-    → x ≡ part (write_start m i) (write_size (write_port m i)) nets
-    → ((v : Mem) → v.width ≡ m.width → r ≡ unchanged v b (write_by (write_port m i) x []))
-    → r ≡ unchanged (memory_of m nets trits) b (get_or (writes_of m nets) i no_write_of)
-unfolding memory_of
-port_unchanged m nets trits b i r x h e f =
-    f (memory_of m nets trits) refl
-    ∙ ap (unchanged (memory_of m nets trits) b) (ap (λ (l : List ℕ). write_by (write_port m i) l []) e ∙ sym (writes_at m nets i h))
+pub port_unchanged : (v : Mem) (ps : List MemoryWritePort) (nets : List ℕ) (b i : ℕ) (r : Bool) (p : MemoryWritePort) (x : List ℕ) → p ≡ get_or ps i no_write_port
+    → x ≡ part (sum_by write_size (take i ps)) (write_size p) nets → r ≡ unchanged v b (write_by p x [])
+    → r ≡ unchanged v b (get_or (views write_size no_trits write_by ps nets []) i no_write_of)
+port_unchanged v ps nets b i r p x q e f =
+    f ∙ ap (unchanged v b) (ap (λ (l : List ℕ). write_by p l []) e
+    ∙ ap (λ (w : MemoryWritePort). write_by w (part (sum_by write_size (take i ps)) (write_size w) nets) []) q
+    ∙ sym (get_d_views write_size no_trits write_by no_write_port refl refl ps i nets []))
 
 -- what was stored first
 pub kept-part : (out out' l : List ℕ) (n : ℕ) → out' ≡ sets out 0 l → n ≡ length l → length l ≤ length out → part 0 n out' ≡ l

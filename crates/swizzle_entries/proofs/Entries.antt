@@ -28,6 +28,10 @@ module _ (m : Memory) (nets trits gs : List ℕ) where
   abbrev v : Mem
   v = memory_of m nets trits
 
+  pub width_is : v.width ≡ m.width
+  unfolding memory_of
+  width_is = refl
+
   -- the entries after the first n, from bit b on
   abbrev pub left : ℕ → ℕ → List ℕ
   left n b = swizzle_from v gs n b (m.width - b)

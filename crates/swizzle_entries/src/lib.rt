@@ -4,43 +4,52 @@
 ghost use Rattle.std.specs.Prelude.{◌≡◌, ◌||◌, List, [], ◌∷◌, ◌++◌, ℕ, ◌+◌, ◌-◌, ◌%◌, ◌<◌, ◌≤◌, length, get_or, set, replicate, eqb, ltb};
 ghost use Rattle.std.proofs.lemmas.List.Edits.{sets};
 ghost use Rattle.lists.specs.Choice.{when◌then◌else◌};
-ghost use Rattle.lists.specs.Lists.{same_list};
+ghost use Rattle.std.specs.List.{range_with_len};
+ghost use Rattle.lists.specs.Lists.{all};
 ghost use Rattle.rules.specs.Cell.{Mem};
-ghost use Rattle.rules.specs.Limits.{X, None, max_granularity};
+ghost use Rattle.rules.specs.Limits.{X, None, max_granularity, max_ports};
 ghost use Rattle.rules.specs.Geometry.{changing, aligned, padded, make_data_swizzle};
 ghost use Rattle.rules.specs.Conditions.{bad_granularities};
-ghost use Rattle.net_memory.specs.View.{memory_of, writes_of, write_by};
+ghost use Rattle.net_memory.specs.Ports.{write_of};
 ghost use Rattle.rules.specs.Refusal.{number_of};
 ghost use Rattle.rules.specs.Refusals.{make_data_swizzle_refusal};
 ghost use Rattle.rules.specs.Answers.{make_data_swizzle_call};
-ghost use Rattle.net_memory.specs.Given.{view_given};
-ghost use Rattle.swizzle_entries.specs.Calls.{slice, unchanged, listed_of};
+ghost use Rattle.net_memory.specs.Given.{view_given, mem_of};
+ghost use Rattle.swizzle_entries.specs.Calls.{same_at, unchanged, writes_in, listed_of};
 
-use net_memory::{Given, Memory};
+use net_memory::{Given, MemoryWritePort, WritePort};
 use rules::Refusal;
+
+// The write ports of a memory with so many bits to a row, their nets, and a granularity for each.
+#[derive(Clone, Copy)]
+pub(crate) struct Writes<'a> {
+    pub width: u32,
+    pub ports: &'a [MemoryWritePort],
+    pub nets: &'a [u32],
+    pub granularities: &'a [u32],
+}
 
 // The net at a place, X past the end.
 fn net_at(s: &[u32], i: usize) -> u32
     ensures { result ≡ get_or s.now i X }
 {
-    if i < s.len() {
-        return s[i];
-    }
-    rules::NET_X
+    s.get(i).copied().unwrap_or(rules::NET_X)
 }
 
-// The mask nets of a bit are those of the bit before it, in each of `count` subports.
-fn masks_same(mask: &[u32], width: usize, bit: usize, count: usize) -> bool
-    requires { (width < 0x100000000) × (bit < 0x100000000) × (count < 0x100000000) }
-    ensures { result ≡ same_list (slice mask.now width bit count) (slice mask.now width (bit - 1) count) }
+// A bit has the same mask net as the bit before it, in subport j.
+#[tactic(auto, using(crate::proofs::Slices::place_fits))]
+fn subport_same(mask: &[u32], width: u32, bit: u32, j: u32) -> bool
+    ensures { result ≡ same_at mask.now width bit j }
 {
-    let before = bit.saturating_sub(1);
-    for j in 0..count {
-        if net_at(mask, j * width + bit) != net_at(mask, j * width + before) {
-            return false;
-        }
-    }
-    true
+    let at = j as usize * width as usize;
+    net_at(mask, at + bit as usize) == net_at(mask, at + bit.saturating_sub(1) as usize)
+}
+
+// In each of `count` subports.
+fn masks_same(mask: &[u32], width: u32, bit: u32, count: u32) -> bool
+    ensures { result ≡ all (same_at mask.now width bit) (range_with_len 0 count) }
+{
+    (0..count).all(|j| subport_same(mask, width, bit, j))
 }
 
 // Whether a number of entries is a multiple of each granularity.
@@ -73,13 +82,13 @@ fn padding_of(gs: &[u32], n: usize) -> usize
     rules::MAX_ROW + 1
 }
 
-// A write port with these nets has the same mask nets at a bit as at the one before.
-fn port_same(p: net_memory::MemoryWritePort, nets: &[u32], width: usize, bit: usize) -> bool
-    requires { (0 < width) × (width < 0x100000000) × (bit < 0x100000000) }
-    ensures { (m : Mem) → m.width ≡ width → result ≡ unchanged m bit (write_by p nets.now []) }
+// A write port has the same mask nets at a bit as at the one before.
+fn port_same(port: WritePort<'_>, width: u32, bit: u32) -> bool
+    requires { 0 < width }
+    ensures { (m : Mem) → m.width ≡ width → result ≡ unchanged m bit (write_of port.entry) }
 {
-    let count = net_memory::data_count(p, nets) / width;
-    masks_same(net_memory::mask_of(p, nets), width, bit, count)
+    let count = port.bits().len() / width as usize;
+    masks_same(port.mask(), width, bit, count as u32)
 }
 
 // Stores a granularity unless its port's mask is the same, and says how many there are then.
@@ -95,35 +104,38 @@ fn keep(out: &mut [u32], found: usize, same: bool, g: u32) -> usize
     found + 1
 }
 
-// Stores the granularities of the write ports whose mask changes between a bit and the one before, and says how many they are.
-fn changing_of(out: &mut [u32], m: Memory, nets: &[u32], gs: &[u32], bit: usize) -> usize
-    requires { (0 < m.width) × (bit < 0x100000000) }
-    ensures by_index { (trits : List ℕ) → result ≡ length (changing (memory_of m nets.now trits) bit (writes_of m nets.now) gs.now) }
-    ensures by_index_2 { (trits : List ℕ) → out.new ≡ sets out.old 0 (changing (memory_of m nets.now trits) bit (writes_of m nets.now) gs.now) }
-{
-    let end = net_memory::ports_used(m.write_count).min(gs.len());
-    let mut found = 0;
-    let mut at = 0;
-    for i in 0..end {
-        let p = m.write_ports[i];
-        let size = net_memory::write_size(p);
-        let part = lists::part(nets, at, size);
-        let same = port_same(p, part, m.width as usize, bit);
-        found = keep(out, found, same, gs[i]);
-        at += size;
+impl Writes<'_> {
+    // Stores the granularities of the ports whose mask changes between a bit and the one before, and says how many they are.
+    fn changing(self, out: &mut [u32], bit: u32) -> usize
+        requires { (0 < self.width) × (length self.ports.now ≤ max_ports) }
+        ensures value { (m : Mem) → m.width ≡ self.entry.width → result ≡ length (changing m bit (writes_in self.entry) self.entry.granularities.now) }
+        ensures out_after { (m : Mem) → m.width ≡ self.entry.width → out.new ≡ sets out.old 0 (changing m bit (writes_in self.entry) self.entry.granularities.now) }
+    {
+        let mut found = 0;
+        let mut at = 0;
+        let end = self.ports.len().min(self.granularities.len());
+        // Not over a `zip`: there the invariant has no index of a place.
+        for (i, port) in self.ports[..end].iter().enumerate() {
+            let size = net_memory::write_size(*port);
+            let nets = lists::part(self.nets, at, size);
+            let write = WritePort { port: *port, nets };
+            let same = port_same(write, self.width, bit);
+            found = keep(out, found, same, self.granularities[i]);
+            at += size;
+        }
+        found
     }
-    found
-}
 
-// How many None come before a bit when n entries are there.
-fn bit_padding(m: Memory, nets: &[u32], gs: &[u32], bit: usize, n: usize) -> usize
-    requires { (0 < m.width) × (bit < 0x100000000) × (n ≤ 0x1000000000000) }
-    ensures by_index { (trits : List ℕ) → result ≡ padded (changing (memory_of m nets.now trits) bit (writes_of m nets.now) gs.now) n }
-    ensures upper_bound { result ≤ 257 }
-{
-    let mut kept = [0u32; rules::MAX_PORTS];
-    let count = changing_of(&mut kept, m, nets, gs, bit);
-    padding_of(lists::part(&kept, 0, count), n)
+    // How many None come before a bit when n entries are there.
+    fn bit_padding(self, bit: u32, n: usize) -> usize
+        requires { (0 < self.width) × (length self.ports.now ≤ max_ports) × (n ≤ 0x1000000000000) }
+        ensures value { (m : Mem) → m.width ≡ self.entry.width → result ≡ padded (changing m bit (writes_in self.entry) self.entry.granularities.now) n }
+        ensures upper_bound { result ≤ 257 }
+    {
+        let mut kept = [0u32; rules::MAX_PORTS];
+        let count = self.changing(&mut kept, bit);
+        padding_of(lists::part(&kept, 0, count), n)
+    }
 }
 
 // Stores `count` times None and then a bit, and says how many entries there are then.
@@ -138,13 +150,20 @@ fn put_bit(out: &mut [u32], n: usize, count: usize, bit: u32) -> usize
 }
 
 // Stores the entries, and says how many they are.
-fn put_entries(out: &mut [u32], m: Memory, nets: &[u32], gs: &[u32]) -> usize
-    ensures by_index { (trits : List ℕ) → result ≡ length (make_data_swizzle (memory_of m nets.now trits) gs.now) }
-    ensures by_index_2 { (trits : List ℕ) → out.new ≡ sets out.old 0 (make_data_swizzle (memory_of m nets.now trits) gs.now) }
+fn put_entries(out: &mut [u32], given: Given<'_>, gs: &[u32]) -> usize
+    ensures value { result ≡ length (make_data_swizzle (mem_of given.entry) gs.now) }
+    ensures out_after { out.new ≡ sets out.old 0 (make_data_swizzle (mem_of given.entry) gs.now) }
 {
+    let m = given.memory;
+    let writes = Writes {
+        width: m.width,
+        ports: &m.write_ports[..net_memory::ports_used(m.write_count)],
+        nets: given.nets,
+        granularities: gs,
+    };
     let mut n = 0;
     for bit in 0..m.width {
-        let count = bit_padding(m, nets, gs, bit as usize, n);
+        let count = writes.bit_padding(bit, n);
         n = put_bit(out, n, count, bit);
     }
     let last = padding_of(gs, n);
@@ -160,10 +179,10 @@ fn granularity_bad(g: u32) -> bool
 }
 
 // Number 5.
-fn granularities_bad(m: Memory, gs: &[u32]) -> bool
-    ensures { (nets trits : List ℕ) → result ≡ bad_granularities (memory_of m nets trits) gs.now }
+fn granularities_bad(given: Given<'_>, gs: &[u32]) -> bool
+    ensures { result ≡ bad_granularities (mem_of given.entry) gs.now }
 {
-    if gs.len() != net_memory::ports_used(m.write_count) {
+    if gs.len() != net_memory::ports_used(given.memory.write_count) {
         return true;
     }
     gs.iter().any(|g| granularity_bad(*g))
@@ -175,10 +194,10 @@ fn entries_refusal(given: Given<'_>, gs: &[u32], room: usize) -> Result<(), Refu
     ensures { number_of result ≡ make_data_swizzle_refusal room (view_given given.entry) gs.now }
 {
     net_check::memory_refusal(given)?;
-    if granularities_bad(given.memory, gs) {
+    if granularities_bad(given, gs) {
         return Err(Refusal::BadGranularity);
     }
-    let count = put_entries(&mut [], given.memory, given.nets, gs);
+    let count = put_entries(&mut [], given, gs);
     if rules::MAX_ROW < count {
         return Err(Refusal::RowTooLong);
     }
@@ -198,5 +217,5 @@ pub fn make_data_swizzle(
     ensures { listed_of result out.new ≡ make_data_swizzle_call out.old (view_given given.entry) granularities.now }
 {
     entries_refusal(given, granularities, out.len())?;
-    Ok(put_entries(out, given.memory, given.nets, granularities))
+    Ok(put_entries(out, given, granularities))
 }

@@ -15,8 +15,12 @@ use Rattle.net_memory.specs.FlipFlop.{MemoryReadFlipFlop}
 use Rattle.std.specs.Prelude.{None, Some}
 use Rattle.std.specs.Option.{is_some}
 use Rattle.swizzle_result.specs.declared.WideMemory.{WideMemory}
+use Rattle.swizzle_parts.specs.declared.Bits.{Bits}
+use Rattle.swizzle_parts.specs.declared.Bits.TheVariants.{Data, Mask}
+use Rattle.swizzle_parts.specs.declared.Kind.{Kind}
+use Rattle.swizzle_parts.specs.declared.Kind.TheVariants.{Clear, Reset, Init}
 use Rattle.swizzle_result.specs.View.{own, whole, write_size, addr_size, trits_if}
-use Rattle.swizzle_parts.specs.Parts.{write_port, read_port, has_write, has_read, memory_at, clear_at, reset_at, init_at, write_start, read_start, trit_start}
+use Rattle.swizzle_parts.specs.Parts.{write_port, read_port, has_write, has_read, memory_at, clear_at, reset_at, init_at, bits_before, bits_at, kind_before, kind_at, write_start, read_start, trit_start}
 use Rattle.swizzle_parts.proofs.Found.{write_known, read_known, write_at_lem, read_at, clear_is, reset_is, init_is}
 
 -- a flip-flop that is there
@@ -102,3 +106,17 @@ module _ (g : WideMemory) (n i : ℕ) (nets trits image : List ℕ) (e : has_rea
     init_cut =
         at_cut (2 * A + n * R) (A + A + n * R) (omega arith)
         ∙ sym (init_is g n i nets trits image e z F.0 F.1 ∙ inside (A + A + n * R) (omega (arith, own_within g n (read_port g i).wide (read_known g n i e).0.below)))
+
+-- ---- whichever part of a port
+module _ (g : WideMemory) (n j : ℕ) (nets trits image : List ℕ) where
+  pub bits_cut : (b : Bits) → has_write g n j ≡ true → length g.write_ports ≡ max_ports
+      → part (write_start g j + ((write_port g j).addr_len + bits_before b * whole g (write_port g j).wide + n * own g (write_port g j).wide)) (own g (write_port g j).wide) nets
+      ≡ bits_at b (write_at (memory_at g nets trits image n).memory j)
+  bits_cut Data e z = data_cut g n j nets trits image e z
+  bits_cut Mask e z = mask_cut g n j nets trits image e z
+
+  pub kind_cut : (k : Kind) → has_read g n j ≡ true → length g.read_ports ≡ max_ports → is_some (read_port g j).flip_flop ≡ true
+      → part (trit_start g j + (kind_before k * whole g (read_port g j).wide + n * own g (read_port g j).wide)) (own g (read_port g j).wide) trits ≡ kind_at k (memory_at g nets trits image n).memory j
+  kind_cut Clear e z h = clear_cut g n j nets trits image e z h
+  kind_cut Reset e z h = reset_cut g n j nets trits image e z h
+  kind_cut Init e z h = init_cut g n j nets trits image e z h

@@ -29,8 +29,12 @@ use Rattle.net_flip_flop.specs.declared.Controls.{Controls}
 use Rattle.net_memory.specs.FlipFlop.{MemoryReadFlipFlop}
 use Rattle.std.specs.Prelude.{None, Some}
 use Rattle.std.specs.Option.{is_some}
+use Rattle.swizzle_parts.specs.declared.Bits.{Bits}
+use Rattle.swizzle_parts.specs.declared.Bits.TheVariants.{Data, Mask}
+use Rattle.swizzle_parts.specs.declared.Kind.{Kind}
+use Rattle.swizzle_parts.specs.declared.Kind.TheVariants.{Clear, Reset, Init}
 use Rattle.swizzle_result.specs.View.{own, whole, flip_flop_by, write_ports_of, read_ports_of, write_size, addr_size, trit_size, no_trits, write_by, read_by, reads_start, result_of, results_of}
-use Rattle.swizzle_parts.specs.Parts.{no_write_of, no_read_of, no_memory, write_port, read_port, small_write, small_read, is_small, Small, is_there, There, has_port, has_write, has_read, memory_at, clear_at, reset_at, init_at, write_nets, read_nets, read_trits}
+use Rattle.swizzle_parts.specs.Parts.{no_write_of, no_read_of, no_memory, write_port, read_port, small_write, small_read, is_small, Small, is_there, There, has_port, has_write, has_read, memory_at, clear_at, reset_at, init_at, bits_at, kind_at, write_nets, read_nets, read_trits}
 
 -- ---- lists
 all_at : {A : Type 0} (f : A → Bool) (d : A) (l : List A) → all f l ≡ true → f d ≡ true → (i : ℕ) → f (get_or l i d) ≡ true
@@ -251,3 +255,22 @@ module _ (g : WideMemory) (n j : ℕ) where
     -- its depth
     pub depth_is : is_there g n ≡ true → (memory_at g nets trits image n).memory.depth ≡ depth_at g.full g.full_depth g.part_depth n
     depth_is e = ap (λ (d : Driving). d.memory.depth) (found g n nets trits image e)
+
+-- ---- a part of a port, where there is none
+no_bits_of : (b : Bits) → bits_at b no_write_port ≡ []
+no_bits_of Data = refl
+no_bits_of Mask = refl
+
+pub no_bits : (b : Bits) (g : WideMemory) (n j : ℕ) (nets trits image : List ℕ) → has_write g n j ≡ false → bits_at b (write_at (memory_at g nets trits image n).memory j) ≡ []
+no_bits b g n j nets trits image e = ap (bits_at b) (no_write g n j nets trits image e) ∙ no_bits_of b
+
+pub no_kind_at : (k : Kind) (g : WideMemory) (n i : ℕ) (nets trits image : List ℕ) → has_read g n i ≡ false → kind_at k (memory_at g nets trits image n).memory i ≡ []
+no_kind_at Clear g n i nets trits image e = (no_trits_lem g n i nets trits image e).0
+no_kind_at Reset g n i nets trits image e = (no_trits_lem g n i nets trits image e).1
+no_kind_at Init g n i nets trits image e = (no_trits_lem g n i nets trits image e).2
+
+pub unclocked_at : (k : Kind) (g : WideMemory) (n i : ℕ) (nets trits image : List ℕ) → has_read g n i ≡ true → length g.read_ports ≡ max_ports → is_some (read_port g i).flip_flop ≡ false
+    → kind_at k (memory_at g nets trits image n).memory i ≡ []
+unclocked_at Clear g n i nets trits image e z b = (unclocked g n i nets trits image e z b).0
+unclocked_at Reset g n i nets trits image e z b = (unclocked g n i nets trits image e z b).1
+unclocked_at Init g n i nets trits image e z b = (unclocked g n i nets trits image e z b).2

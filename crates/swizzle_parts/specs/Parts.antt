@@ -3,7 +3,7 @@ use Rattle.std.specs.Prelude.{ℕ, ◌+◌, ◌<◌, ◌≤◌, min, Bool, ◌&&
 use Rattle.lists.specs.Choice.{when◌then◌else◌}
 use Rattle.lists.specs.Lists.{sum_by, part, all, concat_map}
 use Rattle.rules.specs.Limits.{max_ports, max_wide, max_unit, max_columns, max_nets}
-use Rattle.rules.specs.Cell.{Mem, ReadFlipFlop, read_at_of, held}
+use Rattle.rules.specs.Cell.{Mem, WritePort, ReadFlipFlop, read_at_of, held}
 use Rattle.rules.specs.Ports.{Driving}
 use Rattle.net_value.specs.declared.ControlNet.TheVariants.{Pos}
 use Rattle.std.specs.Prelude.{None}
@@ -11,6 +11,10 @@ use Rattle.swizzle_result.specs.declared.WideWritePort.{WideWritePort}
 use Rattle.swizzle_result.specs.declared.WideReadPort.{WideReadPort}
 use Rattle.swizzle_result.specs.declared.WideMemory.{WideMemory}
 use Rattle.swizzle_parts.specs.declared.Part.{Part}
+use Rattle.swizzle_parts.specs.declared.Bits.{Bits}
+use Rattle.swizzle_parts.specs.declared.Bits.TheVariants.{Data, Mask}
+use Rattle.swizzle_parts.specs.declared.Kind.{Kind}
+use Rattle.swizzle_parts.specs.declared.Kind.TheVariants.{Clear, Reset, Init}
 use Rattle.swizzle_result.specs.View.{write_ports_of, read_ports_of, write_size, addr_size, trit_size, reads_start, results_of}
 
 -- what stands past the last port, and past the last memory
@@ -80,6 +84,25 @@ reset_at m i = concat_map (λ (f : ReadFlipFlop). f.reset_value) (held (read_at_
 
 unfoldable pub init_at : Mem → ℕ → List ℕ
 init_at m i = concat_map (λ (f : ReadFlipFlop). f.init_value) (held (read_at_of m i).flip_flop)
+
+-- the parts of a port, and how many times the columns of all memories come before one
+abbrev pub bits_before : Bits → ℕ
+bits_before Data = 0
+bits_before Mask = 1
+
+abbrev pub bits_at : Bits → WritePort → List ℕ
+bits_at Data p = p.bits
+bits_at Mask p = p.mask
+
+abbrev pub kind_before : Kind → ℕ
+kind_before Clear = 0
+kind_before Reset = 1
+kind_before Init = 2
+
+abbrev pub kind_at : Kind → Mem → ℕ → List ℕ
+kind_at Clear m i = clear_at m i
+kind_at Reset m i = reset_at m i
+kind_at Init m i = init_at m i
 
 -- where a port's nets and trits start
 abbrev pub write_start : WideMemory → ℕ → ℕ

@@ -5,11 +5,14 @@
 
 ghost use Rattle.std.specs.Prelude.{◌≡◌, List, ℕ, ◌+◌, ◌*◌, ◌<◌, ◌≤◌, min, get_or};
 ghost use Rattle.lists.specs.Lists.{all, part};
-ghost use Rattle.rules.specs.Limits.{max_ports, max_wide, max_unit, max_columns, max_nets};
+ghost use Rattle.rules.specs.Limits.{max_ports, max_wide, max_columns, max_nets};
 ghost use Rattle.rules.specs.Cell.{write_at, read_at_of, output_slice};
 ghost use Rattle.swizzle_result.specs.View.{own, whole, write_ports_of, read_ports_of, write_size, trit_size, start_by, output_by};
-ghost use Rattle.swizzle_parts.specs.Parts.{small_write, small_read, is_small, Small, is_there, There, has_port, memory_at, read_port, write_start, read_start, trit_start, clear_at, reset_at, init_at, no_part};
+ghost use Rattle.swizzle_parts.specs.Parts.{small_write, small_read, is_small, is_there, There, has_port, memory_at, read_port, write_start, read_start, trit_start, clear_at, reset_at, init_at, no_part, bits_before, bits_at, kind_before, kind_at};
 
+mod memories;
+
+use memories::Memories;
 use swizzle_result::{WideMemory, WideReadPort, WideWritePort};
 
 // A part of a lent array; 0, 0 where there is none.
@@ -18,6 +21,20 @@ use swizzle_result::{WideMemory, WideReadPort, WideWritePort};
 pub struct Part {
     pub start: usize,
     pub size: usize,
+}
+
+// The two parts of a write port's nets after its address, and the three of a read port's trits, each in the order in which they stand.
+#[derive(Clone, Copy)]
+pub(crate) enum Bits {
+    Data,
+    Mask,
+}
+
+#[derive(Clone, Copy)]
+pub(crate) enum Kind {
+    Clear,
+    Reset,
+    Init,
 }
 
 // The numbers of the write ports in use are small.
@@ -63,75 +80,114 @@ fn has_port(g: WideMemory, n: usize, i: usize, count: u32) -> bool
     is_there(g, n) && i < net_memory::ports_used(count)
 }
 
-// A memory's bits of a port with this wide log.
-fn own(g: WideMemory, wide: u32) -> usize
-    requires { Small g × (wide ≤ max_wide) }
-    ensures { (result ≡ own g wide) × (result ≤ 4096) }
-{
-    lists::two_to(wide) as usize * g.unit as usize
-}
-
-// Those of all memories.
-fn whole(g: WideMemory, wide: u32) -> usize
-    requires { Small g × (wide ≤ max_wide) }
-    ensures { (result ≡ whole g wide) × (result ≤ 134217728) }
-{
-    g.mems as usize * own(g, wide)
-}
-
-// How many nets a write port has.
-fn write_size(g: WideMemory, p: WideWritePort) -> usize
-    requires { Small g × (p.wide ≤ max_wide) }
-    ensures { (result ≡ write_size g p) × (result ≤ 0x200000000) }
-{
-    p.addr_len as usize + 2 * whole(g, p.wide)
-}
-
-// How many trits a read port has.
-fn trit_size(g: WideMemory, p: WideReadPort) -> usize
-    requires { Small g × (p.wide ≤ max_wide) }
-    ensures { (result ≡ trit_size g p) × (result ≤ 0x200000000) }
-{
-    if p.flip_flop.is_none() {
-        return 0;
+impl Memories {
+    // A memory's bits of a port with this wide log. No struct for a wide log that is low: it would hold one number.
+    fn own(self, wide: u32) -> usize
+        requires { wide ≤ max_wide }
+        ensures { (result ≡ own self.g wide) × (result ≤ 4096) }
+    {
+        lists::two_to(wide) as usize * self.g.unit as usize
     }
-    3 * whole(g, p.wide)
+
+    // Those of all memories.
+    fn whole(self, wide: u32) -> usize
+        requires { wide ≤ max_wide }
+        ensures { (result ≡ whole self.g wide) × (result ≤ 134217728) }
+    {
+        self.g.mems as usize * self.own(wide)
+    }
+
+    // How many nets a write port has.
+    fn write_size(self, p: WideWritePort) -> usize
+        requires { p.wide ≤ max_wide }
+        ensures { (result ≡ write_size self.g p) × (result ≤ 0x200000000) }
+    {
+        p.addr_len as usize + 2 * self.whole(p.wide)
+    }
+
+    // How many trits a read port has.
+    fn trit_size(self, p: WideReadPort) -> usize
+        requires { p.wide ≤ max_wide }
+        ensures { (result ≡ trit_size self.g p) × (result ≤ 0x200000000) }
+    {
+        if p.flip_flop.is_none() {
+            return 0;
+        }
+        3 * self.whole(p.wide)
+    }
+
+    // Where the nets of write port j start.
+    fn write_start(self, j: usize) -> usize
+        requires { j ≤ min max_ports self.g.write_count }
+        ensures { (result ≡ write_start self.g j) × (result ≤ j * 0x200000000) }
+    {
+        let mut at = 0;
+        for port in &self.g.write_ports[..j] {
+            at += self.write_size(*port);
+        }
+        at
+    }
+
+    // Where those of read port i start.
+    fn read_start(self, i: usize) -> usize
+        requires { i ≤ min max_ports self.g.read_count }
+        ensures { (result ≡ read_start self.g i) × (result ≤ 0x1000000000 + i * 0x100000000) }
+    {
+        let mut at = self.write_start(net_memory::ports_used(self.g.write_count));
+        for port in &self.g.read_ports[..i] {
+            at += port.addr_len as usize;
+        }
+        at
+    }
+
+    // Where the trits of read port i start. No one loop for nets and trits: a closure for a port's size would have to be told that each port's numbers are small.
+    fn trit_start(self, i: usize) -> usize
+        requires { i ≤ min max_ports self.g.read_count }
+        ensures { (result ≡ trit_start self.g i) × (result ≤ i * 0x200000000) }
+    {
+        let mut at = 0;
+        for port in &self.g.read_ports[..i] {
+            at += self.trit_size(*port);
+        }
+        at
+    }
+
+    // Where the trits of memory n start in the image.
+    fn image_start(self, n: usize) -> usize
+        requires { n ≤ max_columns }
+        ensures { result ≡ start_by self.g n }
+    {
+        let g = self.g;
+        let full = g.full as usize;
+        let low = n.min(full);
+        let high = n - low;
+        let rows = low * g.full_depth as usize + high * g.part_depth as usize;
+        rows * g.unit as usize
+    }
 }
 
-// Where the nets of write port j start.
-fn write_start(g: WideMemory, j: usize) -> usize
-    requires { Small g × (j ≤ min max_ports g.write_count) }
-    ensures { (result ≡ write_start g j) × (result ≤ j * 0x200000000) }
-{
-    let mut at = 0;
-    for port in &g.write_ports[..j] {
-        at += write_size(g, *port);
+impl Bits {
+    // How many times the columns of all memories come before.
+    fn before(self) -> usize
+        ensures { (result ≡ bits_before self) × (result ≤ 1) }
+    {
+        match self {
+            Bits::Data => 0,
+            Bits::Mask => 1,
+        }
     }
-    at
 }
 
-// Where those of read port i start.
-fn read_start(g: WideMemory, i: usize) -> usize
-    requires { Small g × (i ≤ min max_ports g.read_count) }
-    ensures { (result ≡ read_start g i) × (result ≤ 0x1000000000 + i * 0x100000000) }
-{
-    let mut at = write_start(g, net_memory::ports_used(g.write_count));
-    for port in &g.read_ports[..i] {
-        at += port.addr_len as usize;
+impl Kind {
+    fn before(self) -> usize
+        ensures { (result ≡ kind_before self) × (result ≤ 2) }
+    {
+        match self {
+            Kind::Clear => 0,
+            Kind::Reset => 1,
+            Kind::Init => 2,
+        }
     }
-    at
-}
-
-// Where the trits of read port i start. No one loop for nets and trits: a closure for a port's size would have to be told that each port's numbers are small.
-fn trit_start(g: WideMemory, i: usize) -> usize
-    requires { Small g × (i ≤ min max_ports g.read_count) }
-    ensures { (result ≡ trit_start g i) × (result ≤ i * 0x200000000) }
-{
-    let mut at = 0;
-    for port in &g.read_ports[..i] {
-        at += trit_size(g, *port);
-    }
-    at
 }
 
 // The depth of memory n; 0 where there is none.
@@ -164,27 +220,28 @@ pub fn write_addr_part(g: WideMemory, n: usize, j: usize) -> Part
         return no_part();
     }
     let p = g.write_ports[j];
+    let m = Memories { g };
     Part {
-        start: write_start(g, j),
+        start: m.write_start(j),
         size: p.addr_len as usize,
     }
 }
 
-// Memory n's data or mask of write port j: after none or one times the columns of all memories.
+// Memory n's data or mask of write port j.
 #[tactic(auto, using(crate::proofs::Found::write_known))]
-fn columns_part(g: WideMemory, n: usize, j: usize, before: usize) -> Part
-    requires { before ≤ 1 }
-    ensures data_part { before ≡ 0 → (nets trits image : List ℕ) → part result.start result.size nets ≡ (write_at (memory_at g nets trits image n).memory j).bits }
-    ensures mask_part { before ≡ 1 → (nets trits image : List ℕ) → part result.start result.size nets ≡ (write_at (memory_at g nets trits image n).memory j).mask }
+fn columns_part(g: WideMemory, n: usize, j: usize, bits: Bits) -> Part
+    ensures { (nets trits image : List ℕ) → part result.start result.size nets ≡ bits_at bits (write_at (memory_at g nets trits image n).memory j) }
 {
     if !has_port(g, n, j, g.write_count) {
         return no_part();
     }
     let p = g.write_ports[j];
-    let size = own(g, p.wide);
-    let inside = p.addr_len as usize + before * whole(g, p.wide) + n * size;
+    let m = Memories { g };
+    let size = m.own(p.wide);
+    let before = bits.before();
+    let inside = p.addr_len as usize + before * m.whole(p.wide) + n * size;
     Part {
-        start: write_start(g, j) + inside,
+        start: m.write_start(j) + inside,
         size,
     }
 }
@@ -193,14 +250,14 @@ fn columns_part(g: WideMemory, n: usize, j: usize, before: usize) -> Part
 pub fn write_data_part(g: WideMemory, n: usize, j: usize) -> Part
     ensures { (nets trits image : List ℕ) → part result.start result.size nets ≡ (write_at (memory_at g nets trits image n).memory j).bits }
 {
-    columns_part(g, n, j, 0)
+    columns_part(g, n, j, Bits::Data)
 }
 
 // Its mask.
 pub fn write_mask_part(g: WideMemory, n: usize, j: usize) -> Part
     ensures { (nets trits image : List ℕ) → part result.start result.size nets ≡ (write_at (memory_at g nets trits image n).memory j).mask }
 {
-    columns_part(g, n, j, 1)
+    columns_part(g, n, j, Bits::Mask)
 }
 
 // The address of read port i in the nets, which all memories share. One function for both kinds of port would be no shorter.
@@ -212,19 +269,17 @@ pub fn read_addr_part(g: WideMemory, n: usize, i: usize) -> Part
         return no_part();
     }
     let p = g.read_ports[i];
+    let m = Memories { g };
     Part {
-        start: read_start(g, i),
+        start: m.read_start(i),
         size: p.addr_len as usize,
     }
 }
 
-// Memory n's clear, reset or init trits of read port i: after none, one or two times the columns of all memories; none where it has no flip-flop.
+// Memory n's clear, reset or init trits of read port i; none where it has no flip-flop.
 #[tactic(auto, using(crate::proofs::Found::read_known))]
-fn trits_part(g: WideMemory, n: usize, i: usize, before: usize) -> Part
-    requires { before ≤ 2 }
-    ensures clear_part { before ≡ 0 → (nets trits image : List ℕ) → part result.start result.size trits ≡ clear_at (memory_at g nets trits image n).memory i }
-    ensures reset_part { before ≡ 1 → (nets trits image : List ℕ) → part result.start result.size trits ≡ reset_at (memory_at g nets trits image n).memory i }
-    ensures init_part { before ≡ 2 → (nets trits image : List ℕ) → part result.start result.size trits ≡ init_at (memory_at g nets trits image n).memory i }
+fn trits_part(g: WideMemory, n: usize, i: usize, kind: Kind) -> Part
+    ensures { (nets trits image : List ℕ) → part result.start result.size trits ≡ kind_at kind (memory_at g nets trits image n).memory i }
 {
     if !has_port(g, n, i, g.read_count) {
         return no_part();
@@ -233,10 +288,12 @@ fn trits_part(g: WideMemory, n: usize, i: usize, before: usize) -> Part
     if p.flip_flop.is_none() {
         return no_part();
     }
-    let size = own(g, p.wide);
-    let inside = before * whole(g, p.wide) + n * size;
+    let m = Memories { g };
+    let size = m.own(p.wide);
+    let before = kind.before();
+    let inside = before * m.whole(p.wide) + n * size;
     Part {
-        start: trit_start(g, i) + inside,
+        start: m.trit_start(i) + inside,
         size,
     }
 }
@@ -245,33 +302,21 @@ fn trits_part(g: WideMemory, n: usize, i: usize, before: usize) -> Part
 pub fn clear_part(g: WideMemory, n: usize, i: usize) -> Part
     ensures { (nets trits image : List ℕ) → part result.start result.size trits ≡ clear_at (memory_at g nets trits image n).memory i }
 {
-    trits_part(g, n, i, 0)
+    trits_part(g, n, i, Kind::Clear)
 }
 
 // Its reset trits.
 pub fn reset_part(g: WideMemory, n: usize, i: usize) -> Part
     ensures { (nets trits image : List ℕ) → part result.start result.size trits ≡ reset_at (memory_at g nets trits image n).memory i }
 {
-    trits_part(g, n, i, 1)
+    trits_part(g, n, i, Kind::Reset)
 }
 
 // Its init trits.
 pub fn init_part(g: WideMemory, n: usize, i: usize) -> Part
     ensures { (nets trits image : List ℕ) → part result.start result.size trits ≡ init_at (memory_at g nets trits image n).memory i }
 {
-    trits_part(g, n, i, 2)
-}
-
-// Where the trits of memory n start in the image.
-fn image_start(g: WideMemory, n: usize) -> usize
-    requires { (g.unit ≤ max_unit) × (n ≤ max_columns) }
-    ensures { result ≡ start_by g n }
-{
-    let full = g.full as usize;
-    let low = n.min(full);
-    let high = n - low;
-    let rows = low * g.full_depth as usize + high * g.part_depth as usize;
-    rows * g.unit as usize
+    trits_part(g, n, i, Kind::Init)
 }
 
 // Memory n's part of the image.
@@ -281,8 +326,9 @@ pub fn image_part(g: WideMemory, n: usize) -> Part
     if !is_there(g, n) {
         return no_part();
     }
-    let start = image_start(g, n);
-    let end = image_start(g, n + 1);
+    let m = Memories { g };
+    let start = m.image_start(n);
+    let end = m.image_start(n + 1);
     Part {
         start,
         size: end - start,
@@ -371,7 +417,8 @@ pub fn output_of(g: WideMemory, n: usize, i: usize, bit: usize) -> u32
         return 0;
     }
     let p = g.read_ports[i];
-    if own(g, p.wide) <= bit {
+    let m = Memories { g };
+    if m.own(p.wide) <= bit {
         return 0;
     }
     net_of(g, p, n, bit)

@@ -13,6 +13,7 @@ ghost use Rattle.net_memory.specs.Given.{view_given, mem_of};
 ghost use Rattle.swizzle_plan.specs.Calls.{params_by, view_plan};
 
 use image_geometry::{Layout, Params};
+use net_check::Breaks;
 use net_memory::{Given, Memory};
 use rules::Refusal;
 
@@ -98,8 +99,15 @@ fn check_parts(given: Given<'_>, plan: Plan<'_>) -> Result<(), Refusal>
 pub fn planned_refusal(given: Given<'_>, plan: Plan<'_>, long: bool) -> Result<(), Refusal>
     ensures { number_of result ≡ planned_number long (view_given given.entry) (view_plan plan.entry) }
 {
-    let one = plan.is_too_large() || long;
-    net_check::call_refusal(given, rules::MAX_NETS, one, false, false)?;
+    let large = plan.is_too_large() || long;
+    net_check::call_refusal(
+        given,
+        rules::MAX_NETS,
+        Breaks {
+            large,
+            ..Breaks::NOTHING
+        },
+    )?;
     check_parts(given, plan)
 }
 

@@ -3,15 +3,18 @@ use mathlib.Core.Path.{◌≡◌, refl, sym, ap, ◌∙◌}
 use Prim.Native.Nat.{ℕ, zero, suc, ◌+◌, ◌*◌, ◌^◌, ◌≤◌}
 use native.Mathlib.Nat.{zero-add, add-zero, suc-mul, suc-add, add-suc, zero-mul}
 use native.Mathlib.Omega.{arith}
-use mathlib.Core.Bool.{Bool, true, false}
+use mathlib.Core.Bool.{true}
 use mathlib.Core.Option.{none, some}
+use Rattle.std.specs.Prelude.{Option, None, Some}
 use mathlib.Core.List.{List, [], ◌∷◌, ◌++◌, append-nil}
 use lib.ListN.{length, drop}
 use lib.Seq.{sets, sets-eq}
 use Rattle.lists.specs.Lists.{up_from}
-use Rattle.rules.specs.Value.{Value, Control}
-use Rattle.rules.specs.Cell.{ReadFlipFlop, ReadPort}
-use Rattle.rules.specs.Log.{Entry, Trace, ◌>>=◌, ◌>>◌, done, add_void_of, replace_value_of}
+use Rattle.rules.specs.Value.{Value}
+use Rattle.rules.specs.Cell.{ReadFlipFlop, ReadPort, new_flip_flop, with_enable}
+use Rattle.net_flip_flop.specs.declared.Controls.{Controls}
+use Rattle.net_flip_flop.specs.View.{controls_of}
+use Rattle.rules.specs.Log.{Entry, Trace, ◌>>=◌, ◌>>◌, done, add_void_of, add_dff_of, replace_value_of}
 use Rattle.rules.specs.Geometry.{Layout, columns}
 use Rattle.rules.specs.Swizzle.{Split, WideRead, wide_flip_flop, add_voids, clocked_addr, mux_tree, swizzle_read}
 use Rattle.rules.proofs.Traces.{bind_value}
@@ -65,13 +68,13 @@ unfolding run
 run_entries t u l e = ap (emit l) e
 
 -- ---- the mux address of a port with a flip-flop, and without
-pub addr_none : (clock enable : Control) (a : Value) → addr_by false clock enable a ≡ clocked_addr none a
+pub addr_none : (a : Value) → addr_by None a ≡ clocked_addr none a
 unfolding addr_by clocked_addr
-addr_none clock enable a = refl
+addr_none a = refl
 
-pub addr_some : (f : ReadFlipFlop) (a : Value) → addr_by true f.controls.clock f.controls.enable a ≡ clocked_addr (some f) a
+pub addr_some : (c : Controls) (f : ReadFlipFlop) (a : Value) → f.controls ≡ controls_of c → addr_by (Some c) a ≡ clocked_addr (some f) a
 unfolding addr_by clocked_addr
-addr_some f a = refl
+addr_some c f a e = λ i. add_dff_of (with_enable (new_flip_flop a (sym e i).clock) (sym e i).enable)
 
 -- values stored at the front and cut again
 cut_stored : (w n : ℕ) (p : Value) (vs : List Value) → Sized w vs → n ≡ length vs → n * w ≤ length p → cut w n (sets p 0 (joined vs)) ≡ vs
@@ -81,7 +84,7 @@ cut_stored w n p vs s e h =
 
 -- ---- the port
 -- these numbers are a port's, whose nets start at the log's next free net
-pub record Meant (q : Layout) (s : Split) (p : ReadPort) (n : Pieces) (voids : ℕ) (b : Bool) (clock enable : Control) (w : ℕ) (scratch : List ℕ) (next : ℕ) : Type 0 where
+pub record Meant (q : Layout) (s : Split) (p : ReadPort) (n : Pieces) (voids : ℕ) (fl : Option Controls) (w : ℕ) (scratch : List ℕ) (next : ℕ) : Type 0 where
   pub numbers : Means q s (2 ^ s.new * columns q) n
   pub voids_are : voids ≡ 2 ^ s.new
   pub columns_are : n.columns ≡ columns q
@@ -89,10 +92,10 @@ pub record Meant (q : Layout) (s : Split) (p : ReadPort) (n : Pieces) (voids : �
   pub width_is : w ≡ 2 ^ s.old * q.width
   pub fits : n.count * w ≤ length scratch
   pub held_is : held n (length q.entries) (length scratch) ≡ true
-  pub addr_is : addr_by b clock enable s.mux_addr ≡ clocked_addr p.flip_flop s.mux_addr
+  pub addr_is : addr_by fl s.mux_addr ≡ clocked_addr p.flip_flop s.mux_addr
 
-module _ (q : Layout) (s : Split) (p : ReadPort) (n : Pieces) (voids : ℕ) (b : Bool) (clock enable : Control) (output : Value) (w : ℕ) (scratch : List ℕ) (l : Lent)
-    (m : Meant q s p n voids b clock enable w scratch l.state.next) where
+module _ (q : Layout) (s : Split) (p : ReadPort) (n : Pieces) (voids : ℕ) (fl : Option Controls) (output : Value) (w : ℕ) (scratch : List ℕ) (l : Lent)
+    (m : Meant q s p n voids fl w scratch l.state.next) where
   abbrev first : ℕ
   first = l.state.next
 
@@ -124,19 +127,19 @@ module _ (q : Layout) (s : Split) (p : ReadPort) (n : Pieces) (voids : ℕ) (b :
       ap (λ (x : List Value). ((mux_tree a x >>= λ t. replace_value_of output t) k).entries) pieces_are
       ∙ bind_same (mux_tree a (pieces_of q s cols)) (λ t. replace_value_of output t) (λ t. (replace_value_of output t >> done (result cols))) k (λ j. last_same output _ (result cols) j)
 
-  addr_same : (k : ℕ) → ((addr_by b clock enable s.mux_addr >>= trees) k).entries ≡ ((clocked_addr p.flip_flop s.mux_addr >>= muxed cols) k).entries
+  addr_same : (k : ℕ) → ((addr_by fl s.mux_addr >>= trees) k).entries ≡ ((clocked_addr p.flip_flop s.mux_addr >>= muxed cols) k).entries
   addr_same k =
       ap (λ (t : Trace Value). ((t >>= trees) k).entries) m.addr_is
       ∙ bind_same (clocked_addr p.flip_flop s.mux_addr) trees (muxed cols) k (λ j. tree_same _ j)
 
-  trace_same : (read_trace n voids b clock enable s.mux_addr q.entries output w scratch first).entries ≡ (swizzle_read q s p output first).entries
+  trace_same : (read_trace n voids fl s.mux_addr q.entries output w scratch first).entries ≡ (swizzle_read q s p output first).entries
   unfolding read_trace swizzle_read
   trace_same =
-      (λ i. ((add_voids (m.voids_are i) (m.columns_are i) >>= λ v. (addr_by b clock enable s.mux_addr >>= trees)) first).entries)
-      ∙ bind_same (add_voids (2 ^ s.new) (columns q)) (λ v. (addr_by b clock enable s.mux_addr >>= trees)) (λ v. (clocked_addr p.flip_flop s.mux_addr >>= muxed v)) first addr_same
+      (λ i. ((add_voids (m.voids_are i) (m.columns_are i) >>= λ v. (addr_by fl s.mux_addr >>= trees)) first).entries)
+      ∙ bind_same (add_voids (2 ^ s.new) (columns q)) (λ v. (addr_by fl s.mux_addr >>= trees)) (λ v. (clocked_addr p.flip_flop s.mux_addr >>= muxed v)) first addr_same
 
   -- what the code logs is what the rules log
-  pub read_meant : run (read_trace n voids b clock enable s.mux_addr q.entries output w scratch) l ≡ run (swizzle_read q s p output) l
+  pub read_meant : run (read_trace n voids fl s.mux_addr q.entries output w scratch) l ≡ run (swizzle_read q s p output) l
   read_meant = run_entries _ _ l trace_same
 
   -- what lies past the pieces is kept
@@ -147,20 +150,20 @@ module _ (q : Layout) (s : Split) (p : ReadPort) (n : Pieces) (voids : ℕ) (b :
       (omega (arith, length_joined w (pieces_of q s cols) (sized_map w _ (λ x. length_piece q s x cols ∙ sym m.width_is) (up_from 0 s.pieces)), ap (λ (k : ℕ). k * w) count_is))
 
 -- ---- the public function: `n` without its first net
-reads_of_lem : (n : Pieces) (voids : ℕ) (b : Bool) (clock enable : Control) (mux : Value) (es : List ℕ) (output : Value) (w : ℕ) (scratch : List ℕ) (next : ℕ) → can_read n mux w scratch ≡ true
-    → (read_of n voids b clock enable mux es output w scratch next).entries ≡ (read_trace (with_first n next) voids b clock enable mux es output w scratch next).entries
+reads_of_lem : (n : Pieces) (voids : ℕ) (fl : Option Controls) (mux : Value) (es : List ℕ) (output : Value) (w : ℕ) (scratch : List ℕ) (next : ℕ) → can_read n mux w scratch ≡ true
+    → (read_of n voids fl mux es output w scratch next).entries ≡ (read_trace (with_first n next) voids fl mux es output w scratch next).entries
 unfolding read_of
-reads_of_lem n voids b clock enable mux es output w scratch next e = rw e
+reads_of_lem n voids fl mux es output w scratch next e = rw e
 
 loads_of : (n : Pieces) (mux : Value) (es : List ℕ) (w : ℕ) (scratch : List ℕ) (next : ℕ) → can_read n mux w scratch ≡ true → scratch_of n mux es w scratch next ≡ load_of (with_first n next) es scratch
 unfolding scratch_of
 loads_of n mux es w scratch next e = rw e
 
-module _ (q : Layout) (s : Split) (p : ReadPort) (n : Pieces) (voids : ℕ) (b : Bool) (clock enable : Control) (output : Value) (w : ℕ) (scratch : List ℕ) (l : Lent)
+module _ (q : Layout) (s : Split) (p : ReadPort) (n : Pieces) (voids : ℕ) (fl : Option Controls) (output : Value) (w : ℕ) (scratch : List ℕ) (l : Lent)
     (can : can_read n s.mux_addr w scratch ≡ true)
-    (m : Meant q s p (with_first n l.state.next) voids b clock enable w scratch l.state.next) where
-  pub read_rules : run (read_of n voids b clock enable s.mux_addr q.entries output w scratch) l ≡ run (swizzle_read q s p output) l
-  read_rules = run_entries _ _ l (reads_of_lem n voids b clock enable s.mux_addr q.entries output w scratch l.state.next can) ∙ read_meant q s p (with_first n l.state.next) voids b clock enable output w scratch l m
+    (m : Meant q s p (with_first n l.state.next) voids fl w scratch l.state.next) where
+  pub read_rules : run (read_of n voids fl s.mux_addr q.entries output w scratch) l ≡ run (swizzle_read q s p output) l
+  read_rules = run_entries _ _ l (reads_of_lem n voids fl s.mux_addr q.entries output w scratch l.state.next can) ∙ read_meant q s p (with_first n l.state.next) voids fl output w scratch l m
 
   pub scratch_kept : drop (n.count * w) (scratch_of n s.mux_addr q.entries w scratch l.state.next) ≡ drop (n.count * w) scratch
-  scratch_kept = ap (drop (n.count * w)) (loads_of n s.mux_addr q.entries w scratch l.state.next can) ∙ load_kept q s p (with_first n l.state.next) voids b clock enable output w scratch l m
+  scratch_kept = ap (drop (n.count * w)) (loads_of n s.mux_addr q.entries w scratch l.state.next can) ∙ load_kept q s p (with_first n l.state.next) voids fl output w scratch l m

@@ -2,12 +2,14 @@
 use mathlib.Core.Path.{◌≡◌, refl, sym, ap, ◌∙◌, subst}
 use Prim.Native.Nat.{ℕ, ◌+◌, ◌-◌, ◌*◌, ◌^◌, ◌<◌, ◌≤◌}
 use native.Mathlib.Omega.{arith}
-use mathlib.Core.Bool.{Bool, true}
+use mathlib.Core.Bool.{true}
 use mathlib.Core.List.{List}
 use borrow.Author.Tests.{le-leb}
 use lib.ListN.{length}
 use Rattle.rules.specs.Limits.{None, X, addr_bits}
-use Rattle.rules.specs.Value.{Value, Control}
+use Rattle.rules.specs.Value.{Value}
+use Rattle.std.specs.Prelude.{Option}
+use Rattle.net_flip_flop.specs.declared.Controls.{Controls}
 use Rattle.rules.specs.Cell.{ReadPort}
 use Rattle.rules.specs.Geometry.{Layout, walk, row_len_of, columns}
 use Rattle.rules.specs.Swizzle.{Split, clocked_addr, spot_by, split_addr, split_by, piece_start}
@@ -64,10 +66,10 @@ module _ (q : Layout) (old new : ℕ) (addr : Value) (ok : Splittable q old new 
   }
 
 -- ---- the port of the rules, from its numbers
-module _ (q : Layout) (old new : ℕ) (addr : Value) (ok : Splittable q old new addr) (port : ReadPort) (n : Pieces) (voids : ℕ) (b : Bool) (clock enable : Control) (w : ℕ) (scratch : List ℕ) (next : ℕ)
+module _ (q : Layout) (old new : ℕ) (addr : Value) (ok : Splittable q old new addr) (port : ReadPort) (n : Pieces) (voids : ℕ) (fl : Option Controls) (w : ℕ) (scratch : List ℕ) (next : ℕ)
     (p : Ports q old new addr ok n) (v : voids ≡ 2 ^ new) (f : n.first ≡ next) (e : w ≡ 2 ^ old * q.width)
     (fits : n.count * w ≤ length scratch) (short : n.count * w ≤ 4294967296) (len : length q.entries ≤ X)
-    (a : addr_by b clock enable (split_addr q old new addr).mux_addr ≡ clocked_addr port.flip_flop (split_addr q old new addr).mux_addr) where
+    (a : addr_by fl (split_addr q old new addr).mux_addr ≡ clocked_addr port.flip_flop (split_addr q old new addr).mux_addr) where
   split_old : (split_addr q old new addr).old ≡ old
   unfolding split_addr split_by
   split_old = refl
@@ -90,7 +92,7 @@ module _ (q : Layout) (old new : ℕ) (addr : Value) (ok : Splittable q old new 
       sym (held-room n (length q.entries) (length scratch) (n.count * size_of n) refl len numbers_fit (omega (arith, size_is, e, p.narrow)) (omega (arith, needs_are, short)))
       ∙ le-leb (n.count * size_of n) (length scratch) (omega (arith, needs_are, fits))
 
-  pub port_meant : Meant q (split_addr q old new addr) port n voids b clock enable w scratch next
+  pub port_meant : Meant q (split_addr q old new addr) port n voids fl w scratch next
   port_meant = record {
     numbers = subst (λ (k : ℕ). Means q (split_addr q old new addr) (2 ^ k * columns q) n) (sym split_new) (ports_mean q old new addr ok n p);
     voids_are = v ∙ ap (λ (k : ℕ). 2 ^ k) (sym split_new);

@@ -10,7 +10,7 @@ ghost use Rattle.net_value.specs.View.{control_of};
 ghost use Rattle.net_flip_flop.specs.View.{controls_of};
 ghost use Rattle.log_entries.specs.Emission.{run};
 ghost use Rattle.log_entries.specs.View.{lent_of};
-ghost use Rattle.swizzle_read.specs.Port.{mux_room, addr_by, Addressed, Ready, can_read, scratch_of};
+ghost use Rattle.swizzle_read.specs.Port.{mux_room, addr_flip_flop, addr_by, Addressed, Ready, can_read, scratch_of};
 ghost use Rattle.swizzle_read.specs.View.{trace_of, port_trace};
 ghost use Rattle.swizzle_pieces.specs.Steps.{load_of};
 
@@ -31,69 +31,59 @@ pub fn emit_voids(log: &mut Log, count: u32, width: u32)
     }
 }
 
-// Whether a port has a flip-flop, and its clock and enable.
-#[derive(Clone, Copy)]
-pub struct Clocking {
-    pub clocked: bool,
-    pub clock: ControlNet,
-    pub enable: ControlNet,
-}
-
-impl Clocking {
-    // The controls of the mux address's flip-flop: the port's clock and enable.
-    #[tactic(auto, unfolding(rules::specs::Cell::new_flip_flop, rules::specs::Cell::with_enable, rules::specs::Cell::plain_controls))]
-    fn controls(self) -> Controls
-        ensures { controls_of result ≡ (with_enable (new_flip_flop [] (control_of self.clock)) (control_of self.enable)).controls }
-    {
-        Controls {
-            clock: self.clock,
-            clear: ControlNet::Pos(Net(0)),
-            reset: ControlNet::Pos(Net(0)),
-            enable: self.enable,
-            reset_over_enable: true,
-        }
-    }
-
-    // The flip-flop of the mux address, with X as its trits.
-    fn addr_dff(self, log: &mut Log, mux: &[u32], xs: &[u8])
-        requires { xs.now ≡ undef (length mux.now) }
-        ensures { lent_of log.new ≡ run (add_dff_of (with_enable (new_flip_flop mux.now (control_of self.clock)) (control_of self.enable))) (lent_of log.old) }
-    {
-        log.emit_dff(FlipFlop {
-            controls: self.controls(),
-            bits: mux,
-            clear: xs,
-            reset: xs,
-            init: xs,
-        });
-    }
-
-    // The mux address, whose nets go to the front of `room`; it passes a flip-flop where the port is clocked, even when it is empty.
-    fn mux_addr(self, log: &mut Log, mux: &[u32], room: &mut [u32])
-        requires { length mux.now ≤ mux_room }
-        ensures { Addressed (addr_by self.clocked (control_of self.clock) (control_of self.enable) mux.now) room.old room.new (lent_of log.old) (lent_of log.new) }
-    {
-        if !self.clocked {
-            lists::copy(room, 0, mux);
-            return;
-        }
-        let first = log.state.next;
-        let xs = [rules::TRIT_X; MUX_ROOM];
-        self.addr_dff(log, mux, &xs[..mux.len()]);
-        if log.state.is_over() {
-            return;
-        }
-        lists::store_run(room, 0, first, log.state.next);
+// The controls of a mux address's flip-flop: the clock and enable of the port's own.
+#[tactic(auto, unfolding(rules::specs::Cell::new_flip_flop, rules::specs::Cell::with_enable, rules::specs::Cell::plain_controls))]
+fn addr_controls(port: Controls) -> Controls
+    ensures { controls_of result ≡ (with_enable (new_flip_flop [] (control_of port.clock)) (control_of port.enable)).controls }
+{
+    Controls {
+        clock: port.clock,
+        clear: ControlNet::Pos(Net(0)),
+        reset: ControlNet::Pos(Net(0)),
+        enable: port.enable,
+        reset_over_enable: true,
     }
 }
 
-// A read port: its pieces, of so many nets each, its voids, its mux address, and the entries and outputs of the call.
+// The flip-flop of the mux address, with X as its trits.
+fn addr_dff(log: &mut Log, port: Controls, mux: &[u32], xs: &[u8])
+    requires { xs.now ≡ undef (length mux.now) }
+    ensures { lent_of log.new ≡ run (add_dff_of (addr_flip_flop port mux.now)) (lent_of log.old) }
+{
+    log.emit_dff(FlipFlop {
+        controls: addr_controls(port),
+        bits: mux,
+        clear: xs,
+        reset: xs,
+        init: xs,
+    });
+}
+
+// The mux address, whose nets go to the front of `room`; it passes a flip-flop where the port has one, even when it is empty.
+fn mux_addr(log: &mut Log, flip_flop: Option<Controls>, mux: &[u32], room: &mut [u32])
+    requires { length mux.now ≤ mux_room }
+    ensures { Addressed (addr_by flip_flop mux.now) room.old room.new (lent_of log.old) (lent_of log.new) }
+{
+    let Some(port) = flip_flop else {
+        lists::copy(room, 0, mux);
+        return;
+    };
+    let first = log.state.next;
+    let xs = [rules::TRIT_X; MUX_ROOM];
+    addr_dff(log, port, mux, &xs[..mux.len()]);
+    if log.state.is_over() {
+        return;
+    }
+    lists::store_run(room, 0, first, log.state.next);
+}
+
+// A read port: its pieces, of so many nets each, its voids, its own flip-flop, its mux address, and the entries and outputs of the call.
 #[derive(Clone, Copy)]
 pub struct ReadPort<'a> {
     pub pieces: Pieces,
     pub width: u32,
     pub voids: u32,
-    pub clocking: Clocking,
+    pub flip_flop: Option<Controls>,
     pub mux: &'a [u32],
     pub entries: &'a [u32],
     pub output: &'a [u32],
@@ -119,7 +109,7 @@ impl ReadPort<'_> {
     {
         let mut bits = [0u32; MUX_ROOM];
         emit_voids(log, self.voids, self.pieces.columns);
-        self.clocking.mux_addr(log, self.mux, &mut bits);
+        mux_addr(log, self.flip_flop, self.mux, &mut bits);
         self.pieces.load(scratch, self.entries);
         let bits = &bits[..self.mux.len()];
         swizzle_tree::emit_tree(log, scratch, bits, self.pieces.count, self.width);

@@ -11,13 +11,12 @@ use Rattle.lists.specs.Lists.{part}
 use Rattle.lists.proofs.Choice.{and_true}
 use Rattle.lists.proofs.Stores.{take_stored}
 use Rattle.lists.proofs.Parts.{same_back}
-use Rattle.rules.specs.Limits.{X, addr_bits, max_ports, max_wide, max_width, max_columns}
+use Rattle.rules.specs.Limits.{X, addr_bits, max_wide}
 use Rattle.rules.specs.Value.{Value}
 use Rattle.rules.specs.Cell.{wide_log2}
 use Rattle.rules.specs.Geometry.{Layout, columns}
 use Rattle.rules.specs.Swizzle as swizzle
-use Rattle.rules.specs.Swizzle.{split_addr, split_by, clocked_addr}
-use Rattle.net_value.specs.View.{control_of}
+use Rattle.rules.specs.Swizzle.{split_addr, split_by}
 use Rattle.std.specs.Prelude as flips
 use Rattle.net_memory.specs.FlipFlop.{MemoryReadFlipFlop}
 use Rattle.net_memory.specs.declared.MemoryReadPort.{MemoryReadPort}
@@ -27,12 +26,11 @@ use Rattle.image_geometry.specs.View.{layout_by}
 use Rattle.swizzle_split.specs.declared.Split.{Split}
 use Rattle.swizzle_split.specs.Steps.{can_split, Gives, Refuses, Answers}
 use Rattle.swizzle_split.proofs.Limits.{can_fits}
-use Rattle.swizzle_read.specs.Port.{addr_by, scratch_of}
+use Rattle.swizzle_read.specs.Port.{scratch_of}
 use Rattle.swizzle_reads.specs.declared.Sizes.{Sizes}
-use Rattle.swizzle_read.specs.declared.Clocking.{Clocking}
 use Rattle.swizzle_reads.specs.Going.{Going, in_port, split_of, trits_if, port_done, pieces_fit, rooms_fit, port_fits, port_if, ScratchKept}
 use Rattle.swizzle_reads.specs.Able.{Measures, Same}
-use Rattle.swizzle_reads.specs.Raw.{numbers_of, size_by, piece_by, need_by, port_raw, raw_fits, Splitting}
+use Rattle.swizzle_reads.specs.Raw.{numbers_of, size_by, piece_by, need_by, port_raw, raw_fits}
 use Rattle.swizzle_reads.proofs.Lengths.{addr_low, mux_low}
 use Rattle.swizzle_reads.proofs.Ported.{size_is, piece_is, raw_done, raw_kept}
 
@@ -165,25 +163,19 @@ module _ (p : Params) (es : List ℕ) (new : ℕ) (r : MemoryReadPort) (x y : Li
       unfolding raw_fits
       facts = passes _ _ _ _ _ _ _ _ _ _ _ e
 
-      pub splitting : i < max_ports → Splitting p z s i g.nets_at_of (length hw) (length g.nets) g.trits_at_of (need_by r.flip_flop (size_by z s)) (length g.trits)
-      splitting h = record {
-        old_max = omega (arith, sa.old_is, sa.fits.old_max);
-        new_max = omega (arith, sa.new_is, sa.fits.new_max);
-        width_max = me.rows.width_max;
-        columns_max = omega (arith, me.columns_are, me.rows.columns_max);
-        port = h;
-        nets_hold = omega (arith, facts.nets_hold, sa.hw_len, ap length sa.hw_is);
-        trits_hold = facts.trits_hold;
-      }
+      pub nets_hold : g.nets_at_of + length hw ≤ length g.nets
+      nets_hold = omega (arith, facts.nets_hold, sa.hw_len, ap length sa.hw_is)
 
-      module _ (c : Clocking) (scratch : List ℕ) (sized : length scratch ≡ room)
-          (ck : (a : Value) → addr_by c.clocked (control_of c.clock) (control_of c.enable) a ≡ clocked_addr (flip_flop_by r.flip_flop r y) a) where
+      pub trits_hold : g.trits_at_of + need_by r.flip_flop (size_by z s) ≤ length g.trits
+      trits_hold = facts.trits_hold
+
+      module _ (scratch : List ℕ) (sized : length scratch ≡ room) where
         holds-all : s.pieces * piece_by p s ≤ length scratch
         holds-all = omega (arith, facts.holds, sized)
 
-        pub port_done_lem : (g' : Going) → g' ≡ port_raw p z s c i r y hw mux es out scratch g → g' ≡ port_if q room i (in_port r x y) new out g
+        pub port_done_lem : (g' : Going) → g' ≡ port_raw p z s i r y hw mux es out scratch g → g' ≡ port_if q room i (in_port r x y) new out g
         port_done_lem g' f =
-            f ∙ raw_done p z es old new addr hw mux s me sa facts.some r x y c out scratch i g ck facts.pos holds-all facts.below facts.trits_hold
+            f ∙ raw_done p z es old new addr hw mux s me sa facts.some r x y out scratch i g facts.pos holds-all facts.below facts.trits_hold
             ∙ if_done q room i new r x y out g (fits_is true e)
 
         pub port_kept : (after : List ℕ)
@@ -192,7 +184,7 @@ module _ (p : Params) (es : List ℕ) (new : ℕ) (r : MemoryReadPort) (x y : Li
         port_kept after f k h =
             let need : s.pieces * piece_by p s ≡ t.pieces * (2 ^ old * q.width) = (λ j. sa.pieces_are j * (2 ^ sa.old_is j * q.width)) in
             same_back (s.pieces * piece_by p s) k scratch after (omega (arith, need))
-            (f ∙ raw_kept p z es old new addr hw mux s me sa r x y c out scratch g.lent ck facts.pos holds-all facts.below)
+            (f ∙ raw_kept p z es old new addr hw mux s me sa r x y out scratch g.lent facts.pos holds-all facts.below)
 
 -- ---- what `split_addr` answers, by the port's own address and lengths
 module _ (p : Params) (es : List ℕ) (new : ℕ) (r : MemoryReadPort) (x : List ℕ) (o : flips.Option Split) (n old : ℕ) (addr hw₀ hw mux₀ mux : Value) (ea : addr ≡ part 0 r.addr_len x)
@@ -211,8 +203,7 @@ module _ (p : Params) (es : List ℕ) (new : ℕ) (r : MemoryReadPort) (x : List
   pub refused_port : o ≡ flips.None → can_split (layout_by p es) (wide_log2 p.width r.data_len) new (length (part 0 r.addr_len x)) ≡ false
   refused_port e = (refuses e).cannot
 
-pub limits_by : (q : Layout) (old new : ℕ) (addr hw₀ hw mux₀ mux : Value) (s : Split) (z : Sizes) → Gives q old new addr hw₀ hw mux₀ mux s → Measures q z
-    → (s.old ≤ max_wide) × (s.new ≤ max_wide) × (q.width ≤ max_width) × (z.columns ≤ max_columns)
-limits_by q old new addr hw₀ hw mux₀ mux s z g me =
+pub limits_by : (q : Layout) (old new : ℕ) (addr hw₀ hw mux₀ mux : Value) (s : Split) → Gives q old new addr hw₀ hw mux₀ mux s → (s.old ≤ max_wide) × (s.new ≤ max_wide)
+limits_by q old new addr hw₀ hw mux₀ mux s g =
     let f = can_fits q old new (length addr) g.can in
-    (omega (arith, g.splits.old_is, f.old_max), omega (arith, g.splits.new_is, f.new_max), me.rows.width_max, omega (arith, me.columns_are, me.rows.columns_max))
+    (omega (arith, g.splits.old_is, f.old_max), omega (arith, g.splits.new_is, f.new_max))

@@ -1,5 +1,4 @@
 -- Laws of the read ports of a swizzle.
-pub mod Small
 pub mod Steps
 pub mod Lengths
 pub mod Layouts

@@ -13,11 +13,10 @@ use Rattle.rules.specs.Geometry.{Layout, all_mems, columns}
 use Rattle.rules.specs.Swizzle as swizzle
 use Rattle.rules.specs.Swizzle.{split_addr, split_by, clocked_addr, wide_flip_flop, swizzle_read}
 use Rattle.log_entries.specs.Emission.{Lent, run}
-use Rattle.net_value.specs.View.{control_of}
 use Rattle.std.specs.Prelude as flips
 use Rattle.net_memory.specs.FlipFlop.{MemoryReadFlipFlop}
 use Rattle.net_memory.specs.declared.MemoryReadPort.{MemoryReadPort}
-use Rattle.net_memory.specs.View.{read_by, flip_flop_by}
+use Rattle.net_memory.specs.View.{read_by, clocked_by, flip_flop_by}
 use Rattle.image_geometry.specs.declared.Params.{Params}
 use Rattle.image_geometry.specs.View.{layout_by}
 use Rattle.swizzle_laws.proofs.Places.{Splittable}
@@ -25,14 +24,13 @@ use Rattle.swizzle_pieces.specs.declared.Pieces.{Pieces}
 use Rattle.swizzle_split.specs.declared.Split.{Split}
 use Rattle.swizzle_columns.proofs.Fits.{bounded}
 use Rattle.swizzle_read.specs.Port.{mux_room, addr_by, scratch_of, can_read, with_first}
-use Rattle.swizzle_read.proofs.Meant.{Meant, read_rules, scratch_kept}
+use Rattle.swizzle_read.proofs.Meant.{Meant, addr_none, addr_some, read_rules, scratch_kept}
 use Rattle.swizzle_read.proofs.Ported.{Ports, port_meant}
 use Rattle.swizzle_result.specs.Held.{clock_trits}
 use Rattle.swizzle_columns.specs.Wide.{PortFits}
 use Rattle.swizzle_columns.proofs.Meaning.{Means}
 use Rattle.swizzle_read_trits.proofs.Rules.{three_rules, three_length}
 use Rattle.swizzle_reads.specs.declared.Sizes.{Sizes}
-use Rattle.swizzle_read.specs.declared.Clocking.{Clocking}
 use Rattle.swizzle_reads.specs.Going.{Going, with_read_port, wide_of, in_port, port_done}
 use Rattle.swizzle_reads.specs.Able.{Measures, Same}
 use Rattle.swizzle_reads.specs.Raw.{numbers_of, wide_by_of, size_by, piece_by, read_by', trits_by, need_by, port_by, port_raw}
@@ -41,6 +39,11 @@ use Rattle.swizzle_reads.proofs.Lengths.{mux_low, pieces_few, old_few, new_few}
 can_all : (n : Pieces) (mux : Value) (w : ℕ) (scratch : List ℕ) → length mux ≤ addr_bits → 0 < n.count → n.count * w ≤ length scratch → can_read n mux w scratch ≡ true
 unfolding can_read
 can_all n mux w scratch h g k = rw (le-leb (length mux) mux_room (omega arith), lt-ltb 0 n.count g, le-leb (n.count * w) (length scratch) k)
+
+-- the mux address passes a flip-flop where the port of the rules has one
+addr_clocked : (f : MemoryReadFlipFlop) (r : MemoryReadPort) (y : List ℕ) (a : Value) → addr_by f a ≡ clocked_addr (flip_flop_by f r y) a
+addr_clocked flips.None r y a = addr_none a
+addr_clocked (flips.Some c) r y a = addr_some c (clocked_by c r y) a refl
 
 module _ (p : Params) (z : Sizes) (es : List ℕ) (old new : ℕ) (addr hw mux : Value) (s : Split)
     (me : Measures (layout_by p es) z) (sa : Same (layout_by p es) old new addr hw mux s) where
@@ -81,8 +84,7 @@ module _ (p : Params) (z : Sizes) (es : List ℕ) (old new : ℕ) (addr hw mux :
       omega (arith, bounded s.pieces (piece_by p s) 524288 2048 (omega (arith, sa.pieces_are, pieces_few q old new addr sa.fits)) (omega (arith, w_is, narrow)))
 
   -- ---- the log
-  module _ (r : MemoryReadPort) (x y : List ℕ) (c : Clocking) (out : Value) (scratch : List ℕ) (l : Lent)
-      (ck : (a : Value) → addr_by c.clocked (control_of c.clock) (control_of c.enable) a ≡ clocked_addr (flip_flop_by r.flip_flop r y) a)
+  module _ (r : MemoryReadPort) (x y : List ℕ) (out : Value) (scratch : List ℕ) (l : Lent)
       (pos : 0 < s.pieces) (holds : s.pieces * piece_by p s ≤ length scratch) (below : l.state.next + size_by z s ≤ X) where
     abbrev n : Pieces
     n = with_first (numbers_of p z s) l.state.next
@@ -101,23 +103,23 @@ module _ (p : Params) (z : Sizes) (es : List ℕ) (old new : ℕ) (addr hw mux :
       narrow = omega (arith, narrow);
     }
 
-    meant : Meant q t (read_by r x y) n (2 ^ s.new) c.clocked (control_of c.clock) (control_of c.enable) (piece_by p s) scratch l.state.next
+    meant : Meant q t (read_by r x y) n (2 ^ s.new) r.flip_flop (piece_by p s) scratch l.state.next
     meant =
-        port_meant q old new addr splittable (read_by r x y) n (2 ^ s.new) c.clocked (control_of c.clock) (control_of c.enable) (piece_by p s) scratch l.state.next
-        ports (ap (λ (k : ℕ). 2 ^ k) sa.new_is) refl w_is holds short (omega (arith, me.rows.row_max)) (ck t.mux_addr)
+        port_meant q old new addr splittable (read_by r x y) n (2 ^ s.new) r.flip_flop (piece_by p s) scratch l.state.next
+        ports (ap (λ (k : ℕ). 2 ^ k) sa.new_is) refl w_is holds short (omega (arith, me.rows.row_max)) (addr_clocked r.flip_flop r y t.mux_addr)
 
     can : can_read (numbers_of p z s) t.mux_addr (piece_by p s) scratch ≡ true
     can = can_all (numbers_of p z s) t.mux_addr (piece_by p s) scratch (mux_low q old new addr sa.fits) pos holds
 
-    pub raw_log : read_by' p z s c mux es out scratch l ≡ run (swizzle_read q t (read_by r x y) out) l
+    pub raw_log : read_by' p z s r.flip_flop mux es out scratch l ≡ run (swizzle_read q t (read_by r x y) out) l
     raw_log =
-        ap (λ (v : Value). read_by' p z s c v es out scratch l) sa.mux_is
-        ∙ read_rules q t (read_by r x y) (numbers_of p z s) (2 ^ s.new) c.clocked (control_of c.clock) (control_of c.enable) out (piece_by p s) scratch l can meant
+        ap (λ (v : Value). read_by' p z s r.flip_flop v es out scratch l) sa.mux_is
+        ∙ read_rules q t (read_by r x y) (numbers_of p z s) (2 ^ s.new) r.flip_flop out (piece_by p s) scratch l can meant
 
     pub raw_kept : drop (s.pieces * piece_by p s) (scratch_of (numbers_of p z s) mux es (piece_by p s) scratch l.state.next) ≡ drop (s.pieces * piece_by p s) scratch
     raw_kept =
         ap (λ (v : Value). drop (s.pieces * piece_by p s) (scratch_of (numbers_of p z s) v es (piece_by p s) scratch l.state.next)) sa.mux_is
-        ∙ scratch_kept q t (read_by r x y) (numbers_of p z s) (2 ^ s.new) c.clocked (control_of c.clock) (control_of c.enable) out (piece_by p s) scratch l can meant
+        ∙ scratch_kept q t (read_by r x y) (numbers_of p z s) (2 ^ s.new) r.flip_flop out (piece_by p s) scratch l can meant
 
   -- ---- the trits
   wide_means : Means q old new addr splittable (wide_by_of p z s)
@@ -163,8 +165,7 @@ module _ (p : Params) (z : Sizes) (es : List ℕ) (old new : ℕ) (addr hw mux :
     need_is (flips.Some f) r y = sym (three_length q old new addr splittable (wide_by_of p z s) wide_means (size_by z s) wide_fits _ _ _)
 
     -- ---- the whole port
-    module _ (r : MemoryReadPort) (x y : List ℕ) (c : Clocking) (out : Value) (scratch : List ℕ) (i : ℕ) (g : Going)
-        (ck : (a : Value) → addr_by c.clocked (control_of c.clock) (control_of c.enable) a ≡ clocked_addr (flip_flop_by r.flip_flop r y) a)
+    module _ (r : MemoryReadPort) (x y : List ℕ) (out : Value) (scratch : List ℕ) (i : ℕ) (g : Going)
         (pos : 0 < s.pieces) (holds : s.pieces * piece_by p s ≤ length scratch) (below : g.lent.state.next + size_by z s ≤ X)
         (kinds : g.trits_at_of + need_by r.flip_flop (size_by z s) ≤ length g.trits) where
       port_is : port_by s r g.lent.state.next ≡ wide_of t r g.lent.state.next
@@ -177,10 +178,10 @@ module _ (p : Params) (z : Sizes) (es : List ℕ) (old new : ℕ) (addr hw mux :
         flip_flop = r.flip_flop;
       }
 
-      pub raw_done : port_raw p z s c i r y hw mux es out scratch g ≡ port_done q t i (in_port r x y) out g
+      pub raw_done : port_raw p z s i r y hw mux es out scratch g ≡ port_done q t i (in_port r x y) out g
       unfolding port_raw
       raw_done = λ k. record {
-        lent = raw_log r x y c out scratch g.lent ck pos holds below k;
+        lent = raw_log r x y out scratch g.lent pos holds below k;
         nets = sets g.nets g.nets_at_of (sa.hw_is k);
         trits = trits_unfold r.flip_flop r y g.trits_at_of g.trits kinds k;
         nets_at_of = g.nets_at_of + length (sa.hw_is k);

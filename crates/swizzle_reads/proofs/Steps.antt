@@ -9,17 +9,16 @@ use Rattle.net_memory.specs.declared.MemoryReadPort.{MemoryReadPort}
 use Rattle.image_geometry.specs.declared.Params.{Params}
 use Rattle.swizzle_split.specs.declared.Split.{Split}
 use Rattle.swizzle_reads.specs.declared.Sizes.{Sizes}
-use Rattle.swizzle_read.specs.declared.Clocking.{Clocking}
 use Rattle.swizzle_reads.specs.Going.{Going, with_read_port}
 use Rattle.swizzle_reads.specs.Raw.{size_by, read_by', trits_by, need_by, port_by, port_raw}
 
 -- all of it
-pub raw_by : (p : Params) (z : Sizes) (s : Split) (c : Clocking) (i : ℕ) (r : MemoryReadPort) (y : List ℕ) (hw mux : Value) (es : List ℕ) (out : Value) (scratch : List ℕ) (g g' : Going) (size : ℕ)
-    → size ≡ size_by z s → g'.lent ≡ read_by' p z s c mux es out scratch g.lent → g'.nets ≡ sets g.nets g.nets_at_of hw → g'.trits ≡ trits_by r.flip_flop p z s r y es g.trits_at_of g.trits
+pub raw_by : (p : Params) (z : Sizes) (s : Split) (i : ℕ) (r : MemoryReadPort) (y : List ℕ) (hw mux : Value) (es : List ℕ) (out : Value) (scratch : List ℕ) (g g' : Going) (size : ℕ)
+    → size ≡ size_by z s → g'.lent ≡ read_by' p z s r.flip_flop mux es out scratch g.lent → g'.nets ≡ sets g.nets g.nets_at_of hw → g'.trits ≡ trits_by r.flip_flop p z s r y es g.trits_at_of g.trits
     → g'.nets_at_of ≡ g.nets_at_of + length hw → g'.trits_at_of ≡ g.trits_at_of + need_by r.flip_flop size → g'.memory ≡ with_read_port g.memory i (port_by s r g.lent.state.next)
-    → g' ≡ port_raw p z s c i r y hw mux es out scratch g
+    → g' ≡ port_raw p z s i r y hw mux es out scratch g
 unfolding port_raw
-raw_by p z s c i r y hw mux es out scratch g g' size ez a b d e f m =
+raw_by p z s i r y hw mux es out scratch g g' size ez a b d e f m =
     λ k. record {
       lent = a k;
       nets = b k;

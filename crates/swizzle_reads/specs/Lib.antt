@@ -2,4 +2,5 @@
 pub mod Going
 pub mod Able
 pub mod Raw
+pub mod Cuts
 pub mod Planned

@@ -1,11 +1,9 @@
 -- What the code leaves of a read port, by the machine's numbers.
-use Rattle.std.specs.Prelude.{ℕ, ◌+◌, ◌*◌, ◌^◌, ◌<◌, ◌≤◌, Bool, ◌&&◌, List, length}
-use Rattle.rules.specs.Limits.{max_ports, max_wide, max_width, max_columns}
+use Rattle.std.specs.Prelude.{ℕ, ◌+◌, ◌*◌, ◌^◌, Bool, ◌&&◌, List, length}
 use Rattle.std.proofs.lemmas.List.Edits.{sets}
 use Rattle.lists.specs.Lists.{part}
 use Rattle.rules.specs.Value.{Value}
 use Rattle.log_entries.specs.Emission.{Lent, run}
-use Rattle.net_value.specs.View.{control_of}
 use Rattle.net_memory.specs.FlipFlop.{MemoryReadFlipFlop}
 use Rattle.std.specs.Prelude.{None, Some}
 use Rattle.net_memory.specs.declared.MemoryReadPort.{MemoryReadPort}
@@ -17,7 +15,6 @@ use Rattle.swizzle_result.specs.declared.WideReadPort.{WideReadPort}
 use Rattle.swizzle_columns.specs.declared.WidePort.{WidePort}
 use Rattle.swizzle_read_trits.specs.Trits.{three_trits}
 use Rattle.swizzle_reads.specs.declared.Sizes.{Sizes}
-use Rattle.swizzle_read.specs.declared.Clocking.{Clocking}
 use Rattle.swizzle_reads.specs.Going.{Going, with_read_port, pieces_fit, rooms_fit}
 
 -- a port's numbers for its pieces, and for its columns
@@ -34,9 +31,9 @@ size_by z s = 2 ^ s.new * z.columns
 abbrev pub piece_by : Params → Split → ℕ
 piece_by p s = 2 ^ s.old * p.width
 
-abbrev pub read_by' : Params → Sizes → Split → Clocking → Value → List ℕ → Value → List ℕ → Lent → Lent
-read_by' p z s c mux es out scratch l =
-    run (read_of (numbers_of p z s) (2 ^ s.new) c.clocked (control_of c.clock) (control_of c.enable) mux es out (piece_by p s) scratch) l
+abbrev pub read_by' : Params → Sizes → Split → MemoryReadFlipFlop → Value → List ℕ → Value → List ℕ → Lent → Lent
+read_by' p z s f mux es out scratch l =
+    run (read_of (numbers_of p z s) (2 ^ s.new) f mux es out (piece_by p s) scratch) l
 
 -- its trits, and how many they are
 abbrev pub trits_by : MemoryReadFlipFlop → Params → Sizes → Split → MemoryReadPort → List ℕ → List ℕ → ℕ → List ℕ → List ℕ
@@ -60,9 +57,9 @@ port_by s r next = record {
 }
 
 -- all of it
-unfoldable pub port_raw : Params → Sizes → Split → Clocking → ℕ → MemoryReadPort → List ℕ → Value → Value → List ℕ → Value → List ℕ → Going → Going
-port_raw p z s c i r y hw mux es out scratch g = record {
-  lent = read_by' p z s c mux es out scratch g.lent;
+unfoldable pub port_raw : Params → Sizes → Split → ℕ → MemoryReadPort → List ℕ → Value → Value → List ℕ → Value → List ℕ → Going → Going
+port_raw p z s i r y hw mux es out scratch g = record {
+  lent = read_by' p z s r.flip_flop mux es out scratch g.lent;
   nets = sets g.nets g.nets_at_of hw;
   trits = trits_by r.flip_flop p z s r y es g.trits_at_of g.trits;
   nets_at_of = g.nets_at_of + length hw;
@@ -74,13 +71,3 @@ port_raw p z s c i r y hw mux es out scratch g = record {
 unfoldable pub raw_fits : Params → Sizes → Split → MemoryReadFlipFlop → ℕ → ℕ → ℕ → ℕ → ℕ → ℕ → Bool
 raw_fits p z s f room next nets nets_at_of trits trits_at_of =
     pieces_fit s.pieces (piece_by p s) room next (size_by z s) && rooms_fit (size_by z s) nets nets_at_of s.hw_len trits trits_at_of (need_by f (size_by z s))
-
--- what storing a port asks: its wide logs and the layout are within the limits, and the rooms hold its nets and trits
-pub record Splitting (p : Params) (z : Sizes) (s : Split) (i nets_at_of addr nets trits_at_of kinds trits : ℕ) : Type 0 where
-  pub old_max : s.old ≤ max_wide
-  pub new_max : s.new ≤ max_wide
-  pub width_max : p.width ≤ max_width
-  pub columns_max : z.columns ≤ max_columns
-  pub port : i < max_ports
-  pub nets_hold : nets_at_of + addr ≤ nets
-  pub trits_hold : trits_at_of + kinds ≤ trits

@@ -1,29 +1,25 @@
 // The read ports of a swizzle: what they log, their addresses and trits in lent room, and the struct of the memories.
 #![tactic(auto)]
 
-ghost use Rattle.std.specs.Prelude.{◌≡◌, List, ℕ, ◌+◌, ◌*◌, ◌^◌, ◌<◌, ◌≤◌, min, ◌&&◌, length, drop, get_or, leb, ltb};
-ghost use Rattle.rules.specs.Limits.{X, max_ports, max_wide, max_width, max_columns};
-ghost use Rattle.rules.specs.Value.{Value};
-ghost use Rattle.rules.specs.Swizzle.{clocked_addr};
-ghost use Rattle.net_value.specs.View.{control_of};
-ghost use Rattle.net_memory.specs.declared.MemoryReadPort as ports;
-ghost use Rattle.net_memory.specs.View.{flip_flop_by, read_port};
+ghost use Rattle.std.specs.Prelude.{◌≡◌, List, ℕ, ◌+◌, ◌<◌, ◌≤◌, min, ◌&&◌, length, drop, get_or, leb, ltb};
+ghost use Rattle.rules.specs.Limits.{X, max_ports};
+ghost use Rattle.net_memory.specs.View.{read_port};
 ghost use Rattle.lists.specs.Lists.{part};
 ghost use Rattle.log_entries.specs.View.{lent_of};
 ghost use Rattle.image_geometry.specs.View.{layout_of};
-ghost use Rattle.swizzle_read.specs.Port.{addr_by, scratch_of};
 ghost use Rattle.swizzle_reads.specs.Going.{going_of, SameRooms, in_port, pieces_fit, rooms_fit, port_if, ports_from, in_ports, port_of, reads_if, ScratchKept, AllKept};
-ghost use Rattle.swizzle_reads.specs.Able.{Measures};
-ghost use Rattle.swizzle_reads.specs.Raw.{numbers_of, wide_by_of, size_by, piece_by, read_by', trits_by, need_by, port_by, port_raw, raw_fits, Splitting};
+ghost use Rattle.swizzle_reads.specs.Raw.{need_by, port_by};
+ghost use Rattle.swizzle_reads.specs.Cuts.{piece_of, size_of, nets_of, logged, loaded, clocked, fits_in, all_of, Holding};
 
-use image_geometry::{Layout, Params};
+mod rows;
+
+use image_geometry::Layout;
 use log_entries::Log;
 use net_flip_flop::Controls;
-use net_memory::{Given, MemoryReadPort};
-use net_value::{ControlNet, Net};
+use net_memory::{Given, MemoryReadPort, ReadPort};
+use rows::{Cut, Rows};
 use swizzle_columns::WidePort;
 use swizzle_pieces::Pieces;
-use swizzle_read::{Clocking, ReadPort};
 use swizzle_read_trits::Trits;
 use swizzle_result::{WideMemory, WideReadPort};
 use swizzle_split::Split;
@@ -32,6 +28,7 @@ use swizzle_split::Split;
 const ROOM: usize = rules::ADDR_BITS as usize;
 
 // What the read ports leave beside the log: their addresses and trits in lent rooms, with where the next go, and the struct of the memories.
+// A slice of what is left of a room would lose the front, which the caller goes on with.
 #[derive(Drop)]
 pub struct Reads<'a> {
     pub nets: &'a mut [u32],
@@ -43,144 +40,107 @@ pub struct Reads<'a> {
 
 // The memories of a layout, and its columns.
 #[derive(Clone, Copy)]
-struct Sizes {
-    mems: u32,
-    columns: u32,
+pub(crate) struct Sizes {
+    pub mems: u32,
+    pub columns: u32,
 }
 
-// A read port of the memory: its number, its struct with its own nets and trits, its new wide log, and its outputs.
+// A read port of the memory, with its number, its new wide log, and its outputs.
 #[derive(Clone, Copy)]
 struct Port<'a> {
     number: usize,
-    port: MemoryReadPort,
-    nets: &'a [u32],
-    trits: &'a [u8],
+    read: ReadPort<'a>,
     wide: u32,
     output: &'a [u32],
+    ghost in_use: { number < max_ports },
 }
 
-// The nets of a piece.
-fn piece_of(p: Params, s: Split) -> u32
-    requires { (s.old ≤ max_wide) × (p.width ≤ max_width) }
-    ensures { (result ≡ piece_by p s) × (result ≤ 2048) }
-{
-    swizzle_split::rows_of(s.old) * p.width
-}
-
-// The columns of all new rows.
-fn size_of(z: Sizes, s: Split) -> u32
-    requires { (s.new ≤ max_wide) × (z.columns ≤ max_columns) }
-    ensures { (result ≡ size_by z s) × (result ≤ 524288) }
-{
-    swizzle_split::rows_of(s.new) * z.columns
-}
-
-// The clock and enable of a port with this flip-flop.
-#[tactic(auto, unfolding(swizzle_read::specs::Port::addr_by, rules::specs::Swizzle::clocked_addr))]
-fn clock_of(f: Option<Controls>) -> Clocking
-    ensures { (r : ports.MemoryReadPort) (y : List ℕ) (a : Value) → addr_by result.clocked (control_of result.clock) (control_of result.enable) a ≡ clocked_addr (flip_flop_by f r y) a }
-{
-    match f {
-        None => Clocking {
-            clocked: false,
-            clock: ControlNet::Pos(Net(0)),
-            enable: ControlNet::Pos(Net(0)),
-        },
-        Some(c) => Clocking {
-            clocked: true,
-            clock: c.clock,
-            enable: c.enable,
-        },
+impl Cut<'_> {
+    // The nets of a piece.
+    fn piece(self) -> u32
+        ensures { (result ≡ piece_of self.entry) × (result ≤ 2048) }
+    {
+        swizzle_split::rows_of(self.split.old) * self.rows.layout.params.width
     }
-}
 
-// What a port logs.
-fn emit_port(
-    log: &mut Log,
-    scratch: &mut [u32],
-    q: Layout,
-    z: Sizes,
-    s: Split,
-    clocking: Clocking,
-    mux: &[u32],
-    output: &[u32],
-)
-    requires { (s.old ≤ max_wide) × (s.new ≤ max_wide) × (q.params.width ≤ max_width) }
-    ensures log_after { lent_of log.new ≡ read_by' q.entry.params z s clocking mux.now q.entry.entries.now output.now scratch.old (lent_of log.old) }
-    ensures scratch_after { drop (s.pieces * piece_by q.entry.params s) scratch.new ≡ drop (s.pieces * piece_by q.entry.params s) (scratch_of (numbers_of q.entry.params z s) mux.now q.entry.entries.now (piece_by q.entry.params s) scratch.old log.old.state.next) }
-{
-    let pieces = Pieces {
-        first: 0,
-        width: q.params.width,
-        columns: z.columns,
-        mask: s.mask,
-        rows: swizzle_split::rows_of(s.old),
-        count: s.pieces,
-    };
-    let port = ReadPort {
-        pieces,
-        width: piece_of(q.params, s),
-        voids: swizzle_split::rows_of(s.new),
-        clocking,
-        mux,
-        entries: q.entries,
-        output,
-    };
-    port.emit(log, scratch);
-}
-
-// The trits of a port, from `at` on, where it has a flip-flop.
-fn put_clock(
-    to: &mut [u8],
-    at: usize,
-    q: Layout,
-    z: Sizes,
-    s: Split,
-    r: MemoryReadPort,
-    trits: &[u8],
-)
-    requires { (s.old ≤ max_wide) × (s.new ≤ max_wide) × (z.columns ≤ max_columns) }
-    ensures { to.new ≡ trits_by r.flip_flop q.entry.params z s r trits.now q.entry.entries.now at to.old }
-{
-    if let None = r.flip_flop {
-        return;
+    // The columns of all new rows.
+    fn size(self) -> u32
+        ensures { (result ≡ size_of self.entry) × (result ≤ 524288) }
+    {
+        swizzle_split::rows_of(self.split.new) * self.rows.sizes.columns
     }
-    let w = WidePort {
-        mems: z.mems,
-        unit: q.params.unit,
-        rows: swizzle_split::rows_of(s.new),
-        olds: swizzle_split::rows_of(s.old),
-        width: q.params.width,
-        chunks: s.mask,
-        pieces: s.pieces,
-    };
-    let kinds = Trits {
-        clear: net_memory::clear_of(r, trits),
-        reset: net_memory::reset_of(r, trits),
-        init: net_memory::init_of(r, trits),
-    };
-    kinds.put(to, at, size_of(z, s), w, q.entries);
-}
 
-// How many trits a port with this flip-flop has.
-fn need_of(f: Option<Controls>, size: usize) -> usize
-    requires { size ≤ 524288 }
-    ensures { result ≡ need_by f size }
-{
-    if let None = f {
-        return 0;
+    // What a port logs.
+    fn emit_port(
+        self,
+        log: &mut Log,
+        scratch: &mut [u32],
+        flip_flop: Option<Controls>,
+        mux: &[u32],
+        output: &[u32],
+    )
+        ensures log_after { lent_of log.new ≡ logged self.entry flip_flop mux.now output.now scratch.old (lent_of log.old) }
+        ensures scratch_after { drop (nets_of self.entry) scratch.new ≡ drop (nets_of self.entry) (loaded self.entry mux.now scratch.old log.old.state.next) }
+    {
+        let q = self.rows.layout;
+        let s = self.split;
+        let pieces = Pieces {
+            first: 0,
+            width: q.params.width,
+            columns: self.rows.sizes.columns,
+            mask: s.mask,
+            rows: swizzle_split::rows_of(s.old),
+            count: s.pieces,
+        };
+        let port = swizzle_read::ReadPort {
+            pieces,
+            width: self.piece(),
+            voids: swizzle_split::rows_of(s.new),
+            flip_flop,
+            mux,
+            entries: q.entries,
+            output,
+        };
+        port.emit(log, scratch);
     }
-    size + (size + size)
-}
 
-// Whether there are pieces, which the scratch holds, and the port's nets are below X.
-#[tactic(auto, unfolding(crate::specs::Going::pieces_fit))]
-fn pieces_fit(pieces: u32, w: u32, room: usize, next: u32, size: u32) -> bool
-    ensures { result ≡ pieces_fit pieces w room next size }
-{
-    pieces != 0
-        && pieces as usize * w as usize <= room
-        && next as usize + size as usize <= rules::NET_X as usize
+    // The trits of a port, from `at` on, where it has a flip-flop.
+    fn put_trits(self, to: &mut [u8], at: usize, r: ReadPort<'_>)
+        ensures { to.new ≡ clocked self.entry r.entry.port r.entry.trits.now at to.old }
+    {
+        if let None = r.port.flip_flop {
+            return;
+        }
+        let q = self.rows.layout;
+        let w = WidePort::of(q.params, self.rows.sizes.mems, self.split);
+        let kinds = Trits {
+            clear: r.clear(),
+            reset: r.reset(),
+            init: r.init(),
+        };
+        kinds.put(to, at, self.size(), w, q.entries);
+    }
+
+    // How many trits a port with this flip-flop has.
+    fn trit_count(self, f: Option<Controls>) -> usize
+        ensures { result ≡ need_by f (size_of self.entry) }
+    {
+        if let None = f {
+            return 0;
+        }
+        3 * self.size() as usize
+    }
+
+    // Whether there are pieces, which the scratch holds, and the port's nets are below X.
+    #[tactic(auto, unfolding(crate::specs::Going::pieces_fit))]
+    fn pieces_fit(self, room: usize, next: u32) -> bool
+        ensures { result ≡ pieces_fit self.entry.split.pieces (piece_of self.entry) room next (size_of self.entry) }
+    {
+        let pieces = self.split.pieces;
+        pieces != 0
+            && pieces as usize * self.piece() as usize <= room
+            && next as usize + self.size() as usize <= rules::NET_X as usize
+    }
 }
 
 // The port of all memories.
@@ -198,16 +158,6 @@ fn port_of(s: Split, r: MemoryReadPort, next: u32) -> WideReadPort
     }
 }
 
-// The new wide log of port i; 0 past the last.
-fn wide_at(wide: &[u32], i: usize) -> u32
-    ensures { result ≡ get_or wide.now i 0 }
-{
-    if i < wide.len() {
-        return wide[i];
-    }
-    0
-}
-
 impl Reads<'_> {
     // Whether there are columns, and the rooms hold the port's nets and trits.
     #[tactic(auto, unfolding(crate::specs::Going::rooms_fit))]
@@ -221,22 +171,11 @@ impl Reads<'_> {
 
     // Whether a port is within the limits.
     #[tactic(auto, unfolding(crate::specs::Raw::raw_fits))]
-    fn fits(
-        &self,
-        p: Params,
-        z: Sizes,
-        s: Split,
-        f: Option<Controls>,
-        room: usize,
-        next: u32,
-    ) -> bool
-        requires { (s.old ≤ max_wide) × (s.new ≤ max_wide) × (p.width ≤ max_width) × (z.columns ≤ max_columns) }
-        ensures { result ≡ raw_fits p z s f room next (length self.now.nets.now) self.now.nets_at (length self.now.trits.now) self.now.trits_at }
+    fn fits(&self, x: Cut<'_>, f: Option<Controls>, room: usize, next: u32) -> bool
+        ensures { result ≡ fits_in x.entry f room next self.now }
     {
-        let size = size_of(z, s);
-        let all = size as usize;
-        pieces_fit(s.pieces, piece_of(p, s), room, next, size)
-            && self.has_room(all, s.hw_len as usize, need_of(f, all))
+        let size = x.size() as usize;
+        x.pieces_fit(room, next) && self.has_room(size, x.split.hw_len as usize, x.trit_count(f))
     }
 
     // A port within the limits, with the two parts of its address.
@@ -244,52 +183,49 @@ impl Reads<'_> {
         &mut self,
         log: &mut Log,
         scratch: &mut [u32],
-        q: Layout,
-        z: Sizes,
-        s: Split,
-        x: Port,
-        clocking: Clocking,
+        x: Cut<'_>,
+        port: Port<'_>,
         hw: &[u32],
         mux: &[u32],
     )
-        requires { Splitting q.params z s x.number self.old.nets_at (length hw.now) (length self.old.nets.now) self.old.trits_at (need_by x.port.flip_flop (size_by z s)) (length self.old.trits.now) }
-        ensures ports_after { going_of log.new self.new ≡ port_raw q.entry.params z s clocking x.entry.number x.entry.port x.entry.trits.now hw.now mux.now q.entry.entries.now x.entry.output.now scratch.old (going_of log.old self.old) }
-        ensures scratch_after { drop (s.pieces * piece_by q.entry.params s) scratch.new ≡ drop (s.pieces * piece_by q.entry.params s) (scratch_of (numbers_of q.entry.params z s) mux.now q.entry.entries.now (piece_by q.entry.params s) scratch.old log.old.state.next) }
+        requires { Holding x port.read.port.flip_flop (length hw.now) self.old }
+        ensures ports_after { going_of log.new self.new ≡ all_of x.entry port.entry.number port.entry.read.port port.entry.read.trits.now hw.now mux.now port.entry.output.now scratch.old (going_of log.old self.old) }
+        ensures scratch_after { drop (nets_of x.entry) scratch.new ≡ drop (nets_of x.entry) (loaded x.entry mux.now scratch.old log.old.state.next) }
         ensures same_rooms { SameRooms self.old self.new }
     {
-        let r = x.port;
+        let r = port.read.port;
         let first = log.state.next;
-        emit_port(log, scratch, q, z, s, clocking, mux, x.output);
+        x.emit_port(log, scratch, r.flip_flop, mux, port.output);
         lists::copy(self.nets, self.nets_at, hw);
-        put_clock(self.trits, self.trits_at, q, z, s, r, x.trits);
-        self.memory.read_ports[x.number] = port_of(s, r, first);
+        x.put_trits(self.trits, self.trits_at, port.read);
+        self.memory.read_ports[port.number] = port_of(x.split, r, first);
         self.nets_at += hw.len();
-        self.trits_at += need_of(r.flip_flop, size_of(z, s) as usize);
+        self.trits_at += x.trit_count(r.flip_flop);
     }
 
     // One port.
-    fn read_port(&mut self, log: &mut Log, scratch: &mut [u32], q: Layout, z: Sizes, x: Port)
-        requires { Measures (layout_of q) z × (x.number < max_ports) }
-        ensures ports_after { going_of log.new self.new ≡ port_if (layout_of q.entry) (length scratch.old) x.entry.number (in_port x.entry.port x.entry.nets.now x.entry.trits.now) x.entry.wide x.entry.output.now (going_of log.old self.old) }
-        ensures scratch_kept { ScratchKept (layout_of q.entry) (in_port x.entry.port x.entry.nets.now x.entry.trits.now) x.entry.wide scratch.old scratch.new }
+    fn read_port(&mut self, log: &mut Log, scratch: &mut [u32], rows: Rows<'_>, port: Port<'_>)
+        ensures ports_after { going_of log.new self.new ≡ port_if (layout_of rows.entry.layout) (length scratch.old) port.entry.number (in_port port.entry.read.port port.entry.read.nets.now port.entry.read.trits.now) port.entry.wide port.entry.output.now (going_of log.old self.old) }
+        ensures scratch_kept { ScratchKept (layout_of rows.entry.layout) (in_port port.entry.read.port port.entry.read.nets.now port.entry.read.trits.now) port.entry.wide scratch.old scratch.new }
         ensures same_rooms { SameRooms self.old self.new }
     {
         let mut hw = [0u32; ROOM];
         let mut mux = [0u32; ROOM];
-        let r = x.port;
-        let p = q.params;
-        let addr = net_memory::read_addr_of(r, x.nets);
+        let r = port.read.port;
+        let p = rows.layout.params;
+        let addr = port.read.addr();
         let old = net_memory::wide::wide_log(p.width, r.data_len as usize);
-        let split = swizzle_split::split_addr(&mut hw, &mut mux, p, old, x.wide, addr);
+        let split = swizzle_split::split_addr(&mut hw, &mut mux, p, old, port.wide, addr);
         let Some(s) = split else {
             return;
         };
-        if !self.fits(p, z, s, r.flip_flop, scratch.len(), log.state.next) {
+        let x = Cut { rows, split: s };
+        if !self.fits(x, r.flip_flop, scratch.len(), log.state.next) {
             return;
         }
         let hw = &hw[..s.hw_len as usize];
         let mux = &mux[..s.mux_len as usize];
-        self.read_split(log, scratch, q, z, s, x, clock_of(r.flip_flop), hw, mux);
+        self.read_split(log, scratch, x, port, hw, mux);
     }
 
     // Read port i, whose outputs start at `at`.
@@ -299,27 +235,24 @@ impl Reads<'_> {
         scratch: &mut [u32],
         i: usize,
         at: usize,
-        q: Layout,
-        z: Sizes,
+        rows: Rows<'_>,
         given: Given<'_>,
         wide: &[u32],
         output: &[u32],
     )
-        requires { Measures (layout_of q) z × (i < min max_ports given.memory.read_count) }
-        ensures ports_after { going_of log.new self.new ≡ port_if (layout_of q.entry) (length scratch.old) i (port_of given.entry.memory given.entry.nets.now given.entry.trits.now i) (get_or wide.now i 0) (part at (read_port given.entry.memory i).data_len output.now) (going_of log.old self.old) }
-        ensures scratch_kept { ScratchKept (layout_of q.entry) (port_of given.entry.memory given.entry.nets.now given.entry.trits.now i) (get_or wide.now i 0) scratch.old scratch.new }
+        requires { i < min max_ports given.memory.read_count }
+        ensures ports_after { going_of log.new self.new ≡ port_if (layout_of rows.entry.layout) (length scratch.old) i (port_of given.entry.memory given.entry.nets.now given.entry.trits.now i) (get_or wide.now i 0) (part at (read_port given.entry.memory i).data_len output.now) (going_of log.old self.old) }
+        ensures scratch_kept { ScratchKept (layout_of rows.entry.layout) (port_of given.entry.memory given.entry.nets.now given.entry.trits.now i) (get_or wide.now i 0) scratch.old scratch.new }
         ensures same_rooms { SameRooms self.old self.new }
     {
-        let port = given.memory.read_ports[i];
+        let read = given.read_port(i);
         let x = Port {
             number: i,
-            port,
-            nets: net_memory::read_nets(given.memory, given.nets, i),
-            trits: net_memory::read_trits(given.memory, given.trits, i),
-            wide: wide_at(wide, i),
-            output: lists::part(output, at, port.data_len as usize),
+            read,
+            wide: wide.get(i).copied().unwrap_or(0),
+            output: lists::part(output, at, read.port.data_len as usize),
         };
-        self.read_port(log, scratch, q, z, x);
+        self.read_port(log, scratch, rows, x);
     }
 
     // Every read port, one after the other.
@@ -327,20 +260,18 @@ impl Reads<'_> {
         &mut self,
         log: &mut Log,
         scratch: &mut [u32],
-        q: Layout,
-        z: Sizes,
+        rows: Rows<'_>,
         given: Given<'_>,
         wide: &[u32],
         output: &[u32],
     )
-        requires { Measures (layout_of q) z }
-        ensures ports_after { going_of log.new self.new ≡ ports_from (layout_of q.entry) (length scratch.old) 0 (in_ports given.entry.memory given.entry.nets.now given.entry.trits.now) wide.now output.now (going_of log.old self.old) }
-        ensures all_kept { AllKept (layout_of q.entry) (in_ports given.entry.memory given.entry.nets.now given.entry.trits.now) wide.now scratch.old scratch.new }
+        ensures ports_after { going_of log.new self.new ≡ ports_from (layout_of rows.entry.layout) (length scratch.old) 0 (in_ports given.entry.memory given.entry.nets.now given.entry.trits.now) wide.now output.now (going_of log.old self.old) }
+        ensures all_kept { AllKept (layout_of rows.entry.layout) (in_ports given.entry.memory given.entry.nets.now given.entry.trits.now) wide.now scratch.old scratch.new }
         ensures same_rooms { SameRooms self.old self.new }
     {
         let mut at = 0;
         for i in 0..net_memory::ports_used(given.memory.read_count) {
-            self.port_at(log, scratch, i, at, q, z, given, wide, output);
+            self.port_at(log, scratch, i, at, rows, given, wide, output);
             at += net_memory::read_data_len(given.memory, i);
         }
     }
@@ -366,10 +297,11 @@ impl Reads<'_> {
         if q.params.width == 0 {
             return;
         }
-        let z = Sizes {
+        let sizes = Sizes {
             mems: shape.all_mems as u32,
             columns: shape.columns as u32,
         };
-        self.each_port(log, scratch, q, z, given, wide, output);
+        let rows = Rows { layout: q, sizes };
+        self.each_port(log, scratch, rows, given, wide, output);
     }
 }

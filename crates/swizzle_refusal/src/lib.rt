@@ -34,7 +34,7 @@ pub fn swizzle_refusal(
     if given.memory.depth != 0 {
         return Ok(());
     }
-    if port_unmap_all::ports_short(given.memory, given.nets) {
+    if port_unmap_all::ports_short(given) {
         return Err(Refusal::ShortAddress);
     }
     port_empty::empty_refusal(room, st, given, output)

@@ -60,16 +60,7 @@ pub fn no_memories() -> WideMemory
         clock: ControlNet::Pos(Net(0)),
     };
     let write_ports = [none; rules::MAX_PORTS];
-    let s = Shape {
-        full_mems: 0,
-        all_mems: 0,
-        full_depth: 0,
-        part_depth: 0,
-        columns: 0,
-        trits: 0,
-        image_size: 0,
-    };
-    start_memory(s, 0, 0, 0, write_ports)
+    start_memory(Shape::default(), 0, 0, 0, write_ports)
 }
 
 // The ports of a layout with these sizes.
@@ -90,15 +81,7 @@ fn rows_by<'a>(
     ensures same_rooms { SameRooms made.old made.new }
 {
     let mems = s.all_mems as u32;
-    let w = swizzle_writes::swizzle_writes(
-        log,
-        made.nets,
-        given.memory,
-        given.nets,
-        q,
-        mems,
-        writes,
-    );
+    let w = swizzle_writes::swizzle_writes(log, made.nets, given, q, mems, writes);
     let ports = w.ports;
     let unit = q.params.unit;
     made.memory = start_memory(

@@ -71,6 +71,7 @@ fn bits_of(base: u32, olds: &[u32], news: &[u32]) -> [u32; rules::MAX_PORTS]
     ensures { result ≡ in_eight (map (λ x. base + x.1 - x.0) (pairs olds.now news.now)) }
 {
     let mut bits = [0u32; rules::MAX_PORTS];
+    // By number: over a `zip` the invariant has no index of a place.
     for i in 0..olds.len().min(news.len()) {
         bits[i] = (base + news[i]).saturating_sub(olds[i]);
     }

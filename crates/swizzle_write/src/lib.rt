@@ -142,11 +142,7 @@ impl Masked<'_> {
         ensures to_after { is_over (state_of log.new.state) ≡ false → to.new ≡ (masks_by self.entry to.old log.old.state.next).value }
     {
         let zeros = [0; rules::MAX_MERGE];
-        let mut keys = Keys {
-            x: [0; rules::MAX_MERGE],
-            y: [0; rules::MAX_MERGE],
-            at: [0; rules::MAX_MERGE],
-        };
+        let mut keys = Keys::new();
         let mut number = [0; MUX_ROOM];
         let mut piece = [0; rules::MAX_MERGE];
         let n = self.row.len();

@@ -4,20 +4,19 @@
 
 ghost use Rattle.std.specs.Prelude.{◌≡◌, List, ℕ, ◌+◌, ◌<◌, ◌≤◌, min, length, take, replicate};
 ghost use Rattle.log_entries.specs.View.{lent_of};
-ghost use Rattle.net_memory.specs.View.{memory_of};
+ghost use Rattle.net_memory.specs.Given.{mem_of};
+ghost use Rattle.net_memory.specs.Ports.{write_of};
 ghost use Rattle.rules.specs.Limits.{max_ports};
 ghost use Rattle.image_geometry.specs.View.{layout_of};
 ghost use Rattle.port_transparency.specs.Gave.{Gave};
-ghost use Rattle.swizzle_split.specs.Rows.{rows_of};
 ghost use Rattle.swizzle_writes.specs.Placed.{nets_of, roomy, placed, placed_if, placed_at, placed_from, none_filled};
 
-use image_geometry::{Layout, Params};
+use image_geometry::Layout;
 use log_entries::Log;
-use net_memory::Memory;
+use net_memory::{Given, WritePort};
 use net_value::{ControlNet, Net};
 use swizzle_columns::WidePort;
 use swizzle_result::WideWritePort;
-use swizzle_split::Split;
 
 // How many nets all write ports take, and the ports of the result.
 #[derive(Clone, Copy)]
@@ -96,38 +95,22 @@ impl Port<'_> {
     }
 }
 
-// The numbers of a port among so many memories.
-fn wide_port(p: Params, mems: u32, s: Split) -> WidePort
-    ensures { result ≡ record { mems = mems; unit = p.unit; rows = rows_of s.new; olds = rows_of s.old; width = p.width; chunks = s.mask; pieces = s.pieces } }
-{
-    WidePort {
-        mems,
-        unit: p.unit,
-        rows: swizzle_split::rows_of(s.new),
-        olds: swizzle_split::rows_of(s.old),
-        width: p.width,
-        chunks: s.mask,
-        pieces: s.pieces,
-    }
-}
-
 // A port with an old and a new wide log from a place on: nothing where it cannot be split, or has no room.
 fn place_port(
     log: &mut Log,
     to: &mut [u32],
     at: usize,
-    q: Layout,
+    q: Layout<'_>,
     mems: u32,
     old: u32,
     new: u32,
-    addr: &[u32],
-    bits: &[u32],
-    mask: &[u32],
+    write: WritePort<'_>,
 ) -> Placing
-    ensures { Gave (placed_if (layout_of q.entry) mems old new addr.now bits.now mask.now at to.old) (lent_of log.old) (lent_of log.new) (record { room = to.new; next = result.next; addr_len_of = result.addr_len }) }
+    ensures { Gave (placed_if (layout_of q.entry) mems old new (write_of write.entry).addr (write_of write.entry).bits (write_of write.entry).mask at to.old) (lent_of log.old) (lent_of log.new) (record { room = to.new; next = result.next; addr_len_of = result.addr_len }) }
 {
     let mut hw = [0u32; ADDR_ROOM];
     let mut mux = [0u32; ADDR_ROOM];
+    let addr = write.addr();
     let split = swizzle_split::split_addr(&mut hw, &mut mux, q.params, old, new, addr);
     let Some(s) = split else {
         return Placing {
@@ -136,51 +119,47 @@ fn place_port(
         };
     };
     let port = Port {
-        wide: wide_port(q.params, mems, s),
+        wide: WidePort::of(q.params, mems, s),
         hw: lists::part(&hw, 0, s.hw_len as usize),
         mux: lists::part(&mux, 0, s.mux_len as usize),
         entries: q.entries,
-        bits,
-        mask,
+        bits: write.bits(),
+        mask: write.mask(),
     };
     port.place(log, to, at)
 }
 
 // Write port j of a memory.
-fn place_at<'a>(
+fn place_at(
     log: &mut Log,
     to: &mut [u32],
     at: usize,
-    m: Memory,
-    nets: &'a [u32],
-    q: Layout<'a>,
+    given: Given<'_>,
+    q: Layout<'_>,
     mems: u32,
     j: usize,
     new: u32,
 ) -> Placing
-    ensures { (trits : List ℕ) → Gave (placed_at (memory_of m nets.now trits) (layout_of q.entry) mems j new at to.old) (lent_of log.old) (lent_of log.new) (record { room = to.new; next = result.next; addr_len_of = result.addr_len }) }
+    ensures { Gave (placed_at (mem_of given.entry) (layout_of q.entry) mems j new at to.old) (lent_of log.old) (lent_of log.new) (record { room = to.new; next = result.next; addr_len_of = result.addr_len }) }
 {
-    let addr = port_overlay::write_addr(m, nets, j);
-    let bits = port_overlay::write_data(m, nets, j);
-    let mask = net_memory::write_mask(m, nets, j);
-    let old = net_memory::wide::wide_log(m.width, bits.len());
-    place_port(log, to, at, q, mems, old, new, addr, bits, mask)
+    let write = given.write_port(j);
+    let old = net_memory::wide::wide_log(given.memory.width, write.bits().len());
+    place_port(log, to, at, q, mems, old, new, write)
 }
 
 // The write ports of a memory with these new wide logs, one after the other: the requests in the log, the nets from the front of `to` on, and the
 // ports of the result. A port that cannot be split, or has no room, leaves nothing. After an overflow the nets are left open.
-pub fn swizzle_writes<'a>(
+pub fn swizzle_writes(
     log: &mut Log,
     to: &mut [u32],
-    m: Memory,
-    nets: &'a [u32],
-    q: Layout<'a>,
+    given: Given<'_>,
+    q: Layout<'_>,
     mems: u32,
     wide: &[u32],
 ) -> Written
-    ensures { (trits : List ℕ) → Gave (placed_from (memory_of m nets.now trits) (layout_of q.entry) mems m.write_ports 0 (take (min max_ports m.write_count) wide.now) (none_filled to.old)) (lent_of log.old) (lent_of log.new) (record { room = to.new; at = result.used; ports = result.ports }) }
+    ensures { Gave (placed_from (mem_of given.entry) (layout_of q.entry) mems given.entry.memory.write_ports 0 (take (min max_ports given.entry.memory.write_count) wide.now) (none_filled to.old)) (lent_of log.old) (lent_of log.new) (record { room = to.new; at = result.used; ports = result.ports }) }
 {
-    let count = net_memory::ports_used(m.write_count).min(wide.len());
+    let count = net_memory::ports_used(given.memory.write_count).min(wide.len());
     let none = WideWritePort {
         addr_len: 0,
         wide: 0,
@@ -189,8 +168,8 @@ pub fn swizzle_writes<'a>(
     let mut used = 0;
     let mut ports = [none; rules::MAX_PORTS];
     for j in 0..count {
-        let p = place_at(log, to, used, m, nets, q, mems, j, wide[j]);
-        let old = m.write_ports[j];
+        let p = place_at(log, to, used, given, q, mems, j, wide[j]);
+        let old = given.memory.write_ports[j];
         let clock = old.clock;
         ports[j] = WideWritePort {
             addr_len: p.addr_len,

@@ -19,6 +19,7 @@ use image_geometry::Layout;
 use image_state::Laid;
 use record_sizes::Sizes;
 use rules::Refusal;
+use std::fmt;
 use table_read::{Fault, Table};
 
 // What refuses a text: a fault of the header or of the table behind the record, or a call.
@@ -27,6 +28,17 @@ pub enum Refused {
     Text(Fault),
     Table(Fault),
     Call(Refusal),
+}
+
+// The lines of a table behind the record are counted by themselves.
+impl fmt::Display for Refused {
+    fn fmt<W: fmt::Write>(&self, f: &mut fmt::Formatter<W>) -> fmt::Result {
+        match self {
+            Refused::Text(fault) => write!(f, "{}", fault),
+            Refused::Table(fault) => write!(f, "table {}", fault),
+            Refused::Call(refusal) => write!(f, "refused {}", refusal.number()),
+        }
+    }
 }
 
 // Rows of a table: how many, the bits of each, and their trits.

@@ -10,6 +10,7 @@ ghost use Rattle.table_record.specs.View.{listed_of, split_as};
 use image_geometry::Layout;
 use image_state::Laid;
 use rules::Refusal;
+use std::fmt;
 use table_read::{Fault, Table};
 
 // The record of the image that the rows give in a layout: its bytes.
@@ -28,6 +29,15 @@ pub fn record_of(out: &mut [u8], layout: Layout<'_>, rows: &[u8]) -> Result<usiz
 pub enum Refused {
     Text(Fault),
     Call(Refusal),
+}
+
+impl fmt::Display for Refused {
+    fn fmt<W: fmt::Write>(&self, f: &mut fmt::Formatter<W>) -> fmt::Result {
+        match self {
+            Refused::Text(fault) => write!(f, "{}", fault),
+            Refused::Call(refusal) => write!(f, "refused {}", refusal.number()),
+        }
+    }
 }
 
 // The record of a table.

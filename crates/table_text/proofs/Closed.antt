@@ -46,7 +46,7 @@ module _ (depth width : ℕ) where
   unfolding between
   gap_broken s e = rw e
 
-  bad_broken : (s : Scan) → Broken (record { kind = 11; line = s.line; row = s.row; left = s.left; value = s.value })
+  bad_broken : (s : Scan) → Broken (record { kind = 11; line = s.line; row = s.row; left = 0; value = 0 })
   unfolding between
   bad_broken s = refl
 
@@ -103,8 +103,8 @@ reason_not_0 Unread = refl
 
 pub gap_where_closed : (k : Kind) → is_closed (scan_kind k) ≡ true → ((r : Reason) → k ≢ Refused r) → eqb (scan_kind k) 0 ≡ true
 gap_where_closed Gap e n = refl
-gap_where_closed Word e n = cc
-gap_where_closed Number e n = cc
+gap_where_closed (Word m) e n = cc
+gap_where_closed (Number v) e n = cc
 gap_where_closed Slash e n = cc
 gap_where_closed Comment e n = cc
 gap_where_closed At e n = cc

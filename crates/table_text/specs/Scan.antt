@@ -4,7 +4,8 @@ use Rattle.lists.specs.Choice.{when◌then◌else◌}
 use Rattle.rules.specs.Limits.{max_width}
 use Rattle.table_text.specs.Bytes.{max_text, bump, more, low_word, is_end, trit_of, hex_of}
 
--- the machine that reads the rows: a kind, the line and the row in hand, the bits of a word that are still to come, and a row number
+-- the machine that reads the rows: a kind, the line and the row in hand, the bits of a word that are still to come, and a row number; both are 0 where the
+-- kind has none
 pub record Scan : Type 0 where
   pub kind : ℕ
   pub line : ℕ
@@ -19,9 +20,9 @@ scan_as kind line row left value = record { kind = kind; line = line; row = row;
 abbrev pub scan_start : Scan
 scan_start = scan_as 0 2 0 0 0
 
--- refused: 11 a byte that does not belong there, 12 a word that is too short, 13 one that is too long, 14 a row past the depth
+-- a kind that has neither; refused: 11 a byte that does not belong there, 12 a word that is too short, 13 one that is too long, 14 a row past the depth
 abbrev pub with_kind : Scan → ℕ → Scan
-with_kind s kind = scan_as kind s.line s.row s.left s.value
+with_kind s kind = scan_as kind s.line s.row 0 0
 
 -- the machine and the rows at the end of a text
 pub record ScanEnd : Type 0 where

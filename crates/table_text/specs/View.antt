@@ -23,23 +23,51 @@ reason_number Unread = 15
 
 abbrev pub head_kind : HeadKind → ℕ
 head_kind heads.Gap = 0
-head_kind heads.Number = 1
+head_kind (heads.Number v) = 1
 head_kind heads.AfterPlain = 2
 head_kind heads.Read = 3
-head_kind heads.Plain = 4
+head_kind (heads.Plain k) = 4
 head_kind (heads.Refused r) = reason_number r
 
 abbrev pub scan_kind : ScanKind → ℕ
 scan_kind scans.Gap = 0
-scan_kind scans.Word = 1
-scan_kind scans.Number = 2
+scan_kind (scans.Word n) = 1
+scan_kind (scans.Number v) = 2
 scan_kind scans.Slash = 3
 scan_kind scans.Comment = 4
 scan_kind scans.At = 5
 scan_kind (scans.Refused r) = reason_number r
 
+-- the number in hand, 0 where there is none
+abbrev pub head_value : HeadKind → ℕ
+head_value heads.Gap = 0
+head_value (heads.Number v) = v
+head_value heads.AfterPlain = 0
+head_value heads.Read = 0
+head_value (heads.Plain k) = k
+head_value (heads.Refused r) = 0
+
+-- the bits that are to come, and the row number, 0 where there are none
+abbrev pub scan_left : ScanKind → ℕ
+scan_left scans.Gap = 0
+scan_left (scans.Word n) = n
+scan_left (scans.Number v) = 0
+scan_left scans.Slash = 0
+scan_left scans.Comment = 0
+scan_left scans.At = 0
+scan_left (scans.Refused r) = 0
+
+abbrev pub scan_value : ScanKind → ℕ
+scan_value scans.Gap = 0
+scan_value (scans.Word n) = 0
+scan_value (scans.Number v) = v
+scan_value scans.Slash = 0
+scan_value scans.Comment = 0
+scan_value scans.At = 0
+scan_value (scans.Refused r) = 0
+
 abbrev pub head_of : HeadMachine → Head
-head_of h = record { kind = head_kind h.kind; field = h.field; count = h.count; value = h.value }
+head_of h = record { kind = head_kind h.kind; field = h.field; count = h.count; value = head_value h.kind }
 
 abbrev pub scan_of : ScanMachine → Scan
-scan_of s = record { kind = scan_kind s.kind; line = s.line; row = s.row; left = s.left; value = s.value }
+scan_of s = record { kind = scan_kind s.kind; line = s.line; row = s.row; left = scan_left s.kind; value = scan_value s.kind }

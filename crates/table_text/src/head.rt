@@ -1,7 +1,8 @@
 // The header line of a table's text.
-ghost use Rattle.std.specs.Prelude.{◌≡◌, ◌&&◌, ◌∷◌, [], ◌++◌, ◌≤◌, drop, eqb, length};
+ghost use Rattle.std.specs.Prelude.{◌≡◌, ◌∷◌, [], ◌++◌, ◌≤◌, Some, None, drop, eqb, leb, length};
+ghost use Rattle.lists.specs.Choice.{when◌then◌else◌};
 ghost use Rattle.table_text.specs.Bytes.{max_text};
-ghost use Rattle.table_text.specs.View.{head_kind, head_of};
+ghost use Rattle.table_text.specs.View.{head_kind, head_value, head_of};
 ghost use Rattle.table_text.specs.Head.{head_as, head_start, head_bad, number_end, head_blank, head_comma, head_break, head_digit, head_entry, head_letter, head_word, head_step_of, is_stop, head_stored, head_run, head_read};
 
 use crate::bytes;
@@ -17,24 +18,23 @@ const FIELDS: u32 = 6;
 pub enum Kind {
     // a word
     Gap,
-    // the end of a number
-    Number,
+    // the end of the number in hand
+    Number(u64),
     // the end of the word `plain`
     AfterPlain,
     // nothing: the line is read
     Read,
-    // a letter of `plain`
-    Plain,
+    // the letter of `plain` with this number
+    Plain(u64),
     Refused(Reason),
 }
 
-// The machine that reads the line: what it waits for, the field in hand, the words stored, and the number in hand.
+// The machine that reads the line: what it waits for, the field in hand, and the words stored.
 #[derive(Clone, Copy, Debug, PartialEq, Eq)]
 pub struct Head {
     pub kind: Kind,
     pub field: u32,
     pub count: u32,
-    pub value: u64,
 }
 
 #[tactic(auto, unfolding(crate::specs::Head::is_stop))]
@@ -45,15 +45,10 @@ fn is_stop(b: u8) -> bool
 }
 
 impl Head {
-    fn new(kind: Kind, field: u32, count: u32, value: u64) -> Head
-        ensures { head_of result ≡ head_as (head_kind kind) field count value }
+    fn new(kind: Kind, field: u32, count: u32) -> Head
+        ensures { head_of result ≡ head_as (head_kind kind) field count (head_value kind) }
     {
-        Head {
-            kind,
-            field,
-            count,
-            value,
-        }
+        Head { kind, field, count }
     }
 
     fn bad(self) -> Head
@@ -67,11 +62,11 @@ impl Head {
 
     // A number is at its end, and the next word is of that field.
     #[tactic(auto, unfolding(crate::specs::Head::number_end))]
-    fn number_end(self, field: u32) -> Head
-        ensures { head_of result ≡ number_end (head_of self) field }
+    fn number_end(self, value: u64, field: u32) -> Head
+        ensures { head_of result ≡ number_end (head_as 1 self.field self.count value) field }
     {
-        if self.value < 4294967296 {
-            Head::new(Kind::Gap, field, bytes::bumped(self.count), 0)
+        if value < 4294967296 {
+            Head::new(Kind::Gap, field, bytes::bumped(self.count))
         } else {
             self.bad()
         }
@@ -83,9 +78,9 @@ impl Head {
     {
         match self.kind {
             Kind::Gap => self,
-            Kind::Number => self.number_end(bytes::bumped(self.field)),
-            Kind::AfterPlain => Head::new(Kind::Gap, bytes::bumped(self.field), self.count, 0),
-            Kind::Read | Kind::Plain | Kind::Refused(_) => self.bad(),
+            Kind::Number(value) => self.number_end(value, bytes::bumped(self.field)),
+            Kind::AfterPlain => Head::new(Kind::Gap, bytes::bumped(self.field), self.count),
+            Kind::Read | Kind::Plain(_) | Kind::Refused(_) => self.bad(),
         }
     }
 
@@ -93,8 +88,11 @@ impl Head {
     fn comma(self) -> Head
         ensures { head_of result ≡ head_comma (head_of self) }
     {
-        if self.kind == Kind::Number && self.field == ENTRIES {
-            self.number_end(ENTRIES)
+        let Kind::Number(value) = self.kind else {
+            return self.bad();
+        };
+        if self.field == ENTRIES {
+            self.number_end(value, ENTRIES)
         } else {
             self.bad()
         }
@@ -106,9 +104,20 @@ impl Head {
     {
         let end = self.blank();
         if end.kind == Kind::Gap && end.field == FIELDS {
-            Head::new(Kind::Read, FIELDS, end.count, 0)
+            Head::new(Kind::Read, FIELDS, end.count)
         } else {
             self.bad()
+        }
+    }
+
+    // The number to which a digit is added.
+    fn number(self) -> Option<u64>
+        ensures { result ≡ when leb (head_of self).kind 1 then Some (head_of self).value else None }
+    {
+        match self.kind {
+            Kind::Gap => Some(0),
+            Kind::Number(value) => Some(value),
+            Kind::AfterPlain | Kind::Read | Kind::Plain(_) | Kind::Refused(_) => None,
         }
     }
 
@@ -116,21 +125,20 @@ impl Head {
     fn digit(self, b: u8) -> Head
         ensures { head_of result ≡ head_digit (head_of self) b }
     {
-        if self.kind == Kind::Gap || self.kind == Kind::Number {
-            let value = bytes::more(10, self.value, b.saturating_sub(b'0'));
-            Head::new(Kind::Number, self.field, self.count, value)
-        } else {
-            self.bad()
-        }
+        let Some(value) = self.number() else {
+            return self.bad();
+        };
+        let more = bytes::more(10, value, b.saturating_sub(b'0'));
+        Head::new(Kind::Number(more), self.field, self.count)
     }
 
     // The first byte of an entry that names no bit, or of `plain`.
     #[tactic(auto, unfolding(crate::specs::Head::head_entry))]
-    fn entry(self, kind: Kind, value: u64) -> Head
-        ensures { head_of result ≡ head_entry (head_of self) (head_kind kind) value }
+    fn entry(self, kind: Kind) -> Head
+        ensures { head_of result ≡ head_entry (head_of self) (head_kind kind) (head_value kind) }
     {
         if self.kind == Kind::Gap && self.field == ENTRIES {
-            Head::new(kind, ENTRIES, self.count, value)
+            Head::new(kind, ENTRIES, self.count)
         } else {
             self.bad()
         }
@@ -141,18 +149,16 @@ impl Head {
     fn letter(self, b: u8) -> Head
         ensures { head_of result ≡ head_letter (head_of self) b }
     {
-        if self.kind != Kind::Plain || b != bytes::letter_of(self.value) {
+        let Kind::Plain(letter) = self.kind else {
+            return self.bad();
+        };
+        if b != bytes::letter_of(letter) {
             return self.bad();
         }
-        if self.value == 4 {
-            Head::new(Kind::AfterPlain, ENTRIES, self.count, 0)
+        if letter == 4 {
+            Head::new(Kind::AfterPlain, ENTRIES, self.count)
         } else {
-            Head::new(
-                Kind::Plain,
-                ENTRIES,
-                self.count,
-                bytes::next_letter(self.value),
-            )
+            Head::new(Kind::Plain(bytes::next_letter(letter)), ENTRIES, self.count)
         }
     }
 
@@ -161,8 +167,8 @@ impl Head {
         ensures { head_of result ≡ head_word (head_of self) b }
     {
         match b {
-            b'-' => self.entry(Kind::Number, u32::MAX.into()),
-            b'p' => self.entry(Kind::Plain, 1),
+            b'-' => self.entry(Kind::Number(u32::MAX.into())),
+            b'p' => self.entry(Kind::Plain(1)),
             _ => self.letter(b),
         }
     }
@@ -196,8 +202,11 @@ impl Head {
     fn store(self, words: &mut [u32], b: u8)
         ensures { words.new ≡ head_stored (head_of self) b words.old }
     {
-        if self.kind == Kind::Number && is_stop(b) {
-            lists::put(words, self.count as usize, bytes::low_word(self.value));
+        let Kind::Number(value) = self.kind else {
+            return;
+        };
+        if is_stop(b) {
+            lists::put(words, self.count as usize, bytes::low_word(value));
         }
     }
 }
@@ -214,7 +223,7 @@ fn read_line(words: &mut [u32], text: &[u8]) -> Ended
     requires { length text.now ≤ max_text }
     ensures { head_run head_start words.old (text.now ++ (10 ∷ [])) ≡ record { state = head_of result.head; words = words.new; rest = drop result.at (text.now ++ (10 ∷ [])) } }
 {
-    let mut head = Head::new(Kind::Gap, 0, 0, 0);
+    let mut head = Head::new(Kind::Gap, 0, 0);
     for at in 0..text.len() + 1 {
         if head.is_read() {
             return Ended { head, at };
@@ -236,7 +245,7 @@ pub fn read_head(words: &mut [u32], text: &[u8]) -> Ended
 {
     if bytes::MAX_TEXT < text.len() {
         return Ended {
-            head: Head::new(Kind::Refused(Reason::TextTooLong), 0, 0, 0),
+            head: Head::new(Kind::Refused(Reason::TextTooLong), 0, 0),
             at: 0,
         };
     }

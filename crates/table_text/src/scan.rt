@@ -1,8 +1,8 @@
 // The rows of a table's text.
-ghost use Rattle.std.specs.Prelude.{◌≡◌, ◌∷◌, [], ◌++◌, ◌≤◌, ◌&&◌, ltb, leb, drop, length};
+ghost use Rattle.std.specs.Prelude.{◌≡◌, ◌∷◌, [], ◌++◌, ◌≤◌, ◌&&◌, eqb, ltb, leb, drop, length};
 ghost use Rattle.rules.specs.Limits.{max_width};
 ghost use Rattle.table_text.specs.Bytes.{max_text};
-ghost use Rattle.table_text.specs.View.{reason_number, scan_kind, scan_of};
+ghost use Rattle.table_text.specs.View.{reason_number, scan_kind, scan_left, scan_value, scan_of};
 ghost use Rattle.table_text.specs.Scan.{scan_as, scan_start, with_kind, word_end, number_end, ended, between, left_of, scan_trit, scan_hex, scan_comment, scan_slash, scan_word, scan_plain, scan_step_of, place_of, scan_stored, scan_run, rows_read};
 
 use crate::bytes;
@@ -13,10 +13,10 @@ use crate::reason::Reason;
 pub enum Kind {
     // between words
     Gap,
-    // in a word
-    Word,
-    // in a row number
-    Number,
+    // in a word, of which so many bits are to come
+    Word(u32),
+    // in this row number
+    Number(u64),
     // after one slash
     Slash,
     // in a comment
@@ -34,31 +34,23 @@ struct Size {
     ghost within: { width ≤ max_width },
 }
 
-// The machine that reads the rows: where it is, the line and the row in hand, the bits of a word that are to come, and a row number.
+// The machine that reads the rows: where it is, and the line and the row in hand.
 #[derive(Clone, Copy, Debug, PartialEq, Eq)]
 pub struct Scan {
     pub kind: Kind,
     pub line: u32,
     pub row: u32,
-    pub left: u32,
-    pub value: u64,
 }
 
 impl Scan {
-    fn new(kind: Kind, line: u32, row: u32, left: u32, value: u64) -> Scan
-        ensures { scan_of result ≡ scan_as (scan_kind kind) line row left value }
+    fn new(kind: Kind, line: u32, row: u32) -> Scan
+        ensures { scan_of result ≡ scan_as (scan_kind kind) line row (scan_left kind) (scan_value kind) }
     {
-        Scan {
-            kind,
-            line,
-            row,
-            left,
-            value,
-        }
+        Scan { kind, line, row }
     }
 
     fn turned(self, kind: Kind) -> Scan
-        ensures { scan_of result ≡ with_kind (scan_of self) (scan_kind kind) }
+        ensures { scan_of result ≡ scan_as (scan_kind kind) self.line self.row (scan_left kind) (scan_value kind) }
     {
         Scan { kind, ..self }
     }
@@ -70,22 +62,22 @@ impl Scan {
     }
 
     #[tactic(auto, unfolding(crate::specs::Scan::word_end))]
-    fn word_end(self) -> Scan
-        ensures { scan_of result ≡ word_end (scan_of self) }
+    fn word_end(self, left: u32) -> Scan
+        ensures { scan_of result ≡ word_end (scan_as 1 self.line self.row left 0) }
     {
-        if self.left == 0 {
-            Scan::new(Kind::Gap, self.line, bytes::bumped(self.row), 0, 0)
+        if left == 0 {
+            Scan::new(Kind::Gap, self.line, bytes::bumped(self.row))
         } else {
             self.refused(Reason::ShortWord)
         }
     }
 
     #[tactic(auto, unfolding(crate::specs::Scan::number_end))]
-    fn number_end(self, size: Size) -> Scan
-        ensures { scan_of result ≡ number_end size.depth (scan_of self) }
+    fn number_end(self, value: u64, size: Size) -> Scan
+        ensures { scan_of result ≡ number_end size.depth (scan_as 2 self.line self.row 0 value) }
     {
-        if self.value <= u64::from(size.depth) {
-            Scan::new(Kind::Gap, self.line, bytes::low_word(self.value), 0, 0)
+        if value <= u64::from(size.depth) {
+            Scan::new(Kind::Gap, self.line, bytes::low_word(value))
         } else {
             self.refused(Reason::RowPastDepth)
         }
@@ -98,8 +90,8 @@ impl Scan {
     {
         match self.kind {
             Kind::Gap => self,
-            Kind::Word => self.word_end(),
-            Kind::Number => self.number_end(size),
+            Kind::Word(left) => self.word_end(left),
+            Kind::Number(value) => self.number_end(value, size),
             Kind::Slash | Kind::Comment | Kind::At | Kind::Refused(_) => self.refused(
                 Reason::BadByte,
             ),
@@ -115,7 +107,7 @@ impl Scan {
             return self;
         }
         match b {
-            b'\n' => Scan::new(Kind::Gap, bytes::bumped(self.line), self.row, 0, 0),
+            b'\n' => Scan::new(Kind::Gap, bytes::bumped(self.line), self.row),
             b'/' => self.turned(Kind::Slash),
             _ => self,
         }
@@ -126,10 +118,10 @@ impl Scan {
     fn left_of(self, size: Size) -> u32
         ensures { result ≡ left_of size.width (scan_of self) }
     {
-        if self.kind == Kind::Gap {
-            size.width
-        } else {
-            self.left
+        match self.kind {
+            Kind::Gap => size.width,
+            Kind::Word(left) => left,
+            Kind::Number(_) | Kind::Slash | Kind::Comment | Kind::At | Kind::Refused(_) => 0,
         }
     }
 
@@ -144,8 +136,33 @@ impl Scan {
         } else if left == 0 {
             self.refused(Reason::LongWord)
         } else {
-            Scan::new(Kind::Word, self.line, self.row, left - 1, 0)
+            Scan::new(Kind::Word(left - 1), self.line, self.row)
         }
+    }
+
+    // The row number so far.
+    fn number(self) -> u64
+        ensures { result ≡ (scan_of self).value }
+    {
+        match self.kind {
+            Kind::Number(value) => value,
+            Kind::Gap | Kind::Word(_) | Kind::Slash | Kind::Comment | Kind::At | Kind::Refused(_) =>
+                { 0 }
+        }
+    }
+
+    // In a word.
+    fn is_in_word(self) -> bool
+        ensures { result ≡ eqb (scan_of self).kind 1 }
+    {
+        matches!(self.kind, Kind::Word(_))
+    }
+
+    // Between words or in one.
+    fn takes_trits(self) -> bool
+        ensures { result ≡ leb (scan_of self).kind 1 }
+    {
+        matches!(self.kind, Kind::Gap | Kind::Word(_))
     }
 
     // A byte of a row number.
@@ -156,8 +173,8 @@ impl Scan {
         let Some(digit) = bytes::hex_of(b) else {
             return self.refused(Reason::BadByte);
         };
-        let value = bytes::more(16, self.value, digit);
-        Scan::new(Kind::Number, self.line, self.row, 0, value)
+        let value = bytes::more(16, self.number(), digit);
+        Scan::new(Kind::Number(value), self.line, self.row)
     }
 
     #[tactic(auto, unfolding(crate::specs::Scan::scan_comment))]
@@ -165,7 +182,7 @@ impl Scan {
         ensures { scan_of result ≡ scan_comment (scan_of self) b }
     {
         if b == b'\n' {
-            Scan::new(Kind::Gap, bytes::bumped(self.line), self.row, 0, 0)
+            Scan::new(Kind::Gap, bytes::bumped(self.line), self.row)
         } else {
             self
         }
@@ -189,7 +206,7 @@ impl Scan {
     {
         if bytes::trit_of(b).is_some() {
             self.trit(size)
-        } else if self.kind == Kind::Word && b == b'_' {
+        } else if self.is_in_word() && b == b'_' {
             self
         } else if self.kind == Kind::Gap && b == b'@' {
             self.turned(Kind::At)
@@ -205,7 +222,7 @@ impl Scan {
     {
         if bytes::is_end(b) {
             self.end_word(size).gap(b)
-        } else if self.kind == Kind::Gap || self.kind == Kind::Word {
+        } else if self.takes_trits() {
             self.word(size, b)
         } else {
             self.hex(b)
@@ -221,7 +238,7 @@ impl Scan {
             Kind::Refused(_) => self,
             Kind::Comment => self.comment(b),
             Kind::Slash => self.slash(b),
-            Kind::Gap | Kind::Word | Kind::Number | Kind::At => self.plain(size, b),
+            Kind::Gap | Kind::Word(_) | Kind::Number(_) | Kind::At => self.plain(size, b),
         }
     }
 
@@ -229,9 +246,7 @@ impl Scan {
     fn has_place(self, size: Size) -> bool
         ensures { result ≡ (leb (scan_of self).kind 1 && (ltb self.row size.depth && ltb 0 (left_of size.width (scan_of self)))) }
     {
-        (self.kind == Kind::Gap || self.kind == Kind::Word)
-            && self.row < size.depth
-            && 0 < self.left_of(size)
+        self.takes_trits() && self.row < size.depth && 0 < self.left_of(size)
     }
 
     // Where a trit goes.
@@ -261,7 +276,7 @@ fn read_from(rows: &mut [u8], size: Size, text: &[u8], from: usize) -> Scan
     requires { length text.now ≤ max_text }
     ensures { scan_run size.depth size.width scan_start rows.old (drop from (text.now ++ (10 ∷ []))) ≡ record { state = scan_of result; rows = rows.new } }
 {
-    let mut scan = Scan::new(Kind::Gap, 2, 0, 0, 0);
+    let mut scan = Scan::new(Kind::Gap, 2, 0);
     for i in from..text.len() + 1 {
         let b = bytes::byte_at(text, i);
         scan.store(rows, size, b);
@@ -276,7 +291,7 @@ pub fn read_rows(rows: &mut [u8], depth: u32, width: u32, text: &[u8], from: usi
     ensures { rows_read depth width rows.old text.now from ≡ record { state = scan_of result; rows = rows.new } }
 {
     if rules::MAX_WIDTH < width || bytes::MAX_TEXT < text.len() {
-        return Scan::new(Kind::Refused(Reason::Unread), 1, 0, 0, 0);
+        return Scan::new(Kind::Refused(Reason::Unread), 1, 0);
     }
     read_from(rows, Size { depth, width }, text, from)
 }

@@ -1,5 +1,6 @@
 // The calls that only look at a memory, each over a case.
 use crate::case::Case;
+use net_check::Breaks;
 use port_outputs::OutputSlice;
 use rules::Refusal;
 
@@ -9,15 +10,9 @@ pub(crate) fn memory_refusal(c: Case) -> Result<(), Refusal> {
 }
 
 // The test of a memory with a next free net, and what else breaks 1, 2 or 4.
-pub(crate) fn call_refusal(
-    c: Case,
-    next: u32,
-    one: bool,
-    two: bool,
-    four: bool,
-) -> Result<(), Refusal> {
+pub(crate) fn call_refusal(c: Case, next: u32, beside: Breaks) -> Result<(), Refusal> {
     let lent = c.lent();
-    net_check::call_refusal(c.given(&lent), next, one, two, four)
+    net_check::call_refusal(c.given(&lent), next, beside)
 }
 
 pub(crate) fn output_len(c: Case) -> Result<usize, Refusal> {

@@ -1,6 +1,7 @@
 // Memories that the numbers 1 to 4 refuse, and their neighbours that none does.
 use crate::calls;
 use crate::case::{Case, of};
+use net_check::Breaks;
 use net_flip_flop::Controls;
 use net_memory::Memory;
 use net_value::ControlNet;
@@ -272,40 +273,49 @@ pub(crate) fn orders(t: Tally) -> Tally {
     )
 }
 
-fn flagged(t: Tally, c: Case, one: bool, two: bool, four: bool, n: Option<Refusal>) -> Tally {
-    add(
-        t,
-        calls::call_refusal(c, 16777216, one, two, four).err() == n,
-    )
+fn flagged(t: Tally, c: Case, beside: Breaks, n: Option<Refusal>) -> Tally {
+    add(t, calls::call_refusal(c, 16777216, beside).err() == n)
 }
 
 // What else of a call breaks 1, 2 or 4.
 pub(crate) fn flags(t: Tally) -> Tally {
     let good = of(base());
     let odd = of(sized(6, 2, 12));
-    let t = flagged(t, good, false, false, false, None);
-    let t = flagged(t, good, true, true, true, Some(TooLarge));
-    let t = flagged(t, good, false, true, true, Some(BadShape));
-    let t = flagged(t, good, false, false, true, Some(BadValue));
-    let t = flagged(t, odd, false, false, true, Some(BadDepth));
-    let t = flagged(t, odd, false, true, false, Some(BadShape));
-    let t = flagged(t, odd, true, false, false, Some(TooLarge));
-    let t = flagged(t, of(plain(32769, 0, 0)), false, true, true, Some(TooLarge));
-    flagged(
-        t,
-        good.with_net(0, 16777216),
-        false,
-        false,
-        true,
-        Some(BadValue),
-    )
+    let none = Breaks::NOTHING;
+    let large = Breaks {
+        large: true,
+        ..none
+    };
+    let shape = Breaks {
+        shape: true,
+        ..none
+    };
+    let value = Breaks {
+        value: true,
+        ..none
+    };
+    let both = Breaks {
+        large: false,
+        shape: true,
+        value: true,
+    };
+    let all = Breaks {
+        large: true,
+        ..both
+    };
+    let t = flagged(t, good, none, None);
+    let t = flagged(t, good, all, Some(TooLarge));
+    let t = flagged(t, good, both, Some(BadShape));
+    let t = flagged(t, good, value, Some(BadValue));
+    let t = flagged(t, odd, value, Some(BadDepth));
+    let t = flagged(t, odd, shape, Some(BadShape));
+    let t = flagged(t, odd, large, Some(TooLarge));
+    let t = flagged(t, of(plain(32769, 0, 0)), both, Some(TooLarge));
+    flagged(t, good.with_net(0, 16777216), value, Some(BadValue))
 }
 
 fn next_free(t: Tally, c: Case, next: u32, n: Option<Refusal>) -> Tally {
-    add(
-        t,
-        calls::call_refusal(c, next, false, false, false).err() == n,
-    )
+    add(t, calls::call_refusal(c, next, Breaks::NOTHING).err() == n)
 }
 
 // The first memory has nets 5, 7 and 9, and one more.

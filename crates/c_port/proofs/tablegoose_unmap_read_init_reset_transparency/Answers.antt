@@ -7,7 +7,7 @@ pub returns : goal.returns
 returns c =
     let v = c.args in
     let d = c.unmap_read_init_reset_transparency in
-    let g = c.memory_of-given in
+    let g = c.from-given in
     let q = rw (g.ensures) at d.ensures.log_after in
     let s = rw (g.ensures) at d.ensures.reset_struct in
     rw (c.driven_struct.ensures) (record {

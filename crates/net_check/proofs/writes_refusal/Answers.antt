@@ -1,40 +1,45 @@
 -- `net_check::writes_refusal` meets its contract.
-use mathlib.Core.Path.{refl, ap, ◌∙◌}
+use mathlib.Core.Path.{◌≡◌, refl, ap, ◌∙◌}
 use Prim.Native.Nat.{◌<◌, min}
 use native.Mathlib.Omega.{arith}
+use mathlib.Core.List.{[]}
+use lib.ListN.{get_or, take, length-take}
+use lib.Seq.{get_or-take}
 use Rattle.lists.specs.Choice.{least}
 use Rattle.lists.specs.Lists.{part}
-use Rattle.net_memory.specs.View.{writes_of, memory_of, write_size, no_write_port}
+use Rattle.net_memory.specs.declared.MemoryWritePort.{MemoryWritePort}
+use Rattle.net_memory.specs.View.{writes_of, memory_of, write_by, write_port, write_size, no_write_port}
 use Rattle.rules.specs.Refusal.{number_if}
 use Rattle.net_check.specs.Number.{write_number}
 use Rattle.lists.proofs.All.{least_turn, least_end}
 use Rattle.lists.proofs.Sum.{sum_take_more}
 use Rattle.net_memory.proofs.Ports.{no_write_of}
-use Rattle.net_memory.proofs.Sized.{writes_length}
+use Rattle.net_memory.proofs.Sized.{write_ports_8, writes_length}
 use Rattle.net_check.proofs.Ports.{write_is}
 use Rattle.net_check.proofs.writes_refusal.Goals as goal
 
-pub loop-i-init : goal.loop-i-init
-loop-i-init c = (omega arith, refl, omega arith, λ trits. refl)
-
-pub loop-i-preserved : goal.loop-i-preserved
-loop-i-preserved c =
-    let h = c in
-    let v = h.args in
-    let l = h.loop-i in
-    let n = writes_length v.m _ h.well_formed.0 v.nets.now in
-    let t : l.i < min 8 v.m.write_count = omega arith in
-    let x = c.part-part.ensures.part ∙ (λ k. part (l.invariant.1 k) (c.write_size-size.ensures.0 k) v.nets.now) in (
+pub loop-port-preserved : goal.loop-port-preserved
+loop-port-preserved c =
+    let v = c.args in
+    let l = c.loop-port in
+    let i = l.port-index in
+    let k = c.ports_used-count in
+    let n = writes_length v.m _ c.well_formed.0 v.nets.now in
+    let t : i < min 8 v.m.write_count = omega (arith, length-take k.result v.m.write_ports) in
+    let p : get_or (take k.result v.m.write_ports) i no_write_port ≡ write_port v.m i = get_or-take k.result v.m.write_ports i no_write_port (omega (arith, k.ensures.0)) in
+    let z = c.write_size-size.ensures.0 ∙ ap write_size p in
+    let x = c.part.ensures.part ∙ (λ j. part (l.invariant.0 j) (z j) v.nets.now) in (
+      omega (arith, z, sum_take_more write_size no_write_port refl v.m.write_ports i),
       omega arith,
-      omega (arith, sum_take_more write_size no_write_port refl v.m.write_ports l.i),
-      omega arith,
-      λ trits. let q = c.lower-refusal.ensures ∙ ap (least (number_if l.refusal)) (write_is v.m v.nets.now trits v.next l.i t (number_if c.write_refusal.result) c.part-part.result.now x c.write_refusal.ensures) in
-          least_turn (write_number v.next (memory_of v.m v.nets.now trits)) (writes_of v.m v.nets.now) l.i (number_if l.refusal) (number_if c.lower-refusal.result) no_write_of (omega (arith, n)) q (l.invariant.3 trits),
+      λ trits. let q = c.lower-refusal.ensures ∙ ap (least (number_if l.refusal)) (write_is v.m v.nets.now trits v.next i t (number_if c.write_refusal.result) c.part.result.now x
+          (λ m d w. c.write_refusal.ensures m d w ∙ ap (λ (a : MemoryWritePort). write_number v.next m (write_by a c.part.result.now [])) p)) in
+          least_turn (write_number v.next (memory_of v.m v.nets.now trits)) (writes_of v.m v.nets.now) i (number_if l.refusal) (number_if c.lower-refusal.result) no_write_of (omega (arith, n, t)) q (l.invariant.2 trits),
     )
 
 pub returns : goal.returns
 returns c =
-    let h = c in
-    let v = h.args in
-    let n = writes_length v.m _ h.well_formed.0 v.nets.now in
-    λ trits. least_end (write_number v.next (memory_of v.m v.nets.now trits)) (writes_of v.m v.nets.now) h.loop-i.i (number_if h.loop-i.refusal) (omega (arith, n)) (h.loop-i.invariant.3 trits)
+    let v = c.args in
+    let k = c.ports_used-count in
+    let n = writes_length v.m _ c.well_formed.0 v.nets.now in
+    λ trits. least_end (write_number v.next (memory_of v.m v.nets.now trits)) (writes_of v.m v.nets.now) c.loop-port.port-index (number_if c.loop-port.refusal)
+    (omega (arith, n, length-take k.result v.m.write_ports, write_ports_8 v.m _ c.well_formed.0)) (c.loop-port.invariant.2 trits)

@@ -10,5 +10,5 @@ use Rattle.rules.specs.Refusal.{number_if}
 use Rattle.net_check.specs.Number.{write_number}
 use Rattle.net_check.proofs.writes_refusal.Given as goal
 
-abbrev pub invariant-loop-i : goal.invariant-loop-i
-invariant-loop-i l = (l.i ≤ l.count) × (l.at ≡ sum_by write_size (take l.i l.m.write_ports)) × (l.at ≤ l.i * 0x300000000) × ((trits : List ℕ) → least_by (write_number l.next (memory_of l.m l.nets trits)) (writes_of l.m l.nets) ≡ least (number_if l.refusal) (least_by (write_number l.next (memory_of l.m l.nets trits)) (drop l.i (writes_of l.m l.nets))))
+abbrev pub invariant-loop-port : goal.invariant-loop-port
+invariant-loop-port l = (l.at ≡ sum_by write_size (take l.port-index l.fn.m.write_ports)) × (l.at ≤ l.port-index * 0x300000000) × ((trits : List ℕ) → least_by (write_number l.fn.next (memory_of l.fn.m l.fn.nets trits)) (writes_of l.fn.m l.fn.nets) ≡ least (number_if l.refusal) (least_by (write_number l.fn.next (memory_of l.fn.m l.fn.nets trits)) (drop l.port-index (writes_of l.fn.m l.fn.nets))))

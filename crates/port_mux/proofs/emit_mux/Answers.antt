@@ -1,22 +1,26 @@
 -- `port_mux::emit_mux` meets its contract.
+use mathlib.Core.Path.{ap, ◌∙◌}
 use native.Mathlib.Omega.{arith}
-use borrow.Author.Tests.{not-true, not-false}
+use lib.Seq.{sets}
+use Rattle.std.specs.Prelude.{is_some}
+use Rattle.rules.specs.Cell.{ReadPort}
 use Rattle.log_entries.specs.View.{lent_of}
+use Rattle.port_mux.specs.Call.{given_mask}
+use Rattle.port_mux.proofs.Numbers.{none_is, some_is}
 use Rattle.port_mux.proofs.Passed.{gave_plain, gave_masked}
-use mathlib.Core.Path.{refl, ap}
-use mathlib.Core.Bool.{not}
 use Rattle.port_mux.proofs.emit_mux.Goals as goal
 
-pub returns-then-not-o : goal.returns-then-not-o
-returns-then-not-o c =
+pub returns-in-None : goal.returns-in-None
+returns-in-None c =
     let v = c.args in
     let q = c.emit_pair in
-    gave_plain v.given.memory v.given.nets.now v.given.trits.now v.i v.j v.o.masked v.o.bits.now v.o.mask.now c.requires.0 v.p c.requires.1 c.wide_log.result v.p.data_len _ v.overlay.now.under c.copy.new.to q.new.overlay.under (lent_of v.log.now) (lent_of q.new.log)
-    c.wide_log.ensures.0 refl c.read_nets.ensures.0 c.copy.ensures (omega arith) v.over.now (not-true _ (ap not c.if-not-o.true)) (q.ensures v.given.trits.now)
+    gave_plain v.given.memory v.given.nets.now v.given.trits.now v.i v.j (is_some v.o.mask) v.o.bits.now (given_mask v.o.mask) c.requires c.wide_log.result _ v.overlay.now.under c.copy.new.to q.new.overlay.under (lent_of v.log.now) (lent_of q.new.log)
+    c.wide_log.ensures.0 (c.addr.ensures ∙ ap (λ (r : ReadPort). r.addr) c.read_port.ensures.port) c.copy.ensures (omega arith) v.over.now (none_is v.o.mask c.in-None.is) q.ensures
 
-pub returns : goal.returns
-returns c =
+pub returns-in-Some : goal.returns-in-Some
+returns-in-Some c =
     let v = c.args in
-    let q = c.emit_masked_pair in
-    gave_masked v.given.memory v.given.nets.now v.given.trits.now v.i v.j v.o.masked v.o.bits.now v.o.mask.now c.requires.0 v.p c.requires.1 c.wide_log.result v.p.data_len _ v.overlay.now.under c.copy.new.to q.new.overlay.under (lent_of v.log.now) (lent_of q.new.log)
-    c.wide_log.ensures.0 refl c.read_nets.ensures.0 c.copy.ensures (omega arith) v.over.now c.copy-2.new.to q.new.over (not-false _ (ap not c.if-not-o.false)) c.copy-2.ensures (omega arith) (q.ensures v.given.trits.now)
+    let q = c.emit_pair-in-Some in
+    let s = some_is v.o.mask c.in-Some.mask c.in-Some.is in
+    gave_masked v.given.memory v.given.nets.now v.given.trits.now v.i v.j (is_some v.o.mask) v.o.bits.now (given_mask v.o.mask) c.requires c.wide_log.result _ v.overlay.now.under c.copy.new.to q.new.overlay.under (lent_of v.log.now) (lent_of q.new.log)
+    c.wide_log.ensures.0 (c.addr.ensures ∙ ap (λ (r : ReadPort). r.addr) c.read_port.ensures.port) c.copy.ensures (omega arith) v.over.now c.copy-in-Some.new.to q.new.over s.0 (c.copy-in-Some.ensures ∙ ap (sets v.over.now 0) s.1) (omega arith) q.ensures

@@ -1,26 +1,27 @@
 -- `port_mux::overlay_long` meets its contract.
-use mathlib.Core.Path.{refl}
-use borrow.Author.Tests.{lt-ltb, le-ltb, not-true, not-false}
-use Rattle.rules.specs.Conditions.{long_value}
-use Rattle.port_mux.proofs.Numbers.{any_first, any-plain, any-masked}
+use borrow.Author.Tests.{lt-ltb, le-ltb}
 use mathlib.Core.Path.{ap}
-use mathlib.Core.Bool.{not}
+use Rattle.std.specs.Prelude.{is_some}
+use Rattle.rules.specs.Conditions.{long_value}
+use Rattle.port_mux.specs.Call.{given_mask}
+use Rattle.port_mux.proofs.Numbers.{none_is, some_is, any_first, any-plain, any-masked}
 use Rattle.port_mux.proofs.overlay_long.Goals as goal
 
-pub returns-then-bits-gt-MAX_MERGE : goal.returns-then-bits-gt-MAX_MERGE
+pub returns-then-o-gt-MAX_MERGE : goal.returns-then-o-gt-MAX_MERGE
 unfolding long_value
-returns-then-bits-gt-MAX_MERGE c =
-    let v = c.args in
-    any_first long_value v.bits.now v.mask.now v.masked (lt-ltb _ _ c.if-bits-gt-MAX_MERGE.true)
+returns-then-o-gt-MAX_MERGE c =
+    let o = c.args.o in
+    any_first long_value o.bits.now (given_mask o.mask) (is_some o.mask) (lt-ltb _ _ c.if-o-gt-MAX_MERGE.true)
 
-pub returns-then-not-masked : goal.returns-then-not-masked
+pub returns-in-None : goal.returns-in-None
 unfolding long_value
-returns-then-not-masked c =
-    let v = c.args in
-    any-plain long_value v.bits.now v.mask.now v.masked (not-true _ (ap not c.if-not-masked.true)) (le-ltb _ _ c.if-bits-gt-MAX_MERGE.false)
+returns-in-None c =
+    let o = c.args.o in
+    any-plain long_value o.bits.now (given_mask o.mask) (is_some o.mask) (none_is o.mask c.in-None.is) (le-ltb _ _ c.if-o-gt-MAX_MERGE.false)
 
-pub returns : goal.returns
+pub returns-in-Some : goal.returns-in-Some
 unfolding long_value
-returns c =
-    let v = c.args in
-    any-masked long_value v.bits.now v.mask.now v.masked _ (not-false _ (ap not c.if-not-masked.false)) (le-ltb _ _ c.if-bits-gt-MAX_MERGE.false) refl
+returns-in-Some c =
+    let o = c.args.o in
+    let s = some_is o.mask c.in-Some.mask c.in-Some.is in
+    any-masked long_value o.bits.now (given_mask o.mask) (is_some o.mask) _ s.0 (le-ltb _ _ c.if-o-gt-MAX_MERGE.false) (ap long_value s.1)

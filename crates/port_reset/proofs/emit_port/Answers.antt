@@ -18,4 +18,4 @@ returns c =
     let s = c.output_start in
     let r = c.wanted_relations-rels.ensures ∙ ap (λ (l : List ℕ). when v.incl then l else []) c.part-all.ensures.part in
     let n = s.ensures.by_index v.given.nets.now v.given.trits.now in
-    record { log_after = port_ran v.given.memory v.given.nets.now v.given.trits.now v.i v.c v.incl c.requires.0 v.output.now v.p _ _ _ _ _ _ _ _ s.result (lent_of v.log.now) (lent_of u.new.log) _ c.requires.1 c.wide_log.ensures.0 c.read_nets.ensures.0 r c.read_trits-own.ensures.0 c.clear_of.ensures c.reset_of.ensures c.init_of.ensures n c.part.ensures.part (u.ensures v.given.trits.now); output_value = port_output v.given.memory v.given.nets.now v.given.trits.now v.i v.c v.incl c.requires.0 v.output.now v.p _ _ _ _ _ _ _ _ s.result (lent_of v.log.now) (lent_of u.new.log) _ c.requires.1 c.wide_log.ensures.0 c.read_nets.ensures.0 r c.read_trits-own.ensures.0 c.clear_of.ensures c.reset_of.ensures c.init_of.ensures n c.part.ensures.part (u.ensures v.given.trits.now) }
+    record { log_after = port_ran v.given.memory v.given.nets.now v.given.trits.now v.i v.c v.incl c.requires.0 v.output.now v.p _ _ _ _ _ _ _ _ s.result (lent_of v.log.now) (lent_of u.new.log) _ c.requires.1 c.wide_log.ensures.0 c.read_nets.ensures.0 r c.read_trits-own.ensures.0 c.clear_of.ensures c.reset_of.ensures c.init_of.ensures n c.part.ensures.part u.ensures; output_value = port_output v.given.memory v.given.nets.now v.given.trits.now v.i v.c v.incl c.requires.0 v.output.now v.p _ _ _ _ _ _ _ _ s.result (lent_of v.log.now) (lent_of u.new.log) _ c.requires.1 c.wide_log.ensures.0 c.read_nets.ensures.0 r c.read_trits-own.ensures.0 c.clear_of.ensures c.reset_of.ensures c.init_of.ensures n c.part.ensures.part u.ensures }

@@ -5,9 +5,9 @@ use Rattle.port_unmap.proofs.port_short_at.Goals as goal
 pub returns-in-None : goal.returns-in-None
 returns-in-None c =
     let v = c.args in
-    λ trits. at_none v.m v.nets.now trits v.i v.p c.requires.0 c.requires.1 c.in-None.is
+    at_none v.given.memory v.given.nets.now v.given.trits.now v.i v.p c.requires.0 c.requires.1 c.in-None.is
 
 pub returns-in-Some : goal.returns-in-Some
 returns-in-Some c =
     let v = c.args in
-    λ trits. at_some v.m v.nets.now trits v.i v.p c.requires.0 c.requires.1 _ c.in-Some.is c.pairs_short.result c.wide_log-kr.result _ _ c.wide_log-kr.ensures.0 c.read_nets.ensures.0 c.part-rels.ensures.part (c.pairs_short.ensures trits)
+    at_some v.given.memory v.given.nets.now v.given.trits.now v.i v.p c.requires.0 c.requires.1 _ c.in-Some.is c.pairs_short.result c.wide_log-kr.result _ _ c.wide_log-kr.ensures.0 c.read_nets.ensures.0 c.part-rels.ensures.part c.pairs_short.ensures

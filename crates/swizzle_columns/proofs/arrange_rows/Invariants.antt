@@ -9,4 +9,4 @@ use Rattle.swizzle_columns.proofs.Rows.{from_row_of}
 use Rattle.swizzle_columns.proofs.arrange_rows.Given as goal
 
 abbrev pub invariant-loop-j : goal.invariant-loop-j
-invariant-loop-j g l = (l.j ≤ l.olds) × (length l.out ≡ length l.initial.out) × (l.at ≡ l.j * length l.entries) × (l.base ≡ l.j * l.width) × (sets l.out l.at (arrange l.blank (from_row_of l.olds l.width l.entries l.j) l.v) ≡ sets l.initial.out 0 (arrange l.blank (all_sources l.olds l.width l.entries) l.v))
+invariant-loop-j g l = (l.j ≤ l.olds) × (length l.out ≡ length l.initial.out) × (sets l.out (l.j * length l.entries) (arrange l.blank (from_row_of l.olds l.width l.entries l.j) l.v) ≡ sets l.initial.out 0 (arrange l.blank (all_sources l.olds l.width l.entries) l.v))

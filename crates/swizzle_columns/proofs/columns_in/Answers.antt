@@ -13,22 +13,21 @@ use Rattle.swizzle_columns.proofs.columns_in.Goals as goal
 pub arrange_rows-requires : goal.arrange_rows-requires
 arrange_rows-requires g c =
     let v = c.args in
-    let r = (port_by_lem v.p (length v.entries.now) (length v.to.now) c.grid_of-g.result v.p.olds v.p.width c.grid_of-g.ensures refl refl c.requires.fits).0 in
+    let r = port_by_lem v.p (length v.entries.now) (length v.to.now) c.grid_of-g.result v.p.olds v.p.width c.grid_of-g.ensures refl refl c.requires.fits in
     record { low = r.low; enough = few_entries v.p.olds _ _ (length v.row.now) r.entries_are (omega (arith, r.few, c.requires.scratch)) }
 
 pub store_pieces-requires : goal.store_pieces-requires
 store_pieces-requires g c =
     let v = c.args in
     let p = c.grid_of-g.result in
-    let b = port_by_lem v.p (length v.entries.now) (length v.to.now) p v.p.olds v.p.width c.grid_of-g.ensures refl refl c.requires.fits in
-    let r = b.0 in
+    let r = port_by_lem v.p (length v.entries.now) (length v.to.now) p v.p.olds v.p.width c.grid_of-g.ensures refl refl c.requires.fits in
     let w = narrow_by v.p (length v.entries.now) (length v.to.now) p _ _ _ c.grid_of-g.ensures c.columns_of-columns.ensures refl refl c.requires.fits in
     let n = v.p.olds * p.entries in
     let s : length (take v.p.olds (replicate 16 0)) ≡ v.p.olds = length-take-le v.p.olds (replicate 16 0) r.few_olds in
     let l : length (take n c.arrange_rows.new.out) ≡ n = length-take-le n c.arrange_rows.new.out (omega (arith, r.few, c.arrange_rows.auto.out, c.requires.scratch)) in
     let t = c.fill.auto.to in
     record {
-      good = (subst (λ (i : ℕ). Good p i) (sym t) r.good, omega (arith, t, b.1));
+      good = subst (λ (i : ℕ). Good p i) (sym t) r.good;
       v_len = (l ∙ ap (λ (i : ℕ). i * p.entries) (sym s), narrow_less v.p.olds (length (take v.p.olds (replicate 16 0))) _ p.entries _ _ s (omega arith) w);
     }
 
@@ -36,7 +35,7 @@ pub returns : goal.returns
 returns g c =
     let v = c.args in
     let p = c.grid_of-g.result in
-    let r = (port_by_lem v.p (length v.entries.now) (length v.to.now) p v.p.olds v.p.width c.grid_of-g.ensures refl refl c.requires.fits).0 in
+    let r = port_by_lem v.p (length v.entries.now) (length v.to.now) p v.p.olds v.p.width c.grid_of-g.ensures refl refl c.requires.fits in
     let n = v.p.olds * p.entries in
     let s : length (take v.p.olds (replicate 16 0)) ≡ v.p.olds = length-take-le v.p.olds (replicate 16 0) r.few_olds in
     let a = c.arrange_rows in

@@ -12,8 +12,8 @@ loop-i-preserved c =
     let t = c.loop-i-test.true in (
       omega arith,
       simp length-set h.loop-i.invariant.1,
-      repeat_turn v.base v.entries.now v.v.now h.loop-i.out v.at h.loop-i.i h.loop-i.last _ _ t c.source.ensures c.net_of-last.ensures ∙ h.loop-i.invariant.2,
-      last_turn v.base v.entries.now v.v.now h.loop-i.out v.at h.loop-i.i h.loop-i.last _ _ t c.source.ensures c.net_of-last.ensures ∙ h.loop-i.invariant.3,
+      repeat_turn v.base v.entries.now v.v.now h.loop-i.out v.at h.loop-i.i h.loop-i.last _ _ t c.source.ensures c.bit_of-last.ensures ∙ h.loop-i.invariant.2,
+      last_turn v.base v.entries.now v.v.now h.loop-i.out v.at h.loop-i.i h.loop-i.last _ _ t c.source.ensures c.bit_of-last.ensures ∙ h.loop-i.invariant.3,
     )
 
 pub returns : goal.returns

@@ -1,61 +1,42 @@
 -- `swizzle_columns::repeat_rows` meets its contract.
 use mathlib.Core.Path.{refl, sym, ap, ◌∙◌}
-use Prim.Native.Nat.{ℕ}
+use Prim.Native.Nat.{ℕ, ◌+◌, ◌*◌}
 use native.Mathlib.Omega.{arith}
-use mathlib.Core.List.{List}
 use lib.ListN.{length}
 use lib.Seq.{sets}
-use Rattle.rules.specs.Limits.{X}
 use native.Mathlib.Nat.{zero-mul}
+use Rattle.rules.specs.Limits.{X}
 use Rattle.rules.specs.Swizzle.{repeating}
-use Rattle.swizzle_columns.proofs.Rows.{rows_in, row_next, from_first, repeat_row_turn, repeat_rows_end}
+use Rattle.swizzle_columns.proofs.Rows.{rows_in, row_next, from_first, from_row_of, repeat_row_turn, repeat_rows_end}
 use Rattle.swizzle_columns.proofs.repeat_rows.Goals as goal
 
 pub repeat_row-last-requires : goal.repeat_row-last-requires
 repeat_row-last-requires c =
-    let h = c in
-    let k = c in
-    let v = k.args in
-    let w = h.loop-j.invariant in
-    let x = rows_in v.olds h.loop-j.j (length v.entries.now) h.loop-j.at (length v.out.now) c.loop-j-test.true w.2 k.requires.enough in
-    let y = rows_in v.olds h.loop-j.j v.width h.loop-j.base 4294967296 c.loop-j-test.true w.3 k.requires.low in
-    (record { low = omega (arith, y) }, omega (arith, x, w.1))
-
-pub overflow_add-at : goal.overflow_add-at
-overflow_add-at c =
-    let h = c in
-    let k = c in
-    let v = k.args in
-    let w = h.loop-j.invariant in
-    let x = rows_in v.olds h.loop-j.j (length v.entries.now) h.loop-j.at (length v.out.now) c.loop-j-test.true w.2 k.requires.enough in
-    let y = rows_in v.olds h.loop-j.j v.width h.loop-j.base 4294967296 c.loop-j-test.true w.3 k.requires.low in
-    omega (arith, x)
-
-pub overflow_add-base : goal.overflow_add-base
-overflow_add-base c =
-    let h = c in
-    let k = c in
-    let v = k.args in
-    let w = h.loop-j.invariant in
-    let x = rows_in v.olds h.loop-j.j (length v.entries.now) h.loop-j.at (length v.out.now) c.loop-j-test.true w.2 k.requires.enough in
-    let y = rows_in v.olds h.loop-j.j v.width h.loop-j.base 4294967296 c.loop-j-test.true w.3 k.requires.low in
-    omega (arith, y)
+    let v = c.args in
+    let w = c.loop-j.invariant in
+    let x = rows_in v.olds c.loop-j.j (length v.entries.now) _ (length v.out.now) c.loop-j-test.true refl c.requires.enough in
+    omega (arith, x, w.1)
 
 pub loop-j-preserved : goal.loop-j-preserved
 loop-j-preserved c =
-    let h = c in
+    let h = c.loop-j in
     let v = c.args in
-    let w = h.loop-j.invariant in
+    let w = h.invariant in
     let p = c.repeat_row-last in
-    (omega arith, p.auto.out ∙ w.1, row_next h.loop-j.j (length v.entries.now) h.loop-j.at w.2, row_next h.loop-j.j v.width h.loop-j.base w.3, repeat_row_turn v.olds v.width v.entries.now v.v.now h.loop-j.out h.loop-j.j h.loop-j.base h.loop-j.at c.loop-j-test.true w.3 h.loop-j.last p.result p.new.out p.ensures.value p.ensures.out_after ∙ w.4)
+    let n = length v.entries.now in (
+      omega arith,
+      p.auto.out ∙ w.1,
+      ap (λ (k : ℕ). sets p.new.out k (repeating p.result (from_row_of v.olds v.width v.entries.now (h.j + 1)) v.v.now)) (sym (row_next h.j n (h.j * n) refl))
+          ∙ repeat_row_turn v.olds v.width v.entries.now v.v.now h.out h.j (h.j * v.width) (h.j * n) c.loop-j-test.true refl h.last p.result p.new.out p.ensures.value p.ensures.out_after ∙ w.2,
+    )
 
 pub returns : goal.returns
 returns c =
-    let h = c in
+    let h = c.loop-j in
     let v = c.args in
-    sym (repeat_rows_end v.olds v.width v.entries.now v.v.now h.loop-j.out h.loop-j.j h.loop-j.at c.loop-j-test.false h.loop-j.last) ∙ h.loop-j.invariant.4
+    sym (repeat_rows_end v.olds v.width v.entries.now v.v.now h.out h.j (h.j * length v.entries.now) c.loop-j-test.false h.last) ∙ h.invariant.2
 
 pub loop-j-init : goal.loop-j-init
 loop-j-init c =
     let v = c.args in
-    (omega arith, refl, sym (zero-mul _), sym (zero-mul _), ap (λ (l : List ℕ). sets v.out.now 0 (repeating X l v.v.now)) (from_first v.olds v.width v.entries.now))
+    (omega arith, refl, (λ i. sets v.out.now (zero-mul (length v.entries.now) i) (repeating X (from_first v.olds v.width v.entries.now i) v.v.now)))

@@ -46,7 +46,7 @@ store_run-requires g c =
     let k = c in
     let v = k.args in
     let w = h.loop-j.invariant in
-    (subst (λ (n : ℕ). Good v.g n) (sym w.1) k.requires.good.0, omega (arith, w.1, k.requires.good.1))
+    subst (λ (n : ℕ). Good v.g n) (sym w.1) k.requires.good
 
 pub loop-j-preserved : goal.loop-j-preserved
 loop-j-preserved g c =

@@ -10,4 +10,4 @@ returns-then-n-eq0 g c =
     let k = c in
     let v = k.args in
     let e : 0 ≡ min (length v.v.now) (length v.to.now - v.start) = sym c.if-n-eq0.true ∙ c.fitting-n.ensures in
-    run_none v.g (length v.to.now) v.start v.to.now v.v.now k.requires.0 e
+    run_none v.g (length v.to.now) v.start v.to.now v.v.now k.requires e

@@ -11,12 +11,15 @@ use Rattle.swizzle_entries.proofs.granularities_bad.Goals as goal
 pub returns-then-gs-ports_used : goal.returns-then-gs-ports_used
 returns-then-gs-ports_used c =
     let v = c.args in
-    λ nets trits. sym (ap (λ (t : Bool). not t || any out_of_limits v.gs.now) (ne_eqb _ _ c.if-gs-ports_used.true)) ∙ granularities_by v.m nets trits v.gs.now _ (writes_length v.m _ c.well_formed.0 nets ∙ sym c.ports_used.ensures.0)
+    let nets = v.given.nets.now in
+    let trits = v.given.trits.now in
+    sym (ap (λ (t : Bool). not t || any out_of_limits v.gs.now) (ne_eqb _ _ c.if-gs-ports_used.true)) ∙ granularities_by v.given.memory nets trits v.gs.now _ (writes_length v.given.memory _ c.well_formed.0.1.1.0 nets ∙ sym c.ports_used.ensures.0)
 
 pub returns : goal.returns
 returns c =
     let v = c.args in
-    λ nets trits.
+    let nets = v.given.nets.now in
+    let trits = v.given.trits.now in
     any_from_yields_List out_of_limits c.any.new.self _ c.any.result c.any.ensures.ran (YieldsList-from_slice v.gs.now cc) (λ x b q k. search (rules, tests))
     ∙ sym (ap (λ (t : Bool). not t || any out_of_limits v.gs.now) (eq-eqb _ _ c.if-gs-ports_used.false))
-    ∙ granularities_by v.m nets trits v.gs.now _ (writes_length v.m _ c.well_formed.0 nets ∙ sym c.ports_used.ensures.0)
+    ∙ granularities_by v.given.memory nets trits v.gs.now _ (writes_length v.given.memory _ c.well_formed.0.1.1.0 nets ∙ sym c.ports_used.ensures.0)

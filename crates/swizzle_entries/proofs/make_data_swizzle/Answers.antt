@@ -7,4 +7,4 @@ pub returns : goal.returns
 returns c =
     let v = c.args in
     let e = c.put_entries.ensures in
-    entries_ok v.out.now (given_of v.given.memory v.given.nets.now v.given.trits.now) v.granularities.now _ _ c.in_ok-entries_refusal.ensures (e.by_index v.given.trits.now) (e.by_index_2 v.given.trits.now)
+    entries_ok v.out.now (given_of v.given.memory v.given.nets.now v.given.trits.now) v.granularities.now _ _ c.in_ok-entries_refusal.ensures e.value e.out_after

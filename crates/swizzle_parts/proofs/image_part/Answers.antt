@@ -17,11 +17,14 @@ returns-then-not-is_there c =
     let v = c.args in
     λ nets trits image. (λ x. part (c.no_part.ensures x).start (c.no_part.ensures x).size image) ∙ sym (ap (λ (d : Driving). d.memory.init) (gone v.g v.n nets trits image (sym c.is_there.ensures ∙ not-true _ (ap not c.if-not-is_there.true))))
 
+pub invariant_of-m : goal.invariant_of-m
+invariant_of-m c = record { small = (there_is c.args.g c.args.n (sym c.is_there.ensures ∙ not-false _ (ap not c.if-not-is_there.false))).small }
+
 pub image_start-start-requires : goal.image_start-start-requires
 image_start-start-requires c =
     let v = c.args in
     let t = there_is v.g v.n (sym c.is_there.ensures ∙ not-false _ (ap not c.if-not-is_there.false)) in
-    (t.small.unit_small, omega (arith, t.below, t.small.mems_small))
+    omega (arith, t.below, t.small.mems_small)
 
 pub overflow_add-n : goal.overflow_add-n
 overflow_add-n c =
@@ -33,7 +36,7 @@ pub image_start-end-requires : goal.image_start-end-requires
 image_start-end-requires c =
     let v = c.args in
     let t = there_is v.g v.n (sym c.is_there.ensures ∙ not-false _ (ap not c.if-not-is_there.false)) in
-    (t.small.unit_small, omega (arith, t.below, t.small.mems_small))
+    omega (arith, t.below, t.small.mems_small)
 
 pub overflow_sub-result : goal.overflow_sub-result
 overflow_sub-result c =

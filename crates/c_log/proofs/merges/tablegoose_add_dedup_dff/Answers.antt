@@ -15,4 +15,4 @@ unfolding add_dedup_dff_call
 returns c =
     let v = c.args in
     let q = c.add_dedup_dff-r in
-    merge_left (add_dedup_dff_of (flip_flop (given_controls v.c) v.bits.now v.clear.now v.reset.now v.init.now) v.st.next).value v.st c.answer_struct.result q.result q.new.log q.new.out _ _ _ _ _ c.answer_struct.ensures (subst (λ (x : Controls). merged_of (add_dedup_dff_of (flip_flop x v.bits.now v.clear.now v.reset.now v.init.now) v.st.next).value q.result q.new.log q.new.out ≡ add_dedup_dff_call v.out.now v.log.now (state_of v.st) (flip_flop x v.bits.now v.clear.now v.reset.now v.init.now)) c.controls_net.ensures q.ensures)
+    merge_left (add_dedup_dff_of (flip_flop (given_controls v.c) v.bits.now v.clear.now v.reset.now v.init.now) v.st.next).value v.st c.answer_struct.result q.result q.new.log q.new.out _ _ _ _ _ c.answer_struct.ensures (subst (λ (x : Controls). merged_of (add_dedup_dff_of (flip_flop x v.bits.now v.clear.now v.reset.now v.init.now) v.st.next).value q.result q.new.log q.new.out ≡ add_dedup_dff_call v.out.now v.log.now (state_of v.st) (flip_flop x v.bits.now v.clear.now v.reset.now v.init.now)) c.into.ensures q.ensures)

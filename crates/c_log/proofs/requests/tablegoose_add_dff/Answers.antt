@@ -14,4 +14,4 @@ unfolding add_dff_call
 returns c =
     let v = c.args in
     let q = c.add_dff-r in
-    left (up_from v.st.next (length v.bits.now)) v.st c.answer_struct.result q.result q.new.log _ _ _ _ c.answer_struct.ensures (q.ensures ∙ ap (λ (x : Controls). add_dff_call v.log.now (state_of v.st) (flip_flop x v.bits.now v.clear.now v.reset.now v.init.now)) c.controls_net.ensures)
+    left (up_from v.st.next (length v.bits.now)) v.st c.answer_struct.result q.result q.new.log _ _ _ _ c.answer_struct.ensures (q.ensures ∙ ap (λ (x : Controls). add_dff_call v.log.now (state_of v.st) (flip_flop x v.bits.now v.clear.now v.reset.now v.init.now)) c.into.ensures)

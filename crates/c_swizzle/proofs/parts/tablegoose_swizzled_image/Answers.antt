@@ -7,4 +7,4 @@ use Rattle.c_swizzle.proofs.parts.tablegoose_swizzled_image.Goals as goal
 pub returns : goal.returns
 returns c =
     let v = c.args in
-    λ nets trits image. c.image_part.ensures nets trits image ∙ ap (λ (w : WideMemory). (memory_at w nets trits image v.n).memory.init) c.memory_of.ensures
+    λ nets trits image. c.image_part.ensures nets trits image ∙ ap (λ (w : WideMemory). (memory_at w nets trits image v.n).memory.init) c.into.ensures

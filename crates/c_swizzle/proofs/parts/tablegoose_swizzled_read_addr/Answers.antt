@@ -8,4 +8,4 @@ use Rattle.c_swizzle.proofs.parts.tablegoose_swizzled_read_addr.Goals as goal
 pub returns : goal.returns
 returns c =
     let v = c.args in
-    λ nets trits image. c.read_addr_part.ensures nets trits image ∙ ap (λ (w : WideMemory). (read_at_of (memory_at w nets trits image v.n).memory v.i).addr) c.memory_of.ensures
+    λ nets trits image. c.read_addr_part.ensures nets trits image ∙ ap (λ (w : WideMemory). (read_at_of (memory_at w nets trits image v.n).memory v.i).addr) c.into.ensures

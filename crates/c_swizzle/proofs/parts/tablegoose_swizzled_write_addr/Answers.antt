@@ -8,4 +8,4 @@ use Rattle.c_swizzle.proofs.parts.tablegoose_swizzled_write_addr.Goals as goal
 pub returns : goal.returns
 returns c =
     let v = c.args in
-    λ nets trits image. c.write_addr_part.ensures nets trits image ∙ ap (λ (w : WideMemory). (write_at (memory_at w nets trits image v.n).memory v.j).addr) c.memory_of.ensures
+    λ nets trits image. c.write_addr_part.ensures nets trits image ∙ ap (λ (w : WideMemory). (write_at (memory_at w nets trits image v.n).memory v.j).addr) c.into.ensures

@@ -8,4 +8,4 @@ use Rattle.c_swizzle.proofs.parts.tablegoose_swizzled_write_data.Goals as goal
 pub returns : goal.returns
 returns c =
     let v = c.args in
-    λ nets trits image. c.write_data_part.ensures nets trits image ∙ ap (λ (w : WideMemory). (write_at (memory_at w nets trits image v.n).memory v.j).bits) c.memory_of.ensures
+    λ nets trits image. c.write_data_part.ensures nets trits image ∙ ap (λ (w : WideMemory). (write_at (memory_at w nets trits image v.n).memory v.j).bits) c.into.ensures

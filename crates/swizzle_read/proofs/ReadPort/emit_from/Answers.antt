@@ -2,7 +2,6 @@
 use mathlib.Core.Path.{refl, ap, ◌∙◌}
 use Prim.Native.Nat.{◌*◌}
 use lib.ListN.{drop}
-use Rattle.net_value.specs.View.{control_of}
 use Rattle.log_entries.specs.View.{lent_of}
 use Rattle.swizzle_read.proofs.Steps.{read_run}
 use Rattle.swizzle_read.proofs.ReadPort.emit_from.Goals as goal
@@ -15,6 +14,6 @@ returns c =
     let z = c.load in
     let t = c.emit_tree in
     record {
-      log_after = read_run p.pieces p.voids p.clocking.clocked (control_of p.clocking.clock) (control_of p.clocking.enable) p.mux.now p.entries.now p.output.now p.width c.args.scratch.now z.new.scratch t.new.pieces _ y.new.room (lent_of c.args.log.now) (lent_of x.new.log) (lent_of y.new.log) (lent_of t.new.log) (lent_of c.emit_replace.new.self) c.requires refl x.ensures y.ensures z.ensures z.auto.scratch t.ensures c.emit_replace.ensures;
+      log_after = read_run p.pieces p.voids p.flip_flop p.mux.now p.entries.now p.output.now p.width c.args.scratch.now z.new.scratch t.new.pieces _ y.new.room (lent_of c.args.log.now) (lent_of x.new.log) (lent_of y.new.log) (lent_of t.new.log) (lent_of c.emit_replace.new.self) c.requires refl x.ensures y.ensures z.ensures z.auto.scratch t.ensures c.emit_replace.ensures;
       scratch_after = t.ensures.kept ∙ ap (drop (p.pieces.count * p.width)) z.ensures;
     }

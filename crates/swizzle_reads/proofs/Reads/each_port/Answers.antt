@@ -23,11 +23,11 @@ loop-i-preserved c =
     let v = c.args in
     let h = c.loop-i in
     let p = c.port_at in
-    let q = layout_of v.q in
+    let q = layout_of v.rows.layout in
     let xs = in_ports v.given.memory v.given.nets.now v.given.trits.now in
     let x = port_of v.given.memory v.given.nets.now v.given.trits.now h.i in
     let d = c.read_data_len-at.result in
-    let n = length_in v.given.memory v.given.nets.now v.given.trits.now (read_ports_length v.given.memory _ c.well_formed.1.1.1.1.1.0.1.1.0) in
+    let n = length_in v.given.memory v.given.nets.now v.given.trits.now (read_ports_length v.given.memory _ c.well_formed.1.1.1.1.0.1.1.0) in
     let l : h.i < length xs = omega (arith, n, c.ports_used-i-end.ensures.0, c.loop-i-test.true) in
     let b : h.i < min max_ports v.given.memory.read_count = omega (arith, c.ports_used-i-end.ensures.0, c.loop-i-test.true) in
     let e = len_at v.given.memory v.given.nets.now v.given.trits.now h.i b d (c.read_data_len-at.ensures.by_index v.given.nets.now v.given.trits.now) in
@@ -43,9 +43,9 @@ pub returns : goal.returns
 returns c =
     let v = c.args in
     let h = c.loop-i in
-    let n = length_in v.given.memory v.given.nets.now v.given.trits.now (read_ports_length v.given.memory _ c.well_formed.1.1.1.1.1.0.1.1.0) in
+    let n = length_in v.given.memory v.given.nets.now v.given.trits.now (read_ports_length v.given.memory _ c.well_formed.1.1.1.1.0.1.1.0) in
     record {
-      ports_after = ports_end (layout_of v.q) (length v.scratch.now) (in_ports v.given.memory v.given.nets.now v.given.trits.now) v.wide.now v.output.now h.i h.at (going_of h.log h.self) _ h.invariant.ports (omega (arith, n, c.ports_used-i-end.ensures.0, c.loop-i-test.false));
+      ports_after = ports_end (layout_of v.rows.layout) (length v.scratch.now) (in_ports v.given.memory v.given.nets.now v.given.trits.now) v.wide.now v.output.now h.i h.at (going_of h.log h.self) _ h.invariant.ports (omega (arith, n, c.ports_used-i-end.ensures.0, c.loop-i-test.false));
       all_kept = h.invariant.kept;
       same_rooms = h.invariant.rooms;
     }

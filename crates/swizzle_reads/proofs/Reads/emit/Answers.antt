@@ -21,26 +21,26 @@ returns-then-q-eq0-clause-ports_after c =
     let t = some_told (layout_of v.q) (shape_by s) (sym (ap checked_of c.in-Some.is) ∙ c.check_layout.ensures) in
     reads_narrow (layout_of v.q) (length v.scratch.now) (in_ports v.given.memory v.given.nets.now v.given.trits.now) v.wide.now v.output.now (going_of v.log.now v.self.now) t.0 c.if-q-eq0.true
 
-pub overflow_cast-z : goal.overflow_cast-z
-overflow_cast-z c =
+pub overflow_cast-sizes : goal.overflow_cast-sizes
+overflow_cast-sizes c =
     let q = layout_of c.args.q in
     let s = c.in-Some.shape in
     let t = some_told q (shape_by s) (sym (ap checked_of c.in-Some.is) ∙ c.check_layout.ensures) in
     omega (arith, all_low q t.0 c.if-q-eq0.false s.all_mems s.columns (shape_by s) t.1 refl refl)
 
-pub overflow_cast-z-2 : goal.overflow_cast-z-2
-overflow_cast-z-2 c =
+pub overflow_cast-sizes-2 : goal.overflow_cast-sizes-2
+overflow_cast-sizes-2 c =
     let q = layout_of c.args.q in
     let s = c.in-Some.shape in
     let t = some_told q (shape_by s) (sym (ap checked_of c.in-Some.is) ∙ c.check_layout.ensures) in
     omega (arith, cols_low q t.0 c.if-q-eq0.false s.all_mems s.columns (shape_by s) t.1 refl refl)
 
-pub each_port-requires : goal.each_port-requires
-each_port-requires c =
+pub invariant_of-rows : goal.invariant_of-rows
+invariant_of-rows c =
     let q = layout_of c.args.q in
     let s = c.in-Some.shape in
     let t = some_told q (shape_by s) (sym (ap checked_of c.in-Some.is) ∙ c.check_layout.ensures) in
-    measured q t.0 c.if-q-eq0.false s.all_mems s.columns (shape_by s) t.1 refl refl (record { mems = s.all_mems; columns = s.columns }) refl refl
+    record { measures = measured q t.0 c.if-q-eq0.false s.all_mems s.columns (shape_by s) t.1 refl refl (record { mems = s.all_mems; columns = s.columns }) refl refl }
 
 pub returns-clause-ports_after : goal.returns-clause-ports_after
 returns-clause-ports_after c =

@@ -1,8 +1,0 @@
--- The invariants of `swizzle_parts::trit_start`.
-use Rattle.std.proofs.Common.{◌≡◌, ◌≤◌, ◌*◌, take}
-use Rattle.lists.specs.Lists.{sum_by}
-use Rattle.swizzle_result.specs.View.{trit_size}
-use Rattle.swizzle_parts.proofs.trit_start.Given as goal
-
-abbrev pub invariant-loop-port : goal.invariant-loop-port
-invariant-loop-port l = record { sum : l.at ≡ sum_by (trit_size l.fn.g) (take l.port-index l.port-items); most : l.at ≤ l.port-index * 0x200000000 }
