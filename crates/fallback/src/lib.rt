@@ -2,7 +2,7 @@
 #![tactic(auto)]
 
 ghost use Rattle.std.specs.Prelude.{◌≡◌, [], ◌+◌, ◌*◌, ◌≤◌, min, length, drop};
-ghost use Rattle.rules.specs.Limits.{max_bits, max_outputs, max_ports, max_row};
+ghost use Rattle.rules.specs.Limits.{max_bits, max_ports, max_row};
 ghost use Rattle.rules.specs.Fallback.{fallback_plan, lower_rows, lower_fallback, fallback_scratch};
 ghost use Rattle.rules.specs.Refusals.{room_refusal, log_refusal, swizzle_refusal, lower_fallback_number, lower_fallback_refusal};
 ghost use Rattle.rules.specs.Answers.{lower_fallback_call};
@@ -29,16 +29,24 @@ use swizzle_call::Swizzled;
 use swizzle_counts::SwizzleRooms;
 use swizzle_result::WideMemory;
 
+// What the unmappings are lent: room for the outputs after them, and an overlay.
+#[derive(Drop)]
+struct Room {
+    outputs: [u32; rules::MAX_OUTPUTS],
+    overlay: Overlay,
+}
+
 // The split of a memory by the plan of a fallback, which no number refuses: its tables in `tables`, its trits in `image`.
+// The log and its state go on apart to the call that takes them so.
 fn split_rows(
     log: &mut [u32],
     st: LogState,
-    image: &mut [u8],
+    image: &mut [u8; rules::BITS_ROOM],
     tables: &mut [u32],
     given: Given<'_>,
     outs: &[u32],
 ) -> Result<Swizzled, Refusal>
-    requires { Passes given.memory given.nets.now given.trits.now outs.now st log.old tables.old × (given.memory.width ≤ max_row) × (length image.old ≡ max_bits) }
+    requires { Passes given.memory given.nets.now given.trits.now outs.now st log.old tables.old × (given.memory.width ≤ max_row) }
     ensures { SplitDone (mem_of given.entry) outs.now (fallback_plan (mem_of given.entry)) st log.old tables.old (told st result) log.new tables.new image.new }
 {
     let lists = Lists::of(given.memory.width);
@@ -117,21 +125,16 @@ fn scratch_need(m: Memory) -> usize
 }
 
 // The state after a run of the unmappings without a log.
-fn dry_unmapped(
-    st: LogState,
-    after: &mut [u32],
-    overlay: &mut Overlay,
-    given: Given<'_>,
-    output: &[u32],
-) -> LogState
-    requires { (lower_fallback_number st.next (view_given given) output.now ≡ 0) × (length after.old ≡ max_outputs) }
+fn dry_unmapped(st: LogState, room: &mut Room, given: Given<'_>, output: &[u32]) -> LogState
+    requires { lower_fallback_number st.next (view_given given) output.now ≡ 0 }
     ensures { DryRun (mem_of given.entry) output.now (state_of st) (state_of result) }
 {
     let mut dry = Log {
         words: &mut [],
         state: st.dry_start(),
     };
-    port_unmap_all::emit_unmap_all(&mut dry, overlay, after, given, output);
+    let outputs = &mut room.outputs;
+    port_unmap_all::emit_unmap_all(&mut dry, &mut room.overlay, outputs, given, output);
     dry.state
 }
 
@@ -212,7 +215,7 @@ fn log_refusal(
     }
     let start = st.dry_start();
     let unmapped = dry.next.saturating_sub(start.next) as usize;
-    let rows = fallback_masks::rows_size(given.memory, given.nets);
+    let rows = fallback_masks::rows_size(given);
     let words = dry.used + rows.words;
     let made = unmapped + rows.nets;
     if given.memory.width == 0 {
@@ -222,46 +225,39 @@ fn log_refusal(
 }
 
 // The log of a fallback that no number refuses.
-fn act(
-    log: &mut Log,
-    tables: &mut [u32],
-    after: &mut [u32],
-    overlay: &mut Overlay,
-    given: Given<'_>,
-    output: &[u32],
-)
-    requires { (lower_fallback_refusal (length tables.old) (length log.old.words.now) (state_of log.old.state) (view_given given) output.now ≡ 0) × (length after.old ≡ max_outputs) }
+fn act(log: &mut Log, tables: &mut [u32], room: &mut Room, given: Given<'_>, output: &[u32])
+    requires { lower_fallback_refusal (length tables.old) (length log.old.words.now) (state_of log.old.state) (view_given given) output.now ≡ 0 }
     ensures log_after { lent_of log.new ≡ run (lower_fallback (mem_of given.entry) output.now) (lent_of log.old) }
     ensures tables_unchanged { drop (fallback_scratch (mem_of given.entry)) tables.new ≡ drop (fallback_scratch (mem_of given.entry)) tables.old }
 {
-    port_unmap_all::emit_unmap_all(log, overlay, after, given, output);
+    port_unmap_all::emit_unmap_all(log, &mut room.overlay, &mut room.outputs, given, output);
     if given.memory.width == 0 {
         return;
     }
-    let outs = lists::part(after, 0, output.len());
+    let outs = lists::part(&room.outputs, 0, output.len());
     lower_rows(log, tables, given, outs);
 }
 
-// With the room for the unmappings; no number of the input refuses it, and the scratch is long enough.
+// With the room for the unmappings; no number of the input refuses it, and the scratch is long enough. It takes the log and its state apart, since of
+// a lent `Log` the proof that the caller's words are those after the loan did not close.
 fn lower_asked(
     log: &mut [u32],
     st: LogState,
     tables: &mut [u32],
-    after: &mut [u32],
-    overlay: &mut Overlay,
+    room: &mut Room,
     given: Given<'_>,
     output: &[u32],
 ) -> Result<LogState, Refusal>
-    requires { Asked given.memory given.nets.now given.trits.now output.now st (length tables.old) × (length after.old ≡ max_outputs) }
+    requires { Asked given.memory given.nets.now given.trits.now output.now st (length tables.old) }
     ensures { Lowers given.entry.memory given.entry.nets.now given.entry.trits.now output.now st log.old tables.old (left_by st result) log.new tables.new }
 {
-    let dry = dry_unmapped(st, after, overlay, given, output);
+    let dry = dry_unmapped(st, room, given, output);
     log_refusal(log.len(), st, dry, tables.len(), given, output)?;
     let mut log = Log {
         words: log,
         state: st,
     };
-    act(&mut log, tables, after, overlay, given, output);
+    act(&mut log, tables, room, given, output);
     Ok(log.state)
 }
 
@@ -280,7 +276,9 @@ pub fn lower_fallback(
     if scratch.len() < scratch_need(given.memory) {
         return Err(Refusal::NoRoom);
     }
-    let mut after = [0u32; rules::MAX_OUTPUTS];
-    let mut overlay = Overlay::new();
-    lower_asked(log, st, scratch, &mut after, &mut overlay, given, output)
+    let mut room = Room {
+        outputs: [0u32; rules::MAX_OUTPUTS],
+        overlay: Overlay::new(),
+    };
+    lower_asked(log, st, scratch, &mut room, given, output)
 }

@@ -18,13 +18,13 @@ use Rattle.lists.proofs.Choice.{if_true, if_false, or_left}
 use Rattle.lists.proofs.Sum.{sum_drop, sum_end}
 use Rattle.rules.specs.Limits.{addr_bits, max_depth, max_width, max_ports}
 use Rattle.rules.specs.Numbers.{largest}
-use Rattle.rules.specs.Cell.{WritePort, Mem, Plan, wide_log2, write_wide_log2}
+use Rattle.rules.specs.Cell.{WritePort, Mem, write_at, Plan, wide_log2, write_wide_log2}
 use Rattle.rules.specs.Log.{flag}
 use Rattle.rules.specs.Fallback.{max_wide_log2, fallback_plan}
 use Rattle.rules.proofs.Walks.{lt_or_le}
 use Rattle.net_memory.specs.declared.Memory.{Memory}
-use Rattle.net_memory.specs.View.{memory_of, write_port, write_by, write_nets, writes_of, reads_of}
-use Rattle.net_memory.proofs.Ports.{no_write_of, writes_at, write_nets_at}
+use Rattle.net_memory.specs.View.{memory_of, writes_of, reads_of}
+use Rattle.net_memory.proofs.Ports.{no_write_of}
 use Rattle.fallback_plan.proofs.Logs.{most_low, reads_long, writes_long}
 use Rattle.fallback_masks.specs.Sizes.{runs_from, max_mask_nets, mask_runs, port_pieces, port_runs, register_words, register_nets, rows_words_of, rows_nets, wide_sizes, size_words, size_nets}
 use Rattle.fallback_masks.specs.Steps.{starts_run, left_after_of, pieces_by, spread_runs, runs_by_of, words_by, nets_by}
@@ -279,10 +279,10 @@ module _ (m : Memory) (nets trits : List ℕ) where
   abbrev M : Mem
   M = memory_of m nets trits
 
-  -- write port i by its nets
-  pub port_at_lem : (f : WritePort → ℕ) (i r : ℕ) (x : List ℕ) → i < min max_ports m.write_count → x ≡ write_nets m nets i → r ≡ f (write_by (write_port m i) x []) → r ≡ f (get_or (writes_of m nets) i no_write_of)
-  port_at_lem f i r x h e g =
-      g ∙ ap (λ (y : List ℕ). f (write_by (write_port m i) y [])) (e ∙ write_nets_at m nets i h) ∙ sym (ap f (writes_at m nets i h))
+  -- write port i
+  pub port_at_lem : (f : WritePort → ℕ) (i r : ℕ) (p : WritePort) → p ≡ write_at M i → r ≡ f p → r ≡ f (get_or (writes_of m nets) i no_write_of)
+  unfolding write_at memory_of
+  port_at_lem f i r p e g = g ∙ ap f e
 
   pub deep_size : max_depth < m.depth → (0 ≡ size_words M) × (0 ≡ size_nets M)
   unfolding memory_of

@@ -1,15 +1,17 @@
 // How many words and nets the rows of a fallback give, by the masks of its memory: known before anything is stored.
 #![tactic(auto)]
 
-ghost use Rattle.std.specs.Prelude.{◌≡◌, List, [], ℕ, ◌+◌, ◌*◌, ◌^◌, ◌<◌, ◌≤◌};
+ghost use Rattle.std.specs.Prelude.{◌≡◌, ℕ, ◌+◌, ◌*◌, ◌^◌, ◌<◌, ◌≤◌};
 ghost use Rattle.lists.specs.Lists.{sum_by};
 ghost use Rattle.rules.specs.Limits.{max_depth};
 ghost use Rattle.rules.specs.Fallback.{max_wide_log2};
-ghost use Rattle.net_memory.specs.View.{memory_of, write_by, writes_of};
+ghost use Rattle.net_memory.specs.View.{writes_of};
+ghost use Rattle.net_memory.specs.Given.{mem_of};
+ghost use Rattle.net_memory.specs.Ports.{write_of};
 ghost use Rattle.fallback_masks.specs.Sizes.{max_mask_nets, mask_runs, size_words, size_nets};
 ghost use Rattle.fallback_masks.specs.Steps.{starts_run, left_after_of, pieces_by, spread_runs, runs_by_of, port_most, words_by, nets_by, Inside};
 
-use net_memory::{Memory, MemoryWritePort};
+use net_memory::{Given, WritePort};
 
 // The words and nets of all rows.
 #[derive(Clone, Copy)]
@@ -48,17 +50,16 @@ fn left_after(width: u32, left: u32) -> u32
 fn mask_runs(width: u32, mask: &[u32]) -> usize
     ensures { (result ≡ mask_runs width mask.now) × (result ≤ max_mask_nets) }
 {
-    let end = mask.len();
-    if MAX_MASK_NETS < end {
+    if MAX_MASK_NETS < mask.len() {
         return 0;
     }
     let mut left: u32 = 0;
     let mut last: u32 = 0;
     let mut runs: usize = 0;
-    for i in 0..end {
-        runs += starts_run(left, last, mask[i]);
+    for net in mask {
+        runs += starts_run(left, last, *net);
         left = left_after(width, left);
-        last = mask[i];
+        last = *net;
     }
     runs
 }
@@ -85,28 +86,26 @@ fn spread_runs(depth: usize, pieces: usize, wide: usize, runs: usize) -> usize
     pieces * runs + (depth - rows)
 }
 
-// The runs of one write port with these nets.
-fn port_runs(p: MemoryWritePort, x: &[u32], depth: usize, width: u32, rows: usize) -> usize
+// The runs of one write port.
+fn port_runs(p: WritePort<'_>, depth: usize, width: u32, rows: usize) -> usize
     requires { (depth ≤ max_depth) × (0 < rows) }
-    ensures { (result ≡ runs_by_of depth width rows (write_by p x.now [])) × (result ≤ port_most) }
+    ensures { (result ≡ runs_by_of depth width rows (write_of p.entry)) × (result ≤ port_most) }
 {
-    let k = net_memory::wide::wide_log(width, net_memory::data_count(p, x));
+    let k = net_memory::wide::wide_log(width, p.bits().len());
     let wide = lists::two_to(k) as usize;
-    let addr = net_memory::addr_of(p, x).len();
-    let runs = mask_runs(width, net_memory::mask_of(p, x));
+    let addr = p.addr().len();
+    let runs = mask_runs(width, p.mask());
     spread_runs(depth, pieces_by(depth, rows, addr, wide), wide, runs)
 }
 
 // The runs of all write ports.
-fn ports_runs(m: Memory, nets: &[u32], depth: usize, rows: usize) -> usize
+fn ports_runs(given: Given<'_>, depth: usize, rows: usize) -> usize
     requires { (depth ≤ max_depth) × (0 < rows) }
-    ensures { (result ≡ sum_by (runs_by_of depth m.width rows) (writes_of m nets.now)) × (result ≤ 8 * port_most) }
+    ensures { (result ≡ sum_by (runs_by_of depth given.entry.memory.width rows) (writes_of given.entry.memory given.entry.nets.now)) × (result ≤ 8 * port_most) }
 {
-    let count = net_memory::ports_used(m.write_count);
     let mut runs: usize = 0;
-    for i in 0..count {
-        let own = net_memory::write_nets(m, nets, i);
-        runs += port_runs(m.write_ports[i], own, depth, m.width, rows);
+    for i in 0..net_memory::ports_used(given.memory.write_count) {
+        runs += port_runs(given.write_port(i), depth, given.memory.width, rows);
     }
     runs
 }
@@ -151,18 +150,19 @@ fn nets_by(depth: usize, width: usize, writes: usize) -> usize
 }
 
 // The rows that the widest port reaches.
-fn widest_rows(m: Memory, nets: &[u32]) -> usize
-    ensures { ((trits : List ℕ) → result ≡ 2 ^ max_wide_log2 (memory_of m nets.now trits)) × (0 < result) }
+fn widest_rows(given: Given<'_>) -> usize
+    ensures { (result ≡ 2 ^ max_wide_log2 (mem_of given.entry)) × (0 < result) }
 {
-    let s = fallback_plan::fallback_swizzle(m, nets);
+    let s = fallback_plan::fallback_swizzle(given);
     s.soft_addr_bits_mask as usize + 1
 }
 
 // The words and nets of all rows of a fallback; none where a size is past the limits.
-pub fn rows_size(m: Memory, nets: &[u32]) -> RowsSize
-    ensures by_index { (trits : List ℕ) → (result.words ≡ size_words (memory_of m nets.now trits)) × (result.nets ≡ size_nets (memory_of m nets.now trits)) }
+pub fn rows_size(given: Given<'_>) -> RowsSize
+    ensures size { (result.words ≡ size_words (mem_of given.entry)) × (result.nets ≡ size_nets (mem_of given.entry)) }
     ensures words_bound { (result.words < 4294967296) × (result.nets < 4294967296) }
 {
+    let m = given.memory;
     if rules::MAX_DEPTH < m.depth || rules::MAX_WIDTH < m.width || m.width == 0 {
         return RowsSize { words: 0, nets: 0 };
     }
@@ -170,7 +170,7 @@ pub fn rows_size(m: Memory, nets: &[u32]) -> RowsSize
     let width = m.width as usize;
     let reads = net_memory::ports_used(m.read_count);
     let writes = net_memory::ports_used(m.write_count);
-    let runs = ports_runs(m, nets, depth, widest_rows(m, nets));
+    let runs = ports_runs(given, depth, widest_rows(given));
     RowsSize {
         words: words_by(depth, width, reads, writes, runs),
         nets: nets_by(depth, width, writes),

@@ -4,10 +4,9 @@ use Prim.Native.Nat.{ℕ, ◌+◌, ◌-◌, ◌/◌, ◌^◌, ◌<◌, ◌≤◌
 use native.Mathlib.Numerals.{add-one}
 use native.Mathlib.Omega.{arith}
 use mathlib.Core.List.{List, [], ◌∷◌, map}
-use lib.ListN.{length, get_or, take, drop, replicate, length-map, get_or-map, drop_of_length-le, length-replicate}
-use lib.Seq.{sets, drop-cons}
+use lib.ListN.{length, get_or, drop, replicate, length-map, get_or-map, drop_of_length-le}
+use lib.Seq.{drop-cons}
 use Rattle.lists.specs.Lists.{up_from}
-use Rattle.lists.proofs.Stores.{take_stored}
 use Rattle.lists.proofs.Parts.{get_d_any}
 use Rattle.rules.specs.Limits.{addr_bits, max_ports}
 use Rattle.rules.specs.Numbers.{largest}
@@ -18,6 +17,7 @@ use Rattle.net_memory.specs.declared.Memory.{Memory}
 use Rattle.net_memory.specs.View.{memory_of, writes_of, reads_of}
 use Rattle.swizzle_plan.specs.declared.MemorySwizzle.{MemorySwizzle}
 use Rattle.swizzle_plan.specs.Calls.{plan_of}
+use Rattle.swizzle_plan.specs.Numbers.{write_logs}
 
 -- ---- the loop: what is left from i on gives the whole
 module _ (L : List ℕ) where
@@ -49,10 +49,9 @@ module _ (m : Memory) (nets trits : List ℕ) where
   abbrev pub read_logs : List ℕ
   read_logs = map (read_wide_log2 M) M.reads
 
-  pub read_log_lem : (i n k : ℕ) → i < length M.reads → n ≡ (read_at_of M i).data_len → k ≡ wide_log2 m.width n → k ≡ get_or read_logs i 0
-  unfolding read_at_of read_wide_log2 memory_of
-  read_log_lem i n k h e f =
-      f ∙ ap (wide_log2 m.width) e ∙ sym (get_or-map (read_wide_log2 M) M.reads i _) ∙ get_d_any read_logs i _ 0 (omega (arith, h, length-map M.reads (read_wide_log2 M)))
+  pub read_log_lem : (i k : ℕ) → i < length M.reads → k ≡ read_wide_log2 M (read_at_of M i) → k ≡ get_or read_logs i 0
+  unfolding read_at_of
+  read_log_lem i k h e = e ∙ sym (get_or-map (read_wide_log2 M) M.reads i _) ∙ get_d_any read_logs i _ 0 (omega (arith, h, length-map M.reads (read_wide_log2 M)))
 
   reads_are : M.reads ≡ reads_of m nets trits
   unfolding memory_of
@@ -71,15 +70,7 @@ module _ (m : Memory) (nets trits : List ℕ) where
   pub writes_long : length (writes_of m nets) ≡ min max_ports m.write_count → length M.writes ≡ min max_ports m.write_count
   writes_long e = ap length writes_are ∙ e
 
-  abbrev pub write_logs : List ℕ
-  write_logs = map (write_wide_log2 M) M.writes
-
-  -- the first of eight
-  pub write_logs_lem : (logs : List ℕ) → logs ≡ sets (replicate max_ports 0) 0 write_logs → length (writes_of m nets) ≡ min max_ports m.write_count → take (min max_ports m.write_count) logs ≡ write_logs
-  write_logs_lem logs e l =
-      take_stored (replicate max_ports 0) logs write_logs (min max_ports m.write_count) e (sym (length-map M.writes (write_wide_log2 M) ∙ writes_long l)) (omega (arith, length-replicate {A = ℕ} max_ports 0))
-
-  pub most_is : (a b k : ℕ) → a ≡ largest write_logs → b ≡ largest read_logs → k ≡ max a b → k ≡ max_wide_log2 M
+  pub most_is : (a b k : ℕ) → a ≡ largest (write_logs M) → b ≡ largest read_logs → k ≡ max a b → k ≡ max_wide_log2 M
   unfolding max_wide_log2
   most_is a b k e f h = omega (arith, e, f, h)
 

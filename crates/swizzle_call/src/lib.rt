@@ -12,7 +12,6 @@ ghost use Rattle.swizzle_plan.specs.Calls.{view_plan};
 ghost use Rattle.swizzle_reads.specs.Going.{going_of, SameRooms};
 ghost use Rattle.lists.specs.Lists.{part};
 ghost use Rattle.rules.specs.Beside.Layouts.{fill_call};
-ghost use Rattle.image_geometry.specs.View.{layout_by};
 ghost use Rattle.image_state.specs.View.{laid_of};
 ghost use Rattle.swizzle_call.specs.Acted.{Passed, NoneYet, Acted, HoldsPorts};
 ghost use Rattle.swizzle_call.specs.Made.{left_of};
@@ -20,7 +19,6 @@ ghost use Rattle.swizzle_call.specs.Told.{told};
 ghost use Rattle.swizzle_call.specs.Whole.{Swizzles};
 ghost use Rattle.swizzle_call.specs.Answer.{swizzled_of};
 
-use image_geometry::Layout;
 use image_state::Laid;
 use log_entries::{Log, LogState};
 use net_memory::Given;
@@ -38,17 +36,6 @@ pub struct Made {
     pub memory: WideMemory,
     pub nets_at: usize,
     pub trits_at: usize,
-}
-
-// The layout of a memory's rows by its plan.
-#[tactic(auto, using(crate::proofs::Cases::same_layout))]
-fn layout_for<'a>(given: Given<'_>, plan: Plan<'a>) -> Layout<'a>
-    ensures { layout_by result.params result.entries.now ≡ layout_of (mem_of given.entry) (view_plan plan.entry) }
-{
-    Layout {
-        params: swizzle_plan::params_of(given.memory, plan.swizzle),
-        entries: plan.entries,
-    }
 }
 
 // The log, the rooms for nets and trits, and the struct of the memories, of a swizzle that no number refuses. Scratch is open where the pieces
@@ -75,7 +62,7 @@ fn act<'a>(
         port_empty::emit_empty(log, given, output);
         return;
     }
-    let q = layout_for(given, plan);
+    let q = plan.layout(given);
     swizzle_rows::emit_rows(
         log,
         made,
@@ -162,7 +149,7 @@ pub fn swizzle<'a>(
     };
     swizzle_refusal::swizzle_refusal(r, log.len(), st, given, output, plan)?;
     // What follows refuses no swizzle that passed.
-    let laid = Laid::laid_out(layout_for(given, plan));
+    let laid = Laid::laid_out(plan.layout(given));
     let sizes = laid.sizes()?;
     fill_init(image, laid, given)?;
     let mut log = Log {

@@ -40,12 +40,9 @@ fn rows_by_needs(
     ensures { number_of result ≡ needs_refusal (rooms_of r) room (state_of st) (asked_needs given.entry plan.entry) (asked_image given.entry plan.entry) }
 {
     let m = given.memory;
-    let p = swizzle_plan::params_of(m, plan.swizzle);
-    let z = image_geometry::Layout {
-        params: p,
-        entries: plan.entries,
-    }
-    .measure()?;
+    let layout = plan.layout(given);
+    let p = layout.params;
+    let z = layout.measure()?;
     let columns = z.columns as usize;
     let w = crate::writes_needs(m, given.nets, p, columns, plan.entries, plan.writes);
     let d = crate::reads_needs(m, given.nets, p, columns, plan.reads);

@@ -3,13 +3,18 @@ use mathlib.Core.Path.{◌≡◌, refl, sym, ap, ◌∙◌}
 use Prim.Native.Nat.{ℕ, ◌+◌, ◌<◌, ◌≤◌, min}
 use native.Mathlib.Numerals.{add-one}
 use native.Mathlib.Omega.{arith}
-use mathlib.Core.Bool.{Bool, ◌||◌}
+use mathlib.Core.Bool.{Bool, true, not, ◌||◌}
+use mathlib.Core.Logic.{◌≢◌}
+use borrow.Author.Tests.{eq-eqb, ne_eqb}
+use Rattle.rules.specs.Cell.{Plan}
+use Rattle.rules.specs.Conditions.{bad_wide}
+use Rattle.swizzle_plan.specs.Numbers.{wides_bad}
 use mathlib.Core.List.{List, [], ◌∷◌, map}
-use lib.ListN.{length, take, drop, get_or, set, drop_of_length-le}
+use lib.ListN.{length, length-map, take, drop, get_or, set, drop_of_length-le}
 use lib.Seq.{sets, drop-cons, take_all}
 use Rattle.std.specs.List.{zip}
 use Rattle.lists.specs.Lists.{any, pairs, part}
-use Rattle.lists.proofs.Choice.{cases_le}
+use Rattle.lists.proofs.Choice.{cases_le, or_left}
 use Rattle.lists.proofs.Store.{sets_more, part_sets}
 
 -- ---- pairs
@@ -58,6 +63,17 @@ module _ {A : Type 0} (h : A → ℕ) where
   map_first g [] b = refl
   map_first g (x ∷ l) [] = refl
   map_first g (x ∷ l) (y ∷ b) = ap (λ (t : List ℕ). g (h x) y ∷ t) (map_first g l b)
+
+-- ---- new wide logs over the old ones of ports
+module _ (p : Plan) (f : ℕ → ℕ) (ports news : List ℕ) where
+  long : length (map f ports) ≡ length ports
+  long = length-map ports f
+
+  pub wides_long : length news ≢ length ports → true ≡ wides_bad p (map f ports) news
+  wides_long h = sym (or_left _ (ap not (ne_eqb (length news) (length (map f ports)) (λ e. h (e ∙ long)))))
+
+  pub wides_equal : length news ≡ length ports → (r : Bool) → r ≡ any (λ (x : ℕ × ℕ). bad_wide p x.0 x.1) (pairs (map f ports) news) → r ≡ wides_bad p (map f ports) news
+  wides_equal h r q = q ∙ sym (ap (λ (t : Bool). not t || any (λ (x : ℕ × ℕ). bad_wide p x.0 x.1) (pairs (map f ports) news)) (eq-eqb (length news) (length (map f ports)) (h ∙ sym long)))
 
 -- ---- a list in an array
 pub log_turn : (z logs l : List ℕ) (i v d : ℕ) → i < length l → logs ≡ sets z 0 (take i l) → v ≡ get_or l i d → set logs i v ≡ sets z 0 (take (i + 1) l)

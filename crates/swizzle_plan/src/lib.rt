@@ -4,12 +4,15 @@
 ghost use Rattle.std.specs.Prelude.{◌≡◌, false, ltb, length};
 ghost use Rattle.lists.specs.Lists.{any};
 ghost use Rattle.rules.specs.Limits.{max_wide};
+ghost use Rattle.rules.specs.Geometry.{layout_of};
+ghost use Rattle.image_geometry.specs.View.{layout_by};
 ghost use Rattle.rules.specs.Conditions.{plan_too_large, bad_layout_sizes};
 ghost use Rattle.rules.specs.Refusals.{plan_number, whole_plan, planned_number, swizzle_plan_number};
 ghost use Rattle.rules.specs.Refusal.{number_of};
 ghost use Rattle.net_memory.specs.Given.{view_given, mem_of};
 ghost use Rattle.swizzle_plan.specs.Calls.{params_by, view_plan};
 
+use image_geometry::{Layout, Params};
 use net_check::Breaks;
 use net_memory::{Given, Memory};
 use rules::Refusal;
@@ -34,19 +37,6 @@ pub struct Plan<'a> {
     pub reads: &'a [u32],
 }
 
-// The sizes of a memory and a plan.
-pub fn params_of(m: Memory, s: MemorySwizzle) -> image_geometry::Params
-    ensures { result ≡ params_by m s }
-{
-    image_geometry::Params {
-        depth: m.depth,
-        width: m.width,
-        soft_mask: s.soft_addr_bits_mask,
-        hard: s.hard_addr_bits,
-        unit: s.data_width_unit,
-    }
-}
-
 // A new wide log is too large.
 fn any_wide(logs: &[u32]) -> bool
     ensures { result ≡ any (ltb max_wide) logs.now }
@@ -54,17 +44,45 @@ fn any_wide(logs: &[u32]) -> bool
     logs.iter().any(|log| rules::MAX_WIDE < *log)
 }
 
-// Number 1 of a plan.
-#[tactic(auto, unfolding(rules::specs::Conditions::plan_too_large))]
-pub fn plan_too_large(plan: Plan<'_>) -> bool
-    ensures { result ≡ plan_too_large (view_plan plan.entry) }
-{
-    rules::MAX_ROW < plan.entries.len()
-        || plan.swizzle.data_width_unit == 0
-        || rules::MAX_UNIT < plan.swizzle.data_width_unit
-        || rules::MAX_HARD < plan.swizzle.hard_addr_bits
-        || any_wide(plan.writes)
-        || any_wide(plan.reads)
+impl<'a> Plan<'a> {
+    // Its sizes with those of a memory.
+    pub fn params(self, m: Memory) -> Params
+        ensures { result ≡ params_by m self.entry.swizzle }
+    {
+        Params {
+            depth: m.depth,
+            width: m.width,
+            soft_mask: self.swizzle.soft_addr_bits_mask,
+            hard: self.swizzle.hard_addr_bits,
+            unit: self.swizzle.data_width_unit,
+        }
+    }
+
+    // The layout of a memory's rows.
+    #[tactic(auto, unfolding(rules::specs::Geometry::layout_of, net_memory::specs::View::memory_of))]
+    pub fn layout(self, given: Given<'_>) -> Layout<'a>
+        ensures params { result.params ≡ params_by given.entry.memory self.entry.swizzle }
+        ensures entries { result.entries.now ≡ self.entry.entries.now }
+        ensures layout { layout_by result.params result.entries.now ≡ layout_of (mem_of given.entry) (view_plan self.entry) }
+    {
+        Layout {
+            params: self.params(given.memory),
+            entries: self.entries,
+        }
+    }
+
+    // Number 1 of a plan.
+    #[tactic(auto, unfolding(rules::specs::Conditions::plan_too_large))]
+    pub fn is_too_large(self) -> bool
+        ensures { result ≡ plan_too_large (view_plan self.entry) }
+    {
+        rules::MAX_ROW < self.entries.len()
+            || self.swizzle.data_width_unit == 0
+            || rules::MAX_UNIT < self.swizzle.data_width_unit
+            || rules::MAX_HARD < self.swizzle.hard_addr_bits
+            || any_wide(self.writes)
+            || any_wide(self.reads)
+    }
 }
 
 // 7 and 8 of a plan.
@@ -81,12 +99,12 @@ fn check_parts(given: Given<'_>, plan: Plan<'_>) -> Result<(), Refusal>
 pub fn planned_refusal(given: Given<'_>, plan: Plan<'_>, long: bool) -> Result<(), Refusal>
     ensures { number_of result ≡ planned_number long (view_given given.entry) (view_plan plan.entry) }
 {
-    let one = plan_too_large(plan) || long;
+    let large = plan.is_too_large() || long;
     net_check::call_refusal(
         given,
         rules::MAX_NETS,
         Breaks {
-            large: one,
+            large,
             ..Breaks::NOTHING
         },
     )?;
@@ -106,11 +124,7 @@ fn whole_refusal(given: Given<'_>, plan: Plan<'_>) -> Result<(), Refusal>
     if given.memory.width == 0 {
         return Ok(());
     }
-    let layout = image_geometry::Layout {
-        params: params_of(given.memory, plan.swizzle),
-        entries: plan.entries,
-    };
-    layout.check_result()
+    plan.layout(given).check_result()
 }
 
 // By what a plan is refused for a memory and the nets that its outputs drive: 1 to 4, then 7, 8, 9 and 10.
@@ -123,7 +137,7 @@ pub fn plan_refusal(
 ) -> Result<(), Refusal>
     ensures { number_of result ≡ swizzle_plan_number next (view_given given.entry) output.now (view_plan plan.entry) }
 {
-    let one = plan_too_large(plan);
+    let one = plan.is_too_large();
     port_outputs::driving_refusal(given, output, next, one)?;
     whole_refusal(given, plan)
 }

@@ -1,11 +1,11 @@
 // Number 9: the new wide logs of a plan against a memory's ports.
-ghost use Rattle.std.specs.Prelude.{◌≡◌, ◌||◌, List, ℕ};
-ghost use Rattle.lists.specs.Lists.{any, pairs};
+ghost use Rattle.std.specs.Prelude.{◌≡◌, ◌||◌, List, ℕ, map};
 ghost use Rattle.rules.specs.Conditions.{bad_wide, bad_writes, bad_reads, all_reads};
-ghost use Rattle.rules.specs.Cell.{read_wide_log2, read_at_of};
+ghost use Rattle.rules.specs.Cell.{write_wide_log2, read_wide_log2, write_at, read_at_of};
 ghost use Rattle.net_memory.specs.View.{memory_of};
-ghost use Rattle.swizzle_plan.specs.Calls.{plan_of};
-ghost use Rattle.swizzle_plan.specs.Numbers.{in_eight, write_logs, read_logs};
+ghost use Rattle.net_memory.specs.Given.{mem_of};
+ghost use Rattle.swizzle_plan.specs.Calls.{view_plan};
+ghost use Rattle.swizzle_plan.specs.Numbers.{wides_bad};
 
 use crate::Plan;
 use net_memory::{Given, Memory};
@@ -13,49 +13,34 @@ use net_memory::{Given, Memory};
 // A new wide log is above the hard bits, or below the non-soft bits under the old one.
 #[tactic(auto, unfolding(rules::specs::Conditions::bad_wide))]
 fn wide_bad(plan: Plan<'_>, old: u32, new: u32) -> bool
-    ensures { (es ws rs : List ℕ) → result ≡ bad_wide (plan_of plan.entry.swizzle es ws rs) old new }
+    ensures { result ≡ bad_wide (view_plan plan.entry) old new }
 {
     let s = plan.swizzle;
     s.hard_addr_bits < new
         || new < old.saturating_sub(image_geometry::low_softs(old, s.soft_addr_bits_mask))
 }
 
-// One of the write ports', over these old ones, is.
-fn wides_bad(olds: &[u32], plan: Plan<'_>) -> bool
-    ensures { (es rs : List ℕ) → result ≡ any (λ x. bad_wide (plan_of plan.entry.swizzle es plan.entry.writes.now rs) x.0 x.1) (pairs olds.now plan.entry.writes.now) }
+// The new wide logs of these ports, whose old ones `old` gives, are too many, too few or bad.
+fn wides_bad<F: Fn(u32) -> u32>(plan: Plan<'_>, ports: &[u32], news: &[u32], old: F) -> bool
+    requires { F.IsAlwaysCallable old }
+    ensures { (g : ℕ → ℕ) → ((x r : ℕ) → F.post old x r → r ≡ g x) → result ≡ wides_bad (view_plan plan.entry) (map g ports.now) news.now }
 {
-    olds.iter()
-        .zip(plan.writes)
-        .any(|(old, new)| wide_bad(plan, *old, *new))
-}
-
-// The old wide logs of the write ports.
-pub fn write_logs(m: Memory, nets: &[u32]) -> [u32; rules::MAX_PORTS]
-    ensures { (trits : List ℕ) → result ≡ in_eight (write_logs (memory_of m nets.now trits)) }
-{
-    let mut logs = [0u32; rules::MAX_PORTS];
-    let count = net_memory::ports_used(m.write_count);
-    let mut at = 0;
-    for i in 0..count {
-        let port = m.write_ports[i];
-        let size = net_memory::write_size(port);
-        let part = lists::part(nets, at, size);
-        logs[i] = net_memory::wide::wide_log(m.width, net_memory::data_count(port, part));
-        at += size;
-    }
-    logs
-}
-
-// Number 9 of the write ports: apart from `reads_bad`, as these old wide logs come from the nets.
-fn writes_bad(given: Given<'_>, plan: Plan<'_>) -> bool
-    ensures { (trits es rs : List ℕ) → result ≡ bad_writes (memory_of given.entry.memory given.entry.nets.now trits) (plan_of plan.entry.swizzle es plan.entry.writes.now rs) }
-{
-    let count = net_memory::ports_used(given.memory.write_count);
-    if plan.writes.len() != count {
+    if news.len() != ports.len() {
         return true;
     }
-    let logs = write_logs(given.memory, given.nets);
-    wides_bad(lists::part(&logs, 0, count), plan)
+    ports
+        .iter()
+        .zip(news)
+        .any(|(port, new)| wide_bad(plan, old(*port), *new))
+}
+
+// The old wide log of write port i.
+#[tactic(auto, unfolding(rules::specs::Cell::write_wide_log2, net_memory::specs::View::memory_of))]
+pub fn write_log(given: Given<'_>, port: u32) -> u32
+    ensures { result ≡ write_wide_log2 (mem_of given.entry) (write_at (mem_of given.entry) port) }
+{
+    let bits = given.write_port(port as usize).bits();
+    net_memory::wide::wide_log(given.memory.width, bits.len())
 }
 
 // The old wide log of a listed read port.
@@ -67,37 +52,33 @@ pub fn read_log(m: Memory, port: u32) -> u32
     net_memory::wide::wide_log(m.width, bits)
 }
 
-// One of the listed read ports has a bad new wide log.
-fn listed_bad(given: Given<'_>, ports: &[u32], plan: Plan<'_>) -> bool
-    ensures { (nets trits es ws : List ℕ) → result ≡ any (λ x. bad_wide (plan_of plan.entry.swizzle es ws plan.entry.reads.now) x.0 x.1) (pairs (read_logs (memory_of given.entry.memory nets trits) ports.now) plan.entry.reads.now) }
+// Number 9 of the write ports.
+fn writes_bad(given: Given<'_>, plan: Plan<'_>) -> bool
+    ensures { result ≡ bad_writes (mem_of given.entry) (view_plan plan.entry) }
 {
-    ports.iter().zip(plan.reads).any(|(port, new)| wide_bad(
-        plan,
-        read_log(given.memory, *port),
-        *new,
-    ))
+    let ports = [0u32, 1, 2, 3, 4, 5, 6, 7];
+    let count = net_memory::ports_used(given.memory.write_count);
+    let ports = lists::part(&ports, 0, count);
+    wides_bad(plan, ports, plan.writes, |i| write_log(given, i))
 }
 
-// Number 9 of the listed read ports: apart from `writes_bad`, as these old wide logs come from the struct.
+// Number 9 of the listed read ports.
 fn reads_bad(given: Given<'_>, ports: &[u32], plan: Plan<'_>) -> bool
-    ensures { (nets trits es ws : List ℕ) → result ≡ bad_reads (memory_of given.entry.memory nets trits) ports.now (plan_of plan.entry.swizzle es ws plan.entry.reads.now) }
+    ensures { result ≡ bad_reads (mem_of given.entry) ports.now (view_plan plan.entry) }
 {
-    if plan.reads.len() != ports.len() {
-        return true;
-    }
-    listed_bad(given, ports, plan)
+    wides_bad(plan, ports, plan.reads, |i| read_log(given.memory, i))
 }
 
 // Number 9 of the write ports and the listed read ports.
 pub fn logs_bad(given: Given<'_>, ports: &[u32], plan: Plan<'_>) -> bool
-    ensures { (trits es : List ℕ) → result ≡ (bad_writes (memory_of given.entry.memory given.entry.nets.now trits) (plan_of plan.entry.swizzle es plan.entry.writes.now plan.entry.reads.now) || bad_reads (memory_of given.entry.memory given.entry.nets.now trits) ports.now (plan_of plan.entry.swizzle es plan.entry.writes.now plan.entry.reads.now)) }
+    ensures { result ≡ (bad_writes (mem_of given.entry) (view_plan plan.entry) || bad_reads (mem_of given.entry) ports.now (view_plan plan.entry)) }
 {
     writes_bad(given, plan) || reads_bad(given, ports, plan)
 }
 
 // Number 9 of the write ports and every read port.
 pub fn all_logs_bad(given: Given<'_>, plan: Plan<'_>) -> bool
-    ensures { (trits es : List ℕ) → result ≡ (bad_writes (memory_of given.entry.memory given.entry.nets.now trits) (plan_of plan.entry.swizzle es plan.entry.writes.now plan.entry.reads.now) || bad_reads (memory_of given.entry.memory given.entry.nets.now trits) (all_reads (memory_of given.entry.memory given.entry.nets.now trits)) (plan_of plan.entry.swizzle es plan.entry.writes.now plan.entry.reads.now)) }
+    ensures { result ≡ (bad_writes (mem_of given.entry) (view_plan plan.entry) || bad_reads (mem_of given.entry) (all_reads (mem_of given.entry)) (view_plan plan.entry)) }
 {
     let ports = [0u32, 1, 2, 3, 4, 5, 6, 7];
     let count = net_memory::ports_used(given.memory.read_count);

@@ -17,7 +17,7 @@ ghost use Rattle.swizzle_sizes.specs.Calls.{bits_of, in_arrays, Countable, Small
 
 use net_memory::{Given, Memory};
 use rules::Refusal;
-use swizzle_plan::{MemorySwizzle, Plan};
+use swizzle_plan::Plan;
 
 // The mux bits of the write ports and of the listed read ports; 0 past the last.
 #[derive(Clone, Copy, Debug, Default, PartialEq, Eq)]
@@ -34,6 +34,17 @@ fn read_logs(m: Memory, ports: &[u32]) -> [u32; rules::MAX_PORTS]
     let mut logs = [0u32; rules::MAX_PORTS];
     for (j, port) in ports.iter().enumerate() {
         logs[j] = swizzle_plan::logs::read_log(m, *port);
+    }
+    logs
+}
+
+// The old wide logs of the write ports.
+fn write_logs(given: Given<'_>) -> [u32; rules::MAX_PORTS]
+    ensures { result ≡ in_eight (write_logs (mem_of given.entry)) }
+{
+    let mut logs = [0u32; rules::MAX_PORTS];
+    for i in 0..net_memory::ports_used(given.memory.write_count) {
+        logs[i] = swizzle_plan::logs::write_log(given, i as u32);
     }
     logs
 }
@@ -72,7 +83,7 @@ fn write_bits(given: Given<'_>, base: u32, news: &[u32]) -> [u32; rules::MAX_POR
     requires { SmallLogs base news.now }
     ensures { result ≡ in_eight (map (λ x. base + x.1 - x.0) (pairs (write_logs (mem_of given.entry)) news.now)) }
 {
-    let logs = swizzle_plan::logs::write_logs(given.memory, given.nets);
+    let logs = write_logs(given);
     let olds = lists::part(&logs, 0, net_memory::ports_used(given.memory.write_count));
     bits_of(base, olds, news)
 }
@@ -88,12 +99,11 @@ fn read_bits(given: Given<'_>, ports: &[u32], base: u32, news: &[u32]) -> [u32; 
 }
 
 // The mux bits that every port has: those that select among chunks, and the soft bits.
-fn shared_bits(m: Memory, s: MemorySwizzle) -> u32
-    ensures by_index { (es : List ℕ) → result ≡ chunk_mux_bits (layout_by (params_by m s) es) + soft_bits s.soft_addr_bits_mask }
+fn shared_bits(m: Memory, plan: Plan<'_>) -> u32
+    ensures by_index { (es : List ℕ) → result ≡ chunk_mux_bits (layout_by (params_by m plan.entry.swizzle) es) + soft_bits plan.entry.swizzle.soft_addr_bits_mask }
     ensures upper_bound { result ≤ 64 }
 {
-    swizzle_plan::params_of(m, s).chunk_mux_bits()
-        + image_geometry::soft_bits(s.soft_addr_bits_mask)
+    plan.params(m).chunk_mux_bits() + image_geometry::soft_bits(plan.swizzle.soft_addr_bits_mask)
 }
 
 // The mux bits of the write ports and of the listed read ports.
@@ -102,7 +112,7 @@ pub fn swizzle_mux_bits(given: Given<'_>, ports: &[u32], plan: Plan<'_>) -> Resu
     ensures { answer_by bits_of result ≡ in_arrays (swizzle_mux_bits_call (view_given given.entry) ports.now (view_plan plan.entry)) }
 {
     mux_refusal(given, ports, plan)?;
-    let base = shared_bits(given.memory, plan.swizzle);
+    let base = shared_bits(given.memory, plan);
     Ok(MuxBits {
         writes: write_bits(given, base, plan.writes),
         reads: read_bits(given, ports, base, plan.reads),
@@ -115,10 +125,7 @@ pub fn swizzle_depths(out: &mut [u32], given: Given<'_>, plan: Plan<'_>) -> Resu
     ensures { filled_with (number_of result) out.new ≡ swizzle_depths_call out.old (view_given given.entry) (view_plan plan.entry) }
 {
     swizzle_plan::planned_refusal(given, plan, false)?;
-    let layout = image_geometry::Layout {
-        params: swizzle_plan::params_of(given.memory, plan.swizzle),
-        entries: plan.entries,
-    };
+    let layout = plan.layout(given);
     layout.check_result()?;
     layout.depths(out)
 }

@@ -1,5 +1,5 @@
-// The split of a port's address: which bits go to the result's address and which to the mux address, how many pieces there are, and which bits
-// of a piece's number select a row.
+// The rows of a wide port (`rows_of`), and the split of a port's address: which bits go to the result's address and which to the mux address, how
+// many pieces there are, and which bits of a piece's number select a row.
 #![tactic(auto)]
 
 ghost use Rattle.std.specs.Prelude.{◌≡◌, ◌+◌, ◌-◌, ◌*◌, ◌/◌, ◌^◌, ◌<◌, ◌≤◌, length, set, List, ℕ, replicate};

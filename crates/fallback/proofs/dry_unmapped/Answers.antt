@@ -1,4 +1,5 @@
 -- `fallback::dry_unmapped` meets its contract.
+use native.Mathlib.Omega.{arith}
 use mathlib.Core.List.{[]}
 use lib.Seq.{sets}
 use Rattle.net_memory.specs.View.{memory_of}
@@ -13,6 +14,6 @@ pub returns : goal.returns
 returns c =
     let v = c.args in
     let e = c.emit_unmap_all in
-    let t = unmapped_all (memory_of v.given.memory v.given.nets.now v.given.trits.now) v.output.now (sets v.after.now 0 v.output.now) in
+    let t = unmapped_all (memory_of v.given.memory v.given.nets.now v.given.trits.now) v.output.now (sets v.room.now.outputs 0 v.output.now) in
     let g : Gave t (lent c.dry_start.result []) (lent e.new.log.state e.new.log.words.now) e.new.after = gave_unnamed 0 t _ _ _ e.ensures in
-    dry_done v.given.memory v.given.nets.now v.given.trits.now v.output.now v.st c.requires.0 v.after.now [] e.new.after c.dry_start.result e.new.log.state e.new.log.words.now c.requires.1 c.dry_start.ensures g
+    dry_done v.given.memory v.given.nets.now v.given.trits.now v.output.now v.st c.requires v.room.now.outputs [] e.new.after c.dry_start.result e.new.log.state e.new.log.words.now (omega arith) c.dry_start.ensures g

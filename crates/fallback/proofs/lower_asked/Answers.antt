@@ -1,5 +1,5 @@
 -- `fallback::lower_asked` meets its contract.
-use mathlib.Core.Path.{◌≡◌, refl, sym, ◌∙◌, subst}
+use mathlib.Core.Path.{◌≡◌, refl, sym, subst}
 use lib.ListN.{length}
 use Rattle.std.specs.Prelude.{Result, Err}
 use Rattle.std.proofs.Common.{rules}
@@ -18,17 +18,17 @@ returns-in_err-log_refusal c =
     let e = c.in_err-log_refusal.field-0.0 in
     let q : c.from_residual.result ≡ Err e = search rules in
     subst (λ (r : Result LogState Refusal). Lowers v.given.memory v.given.nets.now v.given.trits.now v.output.now v.st v.log.now v.tables.now (left_by v.st r) v.log.now v.tables.now) (sym q)
-    (kept_log v.given.memory v.given.nets.now v.given.trits.now v.output.now v.st v.log.now v.tables.now e c.requires.0 c.in_err-log_refusal.ensures)
+    (kept_log v.given.memory v.given.nets.now v.given.trits.now v.output.now v.st v.log.now v.tables.now e c.requires c.in_err-log_refusal.ensures)
 
 pub act-requires : goal.act-requires
 act-requires c =
     let v = c.args in
-    (sym (whole-log v.given.memory v.given.nets.now v.given.trits.now v.output.now v.st (length v.log.now) (length v.tables.now) c.requires.0.number c.requires.0.room 0 c.in_ok-log_refusal.ensures), c.dry_unmapped-dry.auto.after ∙ c.requires.1)
+    sym (whole-log v.given.memory v.given.nets.now v.given.trits.now v.output.now v.st (length v.log.now) (length v.tables.now) c.requires.number c.requires.room 0 c.in_ok-log_refusal.ensures)
 
 pub returns : goal.returns
 returns c =
     let v = c.args in
-    let z = whole-log v.given.memory v.given.nets.now v.given.trits.now v.output.now v.st (length v.log.now) (length v.tables.now) c.requires.0.number c.requires.0.room 0 c.in_ok-log_refusal.ensures in
+    let z = whole-log v.given.memory v.given.nets.now v.given.trits.now v.output.now v.st (length v.log.now) (length v.tables.now) c.requires.number c.requires.room 0 c.in_ok-log_refusal.ensures in
     record {
       number = z;
       refused = λ h. absurd (h refl);

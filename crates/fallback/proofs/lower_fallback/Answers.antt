@@ -1,11 +1,9 @@
 -- `fallback::lower_fallback` meets its contract.
 use mathlib.Core.Path.{◌≡◌, sym, subst}
-use Prim.Native.Nat.{ℕ}
 use native.Mathlib.Omega.{arith}
-use lib.ListN.{length, length-replicate}
+use lib.ListN.{length}
 use Rattle.std.specs.Prelude.{Result, Err}
 use Rattle.std.proofs.Common.{rules}
-use Rattle.rules.specs.Limits.{max_outputs}
 use Rattle.rules.specs.declared.numbers.Refusal.{Refusal}
 use Rattle.rules.specs.declared.numbers.Refusal.TheVariants.{NoRoom}
 use Rattle.log_entries.specs.declared.LogState.{LogState}
@@ -41,7 +39,7 @@ pub lower_asked-requires : goal.lower_asked-requires
 lower_asked-requires c =
     let v = c.args in
     let n = need_is v.given.memory v.given.nets.now v.given.trits.now c.scratch_need.result (writes_length v.given.memory _ c.well_formed.1.1.1.0.1.1.0 v.given.nets.now) c.scratch_need.ensures in
-    (record { number = sym c.in_ok-lower_refusal.ensures; room = omega (arith, n, c.if-scratch-scratch_need.false) }, length-replicate {A = ℕ} max_outputs 0)
+    record { number = sym c.in_ok-lower_refusal.ensures; room = omega (arith, n, c.if-scratch-scratch_need.false) }
 
 pub returns : goal.returns
 returns c =

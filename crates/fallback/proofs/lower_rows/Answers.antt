@@ -1,5 +1,4 @@
 -- `fallback::lower_rows` meets its contract.
-use mathlib.Core.Path.{refl}
 use mathlib.Core.List.{[]}
 use Rattle.std.specs.Prelude.{Ok}
 use Rattle.rules.specs.Fallback.{lower_rows}
@@ -18,7 +17,7 @@ pub split_rows-split-requires : goal.split_rows-split-requires
 split_rows-split-requires c =
     let v = c.args in
     let l = v.log.now in
-    (given_passes v.given.memory v.given.nets.now v.given.trits.now v.outs.now l.state l.words.now v.tables.now c.requires c.bare_memory.result c.bare_memory.ensures.value, given_thin v.given.memory v.given.nets.now v.given.trits.now v.outs.now l.state l.words.now v.tables.now c.requires c.bare_memory.result c.bare_memory.ensures.value, refl)
+    (given_passes v.given.memory v.given.nets.now v.given.trits.now v.outs.now l.state l.words.now v.tables.now c.requires c.bare_memory.result c.bare_memory.ensures.value, given_thin v.given.memory v.given.nets.now v.given.trits.now v.outs.now l.state l.words.now v.tables.now c.requires c.bare_memory.result c.bare_memory.ensures.value)
 
 pub returns-in_default : goal.returns-in_default
 returns-in_default c = absurd (number_nonzero c.in_default.field-0 c.in_default.ensures.passed)

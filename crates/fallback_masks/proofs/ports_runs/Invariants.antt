@@ -6,4 +6,4 @@ use Rattle.fallback_masks.proofs.Numbers.{Summing}
 use Rattle.fallback_masks.proofs.ports_runs.Given as goal
 
 abbrev pub invariant-loop-i : goal.invariant-loop-i
-invariant-loop-i l = (l.i ≤ l.count) × (l.runs ≤ l.i * port_most) × Summing (runs_by_of l.depth l.m.width l.rows) (writes_of l.m l.nets) l.runs l.i
+invariant-loop-i l = (l.runs ≤ l.i * port_most) × Summing (runs_by_of l.fn.depth l.fn.given.memory.width l.fn.rows) (writes_of l.fn.given.memory l.fn.given.nets.now) l.runs l.i

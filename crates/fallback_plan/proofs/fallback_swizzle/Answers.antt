@@ -2,7 +2,7 @@
 use mathlib.Core.Path.{refl}
 use native.Mathlib.Omega.{arith}
 use Rattle.net_memory.proofs.Sized.{writes_length, reads_length}
-use Rattle.fallback_plan.proofs.Logs.{plan_is}
+use Rattle.fallback_plan.proofs.Logs.{plan_is, most_is}
 use Rattle.fallback_plan.proofs.fallback_swizzle.Goals as goal
 
 pub overflow_sub-result : goal.overflow_sub-result
@@ -13,5 +13,6 @@ overflow_cast-result c = omega (arith, c.two_to-rows.ensures.most)
 
 pub returns : goal.returns
 returns c =
-    let v = c.args in
-    λ trits. plan_is v.m v.nets.now trits _ c.max_wide-k.result c.two_to-rows.result (c.max_wide-k.ensures trits) c.two_to-rows.ensures.value refl refl refl (writes_length v.m _ c.well_formed.0 v.nets.now) (reads_length v.m _ c.well_formed.0 v.nets.now trits)
+    let g = c.args.given in
+    let k = most_is g.memory g.nets.now g.trits.now _ _ _ c.largest_write.ensures (c.largest_read.ensures g.nets.now g.trits.now) c.max-widest.ensures in
+    plan_is g.memory g.nets.now g.trits.now _ _ c.two_to-rows.result k c.two_to-rows.ensures.value refl refl refl (writes_length g.memory _ c.well_formed.0.1.1.0 g.nets.now) (reads_length g.memory _ c.well_formed.0.1.1.0 g.nets.now g.trits.now)

@@ -4,5 +4,5 @@ use mathlib.Core.List.{List}
 use Rattle.fallback_plan.proofs.Logs.{Most, read_logs}
 use Rattle.fallback_plan.proofs.largest_read.Given as goal
 
-abbrev pub invariant-loop-i : goal.invariant-loop-i
-invariant-loop-i l = (nets trits : List ℕ) → Most (read_logs l.m nets trits) l.i l.most
+abbrev pub invariant-loop-port : goal.invariant-loop-port
+invariant-loop-port l = (nets trits : List ℕ) → Most (read_logs l.fn.m nets trits) l.port l.most

@@ -42,9 +42,9 @@ returns-clause-acted c =
     let mem = memory_of v.given.memory v.given.nets.now v.given.trits.now in
     let plan = plan_of v.plan.swizzle v.plan.entries.now v.plan.writes.now v.plan.reads.now in
     let e = c.emit_rows in
-    let p = c.layout_for-q in
+    let p = c.layout-q in
     let x = layout_by p.result.params p.result.entries.now in
-    let q = p.ensures in
+    let q = p.ensures.layout in
     ran_acted (rooms_of c.requires.passed.image v.made.now.nets.now v.made.now.trits.now v.scratch.now) (length v.log.now.words.now) v.log.now.state v.given.memory v.given.nets.now v.given.trits.now v.output.now plan c.requires.passed.zero (λ f. c.if-given-eq0.false (sym (mem_width v.given.memory v.given.nets.now v.given.trits.now) ∙ f)) (λ f. c.if-given-eq0-2.false (sym (mem_depth_lem v.given.memory v.given.nets.now v.given.trits.now) ∙ f)) (writes_length v.given.memory _ c.well_formed.1.1.1.0.1.1.0 v.given.nets.now) (reads_length v.given.memory _ c.well_formed.1.1.1.0.1.1.0 v.given.nets.now v.given.trits.now) v.log.now.words.now v.made.now.nets.now v.made.now.trits.now v.log.now.words.ghost_name refl refl (length v.scratch.now) refl v.made.now.nets_at v.made.now.trits_at v.made.now.memory (going_of e.new.log e.new.made) x q e.ensures.rows_ran
 
 pub returns-clause-scratch_unchanged : goal.returns-clause-scratch_unchanged
@@ -53,9 +53,9 @@ returns-clause-scratch_unchanged c =
     let mem = memory_of v.given.memory v.given.nets.now v.given.trits.now in
     let plan = plan_of v.plan.swizzle v.plan.entries.now v.plan.writes.now v.plan.reads.now in
     let e = c.emit_rows in
-    let p = c.layout_for-q in
+    let p = c.layout-q in
     let x = layout_by p.result.params p.result.entries.now in
-    let q = p.ensures in
+    let q = p.ensures.layout in
     scratch_kept (rooms_of c.requires.passed.image v.made.now.nets.now v.made.now.trits.now v.scratch.now) (length v.log.now.words.now) v.log.now.state v.given.memory v.given.nets.now v.given.trits.now v.output.now plan c.requires.passed.zero (λ f. c.if-given-eq0.false (sym (mem_width v.given.memory v.given.nets.now v.given.trits.now) ∙ f)) (λ f. c.if-given-eq0-2.false (sym (mem_depth_lem v.given.memory v.given.nets.now v.given.trits.now) ∙ f)) (writes_length v.given.memory _ c.well_formed.1.1.1.0.1.1.0 v.given.nets.now) (reads_length v.given.memory _ c.well_formed.1.1.1.0.1.1.0 v.given.nets.now v.given.trits.now) x q v.scratch.now e.new.scratch e.ensures.all_kept
 
 pub returns-clause-holds_ports : goal.returns-clause-holds_ports
@@ -64,7 +64,7 @@ returns-clause-holds_ports c =
     let mem = memory_of v.given.memory v.given.nets.now v.given.trits.now in
     let plan = plan_of v.plan.swizzle v.plan.entries.now v.plan.writes.now v.plan.reads.now in
     let e = c.emit_rows in
-    let p = c.layout_for-q in
+    let p = c.layout-q in
     let x = layout_by p.result.params p.result.entries.now in
-    let q = p.ensures in
+    let q = p.ensures.layout in
     λ w d. ran_ports (rooms_of c.requires.passed.image v.made.now.nets.now v.made.now.trits.now v.scratch.now) (length v.log.now.words.now) v.log.now.state v.given.memory v.given.nets.now v.given.trits.now v.output.now plan c.requires.passed.zero (λ f. c.if-given-eq0.false (sym (mem_width v.given.memory v.given.nets.now v.given.trits.now) ∙ f)) (λ f. c.if-given-eq0-2.false (sym (mem_depth_lem v.given.memory v.given.nets.now v.given.trits.now) ∙ f)) (writes_length v.given.memory _ c.well_formed.1.1.1.0.1.1.0 v.given.nets.now) (reads_length v.given.memory _ c.well_formed.1.1.1.0.1.1.0 v.given.nets.now v.given.trits.now) v.log.now.words.now v.made.now.nets.now v.made.now.trits.now v.log.now.words.ghost_name refl refl (length v.scratch.now) refl v.made.now.nets_at v.made.now.trits_at v.made.now.memory (going_of e.new.log e.new.made) x q e.ensures.rows_ran

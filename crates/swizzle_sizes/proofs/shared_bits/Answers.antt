@@ -6,8 +6,8 @@ use Rattle.swizzle_sizes.proofs.shared_bits.Goals as goal
 
 pub overflow_add-result : goal.overflow_add-result
 overflow_add-result c =
-    omega (arith, c.chunk_mux_bits.ensures [], chunk_small (layout_by c.params_of.result []), c.soft_bits.ensures, soft_small c.args.s.soft_addr_bits_mask)
+    omega (arith, c.chunk_mux_bits.ensures [], chunk_small (layout_by c.params.result []), c.soft_bits.ensures, soft_small c.args.plan.swizzle.soft_addr_bits_mask)
 
 pub returns-clause-upper_bound : goal.returns-clause-upper_bound
 returns-clause-upper_bound c =
-    omega (arith, c.chunk_mux_bits.ensures [], chunk_small (layout_by c.params_of.result []), c.soft_bits.ensures, soft_small c.args.s.soft_addr_bits_mask)
+    omega (arith, c.chunk_mux_bits.ensures [], chunk_small (layout_by c.params.result []), c.soft_bits.ensures, soft_small c.args.plan.swizzle.soft_addr_bits_mask)

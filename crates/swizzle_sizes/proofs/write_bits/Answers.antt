@@ -19,5 +19,5 @@ returns c =
     let n = writes_length g.memory _ c.well_formed.0.1.1.0 g.nets.now in
     let L = write_logs (mem_of g) in
     let k = logs_length g.memory g.nets.now g.trits.now in
-    let x = c.part-olds.ensures.part ∙ first_part (replicate 8 0) _ L _ (c.write_logs-logs.ensures g.trits.now) (c.ports_used.ensures.0 ∙ sym (k ∙ n)) (omega (arith, k, n)) in
+    let x = c.part-olds.ensures.part ∙ first_part (replicate 8 0) _ L _ c.write_logs-logs.ensures (c.ports_used.ensures.0 ∙ sym (k ∙ n)) (omega (arith, k, n)) in
     c.bits_of.ensures ∙ ap (λ (l : List ℕ). in_eight (map (λ (x : ℕ × ℕ). v.base + x.1 - x.0) (pairs l v.news.now))) x

@@ -1,15 +1,13 @@
 -- `swizzle_plan::logs::reads_bad` meets its contract.
-use Rattle.net_memory.specs.View.{memory_of}
-use Rattle.swizzle_plan.specs.Calls.{plan_of}
-use Rattle.swizzle_plan.proofs.WideLogs.{reads_len, reads_by}
+use Rattle.std.proofs.Common.{ℕ, ◌∙◌, rules}
+use Rattle.rules.specs.Cell.{read_wide_log2, read_at_of}
+use Rattle.net_memory.specs.Given.{mem_of}
+use Rattle.swizzle_plan.specs.Calls.{view_plan}
+use Rattle.swizzle_plan.proofs.WideLogs.{reads_form}
 use Rattle.swizzle_plan.proofs.logs.reads_bad.Goals as goal
 
-pub returns-then-plan-ports : goal.returns-then-plan-ports
-returns-then-plan-ports c nets trits es ws =
-    let v = c.args in
-    reads_len (plan_of v.plan.swizzle es ws v.plan.reads.now) (memory_of v.given.memory nets trits) v.ports.now c.if-plan-ports.true
-
 pub returns : goal.returns
-returns c nets trits es ws =
-    let v = c.args in
-    reads_by (plan_of v.plan.swizzle es ws v.plan.reads.now) (memory_of v.given.memory nets trits) v.ports.now c.if-plan-ports.false _ (c.listed_bad.ensures nets trits es ws)
+returns c =
+    let m = mem_of c.args.given in
+    c.wides_bad.ensures (λ (i : ℕ). read_wide_log2 m (read_at_of m i)) (λ x r q. search rules)
+    ∙ reads_form m (view_plan c.args.plan) c.args.ports.now
