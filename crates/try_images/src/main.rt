@@ -6,26 +6,14 @@ use image_geometry::{Layout, Params};
 use image_patches::Calls;
 use image_state::Laid;
 use rules::number_of;
-use std::io;
+use std::{fmt, io};
 
-fn number(rt: &impl Print, n: u64) -> io::Result<()> {
-    rt.print(" ")?;
-    rt.print(n)
-}
-
-fn text(rt: &impl Print, s: &str) -> io::Result<()> {
-    rt.print(s)
-}
-
-fn line(rt: &impl Print) -> io::Result<()> {
-    rt.print("\n")
-}
-
-fn list_of<T: Copy + Into<u64>>(rt: &impl Print, s: &[T]) -> io::Result<()> {
+// The rest of a line: each element after a space.
+fn list_of<T: fmt::Display>(rt: &impl Print, s: &[T]) -> io::Result<()> {
     for x in s {
-        number(rt, (*x).into())?;
+        print!(rt; " {x}")?;
     }
-    line(rt)
+    println!(rt)
 }
 
 // How many bytes of `a` from `from` on differ from those of `b`.
@@ -42,24 +30,16 @@ fn differing(a: &[u8], b: &[u8], from: usize) -> u64 {
 // The sizes of a layout.
 fn sizes(rt: &impl Print, layout: Layout<'_>) -> io::Result<()> {
     match layout.measure() {
-        Err(refusal) => {
-            text(rt, "sizes refused")?;
-            number(rt, u64::from(refusal.number()))?;
-        }
+        Err(refusal) => print!(rt; "sizes refused {}", refusal.number())?,
         Ok(s) => {
-            text(rt, "sizes")?;
-            number(rt, s.full_mems)?;
-            number(rt, s.all_mems)?;
-            number(rt, s.full_depth)?;
-            number(rt, s.part_depth)?;
-            number(rt, s.columns)?;
-            number(rt, s.trits)?;
-            number(rt, s.image_size)?;
+            print!(rt; "sizes {} {} {}", s.full_mems, s.all_mems, s.full_depth)?;
+            print!(rt;
+                " {} {} {} {}",
+                s.part_depth, s.columns, s.trits, s.image_size
+            )?;
         }
     }
-    text(rt, " mux")?;
-    number(rt, u64::from(layout.params.chunk_mux_bits()))?;
-    line(rt)
+    println!(rt; " mux {}", layout.params.chunk_mux_bits())
 }
 
 // The tests of numbers 7, 8 and 10.
@@ -67,73 +47,47 @@ fn tests(rt: &impl Print, layout: Layout<'_>) -> io::Result<()> {
     let p = layout.params;
     let entries = number_of(image_check::check_entries(p.width, layout.entries));
     let mask = number_of(image_geometry::check_soft_mask(p.depth, p.soft_mask));
-    text(rt, "tests")?;
-    number(rt, u64::from(entries))?;
-    number(rt, u64::from(mask))?;
-    number(rt, u64::from(number_of(layout.check_result())))?;
-    line(rt)
+    println!(rt;
+        "tests {entries} {mask} {}",
+        number_of(layout.check_result())
+    )
 }
 
 // The depths, into six words that hold 77.
 fn depths(rt: &impl Print, layout: Layout<'_>) -> io::Result<()> {
     let mut out = [77u32; 6];
-    text(rt, "depths")?;
-    number(rt, u64::from(number_of(layout.depths(&mut out))))?;
-    text(rt, " |")?;
+    print!(rt; "depths {} |", number_of(layout.depths(&mut out)))?;
     list_of(rt, &out)
 }
 
 // The place of an entry.
 fn place(rt: &impl Print, layout: Layout<'_>, row: u32, entry: usize) -> io::Result<()> {
-    text(rt, "place")?;
-    number(rt, u64::from(row))?;
-    number(rt, entry as u64)?;
+    print!(rt; "place {row} {entry}")?;
     match image_rows::place_of(layout, row, entry) {
-        Err(refusal) => {
-            text(rt, " refused")?;
-            number(rt, u64::from(refusal.number()))?;
-        }
-        Ok(q) => {
-            text(rt, " at")?;
-            number(rt, q.memory)?;
-            number(rt, q.row)?;
-            number(rt, q.bit)?;
-            number(rt, q.index)?;
-        }
+        Err(refusal) => println!(rt; " refused {}", refusal.number()),
+        Ok(q) => println!(rt; " at {} {} {} {}", q.memory, q.row, q.bit, q.index),
     }
-    line(rt)
 }
 
 // A row read back, into six bytes that hold 9.
 fn read(rt: &impl Print, laid: &Laid, image: &[u8], row: u32) -> io::Result<()> {
     let mut room = [9u8; 6];
-    text(rt, "read")?;
-    number(rt, u64::from(row))?;
-    number(
-        rt,
-        u64::from(number_of(laid.read_row(&mut room, image, row))),
+    print!(rt;
+        "read {row} {} |",
+        number_of(laid.read_row(&mut room, image, row))
     )?;
-    text(rt, " |")?;
     list_of(rt, &room)
 }
 
 // The record's sizes.
 fn record_sizes(rt: &impl Print, laid: &Laid) -> io::Result<()> {
-    text(rt, "record")?;
     match laid.sizes() {
-        Err(refusal) => {
-            text(rt, " refused")?;
-            number(rt, u64::from(refusal.number()))?;
-        }
+        Err(refusal) => println!(rt; "record refused {}", refusal.number()),
         Ok(z) => {
-            number(rt, u64::from(z.unit))?;
-            number(rt, u64::from(z.full))?;
-            number(rt, u64::from(z.full_depth))?;
-            number(rt, u64::from(z.partial))?;
-            number(rt, u64::from(z.partial_depth))?;
+            print!(rt; "record {} {} {}", z.unit, z.full, z.full_depth)?;
+            println!(rt; " {} {}", z.partial, z.partial_depth)
         }
     }
-    line(rt)
 }
 
 // Every row below n.
@@ -160,13 +114,9 @@ fn patch(
 ) -> io::Result<()> {
     let before = *image;
     let n = number_of(laid.patch(image, row, with));
-    text(rt, "patch")?;
-    number(rt, u64::from(row))?;
-    number(rt, u64::from(n))?;
-    text(rt, " changed")?;
-    number(rt, differing(&before, image, 0))?;
-    number(rt, differing(&before, image, size))?;
-    line(rt)
+    let all = differing(&before, image, 0);
+    let past = differing(&before, image, size);
+    println!(rt; "patch {row} {n} changed {all} {past}")
 }
 
 // The places of a row's entries.
@@ -195,9 +145,7 @@ fn show(rt: &impl Print, layout: Layout<'_>) -> io::Result<()> {
 // The rows laid out in 40 bytes that hold 7.
 fn lay(rt: &impl Print, laid: &Laid, rows: &[u8]) -> io::Result<[u8; 40]> {
     let mut image = [7u8; 40];
-    text(rt, "fill")?;
-    number(rt, u64::from(number_of(laid.fill(&mut image, rows))))?;
-    text(rt, " |")?;
+    print!(rt; "fill {} |", number_of(laid.fill(&mut image, rows)))?;
     list_of(rt, &image)?;
     Ok(image)
 }
@@ -205,9 +153,7 @@ fn lay(rt: &impl Print, laid: &Laid, rows: &[u8]) -> io::Result<[u8; 40]> {
 // The rows laid out in five bytes that hold 7, which are too few.
 fn lay_short(rt: &impl Print, laid: &Laid, rows: &[u8]) -> io::Result<()> {
     let mut image = [7u8; 5];
-    text(rt, "fill")?;
-    number(rt, u64::from(number_of(laid.fill(&mut image, rows))))?;
-    text(rt, " |")?;
+    print!(rt; "fill {} |", number_of(laid.fill(&mut image, rows)))?;
     list_of(rt, &image)
 }
 
@@ -230,13 +176,7 @@ fn layout<'a>(
     unit: u32,
     entries: &'a [u32],
 ) -> io::Result<Layout<'a>> {
-    text(rt, "layout")?;
-    number(rt, u64::from(depth))?;
-    number(rt, u64::from(width))?;
-    number(rt, u64::from(soft_mask))?;
-    number(rt, u64::from(hard))?;
-    number(rt, u64::from(unit))?;
-    line(rt)?;
+    println!(rt; "layout {depth} {width} {soft_mask} {hard} {unit}")?;
     let params = Params {
         depth,
         width,
@@ -316,45 +256,30 @@ fn seven_calls() -> [u32; 28] {
     ]
 }
 
-// The rows laid out and the calls: the answer, the numbers and the image.
-fn list(
-    rt: &impl Print,
-    image: &mut [u8; 40],
-    numbers: &mut [u32],
-    laid: &Laid,
-    rows: &[u8],
-) -> io::Result<()> {
-    let calls = seven_calls();
-    let all = [1u8, 1, 1, 0, 2, 0, 2, 1, 0, 0, 0, 0];
-    text(rt, "list")?;
-    let list = Calls {
-        words: &calls,
-        trits: &all,
-    };
-    let n = image_patches::fill_then_patch(image, numbers, laid.layout(), rows, list);
-    number(rt, u64::from(number_of(n)))?;
-    text(rt, " |")?;
-    list_of(rt, numbers)?;
-    list_of(rt, image)
-}
-
-// The calls alone.
+// The calls, after the rows are laid out where there are some: the answer, the numbers and the image.
 fn calls(
     rt: &impl Print,
     image: &mut [u8; 40],
     numbers: &mut [u32],
     laid: &Laid,
+    rows: Option<&[u8]>,
 ) -> io::Result<()> {
-    let calls = seven_calls();
-    let all = [1u8, 1, 1, 0, 2, 0, 2, 1, 0, 0, 0, 0];
-    text(rt, "calls")?;
     let list = Calls {
-        words: &calls,
-        trits: &all,
+        words: &seven_calls(),
+        trits: &[1u8, 1, 1, 0, 2, 0, 2, 1, 0, 0, 0, 0],
     };
-    let n = image_patches::patch_each(image, numbers, laid.layout(), list);
-    number(rt, u64::from(number_of(n)))?;
-    text(rt, " |")?;
+    let layout = laid.layout();
+    let (name, answer) = match rows {
+        Some(rows) => (
+            "list",
+            image_patches::fill_then_patch(image, numbers, layout, rows, list),
+        ),
+        None => (
+            "calls",
+            image_patches::patch_each(image, numbers, layout, list),
+        ),
+    };
+    print!(rt; "{name} {} |", number_of(answer))?;
     list_of(rt, numbers)?;
     list_of(rt, image)
 }
@@ -364,15 +289,21 @@ fn lists_of_calls(rt: &impl Print) -> io::Result<()> {
     let entries = [2u32, rules::NO_BIT, 0, 1];
     let laid = Laid::laid_out(layout(rt, 6, 3, 1, 1, 3, &entries)?);
     let mut image = [7u8; 40];
-    list(rt, &mut image, &mut [77u32; 6], &laid, &[2u8; 18])?;
-    calls(rt, &mut image, &mut [77u32; 6], &laid)?;
-    list(rt, &mut image, &mut [77u32; 9], &laid, &[2u8; 18])?;
+    calls(rt, &mut image, &mut [77u32; 6], &laid, Some(&[2u8; 18]))?;
+    calls(rt, &mut image, &mut [77u32; 6], &laid, None)?;
+    calls(rt, &mut image, &mut [77u32; 9], &laid, Some(&[2u8; 18]))?;
     read_rows(rt, &laid, &image, 6)?;
-    list(rt, &mut image, &mut [77u32; 9], &laid, &[2u8; 17])?;
-    list(rt, &mut image, &mut [77u32; 6], &laid, &[3u8; 18])?;
-    calls(rt, &mut [7u8; 40], &mut [77u32; 7], &laid)?;
-    list(rt, &mut image, &mut [77u32; 6], &Laid::unset(), &[2u8; 18])?;
-    calls(rt, &mut image, &mut [77u32; 9], &Laid::unset())
+    calls(rt, &mut image, &mut [77u32; 9], &laid, Some(&[2u8; 17]))?;
+    calls(rt, &mut image, &mut [77u32; 6], &laid, Some(&[3u8; 18]))?;
+    calls(rt, &mut [7u8; 40], &mut [77u32; 7], &laid, None)?;
+    calls(
+        rt,
+        &mut image,
+        &mut [77u32; 6],
+        &Laid::unset(),
+        Some(&[2u8; 18]),
+    )?;
+    calls(rt, &mut image, &mut [77u32; 9], &Laid::unset(), None)
 }
 
 // A state that no swizzle handed on.

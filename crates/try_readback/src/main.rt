@@ -2,30 +2,16 @@
 #![tactic(auto)]
 
 use std::io;
-use table_read::Fault;
 use table_readback::Refused;
-
-fn write_fault(rt: &impl Print, fault: Fault) -> io::Result<()> {
-    rt.print("line ")?;
-    rt.print(fault.line)?;
-    rt.print(" reason ")?;
-    rt.print(fault.reason.number())?;
-    rt.print("\n")
-}
 
 fn write_answer(rt: &impl Print, out: &[u8], answer: Result<usize, Refused>) -> io::Result<()> {
     match answer {
         Ok(size) => rt.write_all(lists::part(out, 0, size)),
-        Err(Refused::Text(fault)) => write_fault(rt, fault),
-        Err(Refused::Table(fault)) => {
-            rt.print("table ")?;
-            write_fault(rt, fault)
+        Err(Refused::Text(f)) => println!(rt; "line {} reason {}", f.line, f.reason.number()),
+        Err(Refused::Table(f)) => {
+            println!(rt; "table line {} reason {}", f.line, f.reason.number())
         }
-        Err(Refused::Call(refusal)) => {
-            rt.print("refused ")?;
-            rt.print(refusal.number())?;
-            rt.print("\n")
-        }
+        Err(Refused::Call(refusal)) => println!(rt; "refused {}", refusal.number()),
     }
 }
 

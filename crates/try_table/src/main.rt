@@ -6,22 +6,10 @@ use table_record::Refused;
 
 fn write_answer(rt: &impl Print, answer: Result<usize, Refused>) -> io::Result<()> {
     match answer {
-        Ok(size) => {
-            rt.print("bytes ")?;
-            rt.print(size)?
-        }
-        Err(Refused::Text(fault)) => {
-            rt.print("line ")?;
-            rt.print(fault.line)?;
-            rt.print(" reason ")?;
-            rt.print(fault.reason.number())?
-        }
-        Err(Refused::Call(refusal)) => {
-            rt.print("refused ")?;
-            rt.print(refusal.number())?
-        }
+        Ok(size) => println!(rt; "bytes {size}"),
+        Err(Refused::Text(f)) => println!(rt; "line {} reason {}", f.line, f.reason.number()),
+        Err(Refused::Call(refusal)) => println!(rt; "refused {}", refusal.number()),
     }
-    rt.print("\n")
 }
 
 fn tried(rt: &impl Print, text: &[u8]) -> io::Result<()> {
