@@ -25,19 +25,13 @@ fn given(rt: &impl Print, before: u64, input: &[u8]) -> io::Result<()> {
     Ok(())
 }
 
-fn say(rt: &impl Print, text: &str) -> io::Result<()> {
-    rt.print(text)
-}
-
 fn refused(rt: &impl Print, refusal: Refusal, kept: bool) -> io::Result<()> {
-    say(rt, " refused ")?;
-    rt.print(refusal.number())?;
+    print!(rt; " refused {}", refusal.number())?;
     say_if(rt, kept, " kept\n", " CHANGED\n")
 }
 
 fn done(rt: &impl Print, n: usize, same: bool, kept: bool) -> io::Result<()> {
-    say(rt, " gives ")?;
-    rt.print(n)?;
+    print!(rt; " gives {n}")?;
     say_if(rt, same, " same", " DIFFERENT")?;
     say_if(rt, kept, " kept\n", " CHANGED\n")
 }
@@ -53,7 +47,7 @@ fn write(
     want: &[u8],
 ) -> io::Result<()> {
     let before = sum_of(image);
-    say(rt, name)?;
+    rt.print(name)?;
     paint(out);
     match record_codec::write_record(out, s, image) {
         Err(refusal) => refused(rt, refusal, painted(out, 0))?,
@@ -71,7 +65,7 @@ fn read(
     want: &[u8],
 ) -> io::Result<()> {
     let before = sum_of(bytes);
-    say(rt, name)?;
+    rt.print(name)?;
     paint(image);
     match record_codec::read_record(image, bytes) {
         Err(refusal) => refused(rt, refusal, painted(image, 0))?,
@@ -89,13 +83,13 @@ fn read_done(rt: &impl Print, same: bool, image: &[u8], want: &[u8]) -> io::Resu
             painted(image, want.len()),
         )
     } else {
-        say(rt, " OTHER SIZES\n")
+        println!(rt; " OTHER SIZES")
     }
 }
 
 fn head(rt: &impl Print, name: &str, first: &[u8], total: usize, s: Sizes) -> io::Result<()> {
     let before = sum_of(first);
-    say(rt, name)?;
+    rt.print(name)?;
     match record_codec::record_header(first, total) {
         Err(refusal) => refused(rt, refusal, true)?,
         Ok(z) => done(rt, total, z == s, true)?,
@@ -105,7 +99,7 @@ fn head(rt: &impl Print, name: &str, first: &[u8], total: usize, s: Sizes) -> io
 
 fn summarize(rt: &impl Print, name: &str, s: Sizes, image: &[u8], index: usize) -> io::Result<()> {
     let before = sum_of(image);
-    say(rt, name)?;
+    rt.print(name)?;
     match record_listing::summary::memory_summary(s, image, index) {
         Err(refusal) => refused(rt, refusal, true)?,
         Ok(y) => show(rt, y)?,
@@ -113,33 +107,24 @@ fn summarize(rt: &impl Print, name: &str, s: Sizes, image: &[u8], index: usize) 
     given(rt, before, image)
 }
 
-fn show_number(rt: &impl Print, n: usize) -> io::Result<()> {
-    say(rt, " ")?;
-    rt.print(n)
-}
-
 fn show(rt: &impl Print, y: Summary) -> io::Result<()> {
-    show_number(rt, y.index)?;
-    show_number(rt, y.depth)?;
-    show_number(rt, y.known)?;
-    show_number(rt, y.ones)?;
-    say(rt, "\n")
+    println!(rt; " {} {} {} {}", y.index, y.depth, y.known, y.ones)
 }
 
 fn show_trit(rt: &impl Print, trit: Option<u8>) -> io::Result<()> {
     match trit {
-        Some(code) => show_number(rt, code as usize),
-        None => say(rt, " end"),
+        Some(code) => print!(rt; " {code}"),
+        None => print!(rt; " end"),
     }
 }
 
 fn take_two(rt: &impl Print, name: &str, bytes: &[u8]) -> io::Result<()> {
     let before = sum_of(bytes);
-    say(rt, name)?;
+    rt.print(name)?;
     let taken = FirstTrits::of(bytes);
     show_trit(rt, taken.first)?;
     show_trit(rt, taken.second)?;
-    say(rt, "\n")?;
+    println!(rt)?;
     given(rt, before, bytes)
 }
 
@@ -440,7 +425,7 @@ const DEEP: Sizes = Sizes {
 // All its bytes are those that are wanted.
 fn whole_record(rt: &impl Print, bytes: &[u8]) -> io::Result<()> {
     let sum = sum_of(lists::part(bytes, 0, rules::MAX_RECORD));
-    say(rt, "its bytes")?;
+    rt.print("its bytes")?;
     say_if(rt, sum == LARGEST_SUM, " same\n", " DIFFERENT\n")
 }
 
