@@ -1,6 +1,7 @@
 // Trits and constants. The room that is lent holds 201 to 210 before each call.
 use net_logic::Trit;
-use rules::{Refusal, number_of};
+use rules::Refusal;
+use rules::Refusal::{BadShape, BadValue, NoRoom, OutOfRange};
 use try_kit::tally::{Tally, add};
 
 fn code_case(t: Tally, code: u8, want: Result<Trit, Refusal>, back: u8) -> Tally {
@@ -12,8 +13,8 @@ pub(crate) fn codes(t: Tally) -> Tally {
     let t = code_case(t, 0, Ok(Trit::Zero), 0);
     let t = code_case(t, 1, Ok(Trit::One), 1);
     let t = code_case(t, 2, Ok(Trit::Undef), 2);
-    let t = code_case(t, 3, Err(Refusal::BadValue), 2);
-    code_case(t, 255, Err(Refusal::BadValue), 2)
+    let t = code_case(t, 3, Err(BadValue), 2);
+    code_case(t, 255, Err(BadValue), 2)
 }
 
 // One line of each table, by codes: not a, a and b, a or b.
@@ -48,41 +49,50 @@ pub(crate) fn undefs(t: Tally) -> Tally {
     let t = undef_case(t, b"\x02\x02", Ok(true), true, true);
     let t = undef_case(t, b"\x02\x01", Ok(false), false, true);
     let t = undef_case(t, b"\x00", Ok(false), false, true);
-    let t = undef_case(t, b"\x02\x03", Err(Refusal::BadValue), false, false);
-    undef_case(t, b"\xff", Err(Refusal::BadValue), false, false)
+    let t = undef_case(t, b"\x02\x03", Err(BadValue), false, false);
+    undef_case(t, b"\xff", Err(BadValue), false, false)
 }
 
 // A part of 0 1 2 1 0.
-fn slice_case(t: Tally, start: usize, end: usize, number: u32, want: &[u8]) -> Tally {
+fn slice_case(
+    t: Tally,
+    start: usize,
+    end: usize,
+    answer: Result<(), Refusal>,
+    want: &[u8],
+) -> Tally {
     let a = [0u8, 1, 2, 1, 0];
-    let t = add(
-        t,
-        number_of(net_logic::slice_refusal(start, end, 5)) == number,
-    );
+    let t = add(t, net_logic::slice_refusal(start, end, 5) == answer);
     add(t, net_logic::const_slice(&a, start, end) == want)
 }
 
 pub(crate) fn slices(t: Tally) -> Tally {
-    let t = slice_case(t, 0, 5, 0, b"\x00\x01\x02\x01\x00");
-    let t = slice_case(t, 1, 3, 0, b"\x01\x02");
-    let t = slice_case(t, 0, 0, 0, b"");
-    let t = slice_case(t, 5, 5, 0, b"");
-    let t = slice_case(t, 3, 1, 15, b"");
-    let t = slice_case(t, 0, 6, 15, b"");
-    let t = slice_case(t, 6, 6, 15, b"");
-    slice_case(t, 0, 18446744073709551615, 15, b"")
+    let t = slice_case(t, 0, 5, Ok(()), b"\x00\x01\x02\x01\x00");
+    let t = slice_case(t, 1, 3, Ok(()), b"\x01\x02");
+    let t = slice_case(t, 0, 0, Ok(()), b"");
+    let t = slice_case(t, 5, 5, Ok(()), b"");
+    let t = slice_case(t, 3, 1, Err(OutOfRange), b"");
+    let t = slice_case(t, 0, 6, Err(OutOfRange), b"");
+    let t = slice_case(t, 6, 6, Err(OutOfRange), b"");
+    slice_case(t, 0, 18446744073709551615, Err(OutOfRange), b"")
 }
 
-// The whole room after a call.
-fn holds(room: &[u8; 10], want: &[u8]) -> bool {
-    room.as_slice() == want
-}
-
-fn not_case(t: Tally, a: &[u8], number: u32, want: &[u8]) -> Tally {
+// A call's answer, and the whole room after it.
+fn room_case<F: Fn(&mut [u8]) -> Result<(), Refusal>>(
+    t: Tally,
+    call: F,
+    answer: Result<(), Refusal>,
+    want: &[u8],
+) -> Tally
+    requires { F.IsAlwaysCallable call }
+{
     let mut room = [201u8, 202, 203, 204, 205, 206, 207, 208, 209, 210];
-    let n = number_of(net_logic::const_not(&mut room, a));
-    let t = add(t, n == number);
-    add(t, holds(&room, want))
+    let t = add(t, call(&mut room) == answer);
+    add(t, &room[..] == want)
+}
+
+fn not_case(t: Tally, a: &[u8], answer: Result<(), Refusal>, want: &[u8]) -> Tally {
+    room_case(t, |room| net_logic::const_not(room, a), answer, want)
 }
 
 // Constants shorter than the room, as long, one trit longer and empty; bad codes, also where the room is short.
@@ -91,87 +101,105 @@ pub(crate) fn nots(t: Tally) -> Tally {
     let t = not_case(
         t,
         b"\x00\x01\x02",
-        0,
+        Ok(()),
         b"\x01\x00\x02\xcc\xcd\xce\xcf\xd0\xd1\xd2",
     );
     let t = not_case(
         t,
         b"\x00\x01\x02\x00\x00\x00\x00\x00\x00\x01",
-        0,
+        Ok(()),
         b"\x01\x00\x02\x01\x01\x01\x01\x01\x01\x00",
     );
     let t = not_case(
         t,
         b"\x00\x01\x02\x00\x00\x00\x00\x00\x00\x01\x01",
-        20,
+        Err(NoRoom),
         &kept,
     );
-    let t = not_case(t, b"", 0, &kept);
-    let t = not_case(t, b"\x00\x01\x03", 4, &kept);
-    let t = not_case(t, b"\xff", 4, &kept);
-    not_case(t, b"\x00\x01\x02\x00\x00\x00\x00\x00\x00\x01\x03", 4, &kept)
+    let t = not_case(t, b"", Ok(()), &kept);
+    let t = not_case(t, b"\x00\x01\x03", Err(BadValue), &kept);
+    let t = not_case(t, b"\xff", Err(BadValue), &kept);
+    not_case(
+        t,
+        b"\x00\x01\x02\x00\x00\x00\x00\x00\x00\x01\x03",
+        Err(BadValue),
+        &kept,
+    )
 }
 
-fn and_case(t: Tally, a: &[u8], b: &[u8], number: u32, want: &[u8]) -> Tally {
-    let mut room = [201u8, 202, 203, 204, 205, 206, 207, 208, 209, 210];
-    let n = number_of(net_logic::const_and(&mut room, a, b));
-    let t = add(t, n == number);
-    add(t, holds(&room, want))
+fn and_case(t: Tally, a: &[u8], b: &[u8], answer: Result<(), Refusal>, want: &[u8]) -> Tally {
+    room_case(t, |room| net_logic::const_and(room, a, b), answer, want)
 }
 
-fn or_case(t: Tally, a: &[u8], b: &[u8], number: u32, want: &[u8]) -> Tally {
-    let mut room = [201u8, 202, 203, 204, 205, 206, 207, 208, 209, 210];
-    let n = number_of(net_logic::const_or(&mut room, a, b));
-    let t = add(t, n == number);
-    add(t, holds(&room, want))
+fn or_case(t: Tally, a: &[u8], b: &[u8], answer: Result<(), Refusal>, want: &[u8]) -> Tally {
+    room_case(t, |room| net_logic::const_or(room, a, b), answer, want)
 }
 
 // Both refuse alike.
-fn pair_refused(t: Tally, a: &[u8], b: &[u8], number: u32) -> Tally {
+fn pair_refused(t: Tally, a: &[u8], b: &[u8], answer: Result<(), Refusal>) -> Tally {
     let kept = [201u8, 202, 203, 204, 205, 206, 207, 208, 209, 210];
-    let t = and_case(t, a, b, number, &kept);
-    or_case(t, a, b, number, &kept)
+    let t = and_case(t, a, b, answer, &kept);
+    or_case(t, a, b, answer, &kept)
 }
 
 // Every line of the tables, and constants as long as the room.
 pub(crate) fn pairs(t: Tally) -> Tally {
     let a = [0u8, 0, 0, 1, 1, 1, 2, 2, 2];
     let b = [0u8, 1, 2, 0, 1, 2, 0, 1, 2];
-    let t = and_case(t, &a, &b, 0, b"\x00\x00\x00\x00\x01\x02\x00\x02\x02\xd2");
-    let t = or_case(t, &a, &b, 0, b"\x00\x01\x02\x01\x01\x01\x02\x01\x02\xd2");
+    let t = and_case(
+        t,
+        &a,
+        &b,
+        Ok(()),
+        b"\x00\x00\x00\x00\x01\x02\x00\x02\x02\xd2",
+    );
+    let t = or_case(
+        t,
+        &a,
+        &b,
+        Ok(()),
+        b"\x00\x01\x02\x01\x01\x01\x02\x01\x02\xd2",
+    );
     let c = [1u8, 1, 1, 1, 1, 2, 2, 2, 2, 2];
     let d = [0u8, 0, 1, 1, 2, 2, 0, 1, 2, 0];
-    let t = and_case(t, &c, &d, 0, b"\x00\x00\x01\x01\x02\x02\x00\x02\x02\x00");
-    let t = or_case(t, &c, &d, 0, b"\x01\x01\x01\x01\x01\x02\x02\x01\x02\x02");
-    pair_refused(t, b"", b"", 0)
+    let t = and_case(
+        t,
+        &c,
+        &d,
+        Ok(()),
+        b"\x00\x00\x01\x01\x02\x02\x00\x02\x02\x00",
+    );
+    let t = or_case(
+        t,
+        &c,
+        &d,
+        Ok(()),
+        b"\x01\x01\x01\x01\x01\x02\x02\x01\x02\x02",
+    );
+    pair_refused(t, b"", b"", Ok(()))
 }
 
 // Unequal lengths before bad codes, and bad codes before room that is one trit short.
 pub(crate) fn pairs_refused(t: Tally) -> Tally {
     let long = [0u8, 1, 2, 0, 1, 2, 0, 1, 2, 0, 1];
     let bad = [0u8, 1, 2, 0, 1, 2, 0, 1, 2, 0, 3];
-    let t = pair_refused(t, &long, &long, 20);
-    let t = pair_refused(t, &long, &bad, 4);
-    let t = pair_refused(t, &bad, &long, 4);
-    let t = pair_refused(t, b"\x01", b"\xff", 4);
-    let t = pair_refused(t, b"\x01", b"", 2);
-    let t = pair_refused(t, b"\x01", &bad, 2);
-    pair_refused(t, &long, b"\x03", 2)
+    let t = pair_refused(t, &long, &long, Err(NoRoom));
+    let t = pair_refused(t, &long, &bad, Err(BadValue));
+    let t = pair_refused(t, &bad, &long, Err(BadValue));
+    let t = pair_refused(t, b"\x01", b"\xff", Err(BadValue));
+    let t = pair_refused(t, b"\x01", b"", Err(BadShape));
+    let t = pair_refused(t, b"\x01", &bad, Err(BadShape));
+    pair_refused(t, &long, b"\x03", Err(BadShape))
 }
 
 // Room of no bytes.
 pub(crate) fn no_room(t: Tally) -> Tally {
     let mut room: [u8; 0] = [];
-    let t = add(t, number_of(net_logic::const_not(&mut room, b"")) == 0);
-    let t = add(t, number_of(net_logic::const_not(&mut room, b"\x00")) == 20);
-    let t = add(t, number_of(net_logic::const_and(&mut room, b"", b"")) == 0);
-    let t = add(
-        t,
-        number_of(net_logic::const_and(&mut room, b"\x00", b"\x00")) == 20,
-    );
-    let t = add(t, number_of(net_logic::const_or(&mut room, b"", b"")) == 0);
-    add(
-        t,
-        number_of(net_logic::const_or(&mut room, b"\x00", b"\x00")) == 20,
-    )
+    let full = Err(NoRoom);
+    let t = add(t, net_logic::const_not(&mut room, b"") == Ok(()));
+    let t = add(t, net_logic::const_not(&mut room, b"\x00") == full);
+    let t = add(t, net_logic::const_and(&mut room, b"", b"") == Ok(()));
+    let t = add(t, net_logic::const_and(&mut room, b"\x00", b"\x00") == full);
+    let t = add(t, net_logic::const_or(&mut room, b"", b"") == Ok(()));
+    add(t, net_logic::const_or(&mut room, b"\x00", b"\x00") == full)
 }
