@@ -41,56 +41,58 @@ pub(crate) fn of(m: Memory) -> Case {
     }
 }
 
-pub(crate) fn with_net(c: Case, at: usize, net: u32) -> Case {
-    Case {
-        net_at: at,
-        net,
-        ..c
+impl Case {
+    pub(crate) fn with_net(self, at: usize, net: u32) -> Case {
+        Case {
+            net_at: at,
+            net,
+            ..self
+        }
     }
-}
 
-pub(crate) fn with_trit(c: Case, at: usize, trit: u8) -> Case {
-    Case {
-        trit_at: at,
-        trit,
-        ..c
+    pub(crate) fn with_trit(self, at: usize, trit: u8) -> Case {
+        Case {
+            trit_at: at,
+            trit,
+            ..self
+        }
     }
-}
 
-pub(crate) fn with_out(c: Case, at: usize, out: u32) -> Case {
-    Case {
-        out_at: at,
-        out,
-        ..c
+    pub(crate) fn with_out(self, at: usize, out: u32) -> Case {
+        Case {
+            out_at: at,
+            out,
+            ..self
+        }
     }
-}
 
-pub(crate) fn with_lens(c: Case, nets: usize, trits: usize, outs: usize) -> Case {
-    Case {
-        nets,
-        trits,
-        outs,
-        ..c
+    pub(crate) fn with_lens(self, nets: usize, trits: usize, outs: usize) -> Case {
+        Case {
+            nets,
+            trits,
+            outs,
+            ..self
+        }
     }
-}
 
-pub(crate) fn nets_of(c: Case) -> [u32; NETS] {
-    let mut lent = [0u32; NETS];
-    room::fill(&mut lent, room::NET_WORDS);
-    lists::put(&mut lent, c.net_at, c.net);
-    lent
-}
+    pub(crate) fn lent_nets(self) -> [u32; NETS] {
+        let mut lent = [0u32; NETS];
+        room::fill(&mut lent, room::NET_WORDS);
+        lists::put(&mut lent, self.net_at, self.net);
+        lent
+    }
 
-pub(crate) fn trits_of(c: Case) -> [u8; TRITS] {
-    let mut lent = [0u8; TRITS];
-    room::fill(&mut lent, room::Trits);
-    lists::put(&mut lent, c.trit_at, c.trit);
-    lent
-}
+    pub(crate) fn lent_trits(self) -> [u8; TRITS] {
+        let mut lent = [0u8; TRITS];
+        room::fill(&mut lent, room::Trits);
+        lists::put(&mut lent, self.trit_at, self.trit);
+        lent
+    }
 
-pub(crate) fn outs_of(c: Case) -> [u32; OUTS] {
-    let mut lent = [0u32; OUTS];
-    room::fill(&mut lent, room::OUT_WORDS);
-    lists::put(&mut lent, c.out_at, c.out);
-    lent
+    pub(crate) fn lent_outs(self) -> [u32; OUTS] {
+        let mut lent = [0u32; OUTS];
+        room::fill(&mut lent, room::OUT_WORDS);
+        lists::put(&mut lent, self.out_at, self.out);
+        lent
+    }
 }

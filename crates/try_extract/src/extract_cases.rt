@@ -1,5 +1,5 @@
 // Extractions from the first memory, whose places `try_kit::samples::base` names.
-use crate::case::{Case, of, with_lens, with_net, with_out, with_trit};
+use crate::case::{Case, of};
 use crate::extracts::{extracted, lend, refused};
 use net_memory::{Memory, MemoryReadPort};
 use rules::Refusal;
@@ -41,9 +41,9 @@ fn fits(
     b: usize,
     e: usize,
     m: Memory,
-    nets: &[usize],
-    trits: &[usize],
-    outs: &[usize],
+    nets: &[(usize, usize)],
+    trits: &[(usize, usize)],
+    outs: &[(usize, usize)],
 ) -> Tally {
     extracted(t, c, list, lend(a, b, e), None, m, nets, trits, outs)
 }
@@ -51,18 +51,18 @@ fn fits(
 // Ports 2 and 0, and 2 again, into rooms that are exactly full.
 fn named_twice(t: Tally) -> Tally {
     let list = [2u32, 0, 2];
-    let nets = [0usize, 17, 21, 3, 17, 1, 21, 3];
-    let trits = [0usize, 16, 43, 6, 16, 24, 43, 6];
-    let outs = [10usize, 2, 0, 8, 10, 2];
+    let nets = [(0, 17), (21, 3), (17, 1), (21, 3)];
+    let trits = [(0, 16), (43, 6), (16, 24), (43, 6)];
+    let outs = [(10, 2), (0, 8), (10, 2)];
     let m = after(3, port_2(), port_0());
     fits(t, of(base()), &list, 24, 52, 12, m, &nets, &trits, &outs)
 }
 
 // Port 1 alone, which has trits that nothing looks at and no flip-flop, into larger rooms: its trits are left out.
 fn unclocked(t: Tally) -> Tally {
-    let nets = [0usize, 17, 18, 3];
-    let trits = [0usize, 16];
-    let outs = [8usize, 2];
+    let nets = [(0, 17), (18, 3)];
+    let trits = [(0, 16)];
+    let outs = [(8, 2)];
     let m = after(1, kept_1(), port_1());
     fits(t, of(base()), &[1u32], 99, 99, 99, m, &nets, &trits, &outs)
 }
@@ -70,9 +70,9 @@ fn unclocked(t: Tally) -> Tally {
 // Every port in its order: nothing changes but the trits of port 1.
 fn every_port(t: Tally) -> Tally {
     let list = [0u32, 1, 2];
-    let nets = [0usize, 24];
-    let trits = [0usize, 40, 43, 6];
-    let outs = [0usize, 12];
+    let nets = [(0, 24)];
+    let trits = [(0, 40), (43, 6)];
+    let outs = [(0, 12)];
     fits(
         t,
         of(base()),
@@ -90,20 +90,19 @@ fn every_port(t: Tally) -> Tally {
 // No port: the write ports and the initial trits are left.
 fn no_port(t: Tally) -> Tally {
     let list: [u32; 0] = [];
-    let nets = [0usize, 17];
-    let trits = [0usize, 16];
-    let outs: [usize; 0] = [];
+    let nets = [(0, 17)];
+    let trits = [(0, 16)];
+    let outs: [(usize, usize); 0] = [];
     let m = after(0, port_0(), port_1());
     fits(t, of(base()), &list, 17, 16, 0, m, &nets, &trits, &outs)
 }
 
 // Port 1 eight times.
 fn eight_times(t: Tally) -> Tally {
-    let nets = [
-        0usize, 17, 18, 3, 18, 3, 18, 3, 18, 3, 18, 3, 18, 3, 18, 3, 18, 3,
-    ];
-    let trits = [0usize, 16];
-    let outs = [8usize, 2, 8, 2, 8, 2, 8, 2, 8, 2, 8, 2, 8, 2, 8, 2];
+    let mut nets = [(18, 3); 9];
+    nets[0] = (0, 17);
+    let trits = [(0, 16)];
+    let outs = [(8, 2); 8];
     let mut m = after(8, kept_1(), kept_1());
     let p = kept_1();
     m.read_ports = [p; 8];
@@ -131,11 +130,11 @@ pub(crate) fn accepted(t: Tally) -> Tally {
 
 // An output net at a place that port 2 alone leaves out.
 fn other_output(t: Tally, at: usize, net: u32) -> Tally {
-    let nets = [0usize, 17, 21, 3];
-    let trits = [0usize, 16, 43, 6];
-    let outs = [10usize, 2];
+    let nets = [(0, 17), (21, 3)];
+    let trits = [(0, 16), (43, 6)];
+    let outs = [(10, 2)];
     let m = after(1, port_2(), port_1());
-    let c = with_out(of(base()), at, net);
+    let c = of(base()).with_out(at, net);
     fits(t, c, &[2u32], 20, 22, 2, m, &nets, &trits, &outs)
 }
 
@@ -187,7 +186,7 @@ fn missing(t: Tally, reads: u32, outs: usize, port: u32, size: usize, refusal: R
     let c = of(m);
     listed(
         t,
-        with_lens(c, c.nets, c.trits, outs),
+        c.with_lens(c.nets, c.trits, outs),
         1,
         port,
         size,
@@ -209,7 +208,7 @@ pub(crate) fn no_ports(t: Tally) -> Tally {
 // The first memory with another depth, so many initial trits, and an output net, a net and a trit put at their places 0.
 fn broken(depth: u32, init: u32, out: u32, net: u32, trit: u8) -> Case {
     let c = of(with_sizes(base(), depth, 2, init, 2, 3));
-    with_trit(with_net(with_out(c, 0, out), 0, net), 0, trit)
+    c.with_out(0, out).with_net(0, net).with_trit(0, trit)
 }
 
 // So many times port 3, which is not there, into no room; and each number after those that it yields to.

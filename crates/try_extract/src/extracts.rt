@@ -1,6 +1,6 @@
 // extract_read_ports: rooms that are painted, and of which the first words are lent.
 use crate::case::{Case, NETS, OUTS, TRITS};
-use crate::{case, room, same};
+use crate::{room, same};
 use net_memory::{Given, Memory};
 use rules::Refusal;
 use try_kit::paint::paint;
@@ -27,9 +27,9 @@ fn call(
     room_trits: &mut [u8],
     room_outs: &mut [u32],
 ) -> Result<Memory, Refusal> {
-    let nets = case::nets_of(c);
-    let trits = case::trits_of(c);
-    let outs = case::outs_of(c);
+    let nets = c.lent_nets();
+    let trits = c.lent_trits();
+    let outs = c.lent_outs();
     let a = lent.nets.min(room_nets.len());
     let b = lent.trits.min(room_trits.len());
     let e = lent.outs.min(room_outs.len());
@@ -56,9 +56,9 @@ pub(crate) fn extracted(
     lent: Rooms,
     refusal: Option<Refusal>,
     after: Memory,
-    nets: &[usize],
-    trits: &[usize],
-    outs: &[usize],
+    nets: &[(usize, usize)],
+    trits: &[(usize, usize)],
+    outs: &[(usize, usize)],
 ) -> Tally {
     let mut room_nets = [0u32; NETS];
     let mut room_trits = [0u8; TRITS];
@@ -83,7 +83,7 @@ pub(crate) fn extracted(
 
 // A refused call leaves the rooms and the memory as they are.
 pub(crate) fn refused(t: Tally, c: Case, list: &[u32], lent: Rooms, refusal: Refusal) -> Tally {
-    let none: [usize; 0] = [];
+    let none: [(usize, usize); 0] = [];
     let m = c.m;
     extracted(t, c, list, lent, Some(refusal), m, &none, &none, &none)
 }

@@ -34,8 +34,8 @@ impl Lent<u8> for Trits {
 }
 
 pub(crate) fn fill<T: Pattern, L: Lent<T>>(room: &mut [T], lent: L) {
-    for i in 0..room.len() {
-        room[i] = lent.at(i);
+    for (i, x) in room.iter_mut().enumerate() {
+        *x = lent.at(i);
     }
 }
 
@@ -57,14 +57,17 @@ fn is_run<T: Pattern, L: Lent<T>>(
 }
 
 // The room holds parts of what is lent, each given by where it starts there and its length, and is painted after them.
-pub(crate) fn is_parts<T: Pattern, L: Lent<T>>(room: &[T], lent: L, parts: &[usize]) -> bool {
+pub(crate) fn is_parts<T: Pattern, L: Lent<T>>(
+    room: &[T],
+    lent: L,
+    parts: &[(usize, usize)],
+) -> bool {
     let mut at: usize = 0;
-    for k in 0..parts.len() / 2 {
-        let count = parts[2 * k + 1];
-        if !is_run(room, at, lent, parts[2 * k], count) {
+    for (from, count) in parts {
+        if !is_run(room, at, lent, *from, *count) {
             return false;
         }
-        at = plus(at, count);
+        at = plus(at, *count);
     }
     painted(room, at)
 }
