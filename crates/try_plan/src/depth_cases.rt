@@ -124,70 +124,46 @@ pub(crate) fn logs(t: Tally) -> Tally {
     logged(t, &[0u32, 0, 0, 0, 0, 0, 0, 0, 5], &none, Err(TooLarge))
 }
 
-// Width 2, depth 2, and so many of three entries; the memories, or number 7.
-fn named(t: Tally, count: usize, a: u32, b: u32, c: u32, mems: usize) -> Tally {
-    let list = [a, b, c];
-    let names = lists::part(&list, 0, count);
-    if mems == 0 {
-        return bare(t, 2, 2, 4, plan(0, 1, 2), names, 0, Err(BadEntries));
-    }
-    bare(
-        t,
-        2,
-        2,
-        4,
-        plan(0, 1, 2),
-        names,
-        mems,
-        memories(mems, 2, 0, 0),
-    )
+// Width 2, depth 2, and these entries, into as many words as there are memories.
+fn named(t: Tally, entries: &[u32], want: Result<Shape, Refusal>) -> Tally {
+    let lent = want.map_or(0, |shape| shape.full);
+    bare(t, 2, 2, 4, plan(0, 1, 2), entries, lent, want)
 }
 
 // Number 7: each bit of two is named exactly once, and no other is.
 pub(crate) fn names(t: Tally) -> Tally {
-    let t = named(t, 2, 0, 1, 0, 1);
-    let t = named(t, 2, 1, 0, 0, 1);
-    let t = named(t, 3, 1, NO_BIT, 0, 2);
-    let t = named(t, 2, 0, 0, 0, 0);
-    let t = named(t, 2, 0, 2, 0, 0);
-    let t = named(t, 3, 0, 1, 1, 0);
-    let t = named(t, 3, 0, 1, 2, 0);
-    let t = named(t, 1, 0, 0, 0, 0);
-    let t = named(t, 2, 0, NO_BIT, 0, 0);
-    let t = named(t, 0, 0, 0, 0, 0);
-    named(t, 3, 0, 1, 4294967294, 0)
+    let t = named(t, &[0u32, 1], memories(1, 2, 0, 0));
+    let t = named(t, &[1u32, 0], memories(1, 2, 0, 0));
+    let t = named(t, &[1u32, NO_BIT, 0], memories(2, 2, 0, 0));
+    let t = named(t, &[0u32, 0], Err(BadEntries));
+    let t = named(t, &[0u32, 2], Err(BadEntries));
+    let t = named(t, &[0u32, 1, 1], Err(BadEntries));
+    let t = named(t, &[0u32, 1, 2], Err(BadEntries));
+    let t = named(t, &[0u32], Err(BadEntries));
+    let t = named(t, &[0u32, NO_BIT], Err(BadEntries));
+    let t = named(t, &[], Err(BadEntries));
+    named(t, &[0u32, 1, 4294967294], Err(BadEntries))
 }
 
-// Width 1, one entry, unit 1: so many full memories, or number 8.
-fn masked(t: Tally, depth: u32, mask: u32, hard: u32, mems: usize, deep: u32) -> Tally {
-    if mems == 0 {
-        return bare(
-            t,
-            depth,
-            1,
-            depth,
-            plan(mask, hard, 1),
-            &[0u32],
-            9,
-            Err(BadSoftMask),
-        );
-    }
-    let want = memories(mems, deep, 0, 0);
-    bare(t, depth, 1, depth, plan(mask, hard, 1), &[0u32], mems, want)
+// Width 1, one entry, unit 1: into as many words as there are memories, or into nine where there are none.
+fn masked(t: Tally, depth: u32, mask: u32, hard: u32, want: Result<Shape, Refusal>) -> Tally {
+    let lent = want.map_or(9, |shape| shape.full);
+    let s = plan(mask, hard, 1);
+    bare(t, depth, 1, depth, s, &[0u32], lent, want)
 }
 
 // Number 8: the depth is a multiple of 2^(top soft bit + 1), not of 2^(soft bits).
 pub(crate) fn masks(t: Tally) -> Tally {
-    let t = masked(t, 8, 4, 2, 2, 4);
-    let t = masked(t, 4, 4, 2, 0, 0);
-    let t = masked(t, 4, 3, 0, 4, 1);
-    let t = masked(t, 6, 3, 0, 0, 0);
-    let t = masked(t, 6, 2, 0, 0, 0);
-    let t = masked(t, 7, 0, 0, 7, 1);
-    let t = masked(t, 32768, 16384, 14, 2, 16384);
-    let t = masked(t, 32768, 32768, 14, 0, 0);
-    let t = masked(t, 4, 2147483648, 2, 0, 0);
-    masked(t, 4, 4294967295, 2, 0, 0)
+    let t = masked(t, 8, 4, 2, memories(2, 4, 0, 0));
+    let t = masked(t, 4, 4, 2, Err(BadSoftMask));
+    let t = masked(t, 4, 3, 0, memories(4, 1, 0, 0));
+    let t = masked(t, 6, 3, 0, Err(BadSoftMask));
+    let t = masked(t, 6, 2, 0, Err(BadSoftMask));
+    let t = masked(t, 7, 0, 0, memories(7, 1, 0, 0));
+    let t = masked(t, 32768, 16384, 14, memories(2, 16384, 0, 0));
+    let t = masked(t, 32768, 32768, 14, Err(BadSoftMask));
+    let t = masked(t, 4, 2147483648, 2, Err(BadSoftMask));
+    masked(t, 4, 4294967295, 2, Err(BadSoftMask))
 }
 
 // Depth 0 gives no memory with any mask.

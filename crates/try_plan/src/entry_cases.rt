@@ -249,8 +249,8 @@ fn spread_at(i: usize, step: usize) -> u32 {
 }
 
 fn spread(want: &mut [u32], step: usize) {
-    for i in 0..want.len() {
-        want[i] = spread_at(i, step);
+    for (i, entry) in want.iter_mut().enumerate() {
+        *entry = spread_at(i, step);
     }
 }
 
