@@ -57,26 +57,30 @@ fn answered(
     }
 }
 
+// A record, or an input of so many bytes of which only the first are stored.
 fn list_as(
     rt: &impl Print,
     out: &mut [u8],
     name: &str,
     bytes: &[u8],
+    total: Option<usize>,
     want: Want<'_>,
 ) -> io::Result<()> {
     let before = sum_of(bytes);
     paint(out);
     rt.print(name)?;
-    let answer = record_listing::list_record(out, bytes);
+    let answer = match total {
+        None => record_listing::list_record(out, bytes),
+        Some(total) => record_listing::list_input(out, bytes, total),
+    };
     answered(rt, out, answer, want)?;
     given(rt, before, bytes)
 }
 
 fn list(rt: &impl Print, out: &mut [u8], name: &str, bytes: &[u8], want: &[u8]) -> io::Result<()> {
-    list_as(rt, out, name, bytes, Want::Text(want))
+    list_as(rt, out, name, bytes, None, Want::Text(want))
 }
 
-// An input of which only the first bytes are stored.
 fn list_long(
     rt: &impl Print,
     out: &mut [u8],
@@ -85,12 +89,7 @@ fn list_long(
     total: usize,
     want: &[u8],
 ) -> io::Result<()> {
-    let before = sum_of(first);
-    paint(out);
-    rt.print(name)?;
-    let answer = record_listing::list_input(out, first, total);
-    answered(rt, out, answer, Want::Text(want))?;
-    given(rt, before, first)
+    list_as(rt, out, name, first, Some(total), Want::Text(want))
 }
 
 fn list_cases(rt: &impl Print, out: &mut [u8]) -> io::Result<()> {
@@ -222,7 +221,7 @@ fn list_most(rt: &impl Print, out: &mut [u8], name: &str) -> io::Result<()> {
     let mut bytes = bytes_room();
     fill_trits(&mut image);
     let _ = record_codec::write_record(&mut bytes, MANY, &image);
-    list_as(rt, out, name, &bytes, Want::Sum(MOST_SUM))
+    list_as(rt, out, name, &bytes, None, Want::Sum(MOST_SUM))
 }
 
 fn image_room() -> [u8; IMAGE_ROOM] {
