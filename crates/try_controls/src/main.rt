@@ -125,7 +125,7 @@ fn try_pos(
     paint(log);
     let r = call_pos(log, room, next, c);
     let ok = r == answer && &*log == &*want;
-    numbered::add(t, answer.err().map_or(0, Refusal::number), ok)
+    numbered::add(t, answer.err(), ok)
 }
 
 fn pos_case(t: Tally, log: &mut [u32], want: &mut [u32], k: u32) -> Tally {
@@ -261,7 +261,7 @@ fn try_remap(t: Tally, log: &mut [u32], want: &mut [u32], c: Remap) -> Tally {
     paint(log);
     let r = call_remap(log, c);
     let ok = r == answer && &*log == &*want;
-    numbered::add(t, answer.err().map_or(0, Refusal::number), ok)
+    numbered::add(t, answer.err(), ok)
 }
 
 fn remap_cases(log: &mut [u32], want: &mut [u32]) -> Tally {

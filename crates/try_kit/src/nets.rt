@@ -11,21 +11,14 @@ use rules::{FIRST_CELL, MAX_NETS, NET_X};
 fn last_net(next: u32) -> u32
     ensures { result ≡ min next max_nets - 1 }
 {
-    if MAX_NETS < next {
-        return MAX_NETS - 1;
-    }
-    next.saturating_sub(1)
+    next.min(MAX_NETS).saturating_sub(1)
 }
 
 // The i-th cell net, or the last.
 fn cell_net(last: u32, i: usize) -> u32
     ensures { result ≡ min last (2 + i % 8192) }
 {
-    let net = 2 + (i % 8192) as u32;
-    if last < net {
-        return last;
-    }
-    net
+    last.min(2 + (i % 8192) as u32)
 }
 
 // A good net: the constants, the last net and other cell nets by turns.
@@ -41,8 +34,8 @@ pub fn net_at(next: u32, i: usize, turn: usize) -> u32
 pub fn fill_nets(s: &mut [u32], next: u32, turn: usize)
     ensures { s.new ≡ nets_of next turn (length s.old) }
 {
-    for i in 0..s.len() {
-        s[i] = net_at(next, i, turn);
+    for (i, x) in s.iter_mut().enumerate() {
+        *x = net_at(next, i, turn);
     }
 }
 
@@ -50,10 +43,7 @@ pub fn fill_nets(s: &mut [u32], next: u32, turn: usize)
 fn bad_net(next: u32) -> u32
     ensures { result ≡ max next first_cell }
 {
-    if next < FIRST_CELL {
-        return FIRST_CELL;
-    }
-    next
+    next.max(FIRST_CELL)
 }
 
 // The last of n nets is bad.

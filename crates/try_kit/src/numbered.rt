@@ -1,8 +1,10 @@
-// Counts of cases, by the number that a case expects.
+// Counts of cases, by the refusal that a case expects.
 ghost use Rattle.std.specs.Prelude.{◌≡◌};
+ghost use Rattle.rules.specs.Refusal.{number_if};
 ghost use Rattle.try_kit.specs.Numbered.{no_case, one_case};
 
 use crate::tally::more;
+use rules::Refusal;
 use std::fmt;
 
 // How many cases were made, how many were right, and how many expect 0, 1, 2, 4, 20 and 21.
@@ -50,10 +52,21 @@ pub fn start() -> Tally
     }
 }
 
-// One case more.
-pub fn add(t: Tally, number: u32, ok: bool) -> Tally
-    ensures { result ≡ one_case t number ok }
+// The number of what a case expects: 0 where it is accepted.
+fn number_if(refusal: Option<Refusal>) -> u32
+    ensures { result ≡ number_if refusal }
 {
+    match refusal {
+        None => 0,
+        Some(refusal) => refusal.number(),
+    }
+}
+
+// One case more, which expects this refusal, or to be accepted.
+pub fn add(t: Tally, refusal: Option<Refusal>, ok: bool) -> Tally
+    ensures { result ≡ one_case t (number_if refusal) ok }
+{
+    let number = number_if(refusal);
     Tally {
         made: more(t.made, true),
         right: more(t.right, ok),

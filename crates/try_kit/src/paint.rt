@@ -31,8 +31,8 @@ impl Pattern for u32 {
 pub fn paint<T: Pattern>(room: &mut [T])
     ensures { room.new ≡ pattern_of T.pattern (length room.old) }
 {
-    for i in 0..room.len() {
-        room[i] = T::paint_at(i);
+    for (i, x) in room.iter_mut().enumerate() {
+        *x = T::paint_at(i);
     }
 }
 
@@ -40,8 +40,8 @@ pub fn paint<T: Pattern>(room: &mut [T])
 pub fn fill_trits(room: &mut [u8])
     ensures { room.new ≡ pattern_of trit_at_of (length room.old) }
 {
-    for i in 0..room.len() {
-        room[i] = (i % 3) as u8;
+    for (i, x) in room.iter_mut().enumerate() {
+        *x = (i % 3) as u8;
     }
 }
 

@@ -9,23 +9,16 @@ const STRIDE: u32 = 3;
 
 // A way to call a request.
 pub(crate) trait Way {
-    // The number of a case whose rooms are larger than the buffers: no case expects it, and no two ways have the same.
-    fn outside() -> u32;
-
     fn call(log: &mut [u32], st: LogState, out: &mut [u32], c: Case, x: Inputs<'_>) -> Got;
 }
 
 pub(crate) struct Lent;
 
 impl Way for Lent {
-    fn outside() -> u32 {
-        98
-    }
-
     fn call(log: &mut [u32], st: LogState, out: &mut [u32], c: Case, x: Inputs<'_>) -> Got {
         let mut state = st;
         let s = &mut state;
-        let r = match c.request {
+        let answer = match c.request {
             Request::Void => log_lent::add_void(log, s, word(c.n)).map(Made::of_nets),
             Request::Not => log_lent::add_not(log, s, x.a).map(Made::of_nets),
             Request::And => log_lent::add_and(log, s, x.a, x.b).map(Made::of_nets),
@@ -50,31 +43,29 @@ impl Way for Lent {
                 log_lent::add_bitwise_mux(log, s, out, x.a, x.b, x.a).map(Made::nothing)
             }
         };
-        Got::lent(r, state)
+        Got { answer, state }
     }
 }
 
 pub(crate) struct ByValue;
 
 fn plain_pos(log: &mut [u32], st: LogState, c: Case) -> Got {
-    match log_requests::into_pos(log, st, c.select()) {
-        Err(e) => Got::refused(e.number(), st),
-        Ok(made) => Got::with(made.state, Made::of_net(made.net)),
+    let r = log_requests::into_pos(log, st, c.select());
+    Got {
+        answer: r.map(|made| Made::of_net(made.net)),
+        state: r.map_or(st, |made| made.state),
     }
 }
 
 fn plain_remap(log: &mut [u32], st: LogState, c: Case) -> Got {
-    match log_requests::remap_reset_over_enable(log, st, c.controls()) {
-        Err(e) => Got::refused(e.number(), st),
-        Ok(made) => Got::with(made.state, Made::of_controls(made.controls)),
+    let r = log_requests::remap_reset_over_enable(log, st, c.controls());
+    Got {
+        answer: r.map(|made| Made::of_controls(made.controls)),
+        state: r.map_or(st, |made| made.state),
     }
 }
 
 impl Way for ByValue {
-    fn outside() -> u32 {
-        99
-    }
-
     fn call(log: &mut [u32], st: LogState, out: &mut [u32], c: Case, x: Inputs<'_>) -> Got {
         let r = match c.request {
             Request::Void => log_requests::add_void(log, st, word(c.n)),

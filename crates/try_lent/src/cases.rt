@@ -11,8 +11,8 @@ const LOG_WORDS: usize = 16640;
 
 const NETS: usize = 4100;
 
-// The call on painted buffers, in the rooms that the case lends.
-fn called<W: Way>(log: &mut [u32], out: &mut [u32], c: Case, x: Inputs<'_>) -> Got {
+// The call on painted buffers, in the rooms that the case lends; none where a room is larger than its buffer.
+fn called<W: Way>(log: &mut [u32], out: &mut [u32], c: Case, x: Inputs<'_>) -> Option<Got> {
     paint(log);
     paint(out);
     let st = LogState {
@@ -20,9 +20,9 @@ fn called<W: Way>(log: &mut [u32], out: &mut [u32], c: Case, x: Inputs<'_>) -> G
         next: c.next,
     };
     if log.len() < c.room || out.len() < c.out {
-        return Got::refused(W::outside(), st);
+        return None;
     }
-    W::call(&mut log[..c.room], st, &mut out[..c.out], c, x)
+    Some(W::call(&mut log[..c.room], st, &mut out[..c.out], c, x))
 }
 
 // The answer, the state and every word of log and room, against those of the request by value.
@@ -36,7 +36,7 @@ impl Trial for BothWays {
         let mut log = [0u32; LOG_WORDS];
         let mut out = [0u32; NETS];
         let got = called::<Lent>(&mut log, &mut out, c, x);
-        let same = got == wanted && log == want && out == room;
-        numbered::add(t, wanted.number, same)
+        let same = wanted.is_some() && got == wanted && log == want && out == room;
+        numbered::add(t, wanted.and_then(|wanted| wanted.answer.err()), same)
     }
 }

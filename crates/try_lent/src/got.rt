@@ -43,35 +43,14 @@ impl Made {
     }
 }
 
-// A request's number or 0, the state after it, and what it made.
+// What a request made or what refuses it, and the state after it.
 #[derive(Clone, Copy, Debug, PartialEq, Eq)]
 pub(crate) struct Got {
-    pub(crate) number: u32,
-    state: LogState,
-    made: Made,
+    pub(crate) answer: Result<Made, Refusal>,
+    pub(crate) state: LogState,
 }
 
 impl Got {
-    fn new(number: u32, state: LogState, made: Made) -> Got {
-        Got {
-            number,
-            state,
-            made,
-        }
-    }
-
-    pub(crate) fn refused(number: u32, state: LogState) -> Got {
-        Got::new(number, state, Made::nothing(()))
-    }
-
-    // On a lent state, which is this one afterwards.
-    pub(crate) fn lent(r: Result<Made, Refusal>, state: LogState) -> Got {
-        match r {
-            Err(e) => Got::refused(e.number(), state),
-            Ok(made) => Got::new(0, state, made),
-        }
-    }
-
     // By value, from the state `st` on, so many nets from `first` on.
     pub(crate) fn plain(
         r: Result<LogState, Refusal>,
@@ -79,14 +58,9 @@ impl Got {
         first: u32,
         count: usize,
     ) -> Got {
-        match r {
-            Err(e) => Got::refused(e.number(), st),
-            Ok(state) => Got::new(0, state, Made::some(first, count)),
+        Got {
+            answer: r.map(|_| Made::some(first, count)),
+            state: r.unwrap_or(st),
         }
-    }
-
-    // By value, with the state and what the request made side by side.
-    pub(crate) fn with(state: LogState, made: Made) -> Got {
-        Got::new(0, state, made)
     }
 }

@@ -191,6 +191,6 @@ impl Trial for OneEntry {
         let answer = wanted(c);
         want_entry(&mut want, answer.is_ok(), c, x);
         let ok = compared(c, answer, &want, x);
-        numbered::add(t, answer.err().map_or(0, Refusal::number), ok)
+        numbered::add(t, answer.err(), ok)
     }
 }

@@ -25,68 +25,80 @@ fn word_at(s: &[u32], i: usize) -> u32 {
     if i < s.len() { s[i] } else { 0 }
 }
 
-// The place of a pair among the kept ones, or their number.
-fn place_of(kx: &[u32], ky: &[u32], kept: usize, x: u32, y: u32) -> usize {
-    for j in 0..kept {
-        if word_at(kx, j) == x && word_at(ky, j) == y {
-            return j;
+// The distinct pairs of a merge: the first `count` of both arrays.
+#[derive(Drop)]
+struct Pairs {
+    first: [u32; NETS],
+    second: [u32; NETS],
+    count: usize,
+}
+
+impl Pairs {
+    fn none() -> Pairs {
+        Pairs {
+            first: [0u32; NETS],
+            second: [0u32; NETS],
+            count: 0,
         }
     }
-    kept
-}
 
-// A pair more, where its place is past the kept ones.
-fn keep_pair(kx: &mut [u32], ky: &mut [u32], place: usize, kept: usize, x: u32, y: u32) -> usize {
-    if place < kept {
-        return kept;
+    fn firsts(&self) -> &[u32] {
+        lists::part(&self.first, 0, self.count)
     }
-    lists::put(kx, kept, x);
-    lists::put(ky, kept, y);
-    plus(kept, 1)
-}
 
-// The distinct pairs and each bit's place among them; how many there are.
-fn keep(a: &[u32], b: &[u32], kx: &mut [u32], ky: &mut [u32], at: &mut [u32]) -> usize {
-    let mut kept: usize = 0;
-    for (i, x) in a.iter().enumerate() {
-        let y = word_at(b, i);
-        let place = place_of(kx, ky, kept, *x, y);
-        lists::put(at, i, word(place));
-        kept = keep_pair(kx, ky, place, kept, *x, y);
+    fn seconds(&self) -> &[u32] {
+        lists::part(&self.second, 0, self.count)
     }
-    kept
+
+    // The place of a pair among the kept ones, or their number.
+    fn place_of(&self, x: u32, y: u32) -> usize {
+        let mut pairs = self.firsts().iter().zip(self.seconds().iter());
+        pairs
+            .position(|(a, b)| *a == x && *b == y)
+            .unwrap_or(self.count)
+    }
+
+    // The place of a pair, which is kept if it was not.
+    fn keep(&mut self, x: u32, y: u32) -> usize {
+        let place = self.place_of(x, y);
+        if place == self.count {
+            lists::put(&mut self.first, place, x);
+            lists::put(&mut self.second, place, y);
+            self.count = plus(place, 1);
+        }
+        place
+    }
+
+    // The distinct pairs of two values, and each bit's place among them.
+    fn of(a: &[u32], b: &[u32], at: &mut [u32]) -> Pairs {
+        let mut pairs = Pairs::none();
+        for (i, (x, y)) in a.iter().zip(b.iter()).enumerate() {
+            lists::put(at, i, word(pairs.keep(*x, *y)));
+        }
+        pairs
+    }
 }
 
 // The entry of a mux of the kept pairs.
-fn put_mux(
-    want: &mut [u32],
-    used: usize,
-    next: u32,
-    neg: bool,
-    net: u32,
-    kept: usize,
-    kx: &[u32],
-    ky: &[u32],
-) {
-    let head = [5u32, word(kept), next, word(plus(1, plus(kept, kept))), net];
-    let x = net_value::value_slice(kx, 0, kept);
-    let y = net_value::value_slice(ky, 0, kept);
-    let first = plus(used, 5);
-    let second = plus(first, kept);
-    lists::copy(want, used, &head);
+fn put_mux(want: &mut [u32], st: LogState, neg: bool, net: u32, pairs: &Pairs) {
+    let n = pairs.count;
+    let head = [5u32, word(n), st.next, word(plus(1, plus(n, n))), net];
+    let first = plus(st.used, 5);
+    let second = plus(first, n);
+    lists::copy(want, st.used, &head);
     if neg {
-        lists::copy(want, second, x);
-        lists::copy(want, first, y);
+        lists::copy(want, second, pairs.firsts());
+        lists::copy(want, first, pairs.seconds());
     } else {
-        lists::copy(want, first, x);
-        lists::copy(want, second, y);
+        lists::copy(want, first, pairs.firsts());
+        lists::copy(want, second, pairs.seconds());
     }
 }
 
 // The net of each bit, from a place on.
-fn put_nets(out: &mut [u32], to: usize, next: u32, at: &[u32], n: usize) {
-    for i in 0..n {
-        lists::put(out, plus(to, i), net_above(next, word_at(at, i) as usize));
+fn put_nets(out: &mut [u32], to: usize, next: u32, at: &[u32]) {
+    for (i, place) in at.iter().enumerate() {
+        lists::put(out, plus(to, i), net_above(next, *place as usize));
     }
 }
 
@@ -102,17 +114,15 @@ fn expect_run(
     e: usize,
     nets: &mut [u32],
 ) -> LogState {
-    let mut kx = [0u32; NETS];
-    let mut ky = [0u32; NETS];
     let mut at = [0u32; NETS];
     let x = net_value::value_slice(a, i, e);
     let y = net_value::value_slice(b, i, e);
-    let kept = keep(x, y, &mut kx, &mut ky, &mut at);
-    put_mux(want, st.used, st.next, neg, net, kept, &kx, &ky);
-    put_nets(nets, i, st.next, &at, x.len());
+    let pairs = Pairs::of(x, y, &mut at);
+    put_mux(want, st, neg, net, &pairs);
+    put_nets(nets, i, st.next, lists::part(&at, 0, x.len()));
     LogState {
-        used: plus(st.used, plus(5, plus(kept, kept))),
-        next: net_above(st.next, kept),
+        used: plus(st.used, plus(5, plus(pairs.count, pairs.count))),
+        next: net_above(st.next, pairs.count),
     }
 }
 
@@ -391,7 +401,7 @@ fn try_case<M: Merge>(t: Tally, c: Case, mode: u32, s: &[u32], a: &[u32], b: &[u
         paint(&mut nets);
     }
     let ok = compare::<M>(c, answer, room, s, a, b, &want, &nets);
-    numbered::add(t, answer.err().map_or(0, Refusal::number), ok)
+    numbered::add(t, answer.err(), ok)
 }
 
 // Selects in runs of nine.

@@ -1,9 +1,10 @@
 -- `try_kit::numbered::add` meets its contract.
+use mathlib.Core.Path.{sym}
 use Rattle.try_kit.proofs.numbered.add.Goals as goal
 
 pub returns : goal.returns
 returns c =
-    λ i. record {
+    rw (sym c.number_if-number.ensures) (λ i. record {
       made = c.more.ensures i;
       right = c.more-2.ensures i;
       accepted = c.more-3.ensures i;
@@ -12,4 +13,4 @@ returns c =
       bad = c.more-6.ensures i;
       full = c.more-7.ensures i;
       netless = c.more-8.ensures i;
-    }
+    })
