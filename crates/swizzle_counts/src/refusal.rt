@@ -39,13 +39,12 @@ fn rows_by_needs(
     requires { RowsFit given.memory given.nets.now plan.swizzle plan.entries.now plan.writes.now plan.reads.now }
     ensures { number_of result ≡ needs_refusal (rooms_of r) room (state_of st) (asked_needs given.entry plan.entry) (asked_image given.entry plan.entry) }
 {
-    let m = given.memory;
     let layout = plan.layout(given);
     let p = layout.params;
     let z = layout.measure()?;
     let columns = z.columns as usize;
-    let w = crate::writes_needs(m, given.nets, p, columns, plan.entries, plan.writes);
-    let d = crate::reads_needs(m, given.nets, p, columns, plan.reads);
+    let w = crate::writes_needs(given, p, columns, plan.entries, plan.writes);
+    let d = crate::reads_needs(given, p, columns, plan.reads);
     needs_refusal(r, room, st, w.plus(d), z.image_size as usize)
 }
 
