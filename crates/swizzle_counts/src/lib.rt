@@ -59,15 +59,7 @@ fn split_of(p: Params, old: u32, new: u32, addr: &[u32]) -> Split
 {
     let mut hw = [0u32; 1];
     let mut mux = [0u32; 1];
-    let none = Split {
-        old,
-        new,
-        hw_len: 0,
-        mux_len: 0,
-        pieces: 0,
-        mask: 0,
-    };
-    swizzle_split::split_addr(&mut hw, &mut mux, p, old, new, addr).unwrap_or(none)
+    swizzle_split::split_addr(&mut hw, &mut mux, p, old, new, addr).unwrap_or(Split::default())
 }
 
 // A product of two of a port's numbers.
