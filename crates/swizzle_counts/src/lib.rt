@@ -37,6 +37,13 @@ pub struct SwizzleRooms {
     pub scratch: usize,
 }
 
+// A layout's numbers, and the columns of a row.
+#[derive(Clone, Copy)]
+struct Sized {
+    params: Params,
+    columns: usize,
+}
+
 impl Needs {
     // What two ask for together; the scratch serves one after the other.
     fn plus(self, other: Needs) -> Needs
@@ -102,27 +109,27 @@ fn read_by(s: Split, rows: usize, columns: usize, len: usize, clocked: bool) -> 
 
 // Read port i with its new wide log.
 #[tactic(auto, using(swizzle_split::proofs::Rows::rows_are))]
-fn read_needs(given: Given<'_>, p: Params, columns: usize, new: u32, i: usize) -> Needs
-    requires { ReadFits given.memory given.nets.now p columns new i }
-    ensures { (result ≡ read_needs given.entry.memory given.entry.nets.now p columns new i) × Most port_most result }
+fn read_needs(given: Given<'_>, q: Sized, new: u32, i: usize) -> Needs
+    requires { ReadFits given.memory given.nets.now q.params q.columns new i }
+    ensures { (result ≡ read_needs given.entry.memory given.entry.nets.now q.params q.columns new i) × Most port_most result }
 {
     let r = given.read_port(i);
     let len = r.port.data_len as usize;
     let old = net_memory::wide::wide_log(given.memory.width, len);
     // (Its nets are its address.)
-    let s = split_of(p, old, new, r.nets);
+    let s = split_of(q.params, old, new, r.nets);
     let rows = swizzle_split::rows_of(new) as usize;
-    read_by(s, rows, columns, len, r.port.flip_flop.is_some())
+    read_by(s, rows, q.columns, len, r.port.flip_flop.is_some())
 }
 
 // All read ports.
-fn reads_needs(given: Given<'_>, p: Params, columns: usize, reads: &[u32]) -> Needs
-    requires { ReadsFit given.memory given.nets.now p columns reads.now }
-    ensures { (result ≡ reads_needs given.entry.memory given.entry.nets.now p columns reads.now) × Most (max_ports * port_most) result }
+fn reads_needs(given: Given<'_>, q: Sized, reads: &[u32]) -> Needs
+    requires { ReadsFit given.memory given.nets.now q.params q.columns reads.now }
+    ensures { (result ≡ reads_needs given.entry.memory given.entry.nets.now q.params q.columns reads.now) × Most (max_ports * port_most) result }
 {
     let mut total = Needs::default();
     for (i, new) in reads.iter().enumerate() {
-        total = total.plus(read_needs(given, p, columns, *new, i));
+        total = total.plus(read_needs(given, q, *new, i));
     }
     total
 }
@@ -194,40 +201,27 @@ fn write_by(s: Split, rows: usize, columns: usize, kept: usize) -> Needs
 
 // Write port i with its new wide log.
 #[tactic(auto, using(swizzle_split::proofs::Rows::rows_are))]
-fn write_needs(
-    given: Given<'_>,
-    p: Params,
-    columns: usize,
-    entries: &[u32],
-    new: u32,
-    i: usize,
-) -> Needs
-    requires { WriteFits given.memory given.nets.now p columns entries.now new i }
-    ensures { (result ≡ write_needs given.entry.memory given.entry.nets.now p columns entries.now new i) × Most port_most result }
+fn write_needs(given: Given<'_>, q: Sized, entries: &[u32], new: u32, i: usize) -> Needs
+    requires { WriteFits given.memory given.nets.now q.params q.columns entries.now new i }
+    ensures { (result ≡ write_needs given.entry.memory given.entry.nets.now q.params q.columns entries.now new i) × Most port_most result }
 {
     let w = given.write_port(i);
     let width = given.memory.width;
     let old = net_memory::wide::wide_log(width, w.bits().len());
-    let s = split_of(p, old, new, w.addr());
+    let s = split_of(q.params, old, new, w.addr());
     let olds = swizzle_split::rows_of(old);
     let kept = port_mask_count(width, olds, entries, w.mask());
-    write_by(s, swizzle_split::rows_of(new) as usize, columns, kept)
+    write_by(s, swizzle_split::rows_of(new) as usize, q.columns, kept)
 }
 
 // All write ports.
-fn writes_needs(
-    given: Given<'_>,
-    p: Params,
-    columns: usize,
-    entries: &[u32],
-    writes: &[u32],
-) -> Needs
-    requires { WritesFit given.memory given.nets.now p columns entries.now writes.now }
-    ensures { (result ≡ writes_needs given.entry.memory given.entry.nets.now p columns entries.now writes.now) × Most (max_ports * port_most) result }
+fn writes_needs(given: Given<'_>, q: Sized, entries: &[u32], writes: &[u32]) -> Needs
+    requires { WritesFit given.memory given.nets.now q.params q.columns entries.now writes.now }
+    ensures { (result ≡ writes_needs given.entry.memory given.entry.nets.now q.params q.columns entries.now writes.now) × Most (max_ports * port_most) result }
 {
     let mut total = Needs::default();
     for (i, new) in writes.iter().enumerate() {
-        total = total.plus(write_needs(given, p, columns, entries, *new, i));
+        total = total.plus(write_needs(given, q, entries, *new, i));
     }
     total
 }
