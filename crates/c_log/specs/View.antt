@@ -46,7 +46,8 @@ no_controls = record { clock = no_control; clear = no_control; reset = no_contro
 abbrev pub state_struct : log.LogState → LogState
 state_struct s = record { used = s.used; next = s.next }
 
--- of a machine's answer
+-- of a machine's answer (what a refused call leaves is said once for each record that says it: here, in fallback's Left and in swizzle_call's Told, which
+-- have other fields, and in port_unmap, where it is a memory)
 abbrev pub logged_struct : LogState → Result LogState Refusal → Logged
 logged_struct st (Err e) = record { number = refusal.number e; state = st }
 logged_struct st (Ok s) = record { number = 0; state = s }

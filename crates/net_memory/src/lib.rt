@@ -233,13 +233,6 @@ pub fn addr_of(p: MemoryWritePort, nets: &[u32]) -> &[u32]
     lists::part(nets, 0, p.addr_len as usize)
 }
 
-// Its data.
-pub fn data_of(p: MemoryWritePort, nets: &[u32]) -> &[u32]
-    ensures { result.now ≡ (write_by p nets.now []).bits }
-{
-    lists::part(nets, p.addr_len as usize, p.data_len as usize)
-}
-
 // Its mask.
 pub fn mask_of(p: MemoryWritePort, nets: &[u32]) -> &[u32]
     ensures { result.now ≡ (write_by p nets.now []).mask }
@@ -248,36 +241,6 @@ pub fn mask_of(p: MemoryWritePort, nets: &[u32]) -> &[u32]
         nets,
         p.addr_len as usize + p.data_len as usize,
         p.mask_len as usize,
-    )
-}
-
-// The address of a read port with these nets.
-pub fn read_addr_of(p: MemoryReadPort, nets: &[u32]) -> &[u32]
-    ensures { result.now ≡ (read_by p nets.now []).addr }
-{
-    lists::part(nets, 0, p.addr_len as usize)
-}
-
-// The clear, reset and init trits of a read port with these trits.
-pub fn clear_of(p: MemoryReadPort, trits: &[u8]) -> &[u8]
-    ensures { result.now ≡ part 0 p.clear_len trits.now }
-{
-    lists::part(trits, 0, p.clear_len as usize)
-}
-
-pub fn reset_of(p: MemoryReadPort, trits: &[u8]) -> &[u8]
-    ensures { result.now ≡ part p.clear_len p.reset_len trits.now }
-{
-    lists::part(trits, p.clear_len as usize, p.reset_len as usize)
-}
-
-pub fn init_of(p: MemoryReadPort, trits: &[u8]) -> &[u8]
-    ensures { result.now ≡ part (p.clear_len + p.reset_len) p.init_len trits.now }
-{
-    lists::part(
-        trits,
-        p.clear_len as usize + p.reset_len as usize,
-        p.init_len as usize,
     )
 }
 
@@ -400,28 +363,6 @@ pub fn read_nets(m: Memory, nets: &[u32], i: usize) -> &[u32]
     }
     let p = m.read_ports[i];
     lists::part(nets, read_start(m, i), p.addr_len as usize)
-}
-
-// The trits of read port i, also where it has no flip-flop.
-pub fn read_trits(m: Memory, trits: &[u8], i: usize) -> &[u8]
-    ensures { (result.now ≡ read_trits m trits.now i) × (length result.now < 0x300000000) }
-{
-    if ports_used(m.read_count) <= i {
-        return &trits[..0];
-    }
-    let p = m.read_ports[i];
-    lists::part(trits, trit_start(m, i), trit_size(p))
-}
-
-// The mask of write port i.
-pub fn write_mask(m: Memory, nets: &[u32], i: usize) -> &[u32]
-    ensures { (trits : List ℕ) → result.now ≡ (write_at (memory_of m nets.now trits) i).mask }
-{
-    if ports_used(m.write_count) <= i {
-        return &nets[..0];
-    }
-    let p = m.write_ports[i];
-    mask_of(p, write_nets(m, nets, i))
 }
 
 // How many data bits read port i has; none where there is no such port.

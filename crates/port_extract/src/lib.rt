@@ -31,17 +31,16 @@ fn output_part(m: Memory, output: &[u32], i: usize) -> &[u32]
 
 // The trits of port i where it has a flip-flop; none otherwise.
 #[tactic(auto, using(crate::proofs::View::kept_none, crate::proofs::View::kept_by))]
-fn clocked_trits(m: Memory, trits: &[u8], i: usize) -> &[u8]
-    ensures { (result.now ≡ kept_trits m trits.now i) × (length result.now < 0x300000000) }
+fn clocked_trits<'a>(given: Given<'a>, i: usize) -> &'a [u8]
+    ensures { (result.now ≡ kept_trits given.entry.memory given.entry.trits.now i) × (length result.now < 0x300000000) }
 {
-    if net_memory::ports_used(m.read_count) <= i {
-        return &trits[..0];
+    if net_memory::ports_used(given.memory.read_count) <= i {
+        return &given.trits[..0];
     }
-    let p = m.read_ports[i];
-    let f = p.flip_flop;
-    match f {
-        None => &trits[..0],
-        Some(_) => net_memory::read_trits(m, trits, i),
+    let r = given.read_port(i);
+    match r.port.flip_flop {
+        None => &given.trits[..0],
+        Some(_) => r.trits,
     }
 }
 
@@ -80,31 +79,26 @@ fn put_outputs(room: &mut [u32], m: Memory, output: &[u32], list: &[u32]) -> usi
 
 // Stores the new nets, and says how many they are.
 #[tactic(auto, using(crate::proofs::Stored::joined, crate::proofs::Stored::joined_length))]
-fn put_nets(room: &mut [u32], m: Memory, nets: &[u32], list: &[u32]) -> usize
+fn put_nets(room: &mut [u32], given: Given<'_>, list: &[u32]) -> usize
     requires { length list.now ≤ max_ports }
-    ensures value { result ≡ length (new_nets m nets.now list.now) }
-    ensures room_after { room.new ≡ sets room.old 0 (new_nets m nets.now list.now) }
+    ensures value { result ≡ length (new_nets given.entry.memory given.entry.nets.now list.now) }
+    ensures room_after { room.new ≡ sets room.old 0 (new_nets given.entry.memory given.entry.nets.now list.now) }
 {
-    let front = lists::part(nets, 0, net_memory::reads_start(m));
+    let front = lists::part(given.nets, 0, net_memory::reads_start(given.memory));
     lists::copy(room, 0, front);
-    put_parts(
-        room,
-        front.len(),
-        list,
-        |k| net_memory::read_nets(m, nets, k),
-    )
+    put_parts(room, front.len(), list, |k| given.read_port(k).nets)
 }
 
 // Stores the new trits, and says how many they are.
 #[tactic(auto, using(crate::proofs::Stored::joined, crate::proofs::Stored::joined_length))]
-fn put_trits(room: &mut [u8], m: Memory, trits: &[u8], list: &[u32]) -> usize
+fn put_trits(room: &mut [u8], given: Given<'_>, list: &[u32]) -> usize
     requires { length list.now ≤ max_ports }
-    ensures value { result ≡ length (new_trits m trits.now list.now) }
-    ensures room_after { room.new ≡ sets room.old 0 (new_trits m trits.now list.now) }
+    ensures value { result ≡ length (new_trits given.entry.memory given.entry.trits.now list.now) }
+    ensures room_after { room.new ≡ sets room.old 0 (new_trits given.entry.memory given.entry.trits.now list.now) }
 {
-    let front = lists::part(trits, 0, net_memory::init_size(m));
+    let front = lists::part(given.trits, 0, net_memory::init_size(given.memory));
     lists::copy(room, 0, front);
-    put_parts(room, front.len(), list, |k| clocked_trits(m, trits, k))
+    put_parts(room, front.len(), list, |k| clocked_trits(given, k))
 }
 
 // A port as the new memory has it: without a flip-flop it keeps no trits.
@@ -141,10 +135,10 @@ fn rooms_bad(given: Given<'_>, list: &[u32], output: &[u32], a: usize, b: usize,
 {
     let mut words = [0u32; 1];
     let mut codes = [0u8; 1];
-    if a < put_nets(&mut words, given.memory, given.nets, list) {
+    if a < put_nets(&mut words, given, list) {
         return true;
     }
-    if b < put_trits(&mut codes, given.memory, given.trits, list) {
+    if b < put_trits(&mut codes, given, list) {
         return true;
     }
     c < put_outputs(&mut words, given.memory, output, list)
@@ -193,8 +187,8 @@ pub fn extract_read_ports(
         room_trits.len(),
         room_output.len(),
     )?;
-    put_nets(room_nets, given.memory, given.nets, list);
-    put_trits(room_trits, given.memory, given.trits, list);
+    put_nets(room_nets, given, list);
+    put_trits(room_trits, given, list);
     put_outputs(room_output, given.memory, output, list);
     Ok(pick_ports(given.memory, list))
 }

@@ -29,7 +29,8 @@ use swizzle_plan::Plan;
 use swizzle_reads::Reads;
 use swizzle_result::WideMemory;
 
-// What a swizzle makes: the log's state, the struct of the memories, and how many nets and trits of the lent rooms are theirs.
+// What a swizzle makes: the log's state, the struct of the memories, and how many nets and trits of the lent rooms are theirs: the rooms stay the
+// caller's, and C reads both numbers.
 #[derive(Clone, Copy)]
 pub struct Made {
     pub state: LogState,

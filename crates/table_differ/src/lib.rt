@@ -3,36 +3,37 @@
 
 ghost use Rattle.std.specs.Prelude.{◌≡◌, [], ◌+◌, ◌*◌, ◌≤◌, length};
 ghost use Rattle.std.proofs.lemmas.List.Edits.{sets};
-ghost use Rattle.rules.specs.Limits.{max_depth, max_width};
+ghost use Rattle.rules.specs.Limits.{max_depth};
 ghost use Rattle.record_listing.specs.Put.{max_place, Put};
 ghost use Rattle.table_print.specs.Rows.{bits_text};
 ghost use Rattle.table_differ.specs.Differ.{diff_line, diff_of, differs, diff_lines, differing, last_line, diff_text};
 
 use record_listing::text::{put_number, put_text};
+use table_text::scan::Size;
 
 // The trits of one row, the most significant first.
-fn put_trits(out: &mut [u8], at: usize, width: u32, row: &[u8]) -> usize
-    requires { (at + 128 ≤ max_place) × (width ≤ max_width) }
-    ensures { Put out.old at (bits_text row.now 0 width []) out.new result × (result ≤ at + 128) }
+fn put_trits(out: &mut [u8], at: usize, size: Size, row: &[u8]) -> usize
+    requires { at + 128 ≤ max_place }
+    ensures { Put out.old at (bits_text row.now 0 size.width []) out.new result × (result ≤ at + 128) }
 {
     let mut line = [0u8; rules::MAX_WIDTH as usize + 1];
-    table_print::put_rows(&mut line, 1, width, row);
-    put_text(out, at, lists::part(&line, 0, width as usize))
+    table_print::put_rows(&mut line, 1, size.width, row);
+    put_text(out, at, lists::part(&line, 0, size.width as usize))
 }
 
 // ---- one row
 
 // The line of a row that differs: its number, the trits of the first table and those of the second.
-fn put_line(out: &mut [u8], at: usize, row: u32, width: u32, x: &[u8], y: &[u8]) -> usize
-    requires { (at + 274 ≤ max_place) × (width ≤ max_width) }
-    ensures { Put out.old at (diff_line width row x.now y.now) out.new result × (result ≤ at + 274) }
+fn put_line(out: &mut [u8], at: usize, row: u32, size: Size, x: &[u8], y: &[u8]) -> usize
+    requires { at + 274 ≤ max_place }
+    ensures { Put out.old at (diff_line size.width row x.now y.now) out.new result × (result ≤ at + 274) }
 {
     let a = put_text(out, at, b"row ");
     let b = put_number(out, a, row as usize);
     let c = put_text(out, b, b": ");
-    let d = put_trits(out, c, width, x);
+    let d = put_trits(out, c, size, x);
     let e = put_text(out, d, b" ");
-    let f = put_trits(out, e, width, y);
+    let f = put_trits(out, e, size, y);
     put_text(out, f, b"\n")
 }
 
@@ -45,14 +46,14 @@ struct Spot {
 
 impl Spot {
     // One row: a line where the two tables differ.
-    fn put_row(self, out: &mut [u8], row: u32, width: u32, x: &[u8], y: &[u8]) -> Spot
-        requires { (self.at + 274 ≤ max_place) × (self.count ≤ max_depth) × (width ≤ max_width) }
-        ensures { Put out.old self.at (diff_of width row x.now y.now) out.new result.at × (result.count ≡ self.count + differs x.now y.now) × (result.at ≤ self.at + 274) × (result.count ≤ self.count + 1) }
+    fn put_row(self, out: &mut [u8], row: u32, size: Size, x: &[u8], y: &[u8]) -> Spot
+        requires { (self.at + 274 ≤ max_place) × (self.count ≤ max_depth) }
+        ensures { Put out.old self.at (diff_of size.width row x.now y.now) out.new result.at × (result.count ≡ self.count + differs x.now y.now) × (result.at ≤ self.at + 274) × (result.count ≤ self.count + 1) }
     {
         if x == y {
             return self;
         }
-        let at = put_line(out, self.at, row, width, x, y);
+        let at = put_line(out, self.at, row, size, x, y);
         let count = self.count + 1;
         Spot { at, count }
     }
@@ -73,18 +74,18 @@ impl Spot {
 
 // ---- all rows
 
-fn put_all(out: &mut [u8], depth: u32, width: u32, a: &[u8], b: &[u8]) -> Spot
-    requires { (depth ≤ max_depth) × (width ≤ max_width) }
-    ensures { Put out.old 0 (diff_lines width a.now b.now 0 depth) out.new result.at × (result.count ≡ differing width a.now b.now 0 depth) × (result.at ≤ 274 * depth) }
+fn put_all(out: &mut [u8], size: Size, a: &[u8], b: &[u8]) -> Spot
+    requires { size.depth ≤ max_depth }
+    ensures { Put out.old 0 (diff_lines size.width a.now b.now 0 size.depth) out.new result.at × (result.count ≡ differing size.width a.now b.now 0 size.depth) × (result.at ≤ 274 * size.depth) }
 {
-    let w = width as usize;
+    let w = size.width as usize;
     let mut s = Spot { at: 0, count: 0 };
     let mut from: usize = 0;
-    for row in 0..depth {
+    for row in 0..size.depth {
         s = s.put_row(
             out,
             row,
-            width,
+            size,
             lists::part(a, from, w),
             lists::part(b, from, w),
         );
@@ -103,5 +104,5 @@ pub fn put_differences(out: &mut [u8], depth: u32, width: u32, a: &[u8], b: &[u8
     if rules::MAX_WIDTH < width {
         return 0;
     }
-    put_all(out, depth, width, a, b).put_last(out)
+    put_all(out, Size { depth, width }, a, b).put_last(out)
 }

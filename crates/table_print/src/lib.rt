@@ -3,8 +3,10 @@
 
 ghost use Rattle.std.specs.Prelude.{◌≡◌, [], ◌∷◌, ◌+◌, ◌*◌, ◌≤◌, length, get_or};
 ghost use Rattle.std.proofs.lemmas.List.Edits.{sets};
-ghost use Rattle.rules.specs.Limits.{trit_x, max_depth, max_width};
+ghost use Rattle.rules.specs.Limits.{trit_x, max_depth};
 ghost use Rattle.table_print.specs.Rows.{char_of, bits_text, rows_from, rows_shown};
+
+use table_text::scan::Size;
 
 // The character of a trit.
 #[tactic(auto, unfolding(crate::specs::Rows::char_of))]
@@ -25,13 +27,13 @@ fn trit_at(rows: &[u8], at: usize) -> u8
     rows.get(at).copied().unwrap_or(rules::TRIT_X)
 }
 
-// Stores the trits from `from` on, the last of `width` first; the place after them.
-fn put_bits(out: &mut [u8], at: usize, rows: &[u8], from: usize, width: u32) -> usize
-    requires { (at ≤ 1000000000) × (from ≤ 1000000000) × (width ≤ max_width) }
-    ensures { (out.new ≡ sets out.old at (bits_text rows.now from width [])) × (result ≡ at + width) }
+// Stores the trits of a row from `from` on, the last first; the place after them.
+fn put_bits(out: &mut [u8], at: usize, rows: &[u8], from: usize, size: Size) -> usize
+    requires { (at ≤ 1000000000) × (from ≤ 1000000000) }
+    ensures { (out.new ≡ sets out.old at (bits_text rows.now from size.width [])) × (result ≡ at + size.width) }
 {
     let mut next = at;
-    for left in (0..width).rev() {
+    for left in (0..size.width).rev() {
         lists::put(out, next, char_of(trit_at(rows, from + left as usize)));
         next += 1;
     }
@@ -39,25 +41,25 @@ fn put_bits(out: &mut [u8], at: usize, rows: &[u8], from: usize, width: u32) -> 
 }
 
 // Stores one row and its line break.
-fn put_row(out: &mut [u8], at: usize, rows: &[u8], from: usize, width: u32) -> usize
-    requires { (at ≤ 1000000000) × (from ≤ 1000000000) × (width ≤ max_width) }
-    ensures { (out.new ≡ sets out.old at (bits_text rows.now from width (10 ∷ []))) × (result ≡ at + (width + 1)) }
+fn put_row(out: &mut [u8], at: usize, rows: &[u8], from: usize, size: Size) -> usize
+    requires { (at ≤ 1000000000) × (from ≤ 1000000000) }
+    ensures { (out.new ≡ sets out.old at (bits_text rows.now from size.width (10 ∷ []))) × (result ≡ at + (size.width + 1)) }
 {
-    let end = put_bits(out, at, rows, from, width);
+    let end = put_bits(out, at, rows, from, size);
     lists::put(out, end, 10);
     end + 1
 }
 
 // Stores the text of all rows; its length.
-fn put_all(out: &mut [u8], depth: u32, width: u32, rows: &[u8]) -> usize
-    requires { (depth ≤ max_depth) × (width ≤ max_width) }
-    ensures { (out.new ≡ sets out.old 0 (rows_from width rows.now 0 depth [])) × (result ≡ depth * (width + 1)) }
+fn put_all(out: &mut [u8], size: Size, rows: &[u8]) -> usize
+    requires { size.depth ≤ max_depth }
+    ensures { (out.new ≡ sets out.old 0 (rows_from size.width rows.now 0 size.depth [])) × (result ≡ size.depth * (size.width + 1)) }
 {
     let mut next: usize = 0;
     let mut from: usize = 0;
-    for row in 0..depth {
-        next = put_row(out, next, rows, from, width);
-        from += width as usize;
+    for row in 0..size.depth {
+        next = put_row(out, next, rows, from, size);
+        from += size.width as usize;
     }
     next
 }
@@ -72,5 +74,5 @@ pub fn put_rows(out: &mut [u8], depth: u32, width: u32, rows: &[u8]) -> usize
     if rules::MAX_WIDTH < width {
         return 0;
     }
-    put_all(out, depth, width, rows)
+    put_all(out, Size { depth, width }, rows)
 }

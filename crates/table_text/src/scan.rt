@@ -26,11 +26,11 @@ pub enum Kind {
     Refused(Reason),
 }
 
-// How many rows there are, and the bits of each.
+// How many rows there are, and the bits of each: no more than a memory has.
 #[derive(Clone, Copy)]
-struct Size {
-    depth: u32,
-    width: u32,
+pub struct Size {
+    pub depth: u32,
+    pub width: u32,
     ghost within: { width ≤ max_width },
 }
 

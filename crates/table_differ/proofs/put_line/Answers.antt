@@ -9,7 +9,7 @@ put_trits-d-requires c =
     let a = c.put_text-a.ensures (omega arith) in
     let b = c.put_number-b.ensures (omega (arith, a.place)) in
     let t = c.put_text-c.ensures (omega (arith, a.place, b.1)) in
-    (omega (arith, a.place, b.1, t.place), c.requires.1)
+    omega (arith, a.place, b.1, t.place)
 
 pub put_trits-f-requires : goal.put_trits-f-requires
 put_trits-f-requires c =
@@ -17,7 +17,7 @@ put_trits-f-requires c =
     let b = c.put_number-b.ensures (omega (arith, a.place)) in
     let t = c.put_text-c.ensures (omega (arith, a.place, b.1)) in
     let e = c.put_text-e.ensures (omega (arith, a.place, b.1, t.place, c.put_trits-d.ensures.1)) in
-    (omega (arith, a.place, b.1, t.place, c.put_trits-d.ensures.1, e.place), c.requires.1)
+    omega (arith, a.place, b.1, t.place, c.put_trits-d.ensures.1, e.place)
 
 pub returns : goal.returns
 unfolding diff_line row_word_of colon

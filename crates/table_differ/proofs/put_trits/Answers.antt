@@ -11,6 +11,6 @@ use Rattle.table_differ.proofs.put_trits.Goals as goal
 pub returns : goal.returns
 returns c =
     let a = c.args in
-    let t = bits_text a.row.now 0 a.width [] in
-    let w = put_as t (c.part.ensures.part ∙ row_text a.width _ a.row.now _ c.requires.1 refl c.put_rows.ensures.0) (c.put_text.ensures (omega (arith, c.part.ensures.most, c.requires.0, c.requires.1))) in
-    (w, omega (arith, w.place, length_bits a.row.now 0 a.width, c.requires.1))
+    let t = bits_text a.row.now 0 a.size.width [] in
+    let w = put_as t (c.part.ensures.part ∙ row_text a.size.width _ a.row.now _ a.size.within refl c.put_rows.ensures.0) (c.put_text.ensures (omega (arith, c.part.ensures.most, c.requires, a.size.within))) in
+    (w, omega (arith, w.place, length_bits a.row.now 0 a.size.width, a.size.within))

@@ -8,4 +8,4 @@ use mathlib.Core.Path.{◌≡◌}
 use Rattle.table_print.proofs.put_all.Given as goal
 
 abbrev pub invariant-loop-row : goal.invariant-loop-row
-invariant-loop-row l = (length l.out ≡ length l.initial.out) × (l.next ≡ l.row * (l.width + 1)) × (l.from ≡ l.row * l.width) × (sets l.out l.next (rows_from l.width l.rows l.row (l.depth - l.row) []) ≡ sets l.initial.out 0 (rows_from l.width l.rows 0 l.depth []))
+invariant-loop-row l = (length l.out ≡ length l.initial.out) × (l.next ≡ l.row * (l.size.width + 1)) × (l.from ≡ l.row * l.size.width) × (sets l.out l.next (rows_from l.size.width l.rows l.row (l.size.depth - l.row) []) ≡ sets l.initial.out 0 (rows_from l.size.width l.rows 0 l.size.depth []))

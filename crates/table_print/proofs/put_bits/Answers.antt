@@ -10,10 +10,10 @@ pub loop-left-init : goal.loop-left-init
 loop-left-init c = (refl, refl, refl)
 
 pub overflow_add-from : goal.overflow_add-from
-overflow_add-from c = omega (arith, c.requires)
+overflow_add-from c = omega (arith, c.requires, c.args.size.within)
 
 pub overflow_add-next : goal.overflow_add-next
-overflow_add-next c = omega (arith, c.requires)
+overflow_add-next c = omega (arith, c.requires, c.args.size.within)
 
 pub loop-left-preserved : goal.loop-left-preserved
 loop-left-preserved c =

@@ -8,4 +8,4 @@ use mathlib.Core.Path.{◌≡◌}
 use Rattle.table_print.proofs.put_bits.Given as goal
 
 abbrev pub invariant-loop-left : goal.invariant-loop-left
-invariant-loop-left l = (length l.out ≡ length l.initial.out) × (l.next + l.left ≡ l.at + l.width) × (sets l.out l.next (bits_text l.rows l.from l.left []) ≡ sets l.initial.out l.at (bits_text l.rows l.from l.width []))
+invariant-loop-left l = (length l.out ≡ length l.initial.out) × (l.next + l.left ≡ l.at + l.fn.size.width) × (sets l.out l.next (bits_text l.rows l.from l.left []) ≡ sets l.initial.out l.at (bits_text l.rows l.from l.fn.size.width []))

@@ -10,10 +10,10 @@ pub returns-then-eq : goal.returns-then-eq
 returns-then-eq c =
     let a = c.args in
     let e = c.if-eq.ensures ∙ pointwise_same a.x.now a.y.now in
-    (put_as (diff_of a.width a.row a.x.now a.y.now) (no_line a.width a.row a.x.now a.y.now e) (nothing a.out.now a.self.at), omega (arith, no_count a.x.now a.y.now e), omega arith, omega arith)
+    (put_as (diff_of a.size.width a.row a.x.now a.y.now) (no_line a.size.width a.row a.x.now a.y.now e) (nothing a.out.now a.self.at), omega (arith, no_count a.x.now a.y.now e), omega arith, omega arith)
 
 pub returns : goal.returns
 returns c =
     let a = c.args in
     let e = c.if-eq.ensures ∙ pointwise_same a.x.now a.y.now in
-    (put_as (diff_of a.width a.row a.x.now a.y.now) (a_line a.width a.row a.x.now a.y.now e) c.put_line-at.ensures.0, omega (arith, a_count a.x.now a.y.now e), c.put_line-at.ensures.1, omega arith)
+    (put_as (diff_of a.size.width a.row a.x.now a.y.now) (a_line a.size.width a.row a.x.now a.y.now e) c.put_line-at.ensures.0, omega (arith, a_count a.x.now a.y.now e), c.put_line-at.ensures.1, omega arith)
