@@ -20,8 +20,6 @@ pub enum Reason {
     LongWord,
     // a row past the depth
     RowPastDepth,
-    // rows that are not read: wider than a memory's, or of a text with more bytes than are read
-    Unread,
 }
 
 impl Reason {
@@ -37,7 +35,6 @@ impl Reason {
             Reason::ShortWord => 12,
             Reason::LongWord => 13,
             Reason::RowPastDepth => 14,
-            Reason::Unread => 15,
         }
     }
 }
@@ -52,7 +49,6 @@ impl fmt::Display for Reason {
             Reason::ShortWord => "too few bits",
             Reason::LongWord => "too many bits",
             Reason::RowPastDepth => "row past the depth",
-            Reason::Unread => "rows not read",
         })
     }
 }
