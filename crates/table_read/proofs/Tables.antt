@@ -9,7 +9,7 @@ use native.Mathlib.Omega.{arith}
 use lib.ListN.{length, take, drop, get_or}
 use lib.Seq.{sets}
 use lib.Dec.{eqb, ltb}
-use borrow.Author.Tests.{eq-eqb, ne_eqb, lt-ltb, ltb-false}
+use borrow.Author.Tests.{eq-eqb, ne_eqb, lt-ltb, le-ltb, ltb-false}
 use Rattle.lists.specs.Choice.{when◌then◌else◌}
 use Rattle.lists.specs.Lists.{part, up_from}
 use Rattle.lists.proofs.Choice.{or_left, or_later}
@@ -25,8 +25,9 @@ use Rattle.image_check.specs.View.{checked_of}
 use Rattle.image_geometry.specs.declared.Shape.{Shape as Measured}
 use Rattle.image_geometry.specs.declared.Params.{Params}
 use Rattle.image_geometry.specs.View.{layout_by}
-use Rattle.table_text.specs.Head.{HeadEnd}
-use Rattle.table_text.specs.Scan.{ScanEnd, scan_start, scan_run}
+use Rattle.table_text.specs.Bytes.{max_text}
+use Rattle.table_text.specs.Head.{head_start, HeadEnd, head_run, head_read}
+use Rattle.table_text.specs.Scan.{ScanEnd, scan_start, scan_run, rows_read}
 use Rattle.table_text.specs.declared.reason.Reason.{Reason}
 use Rattle.table_text.specs.declared.scan.Kind.TheVariants.{Refused}
 use Rattle.table_text.specs.declared.scan.Scan.{Scan}
@@ -82,6 +83,16 @@ bad_by q (Some s) false e h = is_good q _ e
 pub wide_bad : (q : Layout) → max_width < q.width → bad_layout q ≡ true
 unfolding bad_layout bad_layout_sizes
 wide_bad q h = or_left _ (or_later (ltb max_depth q.depth) (or_left _ (lt-ltb max_width q.width h)))
+
+-- ---- the two machines on a text that is not too long
+pub head_short : (ws text : List ℕ) → length text ≤ max_text → head_read ws text ≡ head_run head_start ws (text ++ (10 ∷ []))
+unfolding head_read
+head_short ws text h = rw (le-ltb max_text (length text) h)
+
+pub rows_short : (d w : ℕ) (rows text : List ℕ) (at : ℕ) → w ≤ max_width → length text ≤ max_text
+    → rows_read d w rows text at ≡ scan_run d w scan_start rows (drop at (text ++ (10 ∷ [])))
+unfolding rows_read
+rows_short d w rows text at g h = rw (le-ltb max_width w g, le-ltb max_text (length text) h)
 
 -- ---- the rows: the machine behind the text's last line break refuses, or is between words
 module _ (q : Layout) (rows text : List ℕ) (at : ℕ) (s : Scan) (left : List ℕ) where

@@ -1,21 +1,20 @@
 // The table of a text: the layout of its header line and its rows, or the line and the reason that refuse it.
 #![tactic(auto)]
 
-ghost use Rattle.std.specs.Prelude.{◌≡◌, ◌∷◌, [], ◌++◌, ◌*◌, ◌≤◌, length, take, get_or, drop, Err};
+ghost use Rattle.std.specs.Prelude.{◌≡◌, ◌∷◌, [], ◌++◌, ◌*◌, ◌≤◌, length, take, get_or, drop};
 ghost use Rattle.lists.specs.Choice.{when◌then◌else◌};
 ghost use Rattle.rules.specs.Limits.{max_width, max_row};
 ghost use Rattle.rules.specs.Conditions.{bad_layout};
 ghost use Rattle.image_geometry.specs.View.{layout_by, layout_of};
-ghost use Rattle.table_text.specs.View.{head_of, reason_number};
-ghost use Rattle.table_read.specs.Table.{NoTable, max_words, entries_read, layout_read, head_number, rows_table, layout_table, head_table, parse_table};
+ghost use Rattle.table_text.specs.Bytes.{max_text};
+ghost use Rattle.table_text.specs.View.{head_of};
+ghost use Rattle.table_read.specs.Table.{max_words, entries_read, layout_read, head_number, rows_table, layout_table, head_table, parse_table};
 ghost use Rattle.table_read.specs.View.{layout_in, params_read, parsed_of};
 
 use image_geometry::{Layout, Params};
 use std::fmt;
-use table_text::bytes::{self, Text};
 use table_text::head::{Ended, Head};
 use table_text::reason::Reason;
-use table_text::scan::Size;
 use table_text::{head, scan};
 
 // The words of a header: two numbers, up to MAX_ROW entries, three numbers.
@@ -44,16 +43,6 @@ pub struct Table {
 pub struct Fault {
     pub line: u32,
     pub reason: Reason,
-}
-
-impl Fault {
-    // The header line is refused.
-    #[tactic(auto, unfolding(crate::specs::View::parsed_of))]
-    fn in_header(reason: Reason) -> Fault
-        ensures { parsed_of (Err result) ≡ NoTable 1 (reason_number reason) }
-    {
-        Fault { line: 1, reason }
-    }
 }
 
 impl fmt::Display for Fault {
@@ -150,16 +139,12 @@ fn is_bad_layout(params: Params, entries: Entries) -> bool
 }
 
 // The rows of a layout, from a place of the text on.
-fn rows_of(params: Params, entries: Entries, text: Text<'_>, at: usize) -> Result<Table, Fault>
-    requires { params.width ≤ max_width }
-    ensures { parsed_of result ≡ rows_table (layout_by params (take entries.len entries.list)) (drop at (text.entry.bytes.now ++ (10 ∷ []))) }
+fn rows_of(params: Params, entries: Entries, text: &[u8], at: usize) -> Result<Table, Fault>
+    requires { (params.width ≤ max_width) × (length text.now ≤ max_text) }
+    ensures { parsed_of result ≡ rows_table (layout_by params (take entries.len entries.list)) (drop at (text.now ++ (10 ∷ []))) }
 {
     let mut rows = [rules::TRIT_X; MAX_TRITS];
-    let size = Size {
-        depth: params.depth,
-        width: params.width,
-    };
-    let end = scan::read_rows(&mut rows, size, text, at);
+    let end = scan::read_rows(&mut rows, params.depth, params.width, text, at);
     match end.kind {
         scan::Kind::Refused(reason) => Err(Fault {
             line: end.line,
@@ -174,28 +159,37 @@ fn rows_of(params: Params, entries: Entries, text: Text<'_>, at: usize) -> Resul
     }
 }
 
-fn layout_table(params: Params, entries: Entries, text: Text<'_>, at: usize) -> Result<Table, Fault>
-    requires { entries.len ≤ max_row }
-    ensures { parsed_of result ≡ layout_table (layout_by params (take entries.len entries.list)) (drop at (text.entry.bytes.now ++ (10 ∷ []))) }
+fn layout_table(params: Params, entries: Entries, text: &[u8], at: usize) -> Result<Table, Fault>
+    requires { (entries.len ≤ max_row) × (length text.now ≤ max_text) }
+    ensures { parsed_of result ≡ layout_table (layout_by params (take entries.len entries.list)) (drop at (text.now ++ (10 ∷ []))) }
 {
     if is_bad_layout(params, entries) {
-        return Err(Fault::in_header(Reason::BadLayout));
+        return Err(Fault {
+            line: 1,
+            reason: Reason::BadLayout,
+        });
     }
     rows_of(params, entries, text, at)
 }
 
 // The table behind a header that is read.
-fn head_table(text: Text<'_>, words: &[u32], end: Ended) -> Result<Table, Fault>
-    requires { length words.now ≡ max_words }
-    ensures { parsed_of result ≡ head_table (record { state = head_of end.head; words = words.now; rest = drop end.at (text.entry.bytes.now ++ (10 ∷ [])) }) }
+fn head_table(text: &[u8], words: &[u32], end: Ended) -> Result<Table, Fault>
+    requires { (length text.now ≤ max_text) × (length words.now ≡ max_words) }
+    ensures { parsed_of result ≡ head_table (record { state = head_of end.head; words = words.now; rest = drop end.at (text.now ++ (10 ∷ [])) }) }
 {
     if is_bad_head(end.head) {
-        return Err(Fault::in_header(Reason::BadHeader));
+        return Err(Fault {
+            line: 1,
+            reason: Reason::BadHeader,
+        });
     }
     let count = end.head.count;
     let params = params_of(words, count);
     if rules::MAX_WIDTH < params.width {
-        return Err(Fault::in_header(Reason::BadLayout));
+        return Err(Fault {
+            line: 1,
+            reason: Reason::BadLayout,
+        });
     }
     let entries = entries_of(words, count, params.width);
     layout_table(params, entries, text, end.at)
@@ -205,11 +199,13 @@ fn head_table(text: Text<'_>, words: &[u32], end: Ended) -> Result<Table, Fault>
 pub fn read_table(text: &[u8]) -> Result<Table, Fault>
     ensures { parsed_of result ≡ parse_table text.now }
 {
-    if bytes::MAX_TEXT < text.len() {
-        return Err(Fault::in_header(Reason::TextTooLong));
+    if table_text::bytes::MAX_TEXT < text.len() {
+        return Err(Fault {
+            line: 1,
+            reason: Reason::TextTooLong,
+        });
     }
-    let short = Text { bytes: text };
     let mut words = [0u32; MAX_WORDS];
-    let end = head::read_head(&mut words, short);
-    head_table(short, &words, end)
+    let end = table_text::head::read_head(&mut words, text);
+    head_table(text, &words, end)
 }

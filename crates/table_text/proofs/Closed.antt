@@ -8,7 +8,7 @@ use lib.ListN.{drop}
 use lib.Dec.{eqb, ltb, leb}
 use Rattle.lists.specs.Choice.{when◌then◌else◌}
 use Rattle.table_text.specs.declared.reason.Reason.{Reason}
-use Rattle.table_text.specs.declared.reason.Reason.TheVariants.{TextTooLong, BadHeader, BadLayout, BadByte, ShortWord, LongWord, RowPastDepth}
+use Rattle.table_text.specs.declared.reason.Reason.TheVariants.{TextTooLong, BadHeader, BadLayout, BadByte, ShortWord, LongWord, RowPastDepth, Unread}
 use Rattle.table_text.specs.declared.scan.Kind.{Kind}
 use Rattle.table_text.specs.declared.scan.Kind.TheVariants.{Gap, Word, Number, Slash, Comment, At, Refused}
 use Rattle.table_text.specs.Bytes.{is_blank, is_end}
@@ -99,6 +99,7 @@ reason_not_0 BadByte = refl
 reason_not_0 ShortWord = refl
 reason_not_0 LongWord = refl
 reason_not_0 RowPastDepth = refl
+reason_not_0 Unread = refl
 
 pub gap_where_closed : (k : Kind) → is_closed (scan_kind k) ≡ true → ((r : Reason) → k ≢ Refused r) → eqb (scan_kind k) 0 ≡ true
 gap_where_closed Gap e n = refl

@@ -1,9 +1,9 @@
 -- The header line: depth, width, entries, soft mask, hard bits and unit, separated by blanks. Entries are separated by commas, `-` names no bit, and
 -- `plain` stands for none given. The numbers are stored in order, as words.
-use Rattle.std.specs.Prelude.{ℕ, ◌-◌, Bool, ◌&&◌, List, [], ◌∷◌, set, eqb, ltb, leb}
+use Rattle.std.specs.Prelude.{ℕ, ◌-◌, Bool, ◌&&◌, List, [], ◌∷◌, ◌++◌, length, set, eqb, ltb, leb}
 use Rattle.lists.specs.Choice.{when◌then◌else◌}
 use Rattle.rules.specs.Limits.{None}
-use Rattle.table_text.specs.Bytes.{bump, more, low_word, is_blank, is_digit_of, letter_of, next_letter}
+use Rattle.table_text.specs.Bytes.{max_text, bump, more, low_word, is_blank, is_digit_of, letter_of, next_letter}
 
 -- the machine that reads the line: a kind, the field in hand, the words stored, and the number in hand, which is 0 where the kind has none
 pub record Head : Type 0 where
@@ -86,3 +86,9 @@ pub record HeadEnd : Type 0 where
 unfoldable pub head_run : Head → List ℕ → List ℕ → HeadEnd
 head_run h ws [] = record { state = h; words = ws; rest = [] }
 head_run h ws (b ∷ bs) = when eqb h.kind 3 then record { state = h; words = ws; rest = b ∷ bs } else head_run (head_step_of h b) (head_stored h b ws) bs
+
+-- of a text, whose end is a line break
+unfoldable pub head_read : List ℕ → List ℕ → HeadEnd
+head_read ws text =
+    when ltb max_text (length text) then record { state = head_as 8 0 0 0; words = ws; rest = text ++ (10 ∷ []) }
+    else head_run head_start ws (text ++ (10 ∷ []))

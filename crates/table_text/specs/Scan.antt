@@ -1,7 +1,8 @@
 -- The rows, as in `$readmemb` files: words of 0, 1, x and _, most significant bit first, `//` comments, and `@` with a row number in hex.
-use Rattle.std.specs.Prelude.{ℕ, ◌+◌, ◌-◌, ◌*◌, Bool, ◌&&◌, List, [], ◌∷◌, set, eqb, ltb, leb}
+use Rattle.std.specs.Prelude.{ℕ, ◌+◌, ◌-◌, ◌*◌, Bool, ◌&&◌, List, [], ◌∷◌, ◌++◌, length, drop, set, eqb, ltb, leb}
 use Rattle.lists.specs.Choice.{when◌then◌else◌}
-use Rattle.table_text.specs.Bytes.{bump, more, low_word, is_end, trit_of, hex_of}
+use Rattle.rules.specs.Limits.{max_width}
+use Rattle.table_text.specs.Bytes.{max_text, bump, more, low_word, is_end, trit_of, hex_of}
 
 -- the machine that reads the rows: a kind, the line and the row in hand, the bits of a word that are still to come, and a row number; both are 0 where the
 -- kind has none
@@ -105,3 +106,10 @@ module _ (depth width : ℕ) where
   unfoldable pub scan_run : Scan → List ℕ → List ℕ → ScanEnd
   scan_run s rows [] = record { state = s; rows = rows }
   scan_run s rows (b ∷ bs) = scan_run (scan_step_of s b) (scan_stored s b rows) bs
+
+  -- the rows of a text from a place on, where the text's end is a line break; a text that is too long is not read, and no memory has rows wider than the limit
+  unfoldable pub rows_read : List ℕ → List ℕ → ℕ → ScanEnd
+  rows_read rows text from =
+      when ltb max_width width then record { state = scan_as 15 1 0 0 0; rows = rows }
+      else when ltb max_text (length text) then record { state = scan_as 15 1 0 0 0; rows = rows }
+      else scan_run scan_start rows (drop from (text ++ (10 ∷ [])))

@@ -1,7 +1,7 @@
 -- The crate's machines in terms of the definitions: what each waits for as a kind, and a reason as its number.
 use Rattle.std.specs.Prelude.{ℕ}
 use Rattle.table_text.specs.declared.reason.Reason.{Reason}
-use Rattle.table_text.specs.declared.reason.Reason.TheVariants.{TextTooLong, BadHeader, BadLayout, BadByte, ShortWord, LongWord, RowPastDepth}
+use Rattle.table_text.specs.declared.reason.Reason.TheVariants.{TextTooLong, BadHeader, BadLayout, BadByte, ShortWord, LongWord, RowPastDepth, Unread}
 use Rattle.table_text.specs.declared.head.Kind.{Kind as HeadKind}
 use Rattle.table_text.specs.declared.head.Kind.TheVariants as heads
 use Rattle.table_text.specs.declared.head.Head.{Head as HeadMachine}
@@ -19,6 +19,7 @@ reason_number BadByte = 11
 reason_number ShortWord = 12
 reason_number LongWord = 13
 reason_number RowPastDepth = 14
+reason_number Unread = 15
 
 abbrev pub head_kind : HeadKind → ℕ
 head_kind heads.Gap = 0

@@ -1,16 +1,9 @@
 // Bytes of a table's text: digits, what separates words, and numbers that grow digit by digit.
-ghost use Rattle.std.specs.Prelude.{◌≡◌, ◌≤◌, get_or, length};
-ghost use Rattle.table_text.specs.Bytes.{max_text, bump, more, low_word, is_blank, is_end, trit_of, hex_of, below, letter_of, next_letter};
+ghost use Rattle.std.specs.Prelude.{◌≡◌, get_or};
+ghost use Rattle.table_text.specs.Bytes.{bump, more, low_word, is_blank, is_end, trit_of, hex_of, below, letter_of, next_letter};
 
 // The longest text that is read.
 pub const MAX_TEXT: usize = 1048576;
-
-// A text that is not too long to be read.
-#[derive(Clone, Copy)]
-pub struct Text<'a> {
-    pub bytes: &'a [u8],
-    ghost short: { length bytes.now ≤ max_text },
-}
 
 // ---- numbers
 

@@ -1,10 +1,11 @@
 // The header line of a table's text.
-ghost use Rattle.std.specs.Prelude.{◌≡◌, ◌∷◌, [], ◌++◌, Some, None, drop, eqb, leb};
+ghost use Rattle.std.specs.Prelude.{◌≡◌, ◌∷◌, [], ◌++◌, ◌≤◌, Some, None, drop, eqb, leb, length};
 ghost use Rattle.lists.specs.Choice.{when◌then◌else◌};
+ghost use Rattle.table_text.specs.Bytes.{max_text};
 ghost use Rattle.table_text.specs.View.{head_kind, head_value, head_of};
-ghost use Rattle.table_text.specs.Head.{head_as, head_start, head_bad, number_end, head_blank, head_comma, head_break, head_digit, head_entry, head_letter, head_word, head_step_of, is_stop, head_stored, head_run};
+ghost use Rattle.table_text.specs.Head.{head_as, head_start, head_bad, number_end, head_blank, head_comma, head_break, head_digit, head_entry, head_letter, head_word, head_step_of, is_stop, head_stored, head_run, head_read};
 
-use crate::bytes::{self, Text};
+use crate::bytes;
 use crate::reason::Reason;
 
 // The fields of the line are counted from 0: this one has the entries,
@@ -217,21 +218,36 @@ pub struct Ended {
     pub at: usize,
 }
 
-// Reads the line; the end of the text is a line break.
-pub fn read_head(words: &mut [u32], text: Text<'_>) -> Ended
-    ensures { head_run head_start words.old (text.entry.bytes.now ++ (10 ∷ [])) ≡ record { state = head_of result.head; words = words.new; rest = drop result.at (text.entry.bytes.now ++ (10 ∷ [])) } }
+// Reads the line of a text that is not too long.
+fn read_line(words: &mut [u32], text: &[u8]) -> Ended
+    requires { length text.now ≤ max_text }
+    ensures { head_run head_start words.old (text.now ++ (10 ∷ [])) ≡ record { state = head_of result.head; words = words.new; rest = drop result.at (text.now ++ (10 ∷ [])) } }
 {
     let mut head = Head::new(Kind::Gap, 0, 0);
-    for at in 0..text.bytes.len() + 1 {
+    for at in 0..text.len() + 1 {
         if head.is_read() {
             return Ended { head, at };
         }
-        let b = bytes::byte_at(text.bytes, at);
+        let b = bytes::byte_at(text, at);
         head.store(words, b);
         head = head.step(b);
     }
     Ended {
         head,
-        at: text.bytes.len() + 1,
+        at: text.len() + 1,
     }
+}
+
+// Reads the line; the end of the text is a line break.
+#[tactic(auto, unfolding(crate::specs::Head::head_read))]
+pub fn read_head(words: &mut [u32], text: &[u8]) -> Ended
+    ensures { head_read words.old text.now ≡ record { state = head_of result.head; words = words.new; rest = drop result.at (text.now ++ (10 ∷ [])) } }
+{
+    if bytes::MAX_TEXT < text.len() {
+        return Ended {
+            head: Head::new(Kind::Refused(Reason::TextTooLong), 0, 0),
+            at: 0,
+        };
+    }
+    read_line(words, text)
 }

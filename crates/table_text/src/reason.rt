@@ -20,6 +20,8 @@ pub enum Reason {
     LongWord,
     // a row past the depth
     RowPastDepth,
+    // rows that are not read: wider than a memory's, or of a text with more bytes than are read
+    Unread,
 }
 
 impl Reason {
@@ -35,6 +37,7 @@ impl Reason {
             Reason::ShortWord => 12,
             Reason::LongWord => 13,
             Reason::RowPastDepth => 14,
+            Reason::Unread => 15,
         }
     }
 }
@@ -49,6 +52,7 @@ impl fmt::Display for Reason {
             Reason::ShortWord => "too few bits",
             Reason::LongWord => "too many bits",
             Reason::RowPastDepth => "row past the depth",
+            Reason::Unread => "rows not read",
         })
     }
 }

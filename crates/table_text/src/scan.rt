@@ -1,10 +1,11 @@
 // The rows of a table's text.
-ghost use Rattle.std.specs.Prelude.{◌≡◌, ◌∷◌, [], ◌++◌, ◌≤◌, ◌&&◌, eqb, ltb, leb, drop};
+ghost use Rattle.std.specs.Prelude.{◌≡◌, ◌∷◌, [], ◌++◌, ◌≤◌, ◌&&◌, eqb, ltb, leb, drop, length};
 ghost use Rattle.rules.specs.Limits.{max_width};
+ghost use Rattle.table_text.specs.Bytes.{max_text};
 ghost use Rattle.table_text.specs.View.{reason_number, scan_kind, scan_left, scan_value, scan_of};
-ghost use Rattle.table_text.specs.Scan.{scan_as, scan_start, with_kind, word_end, number_end, ended, between, left_of, scan_trit, scan_hex, scan_comment, scan_slash, scan_word, scan_plain, scan_step_of, place_of, scan_stored, scan_run};
+ghost use Rattle.table_text.specs.Scan.{scan_as, scan_start, with_kind, word_end, number_end, ended, between, left_of, scan_trit, scan_hex, scan_comment, scan_slash, scan_word, scan_plain, scan_step_of, place_of, scan_stored, scan_run, rows_read};
 
-use crate::bytes::{self, Text};
+use crate::bytes;
 use crate::reason::Reason;
 
 // Where the machine is, or why it refuses the rows.
@@ -270,15 +271,27 @@ impl Scan {
     }
 }
 
-// The rows of a text behind its header line; the end of the text is a line break.
-pub fn read_rows(rows: &mut [u8], size: Size, text: Text<'_>, from: usize) -> Scan
-    ensures { scan_run size.depth size.width scan_start rows.old (drop from (text.entry.bytes.now ++ (10 ∷ []))) ≡ record { state = scan_of result; rows = rows.new } }
+// Reads the rows from a place of the text on; the end of the text is a line break.
+fn read_from(rows: &mut [u8], size: Size, text: &[u8], from: usize) -> Scan
+    requires { length text.now ≤ max_text }
+    ensures { scan_run size.depth size.width scan_start rows.old (drop from (text.now ++ (10 ∷ []))) ≡ record { state = scan_of result; rows = rows.new } }
 {
     let mut scan = Scan::new(Kind::Gap, 2, 0);
-    for i in from..text.bytes.len() + 1 {
-        let b = bytes::byte_at(text.bytes, i);
+    for i in from..text.len() + 1 {
+        let b = bytes::byte_at(text, i);
         scan.store(rows, size, b);
         scan = scan.step(size, b);
     }
     scan
+}
+
+// The rows of a text behind its header line; past the longest row, which no memory has, nothing is read and the text is refused.
+#[tactic(auto, unfolding(crate::specs::Scan::rows_read))]
+pub fn read_rows(rows: &mut [u8], depth: u32, width: u32, text: &[u8], from: usize) -> Scan
+    ensures { rows_read depth width rows.old text.now from ≡ record { state = scan_of result; rows = rows.new } }
+{
+    if rules::MAX_WIDTH < width || bytes::MAX_TEXT < text.len() {
+        return Scan::new(Kind::Refused(Reason::Unread), 1, 0);
+    }
+    read_from(rows, Size { depth, width }, text, from)
 }

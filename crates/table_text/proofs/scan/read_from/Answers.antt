@@ -1,4 +1,4 @@
--- `table_text::scan::read_rows` meets its contract.
+-- `table_text::scan::read_from` meets its contract.
 use Rattle.table_text.proofs.Runs.{scan_turn, scan_end, length_scan_stored}
 use Rattle.table_text.specs.Scan.{Scan, scan_step_of, scan_run}
 use Rattle.table_text.specs.View.{scan_of}
@@ -7,22 +7,22 @@ use native.Mathlib.Omega.{arith}
 use Prim.Native.Nat.{ℕ, ◌+◌}
 use mathlib.Core.List.{List, [], ◌∷◌, ◌++◌}
 use mathlib.Core.Path.{refl, sym, ap, ◌∙◌}
-use Rattle.table_text.proofs.scan.read_rows.Goals as goal
+use Rattle.table_text.proofs.scan.read_from.Goals as goal
 
 pub loop-i-init : goal.loop-i-init
 loop-i-init c =
-    let a = c.args in (refl, ap (λ (s : Scan). scan_run a.size.depth a.size.width s a.rows.now (drop a.from (a.text.bytes.now ++ (10 ∷ [])))) c.new-scan.ensures)
+    let a = c.args in (refl, ap (λ (s : Scan). scan_run a.size.depth a.size.width s a.rows.now (drop a.from (a.text.now ++ (10 ∷ [])))) c.new-scan.ensures)
 
 pub loop-i-preserved : goal.loop-i-preserved
 loop-i-preserved c =
     let l = c.loop-i in
     let a = c.args in
-    let t = a.text.bytes.now in
+    let t = a.text.now in
     let b = c.byte_at-b.result in (
       ap length c.store.ensures ∙ length_scan_stored a.size.depth a.size.width (scan_of l.scan) b l.rows ∙ l.invariant.0,
       ap (λ (s : Scan). scan_run a.size.depth a.size.width s c.store.new.rows (drop (l.i + 1) (t ++ (10 ∷ [])))) c.step-scan.ensures
           ∙ ap (λ (rs : List ℕ). scan_run a.size.depth a.size.width (scan_step_of a.size.depth a.size.width (scan_of l.scan) b) rs (drop (l.i + 1) (t ++ (10 ∷ [])))) c.store.ensures
-          ∙ scan_turn a.size.depth a.size.width (scan_of l.scan) l.rows t l.i b (omega (arith, c.args.text.short)) c.byte_at-b.ensures ∙ l.invariant.1,
+          ∙ scan_turn a.size.depth a.size.width (scan_of l.scan) l.rows t l.i b (omega arith) c.byte_at-b.ensures ∙ l.invariant.1,
     )
 
 pub shape_of-rows : goal.shape_of-rows
@@ -30,4 +30,4 @@ shape_of-rows c = c.loop-i.invariant.0
 
 pub returns : goal.returns
 returns c =
-    let l = c.loop-i in let a = c.args in sym l.invariant.1 ∙ scan_end a.size.depth a.size.width (scan_of l.scan) l.rows a.text.bytes.now l.i (omega (arith, c.args.text.short))
+    let l = c.loop-i in let a = c.args in sym l.invariant.1 ∙ scan_end a.size.depth a.size.width (scan_of l.scan) l.rows a.text.now l.i (omega arith)
