@@ -7,7 +7,7 @@ use mathlib.Core.Bool.{Bool, false}
 use mathlib.Core.Option.{some}
 use mathlib.Core.List.{List}
 use lib.ListN.{length, replicate, length-replicate, replicate-append-replicate, get_or-eq_default}
-use lib.Seq.{sets, take-take, get_or-take, set_out, length-sets}
+use lib.Seq.{sets, take-take, get_or-take, length-sets}
 use Rattle.lists.proofs.Stores.{sets_then}
 use borrow.Author.Tests.{eqb-true, not-false}
 use Rattle.lists.specs.Lists.{sum_by, part}
@@ -138,11 +138,6 @@ pub blank_length : (m : Memory) (i : ℕ) (trits : List ℕ) → length (blanked
 blank_length m i trits = omega (arith, length-sets trits (trit_start m i) (replicate (trit_size (read_port m i)) trit_x))
 
 -- ---- where there is no such port
-pub struct_past : (m : Memory) (i : ℕ) (c : Controls) (incl : Bool) → length m.read_ports ≤ i → m ≡ unreset m i c incl
-struct_past m i c incl h =
-    ap (λ (ps : List MemoryReadPort). record { depth = m.depth; width = m.width; init_len = m.init_len; write_count = m.write_count; read_count = m.read_count; write_ports = m.write_ports; read_ports = ps })
-    (sym (set_out m.read_ports i (unreset_port (read_port m i) c incl) h))
-
 pub trits_past : (m : Memory) (i : ℕ) (trits : List ℕ) → length m.read_ports ≤ i → trits ≡ blanked m i trits
 trits_past m i trits h = sym (ap (λ (p : MemoryReadPort). sets trits (trit_start m i) (replicate (trit_size p) trit_x)) (get_or-eq_default m.read_ports no_read_port h))
 
