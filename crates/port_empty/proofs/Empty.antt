@@ -4,7 +4,7 @@ use Prim.Native.Nat.{ℕ, ◌*◌, ◌<◌, ◌≤◌}
 use native.Mathlib.Omega.{arith}
 use mathlib.Core.Bool.{Bool, false}
 use mathlib.Core.List.{List, [], ◌∷◌, ◌++◌}
-use lib.ListN.{length, take, replicate, length-replicate}
+use lib.ListN.{length, take, replicate}
 use lib.Seq.{sets, length-take-le}
 use lib.Dec.{ltb}
 use borrow.Author.Tests.{lt-ltb, le-ltb, eqb-true, not-false}
@@ -36,9 +36,6 @@ use Rattle.port_empty.specs.Empty.{emptied, emptied_if}
 pub unknown_is : (n s : ℕ) → n ≤ s → take n (replicate s X) ≡ x_nets n
 unfolding x_nets
 unknown_is n s h = part_replicate 0 n s X (omega arith)
-
-pub unknown_long : (n s : ℕ) → n ≤ s → n ≡ length (take n (replicate s X))
-unknown_long n s h = sym (length-take-le n (replicate s X) (omega (arith, length-replicate s X)))
 
 -- ---- in sequence
 pub chains_empty : (m : Mem) (output : Value) → Chains (emptied_if m output)

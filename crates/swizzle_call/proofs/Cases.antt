@@ -35,10 +35,6 @@ use Rattle.net_check.proofs.Accept.{valid}
 use Rattle.port_unmap_all.proofs.Rules.{all_ready}
 use Rattle.port_empty.specs.Empty.{emptied_if}
 use Rattle.port_empty.proofs.Empty.{rules_run}
-use Rattle.image_geometry.specs.declared.Params.{Params}
-use Rattle.image_geometry.specs.View.{layout_by}
-use Rattle.swizzle_plan.specs.declared.MemorySwizzle.{MemorySwizzle}
-use Rattle.swizzle_plan.specs.Calls.{plan_of, params_by}
 use Rattle.swizzle_counts.proofs.Refusing.{no_nets_lem, no_trits_lem}
 use Rattle.swizzle_result.specs.declared.WideMemory.{WideMemory}
 use Rattle.swizzle_result.specs.View.{results_of}
@@ -156,10 +152,6 @@ module _ (r : rules.SwizzleRooms) (room : ℕ) (st : LogState) (m : Memory) (net
       (e ∙ rules_run M (all_ready (plan_too_large p) st.next m nets trits output driving (long d)) output outputs l ∙ ap (λ (u : Trace (List Driving)). run u l) (sym t))
 
 -- ---- rows
-pub same_layout : (m : Memory) (nets trits : List ℕ) (s : MemorySwizzle) (es ws rs : List ℕ) (x : Params) → x ≡ params_by m s → layout_by x es ≡ layout_of (memory_of m nets trits) (plan_of s es ws rs)
-unfolding layout_of memory_of
-same_layout m nets trits s es ws rs x e = ap (λ (y : Params). layout_by y es) e
-
 from_rows : (m : Mem) (output : Value) (p : Plan) (l : Lent) (to kinds : List ℕ) (g : Going) → RowsDone m output p l to kinds g → Acted m (layout_of m p) (swizzle_rows m output p) l to kinds g
 from_rows m output p l to kinds g d = record { log_is = d.log_is; nets_are = d.nets_are; trits_are = d.trits_are; nets_end = d.nets_end; trits_end = d.trits_end; results_are = d.results_are }
 
