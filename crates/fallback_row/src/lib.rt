@@ -98,7 +98,7 @@ fn net_of_trit(t: u8) -> u32
     u32::from(t)
 }
 
-// The nets of trits, from the start of `row` on.
+// The nets of trits, from the start of `row` on. (`iter_mut().zip(init)` was tried: no fact says what the row is after it.)
 pub fn const_row(row: &mut [u32], init: &[u8])
     ensures { row.new ≡ sets row.old 0 (of_const init.now) }
 {
