@@ -12,7 +12,7 @@ ghost use Rattle.c_memory.specs.View.{given_memory, memory_struct, zero_memory};
 ghost use Rattle.c_memory.specs.Calls.{slice_result, extracted_struct, extracted_of, NewMemory};
 
 use c_net::{Control, Count};
-use net_memory::Given;
+use net_memory::{Given, MemoryReadPort, MemoryWritePort};
 use port_outputs::OutputSlice;
 use rules::Refusal;
 
@@ -86,7 +86,6 @@ pub struct Extracted {
 }
 
 // The library's memory. A flag of a port above 1 gives a control that is none: calls refuse it by 4.
-#[tactic(auto, unfolding(crate::specs::View::given_memory))]
 impl From<Memory> for net_memory::Memory {
     ghost from_gives = { λ m r. r ≡ given_memory m };
 
@@ -97,8 +96,8 @@ impl From<Memory> for net_memory::Memory {
             init_len: m.init_len,
             write_count: m.write_count,
             read_count: m.read_count,
-            write_ports: ports::writes_of(m.write_ports),
-            read_ports: ports::reads_of(m.read_ports),
+            write_ports: m.write_ports.map(MemoryWritePort::from),
+            read_ports: m.read_ports.map(MemoryReadPort::from),
         }
     }
 }
@@ -115,7 +114,6 @@ pub fn given_by<'a>(m: Memory, nets: &'a [u32], trits: &'a [u8]) -> Given<'a>
 }
 
 // The struct of a library's memory, which read again is that memory.
-#[tactic(auto, using(crate::proofs::Back::memory_back), unfolding(crate::specs::View::memory_struct))]
 impl From<net_memory::Memory> for Memory {
     ghost from_gives = { λ m r. (r ≡ memory_struct m) × (given_memory r ≡ m) };
 
@@ -126,8 +124,8 @@ impl From<net_memory::Memory> for Memory {
             init_len: m.init_len,
             write_count: m.write_count,
             read_count: m.read_count,
-            write_ports: ports::write_structs(m.write_ports),
-            read_ports: ports::read_structs(m.read_ports),
+            write_ports: m.write_ports.map(WritePort::from),
+            read_ports: m.read_ports.map(ReadPort::from),
         }
     }
 }

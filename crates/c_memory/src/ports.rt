@@ -1,5 +1,5 @@
 // A caller's ports as the library's, and back.
-ghost use Rattle.std.specs.Prelude.{◌≡◌, map};
+ghost use Rattle.std.specs.Prelude.{◌≡◌};
 ghost use Rattle.c_memory.specs.View.{given_write, given_clock, given_reset, given_controls, given_flip_flop, fields_of, given_read, write_struct, flip_flop_struct, read_with, read_struct};
 
 use crate::{FlipFlop, ReadPort, WritePort};
@@ -92,19 +92,6 @@ impl From<ReadPort> for MemoryReadPort {
     }
 }
 
-// All ports, in use or not.
-pub(crate) fn writes_of(ports: [WritePort; rules::MAX_PORTS]) -> [MemoryWritePort; rules::MAX_PORTS]
-    ensures { result ≡ map given_write ports }
-{
-    ports.map(MemoryWritePort::from)
-}
-
-pub(crate) fn reads_of(ports: [ReadPort; rules::MAX_PORTS]) -> [MemoryReadPort; rules::MAX_PORTS]
-    ensures { result ≡ map given_read ports }
-{
-    ports.map(MemoryReadPort::from)
-}
-
 // ---- to a caller's struct
 
 impl From<MemoryWritePort> for WritePort {
@@ -166,20 +153,4 @@ impl From<MemoryReadPort> for ReadPort {
     fn from(p: MemoryReadPort) -> ReadPort {
         read_with(p, p.flip_flop.into())
     }
-}
-
-pub(crate) fn write_structs(
-    ports: [MemoryWritePort; rules::MAX_PORTS],
-) -> [WritePort; rules::MAX_PORTS]
-    ensures { result ≡ map write_struct ports }
-{
-    ports.map(WritePort::from)
-}
-
-pub(crate) fn read_structs(
-    ports: [MemoryReadPort; rules::MAX_PORTS],
-) -> [ReadPort; rules::MAX_PORTS]
-    ensures { result ≡ map read_struct ports }
-{
-    ports.map(ReadPort::from)
 }

@@ -1,3 +1,2 @@
--- Laws of lists in lent room, and of what is no control.
+-- Laws of lists in lent room.
 pub mod Listed
-pub mod NoControl

@@ -1,5 +1,6 @@
 // logic.rs for callers in C and Rust: trits are codes, constants slices of them.
 ghost use Rattle.std.specs.Prelude.{◌≡◌, IfOk};
+ghost use Rattle.rules.specs.Logic as logic;
 ghost use Rattle.rules.specs.Logic.{trit_of, trit_and, trit_or};
 ghost use Rattle.rules.specs.Refusals.{trit_refusal, slice_refusal};
 ghost use Rattle.rules.specs.Refusal.{answer_by, number_of};
@@ -22,7 +23,7 @@ fn known(code: u8) -> result::Result<Trit, Refusal>
     net_logic::trit_from_code(code)
 }
 
-// The code of the inverse, of and, and of or, or number 4.
+// The code of the inverse, or number 4.
 #[tactic(auto, using(rules::proofs::Answers::answer_err, rules::proofs::Answers::answer_ok), unfolding(crate::specs::Calls::trit_not_call))]
 fn code_not(a: u8) -> result::Result<u32, Refusal>
     ensures { answer_by (λ n. n) result ≡ trit_not_call a }
@@ -31,22 +32,15 @@ fn code_not(a: u8) -> result::Result<u32, Refusal>
     Ok(u32::from(net_logic::trit_code(net_logic::trit_not(trit))))
 }
 
+// The code of what a gate gives for two trits, or number 4.
 #[tactic(auto, using(rules::proofs::Answers::answer_err, rules::proofs::Answers::answer_ok, rules::proofs::Answers::else_err, rules::proofs::Answers::else_ok), unfolding(crate::specs::Calls::trit_pair_call))]
-fn code_and(a: u8, b: u8) -> result::Result<u32, Refusal>
-    ensures { answer_by (λ n. n) result ≡ trit_pair_call trit_and a b }
+fn code_by<F: Fn(Trit, Trit) -> Trit>(gate: F, a: u8, b: u8) -> result::Result<u32, Refusal>
+    requires { F.IsAlwaysCallable gate }
+    ensures { (op : logic.Trit → logic.Trit → logic.Trit) → ((x y r : Trit) → F.post gate x y r → trit_view r ≡ op (trit_view x) (trit_view y)) → answer_by (λ n. n) result ≡ trit_pair_call op a b }
 {
     let x = known(a)?;
     let y = known(b)?;
-    Ok(u32::from(net_logic::trit_code(net_logic::trit_and(x, y))))
-}
-
-#[tactic(auto, using(rules::proofs::Answers::answer_err, rules::proofs::Answers::answer_ok, rules::proofs::Answers::else_err, rules::proofs::Answers::else_ok), unfolding(crate::specs::Calls::trit_pair_call))]
-fn code_or(a: u8, b: u8) -> result::Result<u32, Refusal>
-    ensures { answer_by (λ n. n) result ≡ trit_pair_call trit_or a b }
-{
-    let x = known(a)?;
-    let y = known(b)?;
-    Ok(u32::from(net_logic::trit_code(net_logic::trit_or(x, y))))
+    Ok(u32::from(net_logic::trit_code(gate(x, y))))
 }
 
 pub fn tablegoose_trit_not(a: u8) -> Result
@@ -58,13 +52,13 @@ pub fn tablegoose_trit_not(a: u8) -> Result
 pub fn tablegoose_trit_and(a: u8, b: u8) -> Result
     ensures { result ≡ value_result (trit_pair_call trit_and a b) }
 {
-    crate::number_result(code_and(a, b))
+    crate::number_result(code_by(net_logic::trit_and, a, b))
 }
 
 pub fn tablegoose_trit_or(a: u8, b: u8) -> Result
     ensures { result ≡ value_result (trit_pair_call trit_or a b) }
 {
-    crate::number_result(code_or(a, b))
+    crate::number_result(code_by(net_logic::trit_or, a, b))
 }
 
 pub fn tablegoose_const_is_undef(a: &[u8]) -> Result

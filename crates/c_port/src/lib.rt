@@ -31,17 +31,12 @@ pub struct Driven {
 fn driven_struct(m: Memory, st: LogState, r: Result<port_unmap::Driven, Refusal>) -> Driven
     ensures { result ≡ driven_struct m st r }
 {
-    match r {
-        Err(refusal) => Driven {
-            number: refusal.number(),
-            memory: m,
-            state: st,
-        },
-        Ok(driven) => Driven {
-            number: 0,
-            memory: driven.memory.into(),
-            state: driven.state,
-        },
+    let left = r.map(|driven| (driven.memory.into(), driven.state));
+    let (number, (memory, state)) = c_net::parts(left, (m, st));
+    Driven {
+        number,
+        memory,
+        state,
     }
 }
 

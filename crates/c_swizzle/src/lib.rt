@@ -114,16 +114,14 @@ fn accepted_struct(x: swizzle_call::Swizzled) -> Swizzled
 fn refused_struct(st: LogState, refusal: Refusal) -> Swizzled
     ensures { result ≡ swizzled_struct (refused_told st (number refusal)) }
 {
-    let head = c_record::head_result(Err(refusal));
-    let sizes = head.sizes;
     Swizzled {
-        number: head.number,
+        number: refusal.number(),
         state: st,
         memory: swizzle_rows::no_memories().into(),
         nets_used: 0,
         trits_used: 0,
         laid: Laid::unset(),
-        sizes,
+        sizes: Sizes::default(),
     }
 }
 

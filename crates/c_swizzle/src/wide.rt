@@ -1,5 +1,5 @@
 // A caller's struct of the memories as the library's, and back.
-ghost use Rattle.std.specs.Prelude.{◌≡◌, map};
+ghost use Rattle.std.specs.Prelude.{◌≡◌};
 ghost use Rattle.c_swizzle.specs.View.{fields_of, given_write, given_read, given_wide, write_struct, read_with, read_struct, wide_struct};
 
 use crate::{WideMemory, WideReadPort, WideWritePort};
@@ -51,25 +51,7 @@ impl From<WideReadPort> for swizzle_result::WideReadPort {
     }
 }
 
-// All ports, in use or not.
-fn writes_of(
-    ports: [WideWritePort; rules::MAX_PORTS],
-) -> [swizzle_result::WideWritePort; rules::MAX_PORTS]
-    ensures { result ≡ map given_write ports }
-{
-    ports.map(swizzle_result::WideWritePort::from)
-}
-
-fn reads_of(
-    ports: [WideReadPort; rules::MAX_PORTS],
-) -> [swizzle_result::WideReadPort; rules::MAX_PORTS]
-    ensures { result ≡ map given_read ports }
-{
-    ports.map(swizzle_result::WideReadPort::from)
-}
-
 // The library's struct. A flag or polarity above 1 is read as c_memory reads it.
-#[tactic(auto, unfolding(crate::specs::View::given_wide))]
 impl From<WideMemory> for swizzle_result::WideMemory {
     ghost from_gives = { λ g r. r ≡ given_wide g };
 
@@ -82,8 +64,8 @@ impl From<WideMemory> for swizzle_result::WideMemory {
             unit: g.unit,
             write_count: g.write_count,
             read_count: g.read_count,
-            write_ports: writes_of(g.write_ports),
-            read_ports: reads_of(g.read_ports),
+            write_ports: g.write_ports.map(swizzle_result::WideWritePort::from),
+            read_ports: g.read_ports.map(swizzle_result::WideReadPort::from),
         }
     }
 }
@@ -130,24 +112,7 @@ impl From<swizzle_result::WideReadPort> for WideReadPort {
     }
 }
 
-fn write_structs(
-    ports: [swizzle_result::WideWritePort; rules::MAX_PORTS],
-) -> [WideWritePort; rules::MAX_PORTS]
-    ensures { result ≡ map write_struct ports }
-{
-    ports.map(WideWritePort::from)
-}
-
-fn read_structs(
-    ports: [swizzle_result::WideReadPort; rules::MAX_PORTS],
-) -> [WideReadPort; rules::MAX_PORTS]
-    ensures { result ≡ map read_struct ports }
-{
-    ports.map(WideReadPort::from)
-}
-
 // The struct of the library's, which read again is that.
-#[tactic(auto, using(crate::proofs::Back::wide_back), unfolding(crate::specs::View::wide_struct))]
 impl From<swizzle_result::WideMemory> for WideMemory {
     ghost from_gives = { λ g r. (r ≡ wide_struct g) × (given_wide r ≡ g) };
 
@@ -160,8 +125,8 @@ impl From<swizzle_result::WideMemory> for WideMemory {
             unit: g.unit,
             write_count: g.write_count,
             read_count: g.read_count,
-            write_ports: write_structs(g.write_ports),
-            read_ports: read_structs(g.read_ports),
+            write_ports: g.write_ports.map(WideWritePort::from),
+            read_ports: g.read_ports.map(WideReadPort::from),
         }
     }
 }

@@ -24,9 +24,6 @@ module _ (L : List ℕ) where
   abbrev pub Most : ℕ → ℕ → Type 0
   Most i most = max most (largest (drop i L)) ≡ largest L
 
-  pub most_start : Most 0 0
-  most_start = omega arith
-
   left_cons : (i : ℕ) → i < length L → largest (drop i L) ≡ max (get_or L i 0) (largest (drop (i + 1) L))
   unfolding largest
   left_cons i h = ap largest (drop-cons L i 0 h) ∙ ap (λ (k : ℕ). max (get_or L i 0) (largest (drop k L))) (sym (add-one i))

@@ -2,7 +2,7 @@
 // row is a memory.
 #![tactic(auto)]
 
-ghost use Rattle.std.specs.Prelude.{◌≡◌, List, map, ℕ, ◌≤◌, min, replicate};
+ghost use Rattle.std.specs.Prelude.{◌≡◌, List, map, ℕ, ◌<◌, ◌≤◌, min, replicate, length, get_or};
 ghost use Rattle.lists.specs.Lists.{up_from};
 ghost use Rattle.rules.specs.Limits.{max_ports, max_row};
 ghost use Rattle.rules.specs.Numbers.{largest};
@@ -24,26 +24,32 @@ pub struct Lists {
     zeros: [u32; rules::MAX_PORTS],
 }
 
+// The largest of so many wide logs; 0 where there are none.
+fn largest_by<F: Fn(u32) -> u32>(count: u32, log: F) -> u32
+    requires { F.IsAlwaysCallable log }
+    ensures { (logs : List ℕ) → length logs ≡ count → ((port found : ℕ) → port < count → F.post log port found → found ≡ get_or logs port 0) → result ≡ largest logs }
+{
+    let mut most: u32 = 0;
+    for port in 0..count {
+        most = most.max(log(port));
+    }
+    most
+}
+
 // The largest wide log of the write ports.
 fn largest_write(given: Given<'_>) -> u32
     ensures { result ≡ largest (write_logs (mem_of given.entry)) }
 {
-    let mut most: u32 = 0;
-    for port in 0..net_memory::ports_used(given.memory.write_count) as u32 {
-        most = most.max(swizzle_plan::logs::write_log(given, port));
-    }
-    most
+    let count = net_memory::ports_used(given.memory.write_count) as u32;
+    largest_by(count, |port| swizzle_plan::logs::write_log(given, port))
 }
 
 // The largest wide log of the read ports.
 fn largest_read(m: Memory) -> u32
     ensures { (nets trits : List ℕ) → result ≡ largest (map (read_wide_log2 (memory_of m nets trits)) (memory_of m nets trits).reads) }
 {
-    let mut most: u32 = 0;
-    for port in 0..net_memory::ports_used(m.read_count) as u32 {
-        most = most.max(swizzle_plan::logs::read_log(m, port));
-    }
-    most
+    let count = net_memory::ports_used(m.read_count) as u32;
+    largest_by(count, |port| swizzle_plan::logs::read_log(m, port))
 }
 
 // The plan; its entries are the bits in order, and every new wide log is 0.

@@ -8,6 +8,7 @@ use mathlib.Core.Bool.{Bool, true, false, ◌||◌}
 use mathlib.Core.List.{List, []}
 use lib.ListN.{length, take, get_or, set, length-map, get_or-map}
 use lib.Seq.{sets}
+use lib.Dec.{ltb}
 use borrow.Author.Tests.{lt-ltb, le-ltb, eq-eqb, ne_eqb}
 use Rattle.lists.specs.Choice.{when◌then◌else◌}
 use Rattle.lists.specs.Lists.{up_from}
@@ -15,18 +16,32 @@ use Rattle.lists.proofs.Stores.{take_stored}
 use Rattle.lists.proofs.UpFrom.{length_up}
 use Rattle.lists.proofs.Store.{copy_turn, copy_done}
 use Rattle.rules.specs.Limits.{max_merge, max_nets}
-use Rattle.rules.specs.Value.{Value, net_of_trit, of_const}
-use Rattle.rules.specs.Log.{Trace, done, replace_value_of}
+use Rattle.rules.specs.Value.{Value, Control, net_of_trit, of_const}
+use Rattle.rules.specs.Log.{Trace, done, add_void_of, replace_value_of}
 use Rattle.log_entries.specs.Emission.{Lent, is_over, run}
 use Rattle.log_entries.proofs.Emission.{run-done}
 use Rattle.merge_mux.specs.Runs.{bitwise_of}
 use Rattle.port_transparency.specs.Gave.{Gave}
 use Rattle.port_transparency.proofs.Gave.{gave_done}
 use Rattle.port_transparency.proofs.Covered.{gave_bitwise}
-use Rattle.fallback_row.specs.Row.{over, unfit, over_if, driven_by}
+use Rattle.fallback_row.specs.Row.{start_if, over, unfit, over_if, held_back, held_if, driven_by}
+
+-- ---- the void nets
+module _ (w : ℕ) (v : Value) (l : Lent) where
+  pub start_many : max_merge < w → Gave (start_if w v) l l v
+  unfolding start_if
+  start_many h = rw (lt-ltb max_merge w h) (gave_done v l)
+
+  pub start_few : (l1 : Lent) (x : Value) → w ≤ max_merge → Gave (add_void_of w) l l1 x → Gave (start_if w v) l l1 x
+  unfolding start_if
+  start_few l1 x h g = rw (le-ltb max_merge w h) g
 
 -- ---- a write port
 module _ (w : ℕ) (mask bits : Value) where
+  pub unfit-many : max_merge < w → unfit w mask bits ≡ true
+  unfolding unfit
+  unfit-many h = rw (lt-ltb max_merge w h)
+
   pub unfit_mask : w ≤ max_merge → length mask ≢ w → unfit w mask bits ≡ true
   unfolding unfit
   unfit_mask h n = rw (le-ltb max_merge w h, ne_eqb (length mask) w n)
@@ -57,10 +72,24 @@ module _ (w : ℕ) (mask bits row row' spare spare' : List ℕ) (l l1 : Lent) (h
       (sym (take_stored row row' (take w spare') w c (sym es) (omega arith)))
       (gave_bitwise w mask bits (take w row) spare spare' l l1 h em eb er rs q k)
 
+-- ---- the flip-flop
+module _ (w : ℕ) (clock : Control) (init v q : Value) (l : Lent) where
+  pub held-many : max_merge < w → l ≡ run (held_if w clock init v q) l
+  unfolding held_if
+  held-many h = sym (ap (λ (b : Bool). run (when b then done [] else held_back clock init v q) l) (lt-ltb max_merge w h) ∙ run-done [] l)
+
+  pub held_few : (l1 : Lent) → w ≤ max_merge → l1 ≡ run (held_back clock init v q) l → l1 ≡ run (held_if w clock init v q) l
+  unfolding held_if
+  held_few l1 h e = e ∙ sym (ap (λ (b : Bool). run (when b then done [] else held_back clock init v q) l) (le-ltb max_merge w h))
+
 -- ---- the outputs
 module _ (first w : ℕ) (v : Value) (l : Lent) where
   abbrev driven : Bool → Trace Value
   driven b = when b then done [] else replace_value_of (up_from first w) v
+
+  pub driven-many : max_merge < w → l ≡ run (driven_by first w v) l
+  unfolding driven_by
+  driven-many h = sym (ap (λ (b : Bool). run (driven (b || ltb max_nets first)) l) (lt-ltb max_merge w h) ∙ run-done [] l)
 
   pub driven_high : w ≤ max_merge → max_nets < first → l ≡ run (driven_by first w v) l
   unfolding driven_by

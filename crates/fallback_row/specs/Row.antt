@@ -6,10 +6,14 @@ use Rattle.rules.specs.Limits.{max_merge, max_nets}
 use Rattle.rules.specs.Logic.{Const}
 use Rattle.rules.specs.Value.{Value, Control}
 use Rattle.rules.specs.Cell.{plain_controls}
-use Rattle.rules.specs.Log.{Trace, done, replace_value_of}
+use Rattle.rules.specs.Log.{Trace, done, add_void_of, replace_value_of}
 use Rattle.rules.specs.Merge.{add_bitwise_mux_of}
 use Rattle.net_flip_flop.specs.View.{flip_flop}
 use Rattle.port_overlay.specs.Laid.{behind}
+
+-- the void nets; a row of more nets than a merge takes keeps what it has
+unfoldable pub start_if : ℕ → Value → Trace Value
+start_if w v = when ltb max_merge w then done v else add_void_of w
 
 -- a write port over the nets v
 abbrev pub over : Value → Value → Value → Trace Value
@@ -25,6 +29,9 @@ over_if w mask bits v = when unfit w mask bits then done v else over mask bits v
 -- the flip-flop of the nets v, whose results take the place of q
 abbrev pub held_back : Control → Const → Value → Value → Trace Value
 held_back clock init v q = behind (flip_flop (plain_controls clock) v init init init) q
+
+unfoldable pub held_if : ℕ → Control → Const → Value → Value → Trace Value
+held_if w clock init v q = when ltb max_merge w then done [] else held_back clock init v q
 
 -- w outputs from net `first` on are the row
 unfoldable pub driven_by : ℕ → ℕ → Value → Trace Value

@@ -1,40 +1,23 @@
 // One row of a memory as a register, by its values: the void nets, a bitwise mux for each write port over them, the flip-flop whose results take
-// their place, and the outputs that they drive.
+// their place, and the outputs that they drive. A row of more nets than a merge takes, which no memory has, gives nothing.
 #![tactic(auto)]
 
-ghost use Rattle.std.specs.Prelude.{◌≡◌, ◌≤◌, min, take};
+ghost use Rattle.std.specs.Prelude.{◌≡◌, ◌≤◌, length, take};
 ghost use Rattle.std.proofs.lemmas.List.Edits.{sets};
-ghost use Rattle.rules.specs.Limits.{max_merge};
+ghost use Rattle.lists.specs.Lists.{up_from};
+ghost use Rattle.rules.specs.Limits.{max_merge, max_nets};
 ghost use Rattle.rules.specs.Value.{net_of_trit, of_const};
-ghost use Rattle.rules.specs.Log.{add_void_of};
+ghost use Rattle.rules.specs.Log.{add_void_of, replace_value_of};
 ghost use Rattle.net_value.specs.View.{control_of};
 ghost use Rattle.log_entries.specs.Emission.{run};
 ghost use Rattle.log_entries.specs.View.{lent_of};
 ghost use Rattle.port_transparency.specs.Gave.{Gave};
-ghost use Rattle.fallback_row.specs.Row.{over_if, held_back, driven_by};
+ghost use Rattle.fallback_row.specs.Row.{start_if, over, over_if, held_back, held_if, driven_by};
 
 use log_entries::Log;
 use merge_mux::emit::Keys;
 use net_flip_flop::{Controls, FlipFlop};
 use net_value::ControlNet;
-
-// How many nets a row has: no more than a merge takes.
-#[derive(Clone, Copy)]
-pub struct Width {
-    pub nets: u32,
-    ghost few: { nets ≤ max_merge },
-}
-
-impl Width {
-    // So many; what a merge takes, where they are more.
-    pub fn of(nets: u32) -> Width
-        ensures { result.nets ≡ min nets max_merge }
-    {
-        Width {
-            nets: nets.min(rules::MAX_MERGE as u32),
-        }
-    }
-}
 
 // A row: its nets as the write ports leave them, and room for muxes. It is lent, so that many rows clear it once.
 #[derive(Drop)]
@@ -44,47 +27,67 @@ pub struct Row {
     pub keys: Keys,
 }
 
-// The void nets of a row, which become the first of `out`.
-pub fn emit_start(log: &mut Log, out: &mut [u32; rules::MAX_MERGE], w: Width)
-    ensures { Gave (add_void_of w.nets) (lent_of log.old) (lent_of log.new) (take w.nets out.new) }
+// The void nets of a row of w bits, which become the first of `out`; any w.
+pub fn emit_start(log: &mut Log, out: &mut [u32; rules::MAX_MERGE], w: u32)
+    ensures { Gave (start_if w (take w out.old)) (lent_of log.old) (lent_of log.new) (take w out.new) }
 {
-    port_transparency::void_into(log, out, w.nets);
-}
-
-// A write port over the row; one whose data or mask is not as long as the row gives nothing.
-pub fn emit_over(log: &mut Log, row: &mut Row, w: Width, mask: &[u32], bits: &[u32])
-    ensures { Gave (over_if w.nets mask.now bits.now (take w.nets row.old.nets)) (lent_of log.old) (lent_of log.new) (take w.nets row.new.nets) }
-{
-    let n = w.nets as usize;
-    if mask.len() != n || bits.len() != n {
+    if rules::MAX_MERGE < w as usize {
         return;
     }
-    let under = &row.nets[..n];
-    merge_mux::emit::emit_bitwise_mux(log, &mut row.keys, &mut row.spare, mask, bits, under);
-    lists::copy(&mut row.nets, 0, &row.spare[..n]);
+    port_transparency::void_into(log, out, w);
 }
 
-// The flip-flop of the row, whose results take the place of the first of `q`.
-pub fn emit_held(
-    log: &mut Log,
-    row: &mut Row,
-    w: Width,
-    clock: ControlNet,
-    init: &[u8],
-    q: &[u32; rules::MAX_MERGE],
-)
-    ensures { lent_of log.new ≡ run (held_back (control_of clock) init.now (take w.nets row.old.nets) (take w.nets q.now)) (lent_of log.old) }
+// A write port over the row.
+fn over_row(log: &mut Log, row: &mut Row, w: usize, mask: &[u32], bits: &[u32])
+    requires { (w ≤ max_merge) × (length mask.now ≡ w) × (length bits.now ≡ w) }
+    ensures { Gave (over mask.now bits.now (take w row.old.nets)) (lent_of log.old) (lent_of log.new) (take w row.new.nets) }
 {
-    let n = w.nets as usize;
+    let under = &row.nets[..w];
+    merge_mux::emit::emit_bitwise_mux(log, &mut row.keys, &mut row.spare, mask, bits, under);
+    lists::copy(&mut row.nets, 0, &row.spare[..w]);
+}
+
+// The same of any port; one whose data or mask is not as long as the row gives nothing.
+pub fn emit_over(log: &mut Log, row: &mut Row, w: usize, mask: &[u32], bits: &[u32])
+    ensures { Gave (over_if w mask.now bits.now (take w row.old.nets)) (lent_of log.old) (lent_of log.new) (take w row.new.nets) }
+{
+    if rules::MAX_MERGE < w || mask.len() != w || bits.len() != w {
+        return;
+    }
+    over_row(log, row, w, mask, bits);
+}
+
+// The flip-flop of the row, whose results take the place of the first w nets of `q`.
+fn held_row(log: &mut Log, row: &mut Row, w: usize, clock: ControlNet, init: &[u8], q: &[u32])
+    requires { (w ≤ max_merge) × (max_merge ≤ length q.now) }
+    ensures { lent_of log.new ≡ run (held_back (control_of clock) init.now (take w row.old.nets) (take w q.now)) (lent_of log.old) }
+{
     let f = FlipFlop {
         controls: Controls::plain(clock),
-        bits: &row.nets[..n],
+        bits: &row.nets[..w],
         clear: init,
         reset: init,
         init,
     };
     port_transparency::dff_into(log, &mut row.spare, f);
-    log.emit_replace(&q[..n], &row.spare[..n]);
+    log.emit_replace(&q[..w], &row.spare[..w]);
+}
+
+// The same of any w.
+pub fn emit_held(
+    log: &mut Log,
+    row: &mut Row,
+    w: usize,
+    clock: ControlNet,
+    init: &[u8],
+    q: &[u32; rules::MAX_MERGE],
+)
+    ensures { lent_of log.new ≡ run (held_if w (control_of clock) init.now (take w row.old.nets) (take w q.now)) (lent_of log.old) }
+{
+    if rules::MAX_MERGE < w {
+        return;
+    }
+    held_row(log, row, w, clock, init, q);
 }
 
 // The net of a trit.
@@ -103,25 +106,33 @@ pub fn const_row(row: &mut [u32], init: &[u8])
     ensures { row.new ≡ sets row.old 0 (of_const init.now) }
 {
     let n = row.len().min(init.len());
-    for (i, trit) in init[..n].iter().enumerate() {
-        row[i] = net_of_trit(*trit);
+    for i in 0..n {
+        row[i] = net_of_trit(init[i]);
     }
 }
 
-// The outputs from `first` on, as many as the row has nets, replaced by it. Past the last net there are none.
+// The w outputs from `first` on replaced by the row.
+fn drive(log: &mut Log, spare: &mut [u32], first: u32, w: u32, q: &[u32])
+    requires { (w ≤ max_merge) × (first ≤ max_nets) × (max_merge ≤ length spare.old) × (max_merge ≤ length q.now) }
+    ensures { lent_of log.new ≡ run (replace_value_of (up_from first w) (take w q.now)) (lent_of log.old) }
+{
+    let n = w as usize;
+    lists::store_run(spare, 0, first, first + w);
+    log.emit_replace(&spare[..n], &q[..n]);
+}
+
+// The same of any w and any first net.
 pub fn emit_drive(
     log: &mut Log,
     spare: &mut [u32; rules::MAX_MERGE],
     first: u32,
-    w: Width,
+    w: u32,
     q: &[u32; rules::MAX_MERGE],
 )
-    ensures { lent_of log.new ≡ run (driven_by first w.nets (take w.nets q.now)) (lent_of log.old) }
+    ensures { lent_of log.new ≡ run (driven_by first w (take w q.now)) (lent_of log.old) }
 {
-    if rules::MAX_NETS < first {
+    if rules::MAX_MERGE < w as usize || rules::MAX_NETS < first {
         return;
     }
-    let n = w.nets as usize;
-    lists::store_run(spare, 0, first, first + w.nets);
-    log.emit_replace(&spare[..n], &q[..n]);
+    drive(log, spare, first, w, q);
 }

@@ -11,12 +11,12 @@ use lib.Seq.{sets, length-take-le}
 use lib.Dec.{eqb, ltb}
 use borrow.Author.Tests.{lt-ltb, le-ltb, eq-eqb, ne_eqb}
 use Rattle.lists.specs.Choice.{when◌then◌else◌}
-use Rattle.lists.specs.Lists.{up_from}
+use Rattle.lists.specs.Lists.{part, up_from}
 use Rattle.lists.proofs.UpFrom.{count_step, count_end}
 use Rattle.lists.proofs.Stores.{take_stored}
 use Rattle.rules.specs.Limits.{max_merge, max_unit, max_columns, max_nets}
 use Rattle.rules.specs.Logic.{Const}
-use Rattle.rules.specs.Value.{Value, of_const}
+use Rattle.rules.specs.Value.{Value, Control, of_const}
 use Rattle.rules.specs.Cell.{Mem, write_at}
 use Rattle.rules.specs.Log.{Trace, ◌>>=◌, ◌>>◌, done, add_void_of, replace_value_of}
 use Rattle.rules.specs.Beside.Chain.{Chains}
@@ -27,7 +27,7 @@ use Rattle.port_transparency.specs.Gave.{Gave}
 use Rattle.port_transparency.proofs.Gave.{gave_done, gave_bind, gave_same}
 use Rattle.swizzle_result.specs.declared.WideMemory.{WideMemory}
 use Rattle.swizzle_parts.specs.Parts.{read_port}
-use Rattle.fallback_row.specs.Row.{over_if, held_back, driven_by}
+use Rattle.fallback_row.specs.Row.{start_if, over_if, held_back, held_if, driven_by}
 use Rattle.fallback_row.proofs.Register.{length_const}
 use Rattle.fallback_rows.specs.Rows.{writes_by, write_numbers, clock_of, register_by, row_by, drives, read_numbers, row_trace, mem_at, row_if, rows_of, lowered}
 use Rattle.fallback_rows.proofs.Chained.{chains_over, chains_writes, chains_held, chains_row_by, chains_driven, chains_row_if}
@@ -68,14 +68,25 @@ module _ (w : ℕ) (m : Mem) (count : ℕ) where
   going_end v₀ l₀ j v l h inv = inv l v (subst (λ (t : Trace Value). Gave t l l v) (sym (from_nil j v h)) (gave_done v l))
 
 -- ---- the register
-pub same_row : (w : ℕ) (row row' q : List ℕ) → row' ≡ sets row 0 (take w q) → w ≤ length q → w ≤ length row → take w row' ≡ take w q
-same_row w row row' q e h k = take_stored row row' (take w q) w e (sym (length-take-le w q h)) k
+start_is : (w : ℕ) (v : Value) → w ≤ max_merge → start_if w v ≡ add_void_of w
+unfolding start_if
+start_is w v h = rw (le-ltb max_merge w h)
 
-module _ (g : WideMemory) (m : Mem) (init : Const) where
-  pub register_gave : (q r : Value) (l l1 l2 l3 : Lent) → Gave (add_void_of g.unit) l l1 q → Gave (writes_by g.unit m (write_numbers g) q) l1 l2 r → l3 ≡ run (held_back (clock_of g) init r q) l2
+held_is : (w : ℕ) (clock : Control) (init v q : Value) → w ≤ max_merge → held_if w clock init v q ≡ held_back clock init v q
+unfolding held_if
+held_is w clock init v q h = rw (le-ltb max_merge w h)
+
+pub same_row : (w : ℕ) (row row' q own : List ℕ) → own ≡ part 0 w q → row' ≡ sets row 0 own → w ≤ length q → w ≤ length row → take w row' ≡ take w q
+same_row w row row' q own eo e h k = take_stored row row' (take w q) w (e ∙ ap (sets row 0) eo) (sym (length-take-le w q h)) k
+
+module _ (g : WideMemory) (m : Mem) (init : Const) (w : ℕ) (ew : w ≡ g.unit) (hw : g.unit ≤ max_unit) where
+  pub register_gave : (q v r : Value) (l l1 l2 l3 : Lent) → Gave (start_if g.unit v) l l1 q → Gave (writes_by w m (write_numbers g) q) l1 l2 r → l3 ≡ run (held_if w (clock_of g) init r q) l2
       → Gave (register_by g m init) l l3 q
   unfolding register_by ◌>>◌
-  register_gave q r l l1 l2 l3 s k h =
+  register_gave q v r l l1 l2 l3 a b c =
+      let s : Gave (add_void_of g.unit) l l1 q = subst (λ (t : Trace Value). Gave t l l1 q) (start_is g.unit v (omega arith)) a in
+      let k : Gave (writes_by g.unit m (write_numbers g) q) l1 l2 r = subst (λ (x : ℕ). Gave (writes_by x m (write_numbers g) q) l1 l2 r) ew b in
+      let h : l3 ≡ run (held_back (clock_of g) init r q) l2 = c ∙ ap (λ (t : Trace Value). run t l2) (held_is w (clock_of g) init r q (omega arith)) in
       gave_bind (add_void_of g.unit) _ l l1 l3 q q (chains_void g.unit) s
       (gave_bind (writes_by g.unit m (write_numbers g) q) (λ x. held_back (clock_of g) init x q >>= λ y. done q) l1 l2 l3 r q (chains_writes g.unit m (write_numbers g) q) k
       (gave_same (held_back (clock_of g) init r q) (λ y. q) l2 l3 _ (chains_held (clock_of g) init r q) (record { ran = h; value = λ o. refl })))

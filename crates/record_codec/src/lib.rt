@@ -249,10 +249,7 @@ pub fn record_number(bytes: &[u8]) -> Result<(), Refusal>
 fn trits_to_take(head: Result<Sizes, Refusal>) -> usize
     ensures { result ≡ to_take (view_head head) }
 {
-    match head {
-        Ok(sizes) => sizes.trits_within(rules::MAX_IMAGE) as usize,
-        Err(_) => 0,
-    }
+    head.map_or(0, |sizes| sizes.trits_within(rules::MAX_IMAGE) as usize)
 }
 
 // Reads a record: its sizes, and its image into the lent array, whose rest is kept. One reader takes the six words and then the trits; the numbers stand

@@ -153,13 +153,12 @@ fn put_record(out: &mut [u8], bytes: &[u8]) -> usize
 }
 
 // What refuses an input of which not all is stored.
+#[tactic(auto, using(rules::proofs::Answers::else_err, lists::proofs::Choice::else_rest))]
 fn stored_refusal(first: &[u8], total: usize) -> Refusal
     ensures { number result ≡ (header_refusal first.now total or_else 16) }
 {
-    match record_codec::header_refusal(first, total) {
-        Ok(()) => Refusal::BadHead,
-        Err(refusal) => refusal,
-    }
+    let refused = record_codec::header_refusal(first, total).err();
+    refused.unwrap_or(Refusal::BadHead)
 }
 
 // The same for an input of `total` bytes, of which the first are stored.

@@ -1,5 +1,6 @@
 -- The trit of a number: the two bits that the code takes, and the trit of the image that the record is read to.
-use Rattle.std.specs.Prelude.{Some, None}
+use Rattle.std.specs.Option.{unwrap_or}
+use Rattle.std.specs.Prelude.{Option, Some, None}
 use mathlib.Core.Path.{◌≡◌, refl, sym, ap, ◌∙◌}
 use mathlib.Core.Bool.{Bool, true, false, not}
 use Prim.Native.Nat.{ℕ, suc, ◌+◌, ◌-◌, ◌*◌, ◌/◌, ◌%◌, ◌<◌, ◌≤◌}
@@ -160,13 +161,18 @@ is_none true w e = absurd (found_not_end w e)
 is_none false w e = refl
 
 module _ (bytes : List ℕ) (i : ℕ) where
-  pub word_found : (w : ℕ) → word_there bytes i ≡ Some w → w ≡ word_at bytes i
+  word_found : (w : ℕ) → word_there bytes i ≡ Some w → w ≡ word_at bytes i
   unfolding word_there next_word
   word_found w e = is_found (has_word bytes i) (word_at bytes i) w e
 
   -- the second byte is not there
-  pub word_none : (b : ℕ) → word_there bytes i ≡ None → b ≡ get_or bytes i 0 → b ≡ word_at bytes i
+  word_none : (b : ℕ) → word_there bytes i ≡ None → b ≡ get_or bytes i 0 → b ≡ word_at bytes i
   unfolding word_there word_at
   word_none b e q =
       let n : length bytes ≤ suc i = omega (arith, ltb-false (i + 1) (length bytes) (is_none (has_word bytes i) _ e)) in
       omega (arith, get_or-eq_default bytes 0 n)
+
+  -- the word, or the byte where the second is not there
+  pub word_or : (o : Option ℕ) (b : ℕ) → o ≡ word_there bytes i → b ≡ get_or bytes i 0 → unwrap_or o b ≡ word_at bytes i
+  word_or (Some w) b e q = word_found w (sym e)
+  word_or None b e q = word_none b (sym e) q

@@ -20,11 +20,9 @@ const MANY: u64 = 1125899906842624;
 fn word_at(bytes: &[u8], at: usize) -> u16
     ensures { result ≡ word_at bytes.now at }
 {
-    let reader = Reader { bytes, at };
-    match reader.word_there() {
-        Some(word) => word,
-        None => u16::from(bytes.get(at).copied().unwrap_or(0)),
-    }
+    let byte = bytes.get(at).copied().unwrap_or(0);
+    let word = Reader { bytes, at }.word_there();
+    word.unwrap_or(u16::from(byte))
 }
 
 // A word that was found, else 0.

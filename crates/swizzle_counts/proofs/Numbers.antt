@@ -88,6 +88,10 @@ plus_assoc a b c = λ i. record {
     most : (x y z : ℕ) → max (max x y) z ≡ max x (max y z)
     most x y z = omega arith
 
+-- what stands before the first port
+pub none_is : (n : Needs) → (n.words ≡ 0) × ((n.nets ≡ 0) × ((n.room ≡ 0) × ((n.trits ≡ 0) × (n.scratch ≡ 0)))) → n ≡ no_needs
+none_is n d = λ i. record { words = d.0 i; nets = d.1.0 i; room = d.1.1.0 i; trits = d.1.1.1.0 i; scratch = d.1.1.1.1 i }
+
 plus_none : (a : Needs) → plus_needs a no_needs ≡ a
 plus_none a = λ i. record { words = add-zero a.words i; nets = add-zero a.nets i; room = add-zero a.room i; trits = add-zero a.trits i; scratch = same a.scratch i }
   where

@@ -1,5 +1,5 @@
 -- What ports of a swizzle ask for, by the numbers of a split: a port, and all.
-use Rattle.std.specs.Prelude.{◌≡◌, ℕ, ◌+◌, ◌-◌, ◌*◌, ◌^◌, ◌≤◌, ◌<◌, max, Bool, true, false, List, [], ◌∷◌, map, length, get_or, eqb}
+use Rattle.std.specs.Prelude.{◌≡◌, ℕ, ◌+◌, ◌-◌, ◌*◌, ◌^◌, ◌≤◌, ◌<◌, max, min, Bool, true, false, List, [], ◌∷◌, map, length, get_or, eqb}
 use Rattle.lists.specs.Choice.{when◌then◌else◌}
 use Rattle.lists.specs.Lists.{up_from}
 use Rattle.lists.specs.Distinct.{kept}
@@ -125,7 +125,7 @@ read_needs m nets p columns new i =
     read_from s.pieces (length s.mux_addr) (length s.addr) (2 ^ new) columns (read_port m i).data_len (is_clocked (read_port m i).flip_flop)
 
 pub record ReadFits (m : Memory) (nets : List ℕ) (p : Params) (columns new i : ℕ) : Type 0 where
-  pub there : i < max_ports
+  pub there : i < min max_ports m.read_count
   pub split : PortFits p columns (read_log m i) new (read_nets m nets i)
   pub len_max : (read_port m i).data_len ≤ 4096
 
@@ -162,7 +162,7 @@ write_needs m nets p columns es new i =
     write_from s.pieces (length s.mux_addr) (length s.addr) (2 ^ new) columns (kept_nets (2 ^ write_log m nets i) m.width es (write_mask m nets i))
 
 pub record WriteFits (m : Memory) (nets : List ℕ) (p : Params) (columns : ℕ) (es : List ℕ) (new i : ℕ) : Type 0 where
-  pub there : i < max_ports
+  pub there : i < min max_ports m.write_count
   pub split : PortFits p columns (write_log m nets i) new (write_addr m nets i)
   pub old_max : write_log m nets i ≤ max_wide
   pub width_max : m.width ≤ max_width

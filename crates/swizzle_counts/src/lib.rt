@@ -7,19 +7,19 @@ ghost use Rattle.lists.specs.Choice.{when◌then◌else◌};
 ghost use Rattle.rules.specs.Limits.{max_ports, max_width, max_row, max_merge};
 ghost use Rattle.image_geometry.specs.View.{layout_by};
 ghost use Rattle.swizzle_split.specs.Steps.{can_split};
-ghost use Rattle.swizzle_counts.specs.Needs.{no_needs, plus_needs, Most, port_most, split_of, Lengths, Ranges, read_from, read_needs, ReadFits, ReadsFit, reads_needs, write_from, kept_nets, MaskFits, write_needs, WriteFits, WritesFit, writes_needs};
+ghost use Rattle.swizzle_counts.specs.Needs.{plus_needs, Most, port_most, split_of, Lengths, Ranges, read_from, read_needs, ReadFits, ReadsFit, reads_needs, write_from, kept_nets, MaskFits, write_needs, WriteFits, WritesFit, writes_needs};
 
 use image_geometry::Params;
 use merge_keys::columns::Columns;
 use merge_keys::table::Table;
-use net_memory::Memory;
+use net_memory::Given;
 use swizzle_columns::WidePort;
 use swizzle_split::Split;
 
 pub mod refusal;
 
 // Words and nets of the log, nets and trits of the resulting memories, and nets of scratch.
-#[derive(Clone, Copy)]
+#[derive(Clone, Copy, Default)]
 pub struct Needs {
     pub words: usize,
     pub nets: usize,
@@ -37,20 +37,14 @@ pub struct SwizzleRooms {
     pub scratch: usize,
 }
 
-impl Needs {
-    // Nothing.
-    fn none() -> Needs
-        ensures { result ≡ no_needs }
-    {
-        Needs {
-            words: 0,
-            nets: 0,
-            room: 0,
-            trits: 0,
-            scratch: 0,
-        }
-    }
+// A layout's numbers, and the columns of a row.
+#[derive(Clone, Copy)]
+struct Sized {
+    params: Params,
+    columns: usize,
+}
 
+impl Needs {
     // What two ask for together; the scratch serves one after the other.
     fn plus(self, other: Needs) -> Needs
         requires { Most (16 * port_most) self × Most (16 * port_most) other }
@@ -72,15 +66,7 @@ fn split_of(p: Params, old: u32, new: u32, addr: &[u32]) -> Split
 {
     let mut hw = [0u32; 1];
     let mut mux = [0u32; 1];
-    let none = Split {
-        old,
-        new,
-        hw_len: 0,
-        mux_len: 0,
-        pieces: 0,
-        mask: 0,
-    };
-    swizzle_split::split_addr(&mut hw, &mut mux, p, old, new, addr).unwrap_or(none)
+    swizzle_split::split_addr(&mut hw, &mut mux, p, old, new, addr).unwrap_or(Split::default())
 }
 
 // A product of two of a port's numbers.
@@ -123,26 +109,27 @@ fn read_by(s: Split, rows: usize, columns: usize, len: usize, clocked: bool) -> 
 
 // Read port i with its new wide log.
 #[tactic(auto, using(swizzle_split::proofs::Rows::rows_are))]
-fn read_needs(m: Memory, nets: &[u32], p: Params, columns: usize, new: u32, i: usize) -> Needs
-    requires { ReadFits m nets.now p columns new i }
-    ensures { (result ≡ read_needs m nets.now p columns new i) × Most port_most result }
+fn read_needs(given: Given<'_>, q: Sized, new: u32, i: usize) -> Needs
+    requires { ReadFits given.memory given.nets.now q.params q.columns new i }
+    ensures { (result ≡ read_needs given.entry.memory given.entry.nets.now q.params q.columns new i) × Most port_most result }
 {
-    let port = m.read_ports[i];
-    let len = port.data_len as usize;
-    let old = net_memory::wide::wide_log(m.width, len);
-    let s = split_of(p, old, new, net_memory::read_nets(m, nets, i));
+    let r = given.read_port(i);
+    let len = r.port.data_len as usize;
+    let old = net_memory::wide::wide_log(given.memory.width, len);
+    // (Its nets are its address.)
+    let s = split_of(q.params, old, new, r.nets);
     let rows = swizzle_split::rows_of(new) as usize;
-    read_by(s, rows, columns, len, port.flip_flop.is_some())
+    read_by(s, rows, q.columns, len, r.port.flip_flop.is_some())
 }
 
 // All read ports.
-fn reads_needs(m: Memory, nets: &[u32], p: Params, columns: usize, reads: &[u32]) -> Needs
-    requires { ReadsFit m nets.now p columns reads.now }
-    ensures { (result ≡ reads_needs m nets.now p columns reads.now) × Most (max_ports * port_most) result }
+fn reads_needs(given: Given<'_>, q: Sized, reads: &[u32]) -> Needs
+    requires { ReadsFit given.memory given.nets.now q.params q.columns reads.now }
+    ensures { (result ≡ reads_needs given.entry.memory given.entry.nets.now q.params q.columns reads.now) × Most (max_ports * port_most) result }
 {
-    let mut total = Needs::none();
+    let mut total = Needs::default();
     for (i, new) in reads.iter().enumerate() {
-        total = total.plus(read_needs(m, nets, p, columns, *new, i));
+        total = total.plus(read_needs(given, q, *new, i));
     }
     total
 }
@@ -214,42 +201,27 @@ fn write_by(s: Split, rows: usize, columns: usize, kept: usize) -> Needs
 
 // Write port i with its new wide log.
 #[tactic(auto, using(swizzle_split::proofs::Rows::rows_are))]
-fn write_needs(
-    m: Memory,
-    nets: &[u32],
-    p: Params,
-    columns: usize,
-    entries: &[u32],
-    new: u32,
-    i: usize,
-) -> Needs
-    requires { WriteFits m nets.now p columns entries.now new i }
-    ensures { (result ≡ write_needs m nets.now p columns entries.now new i) × Most port_most result }
+fn write_needs(given: Given<'_>, q: Sized, entries: &[u32], new: u32, i: usize) -> Needs
+    requires { WriteFits given.memory given.nets.now q.params q.columns entries.now new i }
+    ensures { (result ≡ write_needs given.entry.memory given.entry.nets.now q.params q.columns entries.now new i) × Most port_most result }
 {
-    let port = m.write_ports[i];
-    let x = net_memory::write_nets(m, nets, i);
-    let old = net_memory::wide::wide_log(m.width, net_memory::data_count(port, x));
-    let s = split_of(p, old, new, net_memory::addr_of(port, x));
+    let w = given.write_port(i);
+    let width = given.memory.width;
+    let old = net_memory::wide::wide_log(width, w.bits().len());
+    let s = split_of(q.params, old, new, w.addr());
     let olds = swizzle_split::rows_of(old);
-    let kept = port_mask_count(m.width, olds, entries, net_memory::mask_of(port, x));
-    write_by(s, swizzle_split::rows_of(new) as usize, columns, kept)
+    let kept = port_mask_count(width, olds, entries, w.mask());
+    write_by(s, swizzle_split::rows_of(new) as usize, q.columns, kept)
 }
 
 // All write ports.
-fn writes_needs(
-    m: Memory,
-    nets: &[u32],
-    p: Params,
-    columns: usize,
-    entries: &[u32],
-    writes: &[u32],
-) -> Needs
-    requires { WritesFit m nets.now p columns entries.now writes.now }
-    ensures { (result ≡ writes_needs m nets.now p columns entries.now writes.now) × Most (max_ports * port_most) result }
+fn writes_needs(given: Given<'_>, q: Sized, entries: &[u32], writes: &[u32]) -> Needs
+    requires { WritesFit given.memory given.nets.now q.params q.columns entries.now writes.now }
+    ensures { (result ≡ writes_needs given.entry.memory given.entry.nets.now q.params q.columns entries.now writes.now) × Most (max_ports * port_most) result }
 {
-    let mut total = Needs::none();
+    let mut total = Needs::default();
     for (i, new) in writes.iter().enumerate() {
-        total = total.plus(write_needs(m, nets, p, columns, entries, *new, i));
+        total = total.plus(write_needs(given, q, entries, *new, i));
     }
     total
 }

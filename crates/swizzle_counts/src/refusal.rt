@@ -6,7 +6,7 @@ ghost use Rattle.net_memory.specs.Given.{view_given};
 ghost use Rattle.swizzle_plan.specs.Calls.{view_plan};
 ghost use Rattle.swizzle_counts.specs.Refusal.{rooms_of, needs_refusal, asked_needs, asked_image, rows_refusal, RowsFit};
 
-use crate::{Needs, SwizzleRooms};
+use crate::{Needs, Sized, SwizzleRooms};
 use log_entries::LogState;
 use net_memory::Given;
 use rules::Refusal;
@@ -39,13 +39,14 @@ fn rows_by_needs(
     requires { RowsFit given.memory given.nets.now plan.swizzle plan.entries.now plan.writes.now plan.reads.now }
     ensures { number_of result ≡ needs_refusal (rooms_of r) room (state_of st) (asked_needs given.entry plan.entry) (asked_image given.entry plan.entry) }
 {
-    let m = given.memory;
     let layout = plan.layout(given);
-    let p = layout.params;
     let z = layout.measure()?;
-    let columns = z.columns as usize;
-    let w = crate::writes_needs(m, given.nets, p, columns, plan.entries, plan.writes);
-    let d = crate::reads_needs(m, given.nets, p, columns, plan.reads);
+    let q = Sized {
+        params: layout.params,
+        columns: z.columns as usize,
+    };
+    let w = crate::writes_needs(given, q, plan.entries, plan.writes);
+    let d = crate::reads_needs(given, q, plan.reads);
     needs_refusal(r, room, st, w.plus(d), z.image_size as usize)
 }
 

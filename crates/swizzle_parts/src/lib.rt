@@ -337,13 +337,6 @@ pub fn image_part(g: WideMemory, n: usize) -> Part
 
 // ---- the parts themselves
 
-pub fn write_addr(g: WideMemory, nets: &[u32], n: usize, j: usize) -> &[u32]
-    ensures { (trits image : List ℕ) → result.now ≡ (write_at (memory_at g nets.now trits image n).memory j).addr }
-{
-    let p = write_addr_part(g, n, j);
-    lists::part(nets, p.start, p.size)
-}
-
 pub fn write_data(g: WideMemory, nets: &[u32], n: usize, j: usize) -> &[u32]
     ensures { (trits image : List ℕ) → result.now ≡ (write_at (memory_at g nets.now trits image n).memory j).bits }
 {
@@ -356,34 +349,6 @@ pub fn write_mask(g: WideMemory, nets: &[u32], n: usize, j: usize) -> &[u32]
 {
     let p = write_mask_part(g, n, j);
     lists::part(nets, p.start, p.size)
-}
-
-pub fn read_addr(g: WideMemory, nets: &[u32], n: usize, i: usize) -> &[u32]
-    ensures { (trits image : List ℕ) → result.now ≡ (read_at_of (memory_at g nets.now trits image n).memory i).addr }
-{
-    let p = read_addr_part(g, n, i);
-    lists::part(nets, p.start, p.size)
-}
-
-pub fn clear_of(g: WideMemory, trits: &[u8], n: usize, i: usize) -> &[u8]
-    ensures { (nets image : List ℕ) → result.now ≡ clear_at (memory_at g nets trits.now image n).memory i }
-{
-    let p = clear_part(g, n, i);
-    lists::part(trits, p.start, p.size)
-}
-
-pub fn reset_of(g: WideMemory, trits: &[u8], n: usize, i: usize) -> &[u8]
-    ensures { (nets image : List ℕ) → result.now ≡ reset_at (memory_at g nets trits.now image n).memory i }
-{
-    let p = reset_part(g, n, i);
-    lists::part(trits, p.start, p.size)
-}
-
-pub fn init_of(g: WideMemory, trits: &[u8], n: usize, i: usize) -> &[u8]
-    ensures { (nets image : List ℕ) → result.now ≡ init_at (memory_at g nets trits.now image n).memory i }
-{
-    let p = init_part(g, n, i);
-    lists::part(trits, p.start, p.size)
 }
 
 pub fn image_of(g: WideMemory, image: &[u8], n: usize) -> &[u8]

@@ -25,7 +25,7 @@ pub fn rows_of(wide: u32) -> u32
 
 // The split of a port with an old and a new wide log: the lengths of the result's address and of the mux address, the pieces, and the bits of a
 // piece's number that are chunk bits.
-#[derive(Clone, Copy)]
+#[derive(Clone, Copy, Default)]
 pub struct Split {
     pub old: u32,
     pub new: u32,

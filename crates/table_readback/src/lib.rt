@@ -196,13 +196,13 @@ fn head_end(out: &mut [u8], line: &[u8], after: &[u8], table: &Table) -> Result<
 }
 
 // Where the first line ends.
+#[tactic(auto, using(crate::proofs::Ends::line_at, crate::proofs::Ends::line_none))]
 fn line_end(text: &[u8]) -> usize
     ensures { (result ≡ line_end text.now) × (result ≤ length text.now) }
 {
-    match text.iter().position(|b| *b == b'\n') {
-        Some(i) => i + 1,
-        None => text.len(),
-    }
+    text.iter()
+        .position(|b| *b == b'\n')
+        .map_or(text.len(), |i| i + 1)
 }
 
 // The rows of a text's record, or the rows in which they differ from its table: the bytes of the text.

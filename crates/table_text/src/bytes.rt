@@ -1,6 +1,6 @@
 // Bytes of a table's text: digits, what separates words, and numbers that grow digit by digit.
 ghost use Rattle.std.specs.Prelude.{◌≡◌, get_or};
-ghost use Rattle.table_text.specs.Bytes.{bump, more, low_word, is_blank, is_end, is_digit_of, trit_of, hex_of, below, letter_of, next_letter};
+ghost use Rattle.table_text.specs.Bytes.{bump, more, low_word, is_blank, is_end, trit_of, hex_of, below, letter_of, next_letter};
 
 // The longest text that is read.
 pub const MAX_TEXT: usize = 1048576;
@@ -25,10 +25,11 @@ pub fn more(base: u8, value: u64, digit: u8) -> u64
     }
 }
 
+// A number as a word, 0 past 32 bits.
 pub fn low_word(value: u64) -> u32
     ensures { result ≡ low_word value }
 {
-    if value < 4294967296 { value as u32 } else { 0 }
+    u32::try_from(value).unwrap_or(0)
 }
 
 // ---- bytes
@@ -45,13 +46,6 @@ pub fn is_end(b: u8) -> bool
     ensures { result ≡ is_end b }
 {
     is_blank(b) || b == b'\n' || b == b'/'
-}
-
-#[tactic(auto, unfolding(crate::specs::Bytes::is_digit_of))]
-pub fn is_digit(b: u8) -> bool
-    ensures { result ≡ is_digit_of b }
-{
-    b.is_ascii_digit()
 }
 
 // The trit of a byte.
@@ -80,7 +74,7 @@ pub fn hex_of(b: u8) -> Option<u8>
     }
 }
 
-// The letters of `plain` behind the first.
+// The letters of `plain` behind the first; not an index of `plain`, which would give p for 0, where the definition has n.
 #[tactic(auto, unfolding(crate::specs::Bytes::letter_of))]
 pub fn letter_of(k: u64) -> u8
     ensures { result ≡ letter_of k }

@@ -180,11 +180,11 @@ impl Head {
     }
 
     // One byte.
-    #[tactic(auto, unfolding(crate::specs::Head::head_step_of))]
+    #[tactic(auto, unfolding(crate::specs::Head::head_step_of, crate::specs::Bytes::is_digit_of))]
     fn step(self, b: u8) -> Head
         ensures { head_of result ≡ head_step_of (head_of self) b }
     {
-        if bytes::is_digit(b) {
+        if b.is_ascii_digit() {
             self.digit(b)
         } else if bytes::is_blank(b) {
             self.blank()

@@ -1,19 +1,20 @@
 -- `fallback_row::const_row` meets its contract.
-use mathlib.Core.Path.{ap, ◌∙◌}
+use mathlib.Core.Path.{refl}
 use native.Mathlib.Omega.{arith}
-use lib.ListN.{length-take}
-use Rattle.std.proofs.lemmas.List.{get_or-take}
-use Rattle.rules.specs.Value.{net_of_trit}
+use lib.ListN.{length-set}
 use Rattle.fallback_row.proofs.Register.{const_turn, const_done}
 use Rattle.fallback_row.proofs.const_row.Goals as goal
 
+pub loop-i-init : goal.loop-i-init
+loop-i-init c = (omega arith, refl, refl)
+
 pub loop-i-preserved : goal.loop-i-preserved
 loop-i-preserved c =
-    let l = c.loop-i in
-    let n = length-take c.min-n.result c.args.init.now in
-    const_turn c.args.row.now l.row l.i c.args.init.now l.invariant _ (omega (arith, n)) (c.net_of_trit.ensures ∙ ap net_of_trit (get_or-take c.min-n.result c.args.init.now l.i 0 (omega (arith, n))))
+    (omega arith, simp length-set c.loop-i.invariant.1, const_turn _ _ _ _ c.loop-i.invariant.2 _ (omega arith) c.net_of_trit.ensures)
+
+pub shape_of-row : goal.shape_of-row
+shape_of-row c = c.loop-i.invariant.1
 
 pub returns : goal.returns
 returns c =
-    let l = c.loop-i in
-    const_done c.args.row.now l.row l.i c.args.init.now l.invariant (omega (arith, c.min-n.ensures, length-take c.min-n.result c.args.init.now))
+    const_done c.args.row.now c.loop-i.row c.loop-i.i c.args.init.now c.loop-i.invariant.2 (omega (arith, c.min-n.ensures))

@@ -1,24 +1,19 @@
 -- `fallback_row::emit_drive` meets its contract.
-use mathlib.Core.Path.{ap, ◌∙◌}
-use native.Mathlib.Omega.{arith}
-use mathlib.Core.List.{List}
-use Prim.Native.Nat.{ℕ}
 use lib.ListN.{take}
-use Rattle.rules.specs.Log.{replace_value_of}
-use Rattle.log_entries.specs.Emission.{run}
 use Rattle.log_entries.specs.View.{lent_of}
-use Rattle.fallback_row.proofs.Register.{driven_high, driven_few, fresh_taken}
+use Rattle.fallback_row.proofs.Register.{driven-many, driven_high, driven_few}
+use Rattle.fallback_row.proofs.emit_drive.Goals.{then-w-gt-MAX_MERGE-via-then-w-gt-MAX_MERGE, then-w-gt-MAX_MERGE-via-else-w-gt-MAX_MERGE+then-first-gt-MAX_NETS}
 use Rattle.fallback_row.proofs.emit_drive.Goals as goal
 
-pub returns-then-first-gt-MAX_NETS : goal.returns-then-first-gt-MAX_NETS
-returns-then-first-gt-MAX_NETS c =
+pub returns-then-w-gt-MAX_MERGE : goal.returns-then-w-gt-MAX_MERGE
+returns-then-w-gt-MAX_MERGE c =
     let v = c.args in
-    driven_high v.first v.w.nets (take v.w.nets v.q.now) (lent_of v.log.now) v.w.few c.if-first-gt-MAX_NETS.true
+    elim c.then-w-gt-MAX_MERGE.branch [
+      | then-w-gt-MAX_MERGE-via-then-w-gt-MAX_MERGE w ↦ driven-many v.first v.w (take v.w v.q.now) (lent_of v.log.now) w.if-w-gt-MAX_MERGE.true
+      | then-w-gt-MAX_MERGE-via-else-w-gt-MAX_MERGE+then-first-gt-MAX_NETS w ↦ driven_high v.first v.w (take v.w v.q.now) (lent_of v.log.now) w.if-w-gt-MAX_MERGE.false w.if-first-gt-MAX_NETS.true
+    ]
 
 pub returns : goal.returns
 returns c =
     let v = c.args in
-    let w = v.w.nets in
-    driven_few v.first w (take w v.q.now) (lent_of v.log.now) (lent_of c.emit_replace.new.self) v.w.few c.if-first-gt-MAX_NETS.false
-    (c.emit_replace.ensures
-    ∙ ap (λ (x : List ℕ). run (replace_value_of x (take w v.q.now)) (lent_of v.log.now)) (fresh_taken v.spare.now c.store_run.new.to v.first w c.store_run.ensures (omega (arith, v.w.few))))
+    driven_few v.first v.w (take v.w v.q.now) (lent_of v.log.now) (lent_of c.drive.new.log) c.if-w-gt-MAX_MERGE.false c.if-first-gt-MAX_NETS.false c.drive.ensures

@@ -1,23 +1,21 @@
 -- `fallback_row::emit_held` meets its contract.
-use mathlib.Core.Path.{ap, ◌∙◌}
 use native.Mathlib.Omega.{arith}
 use lib.ListN.{take}
-use lib.Seq.{length-take-le}
-use Rattle.rules.specs.Cell as cell
-use Rattle.port_overlay.specs.Laid.{behind}
-use Rattle.net_flip_flop.specs.View.{controls_of, flip_flop}
-use Rattle.log_entries.specs.Emission.{run}
+use Rattle.net_value.specs.View.{control_of}
 use Rattle.log_entries.specs.View.{lent_of}
-use Rattle.port_overlay.proofs.Laid.{behind_ran}
+use Rattle.fallback_row.proofs.Register.{held-many, held_few}
 use Rattle.fallback_row.proofs.emit_held.Goals as goal
+
+pub returns-then-w-gt-MAX_MERGE : goal.returns-then-w-gt-MAX_MERGE
+returns-then-w-gt-MAX_MERGE c =
+    let v = c.args in
+    held-many v.w (control_of v.clock) v.init.now (take v.w v.row.now.nets) (take v.w v.q.now) (lent_of v.log.now) c.if-w-gt-MAX_MERGE.true
+
+pub held_row-requires : goal.held_row-requires
+held_row-requires c = (c.if-w-gt-MAX_MERGE.false, omega arith)
 
 pub returns : goal.returns
 returns c =
     let v = c.args in
-    let k = c.plain in
-    let w = v.w.nets in
-    let row = take w v.row.now.nets in
-    let q = take w v.q.now in
-    let n = length-take-le w v.row.now.nets (omega (arith, v.w.few)) in
-    behind_ran (flip_flop (controls_of k.result) row v.init.now v.init.now v.init.now) q (take w c.dff_into.new.out) (lent_of v.log.now) (lent_of c.dff_into.new.log) (lent_of c.emit_replace.new.self) (rw n at (c.dff_into.ensures (omega (arith, v.w.few, n)))) c.emit_replace.ensures
-    ∙ ap (λ (x : cell.Controls). run (behind (flip_flop x row v.init.now v.init.now v.init.now) q) (lent_of v.log.now)) k.ensures
+    let p = c.held_row in
+    held_few v.w (control_of v.clock) v.init.now (take v.w v.row.now.nets) (take v.w v.q.now) (lent_of v.log.now) (lent_of p.new.log) c.if-w-gt-MAX_MERGE.false p.ensures

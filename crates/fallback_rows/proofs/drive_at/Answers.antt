@@ -8,7 +8,7 @@ use Rattle.fallback_rows.proofs.drive_at.Goals as goal
 pub returns-then-first-gt-MAX_NETS : goal.returns-then-first-gt-MAX_NETS
 returns-then-first-gt-MAX_NETS c =
     let v = c.args in
-    driven_past v.first v.before v.w.nets (take v.w.nets v.q.now) (lent_of v.log.now) c.if-first-gt-MAX_NETS.true
+    driven_past v.first v.before v.w (take v.w v.q.now) (lent_of v.log.now) c.if-first-gt-MAX_NETS.true
 
 pub overflow_add-first : goal.overflow_add-first
 overflow_add-first c = omega (arith, c.requires, c.if-first-gt-MAX_NETS.false)

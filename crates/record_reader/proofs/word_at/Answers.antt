@@ -1,13 +1,10 @@
 -- `record_reader::word_at` meets its contract.
-use Rattle.std.proofs.Common.{◌≡◌, sym, ◌∙◌, get_or}
+use Rattle.std.proofs.Common.{◌≡◌, ◌∙◌, get_or}
 use borrow.Author.Rules.{rules}
-use Rattle.record_reader.proofs.Places.{word_found, word_none}
+use Rattle.record_reader.proofs.Places.{word_or}
 use Rattle.record_reader.proofs.word_at.Goals as goal
 
-pub returns-in-Some : goal.returns-in-Some
-returns-in-Some c = word_found c.args.bytes.now c.args.at c.in-Some.word (sym c.word_there.ensures ∙ c.in-Some.is)
-
-pub returns-in-None : goal.returns-in-None
-returns-in-None c =
+pub returns : goal.returns
+returns c =
     let e : c.from.result ≡ get_or c.args.bytes.now c.args.at 0 = search rules in
-    word_none c.args.bytes.now c.args.at c.from.result (sym c.word_there.ensures ∙ c.in-None.is) e
+    c.unwrap_or.ensures ∙ word_or c.args.bytes.now c.args.at _ _ c.word_there-word.ensures e

@@ -7,5 +7,5 @@ use Rattle.swizzle_counts.proofs.reads_needs.Given as goal
 abbrev pub invariant-loop-i : goal.invariant-loop-i
 invariant-loop-i l = record {
   most : Most (l.i * port_most) l.total;
-  sum : plus_needs l.total (all_needs (map (λ j. read_needs l.m l.nets l.p l.columns (get_or l.reads j 0) j) (up_from l.i (length l.reads - l.i)))) ≡ all_needs (map (λ j. read_needs l.m l.nets l.p l.columns (get_or l.reads j 0) j) (up_from 0 (length l.reads)));
+  sum : plus_needs l.total (all_needs (map (λ j. read_needs l.given.memory l.given.nets.now l.q.params l.q.columns (get_or l.reads j 0) j) (up_from l.i (length l.reads - l.i)))) ≡ all_needs (map (λ j. read_needs l.given.memory l.given.nets.now l.q.params l.q.columns (get_or l.reads j 0) j) (up_from 0 (length l.reads)));
 }

@@ -1,15 +1,15 @@
 -- `swizzle_counts::writes_needs` meets its contract.
 use Rattle.std.proofs.Common.{length, get_or, arith}
 use Rattle.swizzle_counts.specs.Needs.{write_needs}
-use Rattle.swizzle_counts.proofs.Numbers.{needs_start, needs_turn, needs_end, most-more, most_up, writes_are}
+use Rattle.swizzle_counts.proofs.Numbers.{none_is, needs_start, needs_turn, needs_end, most-more, most_up, writes_are}
 use Rattle.swizzle_counts.proofs.writes_needs.Goals as goal
 
 pub loop-i-init : goal.loop-i-init
 loop-i-init c =
     let v = c.args in
-    rw c.none-total.ensures (record {
+    rw (none_is c.default-total.result c.default-total.ensures) (record {
       most = record { words_max = omega arith; nets_max = omega arith; room_max = omega arith; trits_max = omega arith };
-      sum = needs_start (λ j. write_needs v.m v.nets.now v.p v.columns v.entries.now (get_or v.writes.now j 0) j) (length v.writes.now);
+      sum = needs_start (λ j. write_needs v.given.memory v.given.nets.now v.q.params v.q.columns v.entries.now (get_or v.writes.now j 0) j) (length v.writes.now);
     })
 
 pub write_needs-requires : goal.write_needs-requires
@@ -26,11 +26,11 @@ loop-i-preserved c =
     let l = c.loop-i in
     record {
       most = rw c.plus-total.ensures (most-more l.i l.total _ l.invariant.most c.write_needs.ensures.1);
-      sum = rw c.plus-total.ensures (needs_turn (λ j. write_needs v.m v.nets.now v.p v.columns v.entries.now (get_or v.writes.now j 0) j) l.i (length v.writes.now) l.total _ c.loop-i-test.true c.write_needs.ensures.0 l.invariant.sum);
+      sum = rw c.plus-total.ensures (needs_turn (λ j. write_needs v.given.memory v.given.nets.now v.q.params v.q.columns v.entries.now (get_or v.writes.now j 0) j) l.i (length v.writes.now) l.total _ c.loop-i-test.true c.write_needs.ensures.0 l.invariant.sum);
     }
 
 pub returns : goal.returns
 returns c =
     let v = c.args in
     let l = c.loop-i in
-    (writes_are _ v.m v.nets.now v.p v.columns v.entries.now v.writes.now (needs_end (λ j. write_needs v.m v.nets.now v.p v.columns v.entries.now (get_or v.writes.now j 0) j) l.i (length v.writes.now) l.total (omega arith) l.invariant.sum), most_up _ _ l.total (omega (arith, c.requires.few)) l.invariant.most)
+    (writes_are _ v.given.memory v.given.nets.now v.q.params v.q.columns v.entries.now v.writes.now (needs_end (λ j. write_needs v.given.memory v.given.nets.now v.q.params v.q.columns v.entries.now (get_or v.writes.now j 0) j) l.i (length v.writes.now) l.total (omega arith) l.invariant.sum), most_up _ _ l.total (omega (arith, c.requires.few)) l.invariant.most)

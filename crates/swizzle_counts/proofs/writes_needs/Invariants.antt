@@ -7,5 +7,5 @@ use Rattle.swizzle_counts.proofs.writes_needs.Given as goal
 abbrev pub invariant-loop-i : goal.invariant-loop-i
 invariant-loop-i l = record {
   most : Most (l.i * port_most) l.total;
-  sum : plus_needs l.total (all_needs (map (λ j. write_needs l.m l.nets l.p l.columns l.entries (get_or l.writes j 0) j) (up_from l.i (length l.writes - l.i)))) ≡ all_needs (map (λ j. write_needs l.m l.nets l.p l.columns l.entries (get_or l.writes j 0) j) (up_from 0 (length l.writes)));
+  sum : plus_needs l.total (all_needs (map (λ j. write_needs l.given.memory l.given.nets.now l.q.params l.q.columns l.entries (get_or l.writes j 0) j) (up_from l.i (length l.writes - l.i)))) ≡ all_needs (map (λ j. write_needs l.given.memory l.given.nets.now l.q.params l.q.columns l.entries (get_or l.writes j 0) j) (up_from 0 (length l.writes)));
 }

@@ -1,8 +1,0 @@
--- `c_swizzle::wide::reads_of` meets its contract.
-use borrow.Author.Rules.{rules}
-use Rattle.c_swizzle.specs.View.{given_read}
-use Rattle.c_memory.proofs.Each.{by_place}
-use Rattle.c_swizzle.proofs.wide.reads_of.Goals as goal
-
-pub returns : goal.returns
-returns c = by_place given_read c.args.ports c.map.result 8 c.well_formed.0.1.0.1 c.map.ensures.items.long (λ i d e h. let z = (c.map.ensures.items.at i d e h).2 in search rules)
