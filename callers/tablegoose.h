@@ -711,9 +711,9 @@ tablegoose_count tablegoose_list_input(uint8_t *out, size_t out_len, const uint8
 
 /* ---- stack: what each function takes at most, in bytes, beside the structs that it is given; read from the x86-64 code by scripts/stack.py
  *     384 tablegoose_add_and
- *   52864 tablegoose_add_bitwise_mux
- *   82048 tablegoose_add_dedup_dff
- *   52864 tablegoose_add_dedup_mux
+ *   63104 tablegoose_add_bitwise_mux
+ *   92288 tablegoose_add_dedup_dff
+ *   62976 tablegoose_add_dedup_mux
  *     896 tablegoose_add_dff
  *     384 tablegoose_add_eq
  *     384 tablegoose_add_mux
@@ -722,7 +722,7 @@ tablegoose_count tablegoose_list_input(uint8_t *out, size_t out_len, const uint8
  *     384 tablegoose_add_shl
  *     384 tablegoose_add_ushr
  *     256 tablegoose_add_void
- *    5632 tablegoose_can_lower_fallback
+ *    4992 tablegoose_can_lower_fallback
  *     128 tablegoose_cell_of_net
  *     128 tablegoose_const_and
  *     128 tablegoose_const_is_undef
@@ -730,8 +730,8 @@ tablegoose_count tablegoose_list_input(uint8_t *out, size_t out_len, const uint8
  *     128 tablegoose_const_or
  *     128 tablegoose_control_is_always
  *     128 tablegoose_control_not
- *  144896 tablegoose_emulate_read_before_write
- *   10368 tablegoose_extract_read_ports
+ *  156544 tablegoose_emulate_read_before_write
+ *   11648 tablegoose_extract_read_ports
  *    1792 tablegoose_fill
  *    2304 tablegoose_fill_and_patch
  *     768 tablegoose_fill_rows
@@ -740,23 +740,23 @@ tablegoose_count tablegoose_list_input(uint8_t *out, size_t out_len, const uint8
  *    1152 tablegoose_laid_out
  *     384 tablegoose_list_input
  *     384 tablegoose_list_record
- *  847232 tablegoose_lower_fallback
- *    7168 tablegoose_make_data_swizzle
+ *  901248 tablegoose_lower_fallback
+ *    6656 tablegoose_make_data_swizzle
  *     128 tablegoose_measure
- *    5504 tablegoose_memory_refusal
+ *    4992 tablegoose_memory_refusal
  *     128 tablegoose_memory_summary
  *     128 tablegoose_narrower_select
  *     128 tablegoose_net_as_const
  *     128 tablegoose_net_is_const
  *     128 tablegoose_net_of_cell
- *    5504 tablegoose_output_len
+ *    4992 tablegoose_output_len
  *    1792 tablegoose_patch
  *    1920 tablegoose_patch_all
  *     768 tablegoose_patch_each
  *     640 tablegoose_patch_row
  *     128 tablegoose_place_of
  *    1536 tablegoose_read_laid_row
- *    6400 tablegoose_read_port_output_slice
+ *    5888 tablegoose_read_port_output_slice
  *     384 tablegoose_read_record
  *     384 tablegoose_read_row
  *     256 tablegoose_record_header
@@ -764,26 +764,26 @@ tablegoose_count tablegoose_list_input(uint8_t *out, size_t out_len, const uint8
  *     384 tablegoose_replace_value
  *    1408 tablegoose_sizes_of
  *     128 tablegoose_slice_refusal
- *  467840 tablegoose_swizzle
- *  466944 tablegoose_swizzle_and_patch
- *    5632 tablegoose_swizzle_depths
- *    6784 tablegoose_swizzle_mux_bits
- *    4224 tablegoose_swizzled_clear
- *    4992 tablegoose_swizzled_depth
- *    4992 tablegoose_swizzled_image
- *    4224 tablegoose_swizzled_init
- *    4992 tablegoose_swizzled_output
- *    4992 tablegoose_swizzled_read_addr
- *    4224 tablegoose_swizzled_reset
- *    4992 tablegoose_swizzled_write_addr
- *    4224 tablegoose_swizzled_write_data
- *    4224 tablegoose_swizzled_write_mask
- *  160768 tablegoose_transparency_mux
+ *  511616 tablegoose_swizzle
+ *  510848 tablegoose_swizzle_and_patch
+ *    4992 tablegoose_swizzle_depths
+ *    6272 tablegoose_swizzle_mux_bits
+ *    2304 tablegoose_swizzled_clear
+ *    1536 tablegoose_swizzled_depth
+ *    1536 tablegoose_swizzled_image
+ *    2304 tablegoose_swizzled_init
+ *    1536 tablegoose_swizzled_output
+ *    1536 tablegoose_swizzled_read_addr
+ *    2304 tablegoose_swizzled_reset
+ *    1536 tablegoose_swizzled_write_addr
+ *    2304 tablegoose_swizzled_write_data
+ *    2304 tablegoose_swizzled_write_mask
+ *  171136 tablegoose_transparency_mux
  *     128 tablegoose_trit_and
  *     128 tablegoose_trit_not
  *     128 tablegoose_trit_or
- *  147584 tablegoose_unmap_read_dff
- *  188416 tablegoose_unmap_read_init_reset_transparency
+ *  157440 tablegoose_unmap_read_dff
+ *  196352 tablegoose_unmap_read_init_reset_transparency
  *     128 tablegoose_unset
  *     128 tablegoose_value_is_undef
  *     128 tablegoose_wide_log2
