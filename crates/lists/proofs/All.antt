@@ -20,9 +20,6 @@ least_cases {P = P} a f g = on (eqb a 0) refl
     on true e = f (eqb-true a 0 e)
     on false e = g (eqb-false a 0 e)
 
-pub least_zero : (b : ℕ) → least 0 b ≡ b
-least_zero b = refl
-
 pub least_none : (a : ℕ) → least a 0 ≡ a
 least_none a = least_cases a (λ e. rw e) (λ n. rw (ne_eqb a 0 n))
 
@@ -79,31 +76,6 @@ module _ {ℓ} {A : Type ℓ} (f : A → ℕ) where
   least_each (a ∷ l) (suc i) d h e = least_each l i d (omega arith) (least_both_none (f a) (least_by f l) e).1
 
 module _ {A : Type 0} (f : A → Bool) where
-  step : (l : List A) (i : ℕ) (d : A) → i < length l → all f (drop i l) ≡ f (get_or l i d) && all f (drop (i + 1) l)
-  step l i d h = rw (add-one, drop-cons l i d h)
-
-  pub all_pass : (l : List A) (i : ℕ) (d : A) → i < length l → f (get_or l i d) ≡ true → all f (drop i l) ≡ all f l → all f (drop (i + 1) l) ≡ all f l
-  all_pass l i d h t e = sym (step l i d h ∙ rw t) ∙ e
-
-  pub all_fail : (l : List A) (i : ℕ) (d : A) → i < length l → f (get_or l i d) ≡ false → all f (drop i l) ≡ all f l → false ≡ all f l
-  all_fail l i d h t e = sym (step l i d h ∙ rw t) ∙ e
-
-  pub all_end : (l : List A) (i : ℕ) → i ≡ length l → all f (drop i l) ≡ all f l → true ≡ all f l
-  all_end l i h e = sym (ap (all f) (ap (λ (n : ℕ). drop n l) h ∙ drop-length l)) ∙ e
-
-module _ {A : Type 0} (f : A → Bool) where
-  any_step : (l : List A) (i : ℕ) (d : A) → i < length l → any f (drop i l) ≡ f (get_or l i d) || any f (drop (i + 1) l)
-  any_step l i d h = rw (add-one, drop-cons l i d h)
-
-  pub any_pass : (l : List A) (i : ℕ) (d : A) → i < length l → f (get_or l i d) ≡ false → any f (drop i l) ≡ any f l → any f (drop (i + 1) l) ≡ any f l
-  any_pass l i d h t e = sym (any_step l i d h ∙ rw t) ∙ e
-
-  pub any_found : (l : List A) (i : ℕ) (d : A) → i < length l → f (get_or l i d) ≡ true → any f (drop i l) ≡ any f l → true ≡ any f l
-  any_found l i d h t e = sym (any_step l i d h ∙ rw t) ∙ e
-
-  pub any_end : (l : List A) (i : ℕ) → i ≡ length l → any f (drop i l) ≡ any f l → false ≡ any f l
-  any_end l i h e = sym (ap (any f) (ap (λ (n : ℕ). drop n l) h ∙ drop-length l)) ∙ e
-
   -- a test that holds of no element holds of none in particular
   pub any_at : (l : List A) → any f l ≡ false → (j : ℕ) (d : A) → j < length l → f (get_or l j d) ≡ false
   any_at [] e j d h = absurd (omega arith)

@@ -54,9 +54,6 @@ pub refused_not : (t : Bool) (n rest : ℕ) → 0 < n → (when t then n else re
 refused_not true n rest h e = absurd (omega arith)
 refused_not false n rest h e = (refl, e)
 
-pub not_leb : (a b n rest : ℕ) → 0 < n → (when leb a b then n else rest) ≡ 0 → (b < a) × (rest ≡ 0)
-not_leb a b n rest h e = (leb-false a b (refused_not (leb a b) n rest h e).0, (refused_not (leb a b) n rest h e).1)
-
 pub not_ltb : (a b n rest : ℕ) → 0 < n → (when ltb a b then n else rest) ≡ 0 → (b ≤ a) × (rest ≡ 0)
 not_ltb a b n rest h e = (ltb-false a b (refused_not (ltb a b) n rest h e).0, (refused_not (ltb a b) n rest h e).1)
 

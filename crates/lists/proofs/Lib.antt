@@ -15,7 +15,6 @@ pub mod Same
 pub mod UpFrom
 pub mod DistinctMap
 pub mod DistinctOrder
-pub mod Lent
 pub mod Flat
 pub mod Runs
 pub mod Mids

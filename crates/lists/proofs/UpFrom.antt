@@ -38,23 +38,6 @@ module _ (f : ℕ → Bool) where
   any_none a (suc n) e zero h = ap f (add-zero a) ∙ (or_false (f a) _ e).0
   any_none a (suc n) e (suc i) h = ap f (add-suc a i ∙ sym (suc-add a i)) ∙ any_none (suc a) n (or_false (f a) _ e).1 i (omega arith)
 
-  -- a turn of a loop over the numbers from 0 to below n
-  up_step : (i n : ℕ) → i < n → any f (up_from i (n - i)) ≡ (f i || any f (up_from (i + 1) (n - (i + 1))))
-  up_step i n h =
-      let e : n - i ≡ suc (n - (i + 1)) = omega arith in
-      ap (λ (k : ℕ). any f (up_from i k)) e ∙ ap (λ (k : ℕ). f i || any f (up_from k (n - (i + 1)))) (sym (add-one i))
-
-  pub up_pass : (i n : ℕ) → i < n → f i ≡ false → any f (up_from i (n - i)) ≡ any f (up_from 0 n) → any f (up_from (i + 1) (n - (i + 1))) ≡ any f (up_from 0 n)
-  up_pass i n h t e = sym (up_step i n h ∙ rw t) ∙ e
-
-  pub up_found : (i n : ℕ) → i < n → f i ≡ true → any f (up_from i (n - i)) ≡ any f (up_from 0 n) → true ≡ any f (up_from 0 n)
-  up_found i n h t e = sym (up_step i n h ∙ rw t) ∙ e
-
-  pub up_end : (i n : ℕ) → n ≤ i → any f (up_from i (n - i)) ≡ any f (up_from 0 n) → false ≡ any f (up_from 0 n)
-  up_end i n h e =
-      let z : n - i ≡ 0 = omega arith in
-      sym (ap (λ (k : ℕ). any f (up_from i k)) z) ∙ e
-
 -- two tests that agree on the numbers, each from its own start
 pub any_same : (f g : ℕ → Bool) (a b n : ℕ) → ((j : ℕ) → j < n → f (a + j) ≡ g (b + j)) → any f (up_from a n) ≡ any g (up_from b n)
 any_same f g a b zero h = refl

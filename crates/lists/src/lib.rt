@@ -36,7 +36,7 @@ pub fn store_run(to: &mut [u32], at: usize, first: u32, last: u32)
     }
 }
 
-// Copies bytes into words.
+// Copies bytes into words. (Over a `zip` with the places themselves the proof did not close of what they hold after the loop.)
 pub fn copy_u8_to_u32(to: &mut [u32], at: usize, from: &[u8])
     ensures { to.new ≡ sets to.old at from.now }
 {

@@ -1,3 +1,2 @@
--- Laws that several needs cite.
+-- Laws that belong to no one function.
 pub mod Stores
-pub mod Selects
