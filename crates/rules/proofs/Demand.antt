@@ -1,7 +1,7 @@
 -- Demand 3: after any list of patch calls, refused ones among them, the images are those of the amended rows.
 use Prim.Native.Nat.{ℕ, zero, suc, ◌+◌, ◌-◌, ◌*◌, ◌≤◌, ◌<◌}
 use mathlib.Core.Path.{◌≡◌, refl, sym, ap, ◌∙◌, subst}
-use mathlib.Core.Logic.{◌⊎◌, ◌≢◌, ⊎_elim}
+use mathlib.Core.Logic.{◌≢◌, ⊎_elim}
 use mathlib.Core.Bool.{true, not, ◌||◌}
 use mathlib.Core.List.{List, [], ◌∷◌, ◌++◌}
 use native.Mathlib.Nat.{mul-le-mul_right, suc-mul, min-le_left, lt_of_lt_of_le, le_trans, eq-or-lt_of_le, le_of_suc-le-suc, le_refl, lt_trans, le_of_lt, ne_of_lt, eq-zero-or-pos, zero-add}

@@ -10,7 +10,7 @@ use native.Mathlib.Numerals.{add-one}
 use lib.ListN.{length, get_or, take, drop, length-set, drop_of_length-le}
 use lib.Seq.{set_comm, set-set, get_or-set_same, get_or-set_other, take-set-lt, drop-set-lt, drop-cons}
 use Rattle.rules.specs.Limits.{None}
-use Rattle.rules.specs.Image.{trits, put, put_row}
+use Rattle.rules.specs.Image.{put, put_row}
 
 put_comm : (t t' : Bool) (a a' x y : ℕ) (l : List ℕ) → a ≢ a' → put t a x (put t' a' y l) ≡ put t' a' y (put t a x l)
 unfolding put

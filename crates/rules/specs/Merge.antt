@@ -5,7 +5,7 @@ use Rattle.lists.specs.Lists.{pairs}
 use Rattle.lists.specs.Distinct.{kept, places}
 use Rattle.rules.specs.Value.{Value, Control, Pos}
 use Rattle.rules.specs.Cell.{Controls, FlipFlop}
-use Rattle.rules.specs.Log.{Trace, ◌>>=◌, ◌>>◌, done, add_mux_of, add_dff_of}
+use Rattle.rules.specs.Log.{Trace, ◌>>=◌, done, add_mux_of, add_dff_of}
 
 -- the net of each bit, from the nets of the kept bits
 unfoldable pub spread : List ℕ → Value → Value

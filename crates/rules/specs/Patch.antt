@@ -4,7 +4,6 @@ use Rattle.std.proofs.Math.Option.{none, some}
 use Rattle.rules.specs.Limits.{trit_x, None}
 use Rattle.lists.specs.Choice.{when◌then◌else◌}
 use Rattle.rules.specs.Logic.{Const}
-use Rattle.rules.specs.Log.{entry}
 use Rattle.rules.specs.Geometry.{Layout, row_len_of}
 use Rattle.rules.specs.Image.{image_size, index_of, write_row, layout, Laid, Patch}
 use Rattle.rules.specs.Refusals.{patch_refusal_of}

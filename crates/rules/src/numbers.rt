@@ -8,49 +8,49 @@ use std::fmt;
 #[derive(Clone, Copy, Debug, PartialEq, Eq)]
 pub enum Refusal {
     // a size or the length of a list above its limit
-    TooLarge,
+    TooLarge = 1,
     // lengths that do not fit each other
-    BadShape,
+    BadShape = 2,
     // a depth that is no multiple of a port's 2^k
-    BadDepth,
+    BadDepth = 3,
     // a net, a control, a trit or a code that is none
-    BadValue,
+    BadValue = 4,
     // a granularity out of range, or not one per write port
-    BadGranularity,
+    BadGranularity = 5,
     // a padded row above its limit
-    RowTooLong,
+    RowTooLong = 6,
     // an entry that names no bit of the width, or a bit that is not named exactly once
-    BadEntries,
+    BadEntries = 7,
     // a depth that is no multiple of 2^(top soft bit + 1)
-    BadSoftMask,
+    BadSoftMask = 8,
     // wide logs not one per port, too large or too small
-    BadWideLogs,
+    BadWideLogs = 9,
     // a result with too many columns or trits
-    ResultTooLarge,
+    ResultTooLarge = 10,
     // write ports of different clocks
-    WriteClocksDiffer,
+    WriteClocksDiffer = 11,
     // read ports of different clocks
-    ReadClocksDiffer,
+    ReadClocksDiffer = 12,
     // a write port with both a read-before-write and a transparent relation
-    MixedRelations,
+    MixedRelations = 13,
     // a narrower port with too few address bits
-    ShortAddress,
+    ShortAddress = 14,
     // a port, a row or a part out of range
-    OutOfRange,
+    OutOfRange = 15,
     // a record's first word, or its length
-    BadHead,
+    BadHead = 16,
     // a record's sizes
-    BadSizes,
+    BadSizes = 17,
     // a record's bits
-    BadBits,
+    BadBits = 18,
     // the log, the image, the record or another result does not fit its room
-    NoRoom,
+    NoRoom = 20,
     // no nets are left
-    NetsFull,
+    NetsFull = 21,
     // a port without the flip-flop that is needed
-    Unclocked,
+    Unclocked = 22,
     // no swizzle was accepted
-    NotLaidOut,
+    NotLaidOut = 23,
 }
 
 impl Refusal {
@@ -58,30 +58,7 @@ impl Refusal {
     pub fn number(self) -> u32
         ensures { result ≡ number self }
     {
-        match self {
-            Refusal::TooLarge => 1,
-            Refusal::BadShape => 2,
-            Refusal::BadDepth => 3,
-            Refusal::BadValue => 4,
-            Refusal::BadGranularity => 5,
-            Refusal::RowTooLong => 6,
-            Refusal::BadEntries => 7,
-            Refusal::BadSoftMask => 8,
-            Refusal::BadWideLogs => 9,
-            Refusal::ResultTooLarge => 10,
-            Refusal::WriteClocksDiffer => 11,
-            Refusal::ReadClocksDiffer => 12,
-            Refusal::MixedRelations => 13,
-            Refusal::ShortAddress => 14,
-            Refusal::OutOfRange => 15,
-            Refusal::BadHead => 16,
-            Refusal::BadSizes => 17,
-            Refusal::BadBits => 18,
-            Refusal::NoRoom => 20,
-            Refusal::NetsFull => 21,
-            Refusal::Unclocked => 22,
-            Refusal::NotLaidOut => 23,
-        }
+        self as u32
     }
 }
 
@@ -89,10 +66,7 @@ impl Refusal {
 pub fn number_of(answer: Result<(), Refusal>) -> u32
     ensures { result ≡ number_of answer }
 {
-    match answer {
-        Ok(()) => 0,
-        Err(refusal) => refusal.number(),
-    }
+    answer.err().map_or(0, Refusal::number)
 }
 
 impl fmt::Display for Refusal {
