@@ -61,7 +61,7 @@ pub fn parts_of<'a>(
     ensures related { length own.entry.port.relations ≡ max_ports }
 {
     let reading = reading(given.memory.width, own);
-    let start = net_memory::output_start(given.memory, i);
+    let start = net_memory::output_start(&given.memory, i);
     let flip_flop = FlipFlop {
         controls: c,
         bits: lists::part(output, start, reading.count),
@@ -124,7 +124,7 @@ impl<'a> Clocked<'a> {
             state: st,
         };
         let last = self.emit(&mut log, &mut overlay, output);
-        let start = net_memory::output_start(self.given.memory, self.i);
+        let start = net_memory::output_start(&self.given.memory, self.i);
         lists::store_run(output, start, st.next, last);
         Ok(Driven {
             memory: unclock(self.given.memory, self.i),
@@ -147,7 +147,7 @@ pub fn pair_short(given: Given<'_>, r: Reading, j: usize) -> bool
 fn related_short(given: Given<'_>, r: Reading, x: u8, j: usize) -> bool
     ensures { (trits : List ℕ) (p : rules.ReadPort) → ReadBy (memory_of given.entry.memory given.entry.nets.now trits) p r.entry → result ≡ (is_transparent x && short_pair (memory_of given.entry.memory given.entry.nets.now trits) p j) }
 {
-    x == MemoryPortRelation::Transparent.code() && pair_short(given, r, j)
+    x == u8::from(MemoryPortRelation::Transparent) && pair_short(given, r, j)
 }
 
 // Some pair of these relations has too few.

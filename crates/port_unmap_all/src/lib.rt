@@ -38,12 +38,12 @@ fn emit_clocked(
     requires { port.i < min max_ports port.given.memory.read_count }
     ensures { Gave (unmapped_of (some (flip_flop_in port.entry)) (mem_of port.entry.given) port.entry.i output.now after.old) (lent_of log.old) (lent_of log.new) after.new }
 {
-    if rules::MAX_MERGE < net_memory::read_data_len(port.given.memory, port.i) {
+    if rules::MAX_MERGE < net_memory::read_data_len(&port.given.memory, port.i) {
         return;
     }
     let first = log.state.next;
     let last = port.emit(log, overlay, output);
-    let start = net_memory::output_start(port.given.memory, port.i);
+    let start = net_memory::output_start(&port.given.memory, port.i);
     lists::store_run(after, start, first, last);
 }
 
