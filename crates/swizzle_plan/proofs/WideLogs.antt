@@ -14,6 +14,8 @@ use Rattle.rules.specs.Conditions.{bad_wide, bad_writes, bad_reads}
 use Rattle.rules.specs.Cell.{Mem, Plan, wide_log2, write_wide_log2, read_wide_log2, write_at, read_at_of}
 use Rattle.net_memory.specs.declared.Memory.{Memory}
 use Rattle.net_memory.specs.View.{memory_of, writes_of}
+use Rattle.swizzle_plan.specs.declared.MemorySwizzle.{MemorySwizzle}
+use Rattle.swizzle_plan.specs.Calls.{plan_of}
 use Rattle.swizzle_plan.proofs.Wides.{any_first}
 use Rattle.swizzle_plan.specs.Numbers.{wides_bad, write_logs, read_logs}
 
@@ -54,3 +56,8 @@ logs_length m nets trits = length-map (writes_of m nets) (write_wide_log2 (memor
 pub write_log_at : (m : Mem) (i : ℕ) → i < length (write_logs m) → get_or (write_logs m) i 0 ≡ write_wide_log2 m (write_at m i)
 unfolding write_at
 write_log_at m i h = get_or-map (write_wide_log2 m) m.writes i _ 0 (omega (arith, h, length-map m.writes (write_wide_log2 m)))
+
+-- number 9 of new wide logs reads no entries
+pub wides_any : (s : MemorySwizzle) (es fs ws rs olds news : List ℕ) → wides_bad (plan_of s es ws rs) olds news ≡ wides_bad (plan_of s fs ws rs) olds news
+unfolding bad_wide
+wides_any s es fs ws rs olds news = refl
