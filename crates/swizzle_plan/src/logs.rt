@@ -1,5 +1,7 @@
 // Number 9: the new wide logs of a plan against a memory's ports.
-ghost use Rattle.std.specs.Prelude.{◌≡◌, ◌||◌, List, ℕ, map};
+ghost use Rattle.std.specs.Prelude.{◌≡◌, ◌||◌, List, ℕ, map, min};
+ghost use Rattle.lists.specs.Lists.{up_from};
+ghost use Rattle.rules.specs.Limits.{max_ports};
 ghost use Rattle.rules.specs.Conditions.{bad_wide, bad_writes, bad_reads, all_reads};
 ghost use Rattle.rules.specs.Cell.{write_wide_log2, read_wide_log2, write_at, read_at_of};
 ghost use Rattle.net_memory.specs.View.{memory_of};
@@ -11,6 +13,13 @@ use net_memory::{Given, Memory};
 
 // The numbers of all ports.
 const PORTS: [u32; rules::MAX_PORTS] = [0, 1, 2, 3, 4, 5, 6, 7];
+
+// Those of the ports in use.
+pub fn ports_in_use(count: u32) -> &'static [u32]
+    ensures { result.now ≡ up_from 0 (min max_ports count) }
+{
+    lists::part(&PORTS, 0, net_memory::ports_used(count))
+}
 
 // A new wide log is above the hard bits, or below the non-soft bits under the old one.
 #[tactic(auto, unfolding(rules::specs::Conditions::bad_wide))]
@@ -58,8 +67,7 @@ pub fn read_log(m: Memory, port: u32) -> u32
 fn writes_bad(given: Given<'_>, plan: Plan<'_>) -> bool
     ensures { (trits es : List ℕ) → result ≡ bad_writes (memory_of given.entry.memory given.entry.nets.now trits) (plan_of plan.entry.swizzle es plan.entry.writes.now plan.entry.reads.now) }
 {
-    let count = net_memory::ports_used(given.memory.write_count);
-    let ports = lists::part(&PORTS, 0, count);
+    let ports = ports_in_use(given.memory.write_count);
     wides_bad(plan, ports, plan.writes, |i| write_log(given, i))
 }
 
@@ -81,6 +89,5 @@ pub fn logs_bad(given: Given<'_>, ports: &[u32], plan: Plan<'_>) -> bool
 pub fn all_logs_bad(given: Given<'_>, plan: Plan<'_>) -> bool
     ensures { (trits es : List ℕ) → result ≡ (bad_writes (memory_of given.entry.memory given.entry.nets.now trits) (plan_of plan.entry.swizzle es plan.entry.writes.now plan.entry.reads.now) || bad_reads (memory_of given.entry.memory given.entry.nets.now trits) (all_reads (memory_of given.entry.memory given.entry.nets.now trits)) (plan_of plan.entry.swizzle es plan.entry.writes.now plan.entry.reads.now)) }
 {
-    let count = net_memory::ports_used(given.memory.read_count);
-    logs_bad(given, lists::part(&PORTS, 0, count), plan)
+    logs_bad(given, ports_in_use(given.memory.read_count), plan)
 }

@@ -1,5 +1,5 @@
 -- `swizzle_plan::logs::all_logs_bad` meets its contract.
-use mathlib.Core.Path.{sym, ap, ◌∙◌}
+use mathlib.Core.Path.{ap, ◌∙◌}
 use mathlib.Core.Bool.{◌||◌}
 use mathlib.Core.List.{List}
 use Prim.Native.Nat.{ℕ}
@@ -14,8 +14,7 @@ use Rattle.swizzle_plan.proofs.logs.all_logs_bad.Goals as goal
 pub returns : goal.returns
 returns c trits es =
     let g = c.args.given in
-    let n = c.ports_used-count.ensures in
-    let x = c.part.ensures.part ∙ every_port g.memory g.nets.now trits _ (reads_length g.memory _ c.well_formed.0.1.1.0 g.nets.now trits ∙ sym n.0) n.1 in
+    let x = c.ports_in_use.ensures ∙ every_port g.memory g.nets.now trits _ (reads_length g.memory _ c.well_formed.0.1.1.0 g.nets.now trits) in
     let m : Mem = memory_of g.memory g.nets.now trits in
     let p : Plan = plan_of c.args.plan.swizzle es c.args.plan.writes.now c.args.plan.reads.now in
     c.logs_bad.ensures trits es ∙ ap (λ (l : List ℕ). bad_writes m p || bad_reads m l p) x
