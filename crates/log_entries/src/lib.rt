@@ -110,16 +110,16 @@ pub struct Log<'a> {
 // What an entry asks for.
 #[derive(Clone, Copy, Debug, PartialEq, Eq)]
 enum Kind {
-    Void,
-    Not,
-    And,
-    Or,
-    Mux,
-    Eq,
-    Shl,
-    Ushr,
-    Dff,
-    Replace,
+    Void = 1,
+    Not = 2,
+    And = 3,
+    Or = 4,
+    Mux = 5,
+    Eq = 6,
+    Shl = 7,
+    Ushr = 8,
+    Dff = 9,
+    Replace = 10,
 }
 
 impl Kind {
@@ -127,18 +127,7 @@ impl Kind {
     fn word(self) -> u32
         ensures { result ≡ kind_word self }
     {
-        match self {
-            Kind::Void => 1,
-            Kind::Not => 2,
-            Kind::And => 3,
-            Kind::Or => 4,
-            Kind::Mux => 5,
-            Kind::Eq => 6,
-            Kind::Shl => 7,
-            Kind::Ushr => 8,
-            Kind::Dff => 9,
-            Kind::Replace => 10,
-        }
+        self as u32
     }
 }
 

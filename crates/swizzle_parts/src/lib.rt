@@ -171,10 +171,7 @@ impl Bits {
     fn before(self) -> usize
         ensures { (result ≡ bits_before self) × (result ≤ 1) }
     {
-        match self {
-            Bits::Data => 0,
-            Bits::Mask => 1,
-        }
+        self as usize
     }
 }
 
@@ -182,11 +179,7 @@ impl Kind {
     fn before(self) -> usize
         ensures { (result ≡ kind_before self) × (result ≤ 2) }
     {
-        match self {
-            Kind::Clear => 0,
-            Kind::Reset => 1,
-            Kind::Init => 2,
-        }
+        self as usize
     }
 }
 

@@ -7,21 +7,21 @@ use std::fmt;
 #[derive(Clone, Copy, Debug, PartialEq, Eq)]
 pub enum Reason {
     // more bytes than are read
-    TextTooLong,
+    TextTooLong = 8,
     // a header line that is none
-    BadHeader,
+    BadHeader = 9,
     // a layout that no accepted swizzle has
-    BadLayout,
+    BadLayout = 10,
     // a byte that does not belong there
-    BadByte,
+    BadByte = 11,
     // a word with too few bits
-    ShortWord,
+    ShortWord = 12,
     // a word with too many bits
-    LongWord,
+    LongWord = 13,
     // a row past the depth
-    RowPastDepth,
+    RowPastDepth = 14,
     // rows that are not read: wider than a memory's, or of a text with more bytes than are read
-    Unread,
+    Unread = 15,
 }
 
 impl Reason {
@@ -29,16 +29,7 @@ impl Reason {
     pub fn number(self) -> u32
         ensures { result ≡ reason_number self }
     {
-        match self {
-            Reason::TextTooLong => 8,
-            Reason::BadHeader => 9,
-            Reason::BadLayout => 10,
-            Reason::BadByte => 11,
-            Reason::ShortWord => 12,
-            Reason::LongWord => 13,
-            Reason::RowPastDepth => 14,
-            Reason::Unread => 15,
-        }
+        self as u32
     }
 }
 
