@@ -166,7 +166,7 @@ pub fn into_pos(log: &mut [u32], st: &mut LogState, c: ControlNet) -> Result<Net
 {
     let made = log_requests::into_pos(log, *st, c)?;
     *st = made.state;
-    Ok(made.net)
+    Ok(made.value)
 }
 
 // remap_reset_over_enable, of a flip-flop's controls or of a read port's.
@@ -179,7 +179,7 @@ pub fn remap_reset_over_enable(
 {
     let made = log_requests::remap_reset_over_enable(log, *st, c)?;
     *st = made.state;
-    Ok(made.controls)
+    Ok(made.value)
 }
 
 // A mux in which equal bits are kept once; the result net of each bit goes to `out`.
