@@ -10,7 +10,7 @@ use Rattle.std.proofs.lemmas.List.{nil_from_length}
 use lib.ListN.{length, take, get_or, set, length-map}
 use lib.Seq.{sets}
 use Rattle.lists.specs.Lists.{pairs}
-use Rattle.lists.proofs.Pairs.{pairs_size, pairs_at}
+use Rattle.lists.proofs.Pairs.{pairs_size}
 use Rattle.lists.proofs.Maps.{map_turn}
 use Rattle.lists.proofs.Store.{copy_done}
 use Rattle.merge_dff.specs.Packs.{pack_of, packed_byte, packs}
