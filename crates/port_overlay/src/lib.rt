@@ -1,5 +1,5 @@
 // memory/src/lib.rs, unmap_read_dff without its numbers: the port reads at once, the write ports that it is transparent to are laid over what it
-// reads, and the flip-flop stands behind.
+// reads, and the flip-flop stands behind. Where a port has a mask beside its data, that is laid over too.
 #![tactic(auto)]
 
 ghost use Rattle.std.specs.Prelude.{◌≡◌, false, List, ℕ, ◌+◌, ◌≤◌, take};
@@ -8,7 +8,6 @@ ghost use Rattle.rules.specs.Cell.{write_at, write_wide_log2};
 ghost use Rattle.log_entries.specs.Emission.{is_over, run};
 ghost use Rattle.log_entries.specs.View.{state_of, lent_of};
 ghost use Rattle.net_memory.specs.View.{memory_of};
-ghost use Rattle.net_memory.specs.Given.{mem_of};
 ghost use Rattle.port_transparency.specs.Gave.{Gave};
 ghost use Rattle.port_transparency.specs.Pairs.{writing, write_of, read_of, data_and};
 ghost use Rattle.port_overlay.specs.Laid.{laid_by, laid_as, laid_from, behind, with_bits, unmapped, unmapped_if};
@@ -20,8 +19,8 @@ use port_transparency::{NoMask, Over, Overlay, Reading, Writing};
 
 // Write port j, as a transparency reads it.
 pub fn writing<'a>(given: Given<'a>, j: usize) -> Writing<'a>
-    ensures k_value { result.k ≡ write_wide_log2 (mem_of given.entry) (write_at (mem_of given.entry) j) }
-    ensures port { write_of result ≡ writing (write_at (mem_of given.entry) j).addr (write_at (mem_of given.entry) j).bits (write_at (mem_of given.entry) j).mask }
+    ensures k_value { (trits : List ℕ) → result.k ≡ write_wide_log2 (memory_of given.entry.memory given.entry.nets.now trits) (write_at (memory_of given.entry.memory given.entry.nets.now trits) j) }
+    ensures port { (trits : List ℕ) → write_of result ≡ writing (write_at (memory_of given.entry.memory given.entry.nets.now trits) j).addr (write_at (memory_of given.entry.memory given.entry.nets.now trits) j).bits (write_at (memory_of given.entry.memory given.entry.nets.now trits) j).mask }
 {
     let w = given.write_port(j);
     let bits = w.bits();
@@ -42,7 +41,7 @@ pub fn emit_pair<'a, O: Over>(
     j: usize,
     r: Reading<'a>,
 )
-    ensures { Gave (laid_by (mem_of given.entry) r.entry.k (read_of r.entry) j (data_and (take r.entry.count overlay.old.under) (O.mask over.old r.entry.count))) (lent_of log.old) (lent_of log.new) (data_and (take r.entry.count overlay.new.under) (O.mask over.new r.entry.count)) }
+    ensures { (trits : List ℕ) → Gave (laid_by (memory_of given.entry.memory given.entry.nets.now trits) r.entry.k (read_of r.entry) j (data_and (take r.entry.count overlay.old.under) (O.mask over.old r.entry.count))) (lent_of log.old) (lent_of log.new) (data_and (take r.entry.count overlay.new.under) (O.mask over.new r.entry.count)) }
 {
     overlay.emit_transparency(log, over, writing(given, j), r);
 }
@@ -57,7 +56,7 @@ fn emit_related<'a, O: Over>(
     j: usize,
     r: Reading<'a>,
 )
-    ensures { Gave (laid_as (mem_of given.entry) r.entry.k (read_of r.entry) x j (data_and (take r.entry.count overlay.old.under) (O.mask over.old r.entry.count))) (lent_of log.old) (lent_of log.new) (data_and (take r.entry.count overlay.new.under) (O.mask over.new r.entry.count)) }
+    ensures { (trits : List ℕ) → Gave (laid_as (memory_of given.entry.memory given.entry.nets.now trits) r.entry.k (read_of r.entry) x j (data_and (take r.entry.count overlay.old.under) (O.mask over.old r.entry.count))) (lent_of log.old) (lent_of log.new) (data_and (take r.entry.count overlay.new.under) (O.mask over.new r.entry.count)) }
 {
     if x != MemoryPortRelation::Transparent.code() {
         return;
@@ -74,7 +73,7 @@ pub fn emit_pairs<'a, O: Over>(
     rels: &[u8],
     r: Reading<'a>,
 )
-    ensures { Gave (laid_from (mem_of given.entry) r.entry.k (read_of r.entry) 0 rels.now (data_and (take r.entry.count overlay.old.under) (O.mask over.old r.entry.count))) (lent_of log.old) (lent_of log.new) (data_and (take r.entry.count overlay.new.under) (O.mask over.new r.entry.count)) }
+    ensures { (trits : List ℕ) → Gave (laid_from (memory_of given.entry.memory given.entry.nets.now trits) r.entry.k (read_of r.entry) 0 rels.now (data_and (take r.entry.count overlay.old.under) (O.mask over.old r.entry.count))) (lent_of log.old) (lent_of log.new) (data_and (take r.entry.count overlay.new.under) (O.mask over.new r.entry.count)) }
 {
     for (j, x) in rels.iter().enumerate() {
         emit_related(log, overlay, over, given, *x, j, r);
@@ -104,7 +103,7 @@ fn emit_unmapped<'a>(
     f: FlipFlop,
 ) -> u32
     requires { r.count ≤ max_merge }
-    ensures by_index { lent_of log.new ≡ run (unmapped (mem_of given.entry) r.entry.k (read_of r.entry) r.entry.count rels.now (with_bits f.entry) f.entry.bits.now) (lent_of log.old) }
+    ensures by_index { (trits : List ℕ) → lent_of log.new ≡ run (unmapped (memory_of given.entry.memory given.entry.nets.now trits) r.entry.k (read_of r.entry) r.entry.count rels.now (with_bits f.entry) f.entry.bits.now) (lent_of log.old) }
     ensures last_value { is_over (state_of log.new.state) ≡ false → result ≡ log.old.state.next + r.entry.count }
 {
     port_transparency::void_into(log, &mut overlay.under, r.count as u32);
@@ -123,7 +122,7 @@ pub fn emit_unmap<'a>(
     r: Reading<'a>,
     f: FlipFlop,
 ) -> u32
-    ensures by_index { lent_of log.new ≡ run (unmapped_if (mem_of given.entry) r.entry.k (read_of r.entry) r.entry.count rels.now (with_bits f.entry) f.entry.bits.now) (lent_of log.old) }
+    ensures by_index { (trits : List ℕ) → lent_of log.new ≡ run (unmapped_if (memory_of given.entry.memory given.entry.nets.now trits) r.entry.k (read_of r.entry) r.entry.count rels.now (with_bits f.entry) f.entry.bits.now) (lent_of log.old) }
     ensures last_value { r.entry.count ≤ max_merge → is_over (state_of log.new.state) ≡ false → result ≡ log.old.state.next + r.entry.count }
 {
     if rules::MAX_MERGE < r.count {

@@ -15,7 +15,7 @@ returns-in-None c =
     let v = c.args in
     let q = c.emit_pair in
     gave_plain v.given.memory v.given.nets.now v.given.trits.now v.i v.j (is_some v.o.mask) v.o.bits.now (given_mask v.o.mask) c.requires c.wide_log.result _ v.overlay.now.under c.copy.new.to q.new.overlay.under (lent_of v.log.now) (lent_of q.new.log)
-    c.wide_log.ensures.0 (c.addr.ensures ∙ ap (λ (r : ReadPort). r.addr) c.read_port.ensures.port) c.copy.ensures (omega arith) v.over.now (none_is v.o.mask c.in-None.is) q.ensures
+    c.wide_log.ensures.0 (c.addr.ensures ∙ ap (λ (r : ReadPort). r.addr) c.read_port.ensures.port) c.copy.ensures (omega arith) v.over.now (none_is v.o.mask c.in-None.is) (q.ensures v.given.trits.now)
 
 pub returns-in-Some : goal.returns-in-Some
 returns-in-Some c =
@@ -23,4 +23,4 @@ returns-in-Some c =
     let q = c.emit_pair-in-Some in
     let s = some_is v.o.mask c.in-Some.mask c.in-Some.is in
     gave_masked v.given.memory v.given.nets.now v.given.trits.now v.i v.j (is_some v.o.mask) v.o.bits.now (given_mask v.o.mask) c.requires c.wide_log.result _ v.overlay.now.under c.copy.new.to q.new.overlay.under (lent_of v.log.now) (lent_of q.new.log)
-    c.wide_log.ensures.0 (c.addr.ensures ∙ ap (λ (r : ReadPort). r.addr) c.read_port.ensures.port) c.copy.ensures (omega arith) v.over.now c.copy-in-Some.new.to q.new.over s.0 (c.copy-in-Some.ensures ∙ ap (sets v.over.now 0) s.1) (omega arith) q.ensures
+    c.wide_log.ensures.0 (c.addr.ensures ∙ ap (λ (r : ReadPort). r.addr) c.read_port.ensures.port) c.copy.ensures (omega arith) v.over.now c.copy-in-Some.new.to q.new.over s.0 (c.copy-in-Some.ensures ∙ ap (sets v.over.now 0) s.1) (omega arith) (q.ensures v.given.trits.now)

@@ -18,4 +18,4 @@ returns-clause-log_after c =
     let u = c.emit_unmap in
     λ h.
     port_from (mem_of v.given) v.i v.output.now (clocked_by v.c p o.result.trits.now) (own_flip_flop v.given.memory v.given.trits.now v.i v.c) c.parts_of.result.1 _ _ _ _ _ (lent_of v.log.now) (lent_of u.new.log) e.0 e.1 e.2 e.3 c.parts_of.ensures.flip_flop c.relations.ensures
-    (omega (arith, ap length c.relations.ensures, length-take p.relations_len p.relations, c.parts_of.ensures.related)) (λ k. clocked_by v.c (o.ensures.own h k) (o.ensures.trits.0 k)) u.ensures.by_index
+    (omega (arith, ap length c.relations.ensures, length-take p.relations_len p.relations, c.parts_of.ensures.related)) (λ k. clocked_by v.c (o.ensures.own h k) (o.ensures.trits.0 k)) (u.ensures.by_index v.given.trits.now)
