@@ -17,6 +17,14 @@ use net_flip_flop::FlipFlop;
 use net_memory::{Given, Memory, MemoryPortRelation};
 use port_transparency::{NoMask, Over, Overlay, Reading, Writing};
 
+// A clocked read port: what it reads, its relations to the write ports, and its flip-flop as a cell of its own, whose bits are the port's outputs.
+#[derive(Clone, Copy)]
+pub struct ClockedPort<'a> {
+    pub reading: Reading<'a>,
+    pub relations: &'a [u8],
+    pub flip_flop: FlipFlop<'a>,
+}
+
 // Write port j, as a transparency reads it.
 pub fn writing<'a>(given: Given<'a>, j: usize) -> Writing<'a>
     ensures k_value { (trits : List ℕ) → result.k ≡ write_wide_log2 (memory_of given.entry.memory given.entry.nets.now trits) (write_at (memory_of given.entry.memory given.entry.nets.now trits) j) }
@@ -93,23 +101,26 @@ fn emit_behind(log: &mut Log, overlay: &mut Overlay, f: FlipFlop, n: usize)
     log.emit_replace(f.bits, &overlay.bits[..n]);
 }
 
-// A port with its relations and its flip-flop, which has the port's outputs as its bits. Gives the net after the void nets.
+// A clocked port unmapped. Gives the net after the void nets.
 fn emit_unmapped<'a>(
     log: &mut Log,
     overlay: &mut Overlay,
     given: Given<'a>,
-    rels: &[u8],
-    r: Reading<'a>,
-    f: FlipFlop,
+    port: ClockedPort<'a>,
 ) -> u32
-    requires { r.count ≤ max_merge }
-    ensures by_index { (trits : List ℕ) → lent_of log.new ≡ run (unmapped (memory_of given.entry.memory given.entry.nets.now trits) r.entry.k (read_of r.entry) r.entry.count rels.now (with_bits f.entry) f.entry.bits.now) (lent_of log.old) }
-    ensures last_value { is_over (state_of log.new.state) ≡ false → result ≡ log.old.state.next + r.entry.count }
+    requires { port.reading.count ≤ max_merge }
+    ensures by_index { (trits : List ℕ) → lent_of log.new ≡ run (unmapped (memory_of given.entry.memory given.entry.nets.now trits) port.entry.reading.k (read_of port.entry.reading) port.entry.reading.count port.entry.relations.now (with_bits port.entry.flip_flop) port.entry.flip_flop.bits.now) (lent_of log.old) }
+    ensures last_value { is_over (state_of log.new.state) ≡ false → result ≡ log.old.state.next + port.entry.reading.count }
 {
+    let ClockedPort {
+        reading: r,
+        relations,
+        flip_flop,
+    } = port;
     port_transparency::void_into(log, &mut overlay.under, r.count as u32);
     let last = log.state.next;
-    emit_pairs(log, overlay, &mut NoMask, given, rels, r);
-    emit_behind(log, overlay, f, r.count);
+    emit_pairs(log, overlay, &mut NoMask, given, relations, r);
+    emit_behind(log, overlay, flip_flop, r.count);
     last
 }
 
@@ -118,15 +129,13 @@ pub fn emit_unmap<'a>(
     log: &mut Log,
     overlay: &mut Overlay,
     given: Given<'a>,
-    rels: &[u8],
-    r: Reading<'a>,
-    f: FlipFlop,
+    port: ClockedPort<'a>,
 ) -> u32
-    ensures by_index { (trits : List ℕ) → lent_of log.new ≡ run (unmapped_if (memory_of given.entry.memory given.entry.nets.now trits) r.entry.k (read_of r.entry) r.entry.count rels.now (with_bits f.entry) f.entry.bits.now) (lent_of log.old) }
-    ensures last_value { r.entry.count ≤ max_merge → is_over (state_of log.new.state) ≡ false → result ≡ log.old.state.next + r.entry.count }
+    ensures by_index { (trits : List ℕ) → lent_of log.new ≡ run (unmapped_if (memory_of given.entry.memory given.entry.nets.now trits) port.entry.reading.k (read_of port.entry.reading) port.entry.reading.count port.entry.relations.now (with_bits port.entry.flip_flop) port.entry.flip_flop.bits.now) (lent_of log.old) }
+    ensures last_value { port.entry.reading.count ≤ max_merge → is_over (state_of log.new.state) ≡ false → result ≡ log.old.state.next + port.entry.reading.count }
 {
-    if rules::MAX_MERGE < r.count {
+    if rules::MAX_MERGE < port.reading.count {
         return log.state.next;
     }
-    emit_unmapped(log, overlay, given, rels, r, f)
+    emit_unmapped(log, overlay, given, port)
 }

@@ -23,6 +23,7 @@ ghost use Rattle.port_unmap.specs.Call.{unclocking, driving, rooms_of, driven_of
 use log_entries::{Log, LogState};
 use net_flip_flop::{Controls, FlipFlop};
 use net_memory::{Given, Memory, MemoryPortRelation, MemoryReadPort, ReadPort};
+use port_overlay::ClockedPort;
 use port_transparency::{Overlay, Reading};
 use rules::Refusal;
 
@@ -75,8 +76,13 @@ pub fn emit_port(
     ensures last_value { (read_at_of (mem_of given.entry) i).data_len ≤ max_merge → is_over (state_of log.new.state) ≡ false → result ≡ log.old.state.next + (read_at_of (mem_of given.entry) i).data_len }
 {
     let own = given.read_port(i);
-    let (r, f) = parts_of(given, i, own, c, output);
-    port_overlay::emit_unmap(log, overlay, given, own.relations(), r, f)
+    let (reading, flip_flop) = parts_of(given, i, own, c, output);
+    let port = ClockedPort {
+        reading,
+        relations: own.relations(),
+        flip_flop,
+    };
+    port_overlay::emit_unmap(log, overlay, given, port)
 }
 
 // 20 and 21 of it, by a run without a log.
