@@ -106,8 +106,8 @@ pub fn const_row(row: &mut [u32], init: &[u8])
     ensures { row.new ≡ sets row.old 0 (of_const init.now) }
 {
     let n = row.len().min(init.len());
-    for i in 0..n {
-        row[i] = net_of_trit(init[i]);
+    for (i, trit) in init[..n].iter().enumerate() {
+        row[i] = net_of_trit(*trit);
     }
 }
 
