@@ -272,7 +272,7 @@ impl Reads<'_> {
         let mut at = 0;
         for i in 0..net_memory::ports_used(given.memory.read_count) {
             self.port_at(log, scratch, i, at, rows, given, wide, output);
-            at += net_memory::read_data_len(given.memory, i);
+            at += net_memory::read_data_len(&given.memory, i);
         }
     }
 
