@@ -17,9 +17,10 @@ use net_flip_flop::FlipFlop;
 use net_memory::{Given, Memory, MemoryPortRelation};
 use port_transparency::{NoMask, Over, Overlay, Reading, Writing};
 
-// A clocked read port: what it reads, its relations to the write ports, and its flip-flop as a cell of its own, whose bits are the port's outputs.
+// A clocked read port in parts: what it reads, its relations to the write ports, and its flip-flop as a cell of its own, whose bits are the port's
+// outputs.
 #[derive(Clone, Copy)]
-pub struct ClockedPort<'a> {
+pub struct Parts<'a> {
     pub reading: Reading<'a>,
     pub relations: &'a [u8],
     pub flip_flop: FlipFlop<'a>,
@@ -102,17 +103,12 @@ fn emit_behind(log: &mut Log, overlay: &mut Overlay, f: FlipFlop, n: usize)
 }
 
 // A clocked port unmapped. Gives the net after the void nets.
-fn emit_unmapped<'a>(
-    log: &mut Log,
-    overlay: &mut Overlay,
-    given: Given<'a>,
-    port: ClockedPort<'a>,
-) -> u32
+fn emit_unmapped<'a>(log: &mut Log, overlay: &mut Overlay, given: Given<'a>, port: Parts<'a>) -> u32
     requires { port.reading.count ≤ max_merge }
     ensures by_index { (trits : List ℕ) → lent_of log.new ≡ run (unmapped (memory_of given.entry.memory given.entry.nets.now trits) port.entry.reading.k (read_of port.entry.reading) port.entry.reading.count port.entry.relations.now (with_bits port.entry.flip_flop) port.entry.flip_flop.bits.now) (lent_of log.old) }
     ensures last_value { is_over (state_of log.new.state) ≡ false → result ≡ log.old.state.next + port.entry.reading.count }
 {
-    let ClockedPort {
+    let Parts {
         reading: r,
         relations,
         flip_flop,
@@ -129,7 +125,7 @@ pub fn emit_unmap<'a>(
     log: &mut Log,
     overlay: &mut Overlay,
     given: Given<'a>,
-    port: ClockedPort<'a>,
+    port: Parts<'a>,
 ) -> u32
     ensures by_index { (trits : List ℕ) → lent_of log.new ≡ run (unmapped_if (memory_of given.entry.memory given.entry.nets.now trits) port.entry.reading.k (read_of port.entry.reading) port.entry.reading.count port.entry.relations.now (with_bits port.entry.flip_flop) port.entry.flip_flop.bits.now) (lent_of log.old) }
     ensures last_value { port.entry.reading.count ≤ max_merge → is_over (state_of log.new.state) ≡ false → result ≡ log.old.state.next + port.entry.reading.count }

@@ -24,7 +24,7 @@ ghost use Rattle.port_reset.specs.Call.{Acted, ResetStruct};
 use log_entries::{Log, LogState};
 use net_flip_flop::Controls;
 use net_memory::{Given, Memory};
-use port_overlay::ClockedPort;
+use port_overlay::Parts;
 use port_reset_emit::{ResetNets, Room};
 use port_unmap::Driven;
 use rules::Refusal;
@@ -75,11 +75,10 @@ fn emit_port(
     ensures output_value { is_over (state_of log.new.state) ≡ false → with_output (mem_of given.entry) i (up_from result.first (result.last - result.first)) output.now ≡ (unmap_reset (mem_of given.entry) i incl output.now (own_flip_flop given.entry.memory given.entry.trits.now i c) log.old.state.next).value.output }
 {
     let own = given.read_port(i);
-    let (reading, flip_flop) = port_unmap::parts_of(given, i, own, c, output);
-    let port = ClockedPort {
-        reading,
-        relations: port_unreset::wanted_relations(own.relations(), incl),
-        flip_flop,
+    let parts = port_unmap::parts_of(given, i, &own, c, output);
+    let port = Parts {
+        relations: port_unreset::wanted_relations(parts.relations, incl),
+        ..parts
     };
     port_reset_emit::emit_reset(log, room, given, port)
 }

@@ -19,7 +19,7 @@ use log_entries::Log;
 use merge_dff::Trits;
 use net_flip_flop::{Controls, FlipFlop};
 use net_memory::Given;
-use port_overlay::ClockedPort;
+use port_overlay::Parts;
 use port_transparency::Overlay;
 
 // Room for the mask of an unmapping: the mask, and the trits of its flip-flop.
@@ -169,7 +169,7 @@ fn emit_laid<'a>(
     log: &mut Log,
     room: &mut Room,
     given: Given<'a>,
-    port: ClockedPort<'a>,
+    port: Parts<'a>,
 ) -> ResetNets
     requires { port.reading.count ≤ max_merge }
     ensures { (trits : List ℕ) → Gave (reset_laid (memory_of given.entry.memory given.entry.nets.now trits) port.entry.reading.k (read_of port.entry.reading) port.entry.reading.count port.entry.relations.now (with_bits port.entry.flip_flop) (mask_of port.entry.flip_flop port.entry.reading.count) port.entry.flip_flop.bits.now) (lent_of log.old) (lent_of log.new) (up_from result.first (result.last - result.first)) }
@@ -187,7 +187,7 @@ pub fn emit_reset<'a>(
     log: &mut Log,
     room: &mut Room,
     given: Given<'a>,
-    port: ClockedPort<'a>,
+    port: Parts<'a>,
 ) -> ResetNets
     ensures { (trits : List ℕ) → Gave (reset_if (memory_of given.entry.memory given.entry.nets.now trits) port.entry.reading.k (read_of port.entry.reading) port.entry.reading.count port.entry.relations.now (with_bits port.entry.flip_flop) (mask_of port.entry.flip_flop port.entry.reading.count) port.entry.flip_flop.bits.now) (lent_of log.old) (lent_of log.new) (up_from result.first (result.last - result.first)) }
 {

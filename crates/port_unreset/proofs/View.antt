@@ -6,9 +6,8 @@ use native.Mathlib.Omega.{arith}
 use mathlib.Core.Bool.{Bool, false}
 use mathlib.Core.Option.{some}
 use mathlib.Core.List.{List}
-use lib.ListN.{length, replicate, length-replicate, replicate-append-replicate, get_or-eq_default}
-use lib.Seq.{sets, take-take, get_or-take, set_out, length-sets}
-use Rattle.lists.proofs.Stores.{sets_then}
+use lib.ListN.{length, replicate, length-replicate, get_or-eq_default}
+use lib.Seq.{sets, take-take, get_or-take, length-sets}
 use borrow.Author.Tests.{eqb-true, not-false}
 use Rattle.lists.specs.Lists.{sum_by, part}
 use Rattle.lists.proofs.Choice.{or_false}
