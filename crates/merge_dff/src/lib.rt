@@ -20,7 +20,8 @@ ghost use Rattle.merge_dff.specs.Packs.{pack_of, packed_byte, packs, unpacked, m
 ghost use Rattle.merge_dff.specs.Room.{zero_trits};
 
 use log_entries::{Log, LogState};
-use merge_mux::emit::Keys;
+use merge_keys::columns::Columns;
+use merge_keys::{Kept, Keys};
 use net_flip_flop::{Controls, FlipFlop};
 use rules::Refusal;
 
@@ -38,12 +39,11 @@ fn pack_trits(to: &mut [u32], reset: &[u8], clear: &[u8], init: &[u8]) -> usize
     ensures to_after { to.new ≡ sets to.old 0 (packs reset.now clear.now init.now) }
     ensures bytes { Bytes reset.now clear.now init.now }
 {
-    let n = to.len().min(reset.len().min(clear.len().min(init.len())));
-    // four arrays side by side: over a `zip` the invariant has no index of a place
-    for i in 0..n {
-        to[i] = pack(reset[i], clear[i], init[i]);
+    let trits = reset.iter().zip(clear.iter().zip(init));
+    for (i, (reset, (clear, init))) in trits.enumerate() {
+        lists::put(to, i, pack(*reset, *clear, *init));
     }
-    n
+    to.len().min(reset.len().min(clear.len().min(init.len())))
 }
 
 // Stores the byte of weight `by` of each word in `to`, as far as it reaches.
@@ -57,9 +57,10 @@ fn unpack_part(to: &mut [u8], ps: &[u32], by: u32)
     }
 }
 
-// Room for the trits of a flip-flop's kept bits.
+// Room for a flip-flop's trits: those of each bit in one word, and those of its kept bits.
 #[derive(Drop)]
 pub struct Trits {
+    pub packed: [u32; rules::MAX_MERGE],
     pub clear: [u8; rules::MAX_MERGE],
     pub reset: [u8; rules::MAX_MERGE],
     pub init: [u8; rules::MAX_MERGE],
@@ -72,6 +73,7 @@ impl Trits {
         ensures { result ≡ zero_trits }
     {
         Trits {
+            packed: [0; rules::MAX_MERGE],
             clear: [0; rules::MAX_MERGE],
             reset: [0; rules::MAX_MERGE],
             init: [0; rules::MAX_MERGE],
@@ -79,68 +81,45 @@ impl Trits {
     }
 
     // A flip-flop of kept bits, whose result nets go to each bit by its place; their trits are unpacked.
-    fn emit_kept(
-        &mut self,
-        log: &mut Log,
-        out: &mut [u32],
-        c: Controls,
-        bits: &[u32],
-        ps: &[u32],
-        at: &[u32],
-    )
-        requires { length ps.now ≤ max_merge }
-        ensures log_after { lent_of log.new ≡ run (add_dff_of (unpacked (controls_of c) bits.now ps.now)) (lent_of log.old) }
-        ensures out_after { out.new ≡ results (is_over (state_of log.new.state)) out.old 0 (spread at.now (add_dff_of (unpacked (controls_of c) bits.now ps.now) log.old.state.next).value) }
+    fn emit_kept(&mut self, log: &mut Log, out: &mut [u32], c: Controls, kept: Kept<'_>)
+        requires { length kept.y.now ≤ max_merge }
+        ensures log_after { lent_of log.new ≡ run (add_dff_of (unpacked (controls_of c) kept.entry.x.now kept.entry.y.now)) (lent_of log.old) }
+        ensures out_after { out.new ≡ results (is_over (state_of log.new.state)) out.old 0 (spread kept.entry.at.now (add_dff_of (unpacked (controls_of c) kept.entry.x.now kept.entry.y.now) log.old.state.next).value) }
     {
-        unpack_part(&mut self.clear, ps, 256);
-        unpack_part(&mut self.reset, ps, 1);
-        unpack_part(&mut self.init, ps, 65536);
-        let n = ps.len();
+        unpack_part(&mut self.clear, kept.y, 256);
+        unpack_part(&mut self.reset, kept.y, 1);
+        unpack_part(&mut self.init, kept.y, 65536);
+        let n = kept.y.len();
         let st = log.state;
         log.emit_dff(FlipFlop {
             controls: c,
-            bits,
+            bits: kept.x,
             clear: &self.clear[..n],
             reset: &self.reset[..n],
             init: &self.init[..n],
         });
-        merge_mux::emit::spread_results(out, 0, st, log.state, at);
+        merge_mux::emit::spread_results(out, 0, st, log.state, kept.at);
     }
 }
 
-// A flip-flop of the distinct bits: a bit's key is its data net and its packed trits.
-fn emit_merged(
-    log: &mut Log,
-    keys: &mut Keys,
-    trits: &mut Trits,
-    out: &mut [u32],
-    c: Controls,
-    bits: &[u32],
-    ps: &[u32],
-)
-    ensures log_after { lent_of log.new ≡ run (merge_packed (controls_of c) (limited bits.now) (limited ps.now)) (lent_of log.old) }
-    ensures out_after { out.new ≡ results (is_over (state_of log.new.state)) out.old 0 (merge_packed (controls_of c) (limited bits.now) (limited ps.now) log.old.state.next).value }
-{
-    let n = rules::MAX_MERGE.min(bits.len().min(ps.len()));
-    let k = keys.merge(bits, ps);
-    trits.emit_kept(log, out, c, &keys.x[..k], &keys.y[..k], &keys.at[..n]);
-}
-
-// add_dedup_dff without its numbers: a flip-flop in which equal bits are kept once. `column` is room for each bit's packed trits.
-#[tactic(auto, using(crate::proofs::Dff::column, crate::proofs::Dff::rules_merge))]
+// add_dedup_dff without its numbers: a flip-flop in which equal bits are kept once.
 pub fn emit_dedup_dff(
     log: &mut Log,
     keys: &mut Keys,
     trits: &mut Trits,
-    column: &mut [u32; rules::MAX_MERGE],
     out: &mut [u32],
     f: FlipFlop,
 )
     ensures log_after { lent_of log.new ≡ run (add_dedup_dff_of (limited_dff f.entry)) (lent_of log.old) }
     ensures out_after { out.new ≡ results (is_over (state_of log.new.state)) out.old 0 (add_dedup_dff_of (limited_dff f.entry) log.old.state.next).value }
 {
-    let n = pack_trits(column, f.reset, f.clear, f.init);
-    emit_merged(log, keys, trits, out, f.controls, f.bits, &column[..n]);
+    let n = pack_trits(&mut trits.packed, f.reset, f.clear, f.init);
+    let given = Columns {
+        x: f.bits,
+        y: &trits.packed[..n],
+    };
+    let kept = keys.merge(given);
+    trits.emit_kept(log, out, f.controls, kept);
 }
 
 // 1, 2 and 4 of a merging flip-flop.
@@ -169,7 +148,6 @@ fn log_refusal(
     st: LogState,
     keys: &mut Keys,
     trits: &mut Trits,
-    column: &mut [u32; rules::MAX_MERGE],
     f: FlipFlop,
 ) -> Result<(), Refusal>
     ensures { number_of result ≡ log_refusal room (state_of st) (add_dedup_dff_of (limited_dff f.entry)) }
@@ -178,7 +156,7 @@ fn log_refusal(
         words: &mut [],
         state: st.dry_start(),
     };
-    emit_dedup_dff(&mut dry, keys, trits, column, &mut [], f);
+    emit_dedup_dff(&mut dry, keys, trits, &mut [], f);
     st.dry_refusal(room, dry.state)
 }
 
@@ -195,12 +173,11 @@ pub fn add_dedup_dff(
     input_refusal(out.len(), st.next, f)?;
     let mut keys = Keys::new();
     let mut trits = Trits::new();
-    let mut column = [0; rules::MAX_MERGE];
-    log_refusal(log.len(), st, &mut keys, &mut trits, &mut column, f)?;
+    log_refusal(log.len(), st, &mut keys, &mut trits, f)?;
     let mut log = Log {
         words: log,
         state: st,
     };
-    emit_dedup_dff(&mut log, &mut keys, &mut trits, &mut column, out, f);
+    emit_dedup_dff(&mut log, &mut keys, &mut trits, out, f);
     Ok(log.state)
 }

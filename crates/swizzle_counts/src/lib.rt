@@ -10,8 +10,8 @@ ghost use Rattle.swizzle_split.specs.Steps.{can_split};
 ghost use Rattle.swizzle_counts.specs.Needs.{plus_needs, Most, port_most, split_of, Lengths, Ranges, read_from, read_needs, ReadFits, ReadsFit, reads_needs, write_from, kept_nets, MaskFits, write_needs, WriteFits, WritesFit, writes_needs};
 
 use image_geometry::Params;
+use merge_keys::Keys;
 use merge_keys::columns::Columns;
-use merge_keys::table::Table;
 use net_memory::Given;
 use swizzle_columns::WidePort;
 use swizzle_split::Split;
@@ -140,16 +140,14 @@ fn mask_count(w: WidePort, n: usize, entries: &[u32], mask: &[u32]) -> usize
     ensures { (result ≡ kept_nets w.olds w.width entries.now mask.now) × (result ≤ max_merge) }
 {
     let mut row = [0u32; rules::MAX_MERGE];
-    let mut kx = [0u32; rules::MAX_MERGE];
-    let mut ky = [0u32; rules::MAX_MERGE];
-    let mut at = [0u32; rules::MAX_MERGE];
     let zeros = [0u32; rules::MAX_MERGE];
+    let mut keys = Keys::new();
     swizzle_columns::mask_row(&mut row, w, entries, mask);
     let given = Columns {
         x: &row[..n],
         y: &zeros[..n],
     };
-    merge_keys::merge(&mut kx, &mut ky, &mut at, &mut Table::new(), given)
+    keys.merge(given).x.len()
 }
 
 // Those of a port with so many old rows.

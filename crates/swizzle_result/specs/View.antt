@@ -10,16 +10,12 @@ use Rattle.rules.specs.Cell as rules
 use Rattle.rules.specs.Ports.{Driving}
 use Rattle.rules.specs.Image.{depth_at, rows_before}
 use Rattle.net_value.specs.View.{control_of}
-use Rattle.net_flip_flop.specs.declared.Controls.{Controls}
 use Rattle.net_flip_flop.specs.View.{controls_of}
 use Rattle.net_memory.specs.FlipFlop.{MemoryReadFlipFlop}
 use Rattle.std.specs.Prelude.{None, Some}
 use Rattle.swizzle_result.specs.declared.WideWritePort.{WideWritePort}
 use Rattle.swizzle_result.specs.declared.WideReadPort.{WideReadPort}
 use Rattle.swizzle_result.specs.declared.WideMemory.{WideMemory}
-
-abbrev pub mems_of : WideMemory → ℕ
-mems_of g = g.mems
 
 -- a memory's bits of a port with this wide log, and those of all memories
 abbrev pub own : WideMemory → ℕ → ℕ
