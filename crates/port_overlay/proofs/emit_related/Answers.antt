@@ -6,7 +6,7 @@ use Rattle.port_transparency.specs.Pairs.{read_of, data_and}
 use Rattle.port_overlay.proofs.Laid.{as_laid, as_not, is_not, is_yes}
 use Rattle.port_overlay.proofs.emit_related.Goals as goal
 
-pub returns-then-x-from : goal.returns-then-x-code
+pub returns-then-x-from : goal.returns-then-x-from
 returns-then-x-from g c =
     let v = c.args in
     let n = v.r.count in

@@ -21,9 +21,9 @@ returns-then-given-ne0 c =
 pub returns-then-ports_short : goal.returns-then-ports_short
 returns-then-ports_short c =
     let v = c.args in
-    joined_short (rooms_of v.r) v.room (state_of v.st) v.given.memory v.given.nets.now v.given.trits.now v.output.now v.plan.swizzle v.plan.entries.now v.plan.writes.now v.plan.reads.now _ c.in_ok-rows_refusal.ensures refl c.if-given-eq0.false c.if-given-ne0.false (sym c.ports_short.ensures ∙ c.if-ports_short.true)
+    joined_short (rooms_of v.r) v.room (state_of v.st) v.given.memory v.given.nets.now v.given.trits.now v.output.now v.plan.swizzle v.plan.entries.now v.plan.writes.now v.plan.reads.now _ c.in_ok-rows_refusal.ensures refl c.if-given-eq0.false c.if-given-ne0.false (sym (c.ports_short.ensures v.given.trits.now) ∙ c.if-ports_short.true)
 
 pub returns : goal.returns
 returns c =
     let v = c.args in
-    joined_empty (rooms_of v.r) v.room (state_of v.st) v.given.memory v.given.nets.now v.given.trits.now v.output.now v.plan.swizzle v.plan.entries.now v.plan.writes.now v.plan.reads.now _ c.in_ok-rows_refusal.ensures refl c.if-given-eq0.false c.if-given-ne0.false _ (sym c.ports_short.ensures ∙ c.if-ports_short.false) c.empty_refusal.ensures
+    joined_empty (rooms_of v.r) v.room (state_of v.st) v.given.memory v.given.nets.now v.given.trits.now v.output.now v.plan.swizzle v.plan.entries.now v.plan.writes.now v.plan.reads.now _ c.in_ok-rows_refusal.ensures refl c.if-given-eq0.false c.if-given-ne0.false _ (sym (c.ports_short.ensures v.given.trits.now) ∙ c.if-ports_short.false) c.empty_refusal.ensures
