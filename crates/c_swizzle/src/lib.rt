@@ -117,7 +117,7 @@ fn refused_struct(st: LogState, refusal: Refusal) -> Swizzled
     Swizzled {
         number: refusal.number(),
         state: st,
-        memory: swizzle_rows::no_memories().into(),
+        memory: swizzle_result::WideMemory::NONE.into(),
         nets_used: 0,
         trits_used: 0,
         laid: Laid::unset(),

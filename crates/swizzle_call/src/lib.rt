@@ -9,12 +9,12 @@ ghost use Rattle.net_memory.specs.Given.{view_given, mem_of};
 ghost use Rattle.rules.specs.Geometry.{layout_of};
 ghost use Rattle.rules.specs.Swizzle.{swizzle, swizzle_scratch};
 ghost use Rattle.swizzle_plan.specs.Calls.{view_plan};
-ghost use Rattle.swizzle_reads.specs.Going.{going_of, SameRooms};
+ghost use Rattle.swizzle_reads.specs.Going.{going_of};
 ghost use Rattle.lists.specs.Lists.{part};
 ghost use Rattle.rules.specs.Beside.Layouts.{fill_call};
 ghost use Rattle.image_state.specs.View.{laid_of};
 ghost use Rattle.swizzle_call.specs.Acted.{Passed, NoneYet, Acted, HoldsPorts};
-ghost use Rattle.swizzle_call.specs.Made.{left_of};
+ghost use Rattle.swizzle_call.specs.Made.{left_by, none_yet_of};
 ghost use Rattle.swizzle_call.specs.Told.{told};
 ghost use Rattle.swizzle_call.specs.Whole.{Swizzles};
 ghost use Rattle.swizzle_call.specs.Answer.{swizzled_of};
@@ -51,10 +51,9 @@ fn act<'a>(
 )
     requires passed { Passed given.memory given.nets.now given.trits.now output.now plan.swizzle plan.entries.now plan.writes.now plan.reads.now log.old.state log.old.words.now made.old.nets.now made.old.trits.now scratch.old }
     requires none_yet { NoneYet made.old }
-    ensures acted { Acted (mem_of given.entry) (layout_of (mem_of given.entry) (view_plan plan.entry)) (swizzle (mem_of given.entry) output.now (view_plan plan.entry)) (lent_of log.old) made.old.nets.now made.old.trits.now (going_of log.new made.new) }
+    ensures acted { Acted (mem_of given.entry) (layout_of (mem_of given.entry) (view_plan plan.entry)) (swizzle (mem_of given.entry) output.now (view_plan plan.entry)) (going_of log.old made.old) (going_of log.new made.new) }
     ensures scratch_unchanged { drop (swizzle_scratch (mem_of given.entry) (view_plan plan.entry)) scratch.new ≡ drop (swizzle_scratch (mem_of given.entry) (view_plan plan.entry)) scratch.old }
     ensures holds_ports { HoldsPorts (mem_of given.entry) output.now (view_plan plan.entry) log.old.state.next made.new.memory }
-    ensures same_rooms { SameRooms made.old made.new }
 {
     if given.memory.width == 0 {
         return;
@@ -87,7 +86,7 @@ fn make<'a>(
     plan: Plan<'a>,
 ) -> Made
     requires { Passed given.memory given.nets.now given.trits.now output.now plan.swizzle plan.entries.now plan.writes.now plan.reads.now log.old.state log.old.words.now nets_to.old trits_to.old scratch.old }
-    ensures acted { Acted (mem_of given.entry) (layout_of (mem_of given.entry) (view_plan plan.entry)) (swizzle (mem_of given.entry) output.now (view_plan plan.entry)) (lent_of log.old) nets_to.old trits_to.old (left_of log.new result nets_to.new trits_to.new) }
+    ensures acted { Acted (mem_of given.entry) (layout_of (mem_of given.entry) (view_plan plan.entry)) (swizzle (mem_of given.entry) output.now (view_plan plan.entry)) (left_by (lent_of log.old) (none_yet_of log.old.state) nets_to.old trits_to.old) (left_by (lent_of log.new) result nets_to.new trits_to.new) }
     ensures state { result.state ≡ log.new.state }
     ensures scratch_unchanged { drop (swizzle_scratch (mem_of given.entry) (view_plan plan.entry)) scratch.new ≡ drop (swizzle_scratch (mem_of given.entry) (view_plan plan.entry)) scratch.old }
     ensures holds_ports { HoldsPorts (mem_of given.entry) output.now (view_plan plan.entry) log.old.state.next result.memory }
@@ -97,7 +96,7 @@ fn make<'a>(
         nets_at: 0,
         trits: trits_to,
         trits_at: 0,
-        memory: swizzle_rows::no_memories(),
+        memory: WideMemory::NONE,
     };
     act(log, &mut made, scratch, given, output, plan);
     let memory = made.memory;

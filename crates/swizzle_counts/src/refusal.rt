@@ -42,11 +42,12 @@ fn rows_by_needs(
     let layout = plan.layout(given);
     let z = layout.measure()?;
     let q = Sized {
-        params: layout.params,
+        given,
+        layout,
         columns: z.columns as usize,
     };
-    let w = crate::writes_needs(given, q, plan.entries, plan.writes);
-    let d = crate::reads_needs(given, q, plan.reads);
+    let w = q.writes_needs(plan.writes);
+    let d = q.reads_needs(plan.reads);
     needs_refusal(r, room, st, w.plus(d), z.image_size as usize)
 }
 

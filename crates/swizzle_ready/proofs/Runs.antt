@@ -80,10 +80,6 @@ module _ (r : SwizzleRooms) (room : ℕ) (s : LogState) (g : Given) (output : Va
   fits : Fits room s ((writes_count_of m q m.writes p.write_wide).words + (reads_count_of m q m.reads p.read_wide_of).words) ((writes_count_of m q m.writes p.write_wide).nets + (reads_count_of m q m.reads p.read_wide_of).nets)
   fits = log_fits r room s g output p e w d
 
-  -- fresh nets start at the next free net
-  pub start_is : start_net s ≡ s.next
-  start_is = start_same s fits.low (omega (arith, fits.high))
-
   module _ (log : List ℕ) (name : GName) where
     abbrev l : Lent
     l = record { log = log; state = s; name = name }

@@ -239,19 +239,3 @@ writes_planned m q ps ns room wp l l1 v given =
 -- a port of the result holds the port of the rules, with the clock of the memory's
 pub clock_is : (m : Memory) (nets trits : List ℕ) (j : ℕ) → j < min max_ports m.write_count → control_of (get_or m.write_ports j no_write_port).clock ≡ (write_at (memory_of m nets trits) j).clock
 clock_is m nets trits j h = sym (ap (λ (w : WritePort). w.clock) (write_of_view m nets trits j ∙ writes_at m nets j h))
-
-pub held_port : (m : Memory) (nets trits : List ℕ) (q : Layout) (j old new n : ℕ) → j < min max_ports m.write_count → HeldWrite q
-held_port m nets trits q j old new n h =
-    let w = write_at (memory_of m nets trits) j in
-    let s = split_addr q old new w.addr in
-    holding_write q s w n (port_by m.write_ports j new (length s.addr)) refl (sym (new_is q old new w.addr)) (clock_is m nets trits j h)
-
--- its nets are those that the room holds
-pub held_nets : (m : Memory) (nets trits : List ℕ) (q : Layout) (j old new n : ℕ) (h : j < min max_ports m.write_count)
-    → write_nets q (held_port m nets trits q j old new n h) ≡ wide_nets q (swizzle_write q (split_addr q old new (write_at (memory_of m nets trits) j).addr) (write_at (memory_of m nets trits) j) n).value
-unfolding held_port write_nets wide_nets
-held_nets m nets trits q j old new n h =
-    let w = write_at (memory_of m nets trits) j in
-    let s = split_addr q old new w.addr in
-    ap (λ (x : WideWrite). x.port.addr ++ (ordered q x.split x.port.bits ++ ordered q x.split x.port.mask))
-    (holding_port q s w n (port_by m.write_ports j new (length s.addr)) refl (sym (new_is q old new w.addr)) (clock_is m nets trits j h))

@@ -17,7 +17,7 @@ returns-in_err-z c =
 pub writes_needs-w-requires : goal.writes_needs-w-requires
 writes_needs-w-requires c =
     let v = c.args in
-    writes_move v.given.memory v.given.nets.now _ (params_by v.given.memory v.plan.swizzle) _ _ c.layout-layout.ensures.params (measured_columns _ (params_by v.given.memory v.plan.swizzle) v.plan.entries.now _ (c.measure.ensures ∙ (λ i. shape_call (layout_by c.layout-layout.result.params (c.layout-layout.ensures.entries i)))) c.layout-layout.ensures.params _ c.in_ok-z.was) v.plan.entries.now v.plan.writes.now c.requires.writes
+    writes_move v.given.memory v.given.nets.now _ (params_by v.given.memory v.plan.swizzle) _ _ c.layout-layout.ensures.params (measured_columns _ (params_by v.given.memory v.plan.swizzle) v.plan.entries.now _ (c.measure.ensures ∙ (λ i. shape_call (layout_by c.layout-layout.result.params (c.layout-layout.ensures.entries i)))) c.layout-layout.ensures.params _ c.in_ok-z.was) c.layout-layout.result.entries.now v.plan.entries.now c.layout-layout.ensures.entries v.plan.writes.now c.requires.writes
 
 pub reads_needs-d-requires : goal.reads_needs-d-requires
 reads_needs-d-requires c =
@@ -30,5 +30,5 @@ returns c =
     let ep = c.layout-layout.ensures.params in
     let ec = measured_columns _ (params_by v.given.memory v.plan.swizzle) v.plan.entries.now _ (c.measure.ensures ∙ (λ i. shape_call (layout_by c.layout-layout.result.params (c.layout-layout.ensures.entries i)))) c.layout-layout.ensures.params _ c.in_ok-z.was in
     let ei = measured_image _ (params_by v.given.memory v.plan.swizzle) v.plan.entries.now _ (c.measure.ensures ∙ (λ i. shape_call (layout_by c.layout-layout.result.params (c.layout-layout.ensures.entries i)))) c.layout-layout.ensures.params _ c.in_ok-z.was in
-    let en = c.plus.ensures ∙ (λ i. plus_needs ((c.writes_needs-w.ensures.0 ∙ (λ j. writes_needs v.given.memory v.given.nets.now (ep j) (ec j) v.plan.entries.now v.plan.writes.now)) i) ((c.reads_needs-d.ensures.0 ∙ (λ j. reads_needs v.given.memory v.given.nets.now (ep j) (ec j) v.plan.reads.now)) i)) in
+    let en = c.plus.ensures ∙ (λ i. plus_needs ((c.writes_needs-w.ensures.0 ∙ (λ j. writes_needs v.given.memory v.given.nets.now (ep j) (ec j) (c.layout-layout.ensures.entries j) v.plan.writes.now)) i) ((c.reads_needs-d.ensures.0 ∙ (λ j. reads_needs v.given.memory v.given.nets.now (ep j) (ec j) v.plan.reads.now)) i)) in
     c.needs_refusal.ensures ∙ (λ i. needs_refusal (rooms_of v.r) v.room (state_of v.st) (en i) (ei i))
