@@ -29,7 +29,7 @@ fn code_not(a: u8) -> result::Result<u32, Refusal>
     ensures { answer_by (λ n. n) result ≡ trit_not_call a }
 {
     let trit = known(a)?;
-    Ok(u32::from(net_logic::trit_code(net_logic::trit_not(trit))))
+    Ok(u32::from(u8::from(net_logic::trit_not(trit))))
 }
 
 // The code of what a gate gives for two trits, or number 4.
@@ -40,7 +40,7 @@ fn code_by<F: Fn(Trit, Trit) -> Trit>(gate: F, a: u8, b: u8) -> result::Result<u
 {
     let x = known(a)?;
     let y = known(b)?;
-    Ok(u32::from(net_logic::trit_code(gate(x, y))))
+    Ok(u32::from(u8::from(gate(x, y))))
 }
 
 pub fn tablegoose_trit_not(a: u8) -> Result

@@ -25,7 +25,7 @@ pub fn tablegoose_cell_of_net(net: u32) -> Driver
     match net_value::cell_of_net(Net(net)) {
         net_value::Driver::Constant(t) => Driver {
             is_cell: 0,
-            value: u32::from(net_logic::trit_code(t)),
+            value: u32::from(u8::from(t)),
         },
         net_value::Driver::Cell(c) => Driver {
             is_cell: 1,
@@ -47,7 +47,7 @@ pub fn tablegoose_net_as_const(net: u32) -> Constant
         None => Constant { known: 0, trit: 0 },
         Some(t) => Constant {
             known: 1,
-            trit: u32::from(net_logic::trit_code(t)),
+            trit: u32::from(u8::from(t)),
         },
     }
 }

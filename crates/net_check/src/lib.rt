@@ -12,7 +12,7 @@ ghost use Rattle.net_memory.specs.Ports.{write_of, read_of};
 ghost use Rattle.net_memory.specs.Given.{too_many_ports, long_relations, bad_lens, view_given, mem_of};
 ghost use Rattle.rules.specs.Refusal.{number_of, number_if};
 ghost use Rattle.rules.specs.Refusals.{mem_number, mem_refusal, number_by_of};
-ghost use Rattle.net_check.specs.Number.{write_number, read_number};
+ghost use Rattle.net_check.specs.Number.{write_number, read_number, bounds_by};
 
 use net_flip_flop::Controls;
 use net_memory::{Given, Memory, MemoryReadPort, ReadPort, WritePort};
@@ -39,10 +39,7 @@ fn lower(a: Option<Refusal>, b: Option<Refusal>) -> Option<Refusal>
 fn answer(refusal: Option<Refusal>) -> Result<(), Refusal>
     ensures { number_of result ≡ number_if refusal }
 {
-    match refusal {
-        Some(e) => Err(e),
-        None => Ok(()),
-    }
+    refusal.map_or(Ok(()), Err)
 }
 
 // 2, 3 or 4 by their tests.
@@ -59,6 +56,28 @@ fn refusal_by(shape: bool, depth: bool, nets: bool) -> Option<Refusal>
         return Some(Refusal::BadValue);
     }
     None
+}
+
+// What the ports of a memory are tested against: its sizes, the number of its write ports, and the log's next net.
+#[derive(Clone, Copy)]
+struct Bounds {
+    depth: u32,
+    width: u32,
+    writes: usize,
+    next: u32,
+}
+
+impl Bounds {
+    fn of(m: &Memory, next: u32) -> Bounds
+        ensures { result ≡ bounds_by m.now next }
+    {
+        Bounds {
+            depth: m.depth,
+            width: m.width,
+            writes: net_memory::ports_used(m.write_count),
+            next,
+        }
+    }
 }
 
 // The shape of a write port is bad.
@@ -86,29 +105,29 @@ fn write_nets_bad(next: u32, w: WritePort<'_>) -> bool
 
 // By what a write port is refused.
 #[tactic(auto, unfolding(crate::specs::Number::write_number, rules::specs::Cell::write_wide_log2))]
-fn write_refusal(depth: u32, width: u32, next: u32, w: WritePort<'_>) -> Option<Refusal>
-    ensures { (m : Mem) → m.depth ≡ depth → m.width ≡ width → number_if result ≡ write_number next m (write_of w.entry) }
+fn write_refusal(bounds: Bounds, w: WritePort<'_>) -> Option<Refusal>
+    ensures { (m : Mem) → m.depth ≡ bounds.depth → m.width ≡ bounds.width → number_if result ≡ write_number bounds.next m (write_of w.entry) }
 {
-    let k = net_memory::wide::wide_log(width, w.bits().len());
-    let shape = write_shape_bad(width, w);
-    let rows = net_memory::wide::is_indivisible(depth, k);
-    refusal_by(shape, rows, write_nets_bad(next, w))
+    let k = net_memory::wide::wide_log(bounds.width, w.bits().len());
+    let shape = write_shape_bad(bounds.width, w);
+    let rows = net_memory::wide::is_indivisible(bounds.depth, k);
+    refusal_by(shape, rows, write_nets_bad(bounds.next, w))
 }
 
 // By what a write port is refused, the lowest of all.
 fn writes_refusal(m: Memory, nets: &[u32], next: u32) -> Option<Refusal>
     ensures { (trits : List ℕ) → number_if result ≡ least_by (write_number next (memory_of m nets.now trits)) (writes_of m nets.now) }
 {
-    let count = net_memory::ports_used(m.write_count);
+    let bounds = Bounds::of(&m, next);
     let mut refusal = None;
     let mut at = 0;
-    for port in &m.write_ports[..count] {
+    for port in &m.write_ports[..bounds.writes] {
         let size = net_memory::write_size(*port);
         let w = WritePort {
             port: *port,
             nets: lists::part(nets, at, size),
         };
-        refusal = lower(refusal, write_refusal(m.depth, m.width, next, w));
+        refusal = lower(refusal, write_refusal(bounds, w));
         at += size;
     }
     refusal
@@ -150,7 +169,7 @@ fn read_shape_bad(width: u32, writes: usize, r: ReadPort<'_>) -> bool
         || r.port.flip_flop.is_some() && flip_flop_shape_bad(writes, r)
 }
 
-// A net, a control, a trit or a relation of a read port is bad.
+// A net, a control, a trit or a relation of a read port is bad. (Of `is_some_and` over a closure that calls a test the proof did not close.)
 #[tactic(auto, unfolding(rules::specs::Conditions::bad_read_nets, rules::specs::Conditions::bad_value, rules::specs::Cell::held))]
 fn read_nets_bad(next: u32, r: ReadPort<'_>) -> bool
     ensures { result ≡ bad_read_nets next (read_of r.entry) }
@@ -166,19 +185,13 @@ fn read_nets_bad(next: u32, r: ReadPort<'_>) -> bool
 
 // By what a read port is refused.
 #[tactic(auto, unfolding(crate::specs::Number::read_number, rules::specs::Cell::read_wide_log2))]
-fn read_refusal(
-    depth: u32,
-    width: u32,
-    next: u32,
-    writes: usize,
-    r: ReadPort<'_>,
-) -> Option<Refusal>
-    ensures { (m : Mem) → m.depth ≡ depth → m.width ≡ width → length m.writes ≡ writes → number_if result ≡ read_number next m (read_of r.entry) }
+fn read_refusal(bounds: Bounds, r: ReadPort<'_>) -> Option<Refusal>
+    ensures { (m : Mem) → m.depth ≡ bounds.depth → m.width ≡ bounds.width → length m.writes ≡ bounds.writes → number_if result ≡ read_number bounds.next m (read_of r.entry) }
 {
-    let k = net_memory::wide::wide_log(width, r.port.data_len as usize);
-    let shape = read_shape_bad(width, writes, r);
-    let rows = net_memory::wide::is_indivisible(depth, k);
-    refusal_by(shape, rows, read_nets_bad(next, r))
+    let k = net_memory::wide::wide_log(bounds.width, r.port.data_len as usize);
+    let shape = read_shape_bad(bounds.width, bounds.writes, r);
+    let rows = net_memory::wide::is_indivisible(bounds.depth, k);
+    refusal_by(shape, rows, read_nets_bad(bounds.next, r))
 }
 
 // By what a read port is refused, the lowest of all.
@@ -186,9 +199,9 @@ fn reads_refusal(given: Given<'_>, next: u32) -> Option<Refusal>
     ensures { number_if result ≡ least_by (read_number next (mem_of given.entry)) (reads_of given.entry.memory given.entry.nets.now given.entry.trits.now) }
 {
     let m = given.memory;
-    let writes = net_memory::ports_used(m.write_count);
+    let bounds = Bounds::of(&m, next);
     let count = net_memory::ports_used(m.read_count);
-    let mut at = net_memory::reads_start(m);
+    let mut at = net_memory::reads_start(&m);
     let mut from = net_memory::init_size(m);
     let mut refusal = None;
     for port in &m.read_ports[..count] {
@@ -197,7 +210,7 @@ fn reads_refusal(given: Given<'_>, next: u32) -> Option<Refusal>
             nets: lists::part(given.nets, at, net_memory::addr_size(*port)),
             trits: lists::part(given.trits, from, net_memory::trit_size(*port)),
         };
-        refusal = lower(refusal, read_refusal(m.depth, m.width, next, writes, r));
+        refusal = lower(refusal, read_refusal(bounds, r));
         at += net_memory::addr_size(*port);
         from += net_memory::trit_size(*port);
     }
@@ -256,8 +269,8 @@ fn any_long_relations(m: Memory) -> bool
 fn lens_bad(given: Given<'_>) -> bool
     ensures { result ≡ bad_lens given.entry.memory (length given.entry.nets.now) (length given.entry.trits.now) }
 {
-    given.nets.len() != net_memory::nets_total(given.memory)
-        || given.trits.len() != net_memory::trits_total(given.memory)
+    given.nets.len() != net_memory::nets_total(&given.memory)
+        || given.trits.len() != net_memory::trits_total(&given.memory)
         || any_long_relations(given.memory)
 }
 

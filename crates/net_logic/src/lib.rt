@@ -20,15 +20,13 @@ pub enum Trit {
     Undef,
 }
 
-// A trit's code. (`u8::from` and `Trit::try_from` would not say which of its two numbers is meant: the code, or that of its character.)
-#[tactic(auto, unfolding(rules::specs::Logic::code_of))]
-pub fn trit_code(t: Trit) -> u8
-    ensures { result ≡ code_of (trit_view t) }
-{
-    match t {
-        Trit::Zero => 0,
-        Trit::One => 1,
-        Trit::Undef => rules::TRIT_X,
+// A trit's code.
+impl From<Trit> for u8 {
+    #[tactic(auto, unfolding(rules::specs::Logic::code_of))]
+    fn from(t: Trit) -> u8
+        ensures { result ≡ code_of (trit_view t) }
+    {
+        t as u8
     }
 }
 
@@ -267,8 +265,8 @@ fn write_gate<G: Gate>(out: &mut [u8], a: &[u8], b: &[u8])
     requires { (length a.now ≡ length b.now) × (length a.now ≤ length out.old) }
     ensures { out.new ≡ sets out.old 0 (tritwise G.op a.now b.now) }
 {
-    for (i, x) in a.iter().enumerate() {
-        out[i] = G::code(*x, b[i]);
+    for (i, (x, y)) in a.iter().zip(b).enumerate() {
+        out[i] = G::code(*x, *y);
     }
 }
 

@@ -4,14 +4,14 @@ use Prim.Native.Nat.{ℕ, ◌+◌, ◌<◌, ◌≤◌, min}
 use native.Mathlib.Nat.{add_assoc, le_refl}
 use native.Mathlib.Omega.{arith}
 use mathlib.Core.List.{List, [], ◌++◌}
-use lib.ListN.{length, take, drop, get_or, set, length-take, length-append}
-use lib.Seq.{sets, take-take, drop-drop, get_or-take, take_at, drop_at, take_all, set-get_or, set_out}
+use lib.ListN.{length, take, drop, get_or, set, length-append}
+use lib.Seq.{sets, take-take, drop-drop, get_or-take, take_at, drop_at, take_all, set-get_or}
 use Rattle.lists.specs.Lists.{sum_by, part}
 use Rattle.lists.specs.Views.{views}
 use Rattle.lists.proofs.Parts.{same_front, same_middle, same_back, take_set}
 use Rattle.lists.proofs.Store.{take_sets, drop_sets, part_sets}
 use Rattle.lists.proofs.Sum.{sum_part, sum_set}
-use Rattle.lists.proofs.Views.{length_views, views_set, views_front}
+use Rattle.lists.proofs.Views.{views_set, views_front}
 use Rattle.rules.specs.Limits.{max_ports}
 use Rattle.rules.specs.Cell.{WritePort, ReadPort, Mem}
 use Rattle.net_value.specs.View.{control_of}
@@ -129,11 +129,3 @@ module _ (m : Memory) (i : ℕ) (p : MemoryWritePort) (nets trits a d k : List �
 
 pub with_write_same : (m : Memory) (i : ℕ) → with_write_port m i (write_port m i) ≡ m
 with_write_same m i = ap (λ (ps : List MemoryWritePort). record { depth = m.depth; width = m.width; init_len = m.init_len; write_count = m.write_count; read_count = m.read_count; write_ports = ps; read_ports = m.read_ports }) (set-get_or m.write_ports i no_write_port)
-
--- past the last port nothing changes
-pub with_read_none : (m : Memory) (nets trits : List ℕ) (i : ℕ) (r : ReadPort) → min max_ports m.read_count ≤ i → with_read (memory_of m nets trits) i r ≡ memory_of m nets trits
-unfolding memory_of
-with_read_none m nets trits i r h =
-    ap (λ (rs : List ReadPort). record { depth = m.depth; width = m.width; init = part 0 m.init_len trits; writes = writes_of m nets; reads = rs })
-    (set_out (reads_of m nets trits) i r
-    (omega (arith, length_views addr_size trit_size read_by (read_ports_of m) (drop (reads_start m) nets) (drop m.init_len trits), length-take (min max_ports m.read_count) m.read_ports)))

@@ -1,9 +1,9 @@
 -- Where the outputs of a port start, by the structs.
-use mathlib.Core.Path.{◌≡◌, refl, sym, ap, ◌∙◌}
+use mathlib.Core.Path.{◌≡◌, refl, ap, ◌∙◌}
 use Prim.Native.Nat.{ℕ, zero, suc, ◌+◌, min}
 use native.Mathlib.Omega.{arith}
 use mathlib.Core.List.{List, [], ◌∷◌}
-use lib.ListN.{length, take, drop, length-take}
+use lib.ListN.{take, drop, length-take}
 use lib.Seq.{take-take, take_all}
 use Rattle.lists.specs.Lists.{sum_by}
 use Rattle.lists.specs.Views.{views}
@@ -36,10 +36,6 @@ module _ {A : Type 0} where
       cases_le i n
       (λ h. let e : min i n ≡ i = omega arith in rw e (take-take i n l h))
       (λ h. let e : min i n ≡ n = omega arith in rw e (take_all i (take n l) (omega (arith, length-take n l))))
-
-  -- so many of a list that has no more
-  pub take_few : (i n : ℕ) (l : List A) → length l ≡ n → take (min i n) l ≡ take i l
-  take_few i n l e = sym (take_min i n l) ∙ ap (take i) (take_all n l (omega arith))
 
 module _ (m : Memory) (nets trits : List ℕ) where
   pub output_start_lem : (i : ℕ) → output_start (memory_of m nets trits) i ≡ sum_by data_size (take (min i (min max_ports m.read_count)) m.read_ports)

@@ -2,7 +2,7 @@
 #![tactic(auto)]
 
 ghost use Rattle.std.specs.Prelude.{◌≡◌, ℕ, ◌+◌, ◌*◌, ◌<◌, ◌≤◌, min, List, [], length};
-ghost use Rattle.lists.specs.Lists.{part};
+ghost use Rattle.lists.specs.Lists.{part, sum_by};
 ghost use Rattle.rules.specs.Limits.{max_ports};
 ghost use Rattle.rules.specs.Cell.{write_at, read_at_of, output_start};
 ghost use Rattle.net_memory.specs.Given.{mem_of};
@@ -30,22 +30,18 @@ pub enum MemoryPortRelation {
     Transparent,
 }
 
-impl MemoryPortRelation {
-    // Its code in a struct of C.
-    pub fn code(self) -> u8
-        ensures { result ≡ code_of self }
+// Its code in a struct of C.
+impl From<MemoryPortRelation> for u8 {
+    fn from(relation: MemoryPortRelation) -> u8
+        ensures { result ≡ code_of relation }
     {
-        match self {
-            MemoryPortRelation::Undefined => 0,
-            MemoryPortRelation::ReadBeforeWrite => 1,
-            MemoryPortRelation::Transparent => 2,
-        }
+        relation as u8
     }
 }
 
 // The flip-flop is none where the port has no clock. The relations are codes, since C may hand any byte (4 refuses it); without a heap they stand
 // in an array with their number beside it, as the ports of a memory do. Past that number anything may stand.
-#[derive(Clone, Copy)]
+#[derive(Clone, Copy, Default)]
 pub struct MemoryReadPort {
     pub addr_len: u32,
     pub data_len: u32,
@@ -67,23 +63,6 @@ impl Default for MemoryWritePort {
             data_len: 0,
             mask_len: 0,
             clock: ControlNet::Pos(Net(0)),
-        }
-    }
-}
-
-impl Default for MemoryReadPort {
-    fn default() -> MemoryReadPort
-        ensures { read_by result [] [] ≡ read_by no_read_port [] [] }
-    {
-        MemoryReadPort {
-            addr_len: 0,
-            data_len: 0,
-            clear_len: 0,
-            reset_len: 0,
-            init_len: 0,
-            relations_len: 0,
-            relations: [0; rules::MAX_PORTS],
-            flip_flop: None,
         }
     }
 }
@@ -126,6 +105,13 @@ pub fn addr_size(p: MemoryReadPort) -> usize
     ensures { (result ≡ addr_size p) × (result < 0x100000000) }
 {
     p.addr_len as usize
+}
+
+// How many outputs a read port has.
+fn data_size(p: MemoryReadPort) -> usize
+    ensures { (result ≡ p.data_len) × (result < 0x100000000) }
+{
+    p.data_len as usize
 }
 
 // How many initial trits a memory has.
@@ -226,75 +212,67 @@ impl<'a> ReadPort<'a> {
     }
 }
 
-// The address of a write port with these nets.
-pub fn addr_of(p: MemoryWritePort, nets: &[u32]) -> &[u32]
-    ensures { result.now ≡ (write_by p nets.now []).addr }
+// Where a part ends that starts at `start` and has the parts of these ports, of which `size` gives the sizes. (Of `map` and `sum` the proof that the sum
+// fits did not close.)
+fn end_of<T: Copy, F: Fn(T) -> usize>(start: usize, ports: &[T], size: F) -> usize
+    requires callable { F.IsAlwaysCallable size }
+    requires few { (start ≤ 0x1800000000) × (length ports.now ≤ max_ports) }
+    requires small { (p : _) (n : _) → F.post size p n → n < 0x300000000 }
+    ensures value { (f : T → ℕ) → ((p : _) (n : _) → F.post size p n → n ≡ f p) → result ≡ start + sum_by f ports.now }
+    ensures bound { (most : ℕ) → ((p : _) (n : _) → F.post size p n → n ≤ most) → result ≤ start + length ports.now * most }
 {
-    lists::part(nets, 0, p.addr_len as usize)
-}
-
-// Its mask.
-pub fn mask_of(p: MemoryWritePort, nets: &[u32]) -> &[u32]
-    ensures { result.now ≡ (write_by p nets.now []).mask }
-{
-    lists::part(
-        nets,
-        p.addr_len as usize + p.data_len as usize,
-        p.mask_len as usize,
-    )
-}
-
-// Where the nets of write port i start. (Here and in the three sums below: of `map` and `sum` the proof that the sum fits did not close.)
-fn write_start(m: Memory, i: usize) -> usize
-    ensures { (result ≡ write_start m i) × (result ≤ 0x1800000000) }
-{
-    let mut at = 0;
-    for port in &m.write_ports[..i.min(rules::MAX_PORTS)] {
-        at += write_size(*port);
+    let mut at = start;
+    for port in ports {
+        at += size(*port);
     }
     at
 }
 
+// Where the nets of write port i start.
+fn write_start(m: &Memory, i: usize) -> usize
+    requires { i ≤ max_ports }
+    ensures { (result ≡ write_start m.now i) × (result ≤ 0x1800000000) }
+{
+    end_of(0, &m.write_ports[..i], write_size)
+}
+
 // Where the nets of the read ports start.
-pub fn reads_start(m: Memory) -> usize
-    ensures { (result ≡ reads_start m) × (result ≤ 0x1800000000) }
+pub fn reads_start(m: &Memory) -> usize
+    ensures { (result ≡ reads_start m.now) × (result ≤ 0x1800000000) }
 {
     let count = ports_used(m.write_count);
     write_start(m, count)
 }
 
 // Where the nets of read port i start.
-fn read_start(m: Memory, i: usize) -> usize
-    ensures { (result ≡ read_start m i) × (result ≤ 0x2000000000) }
+fn read_start(m: &Memory, i: usize) -> usize
+    requires { i ≤ max_ports }
+    ensures { (result ≡ read_start m.now i) × (result ≤ 0x2000000000) }
 {
-    let mut at = reads_start(m);
-    for port in &m.read_ports[..i.min(rules::MAX_PORTS)] {
-        at += addr_size(*port);
-    }
-    at
+    end_of(reads_start(m), &m.read_ports[..i], addr_size)
 }
 
-// Where the trits of read port i start.
-pub fn trit_start(m: Memory, i: usize) -> usize
-    ensures { (result ≡ trit_start m i) × (result ≤ 0x1900000000) }
+// Where the trits of read port i start; those past the last port there is place for start where that ends.
+pub fn trit_start(m: &Memory, i: usize) -> usize
+    ensures { (result ≡ trit_start m.now (min i max_ports)) × (result ≤ 0x1900000000) }
 {
-    let mut at = m.init_len as usize;
-    for port in &m.read_ports[..i.min(rules::MAX_PORTS)] {
-        at += trit_size(*port);
-    }
-    at
+    end_of(
+        m.init_len as usize,
+        &m.read_ports[..i.min(rules::MAX_PORTS)],
+        trit_size,
+    )
 }
 
 // How many nets the struct says in all, and how many trits.
-pub fn nets_total(m: Memory) -> usize
-    ensures { (result ≡ nets_total m) × (result ≤ 0x2000000000) }
+pub fn nets_total(m: &Memory) -> usize
+    ensures { (result ≡ nets_total m.now) × (result ≤ 0x2000000000) }
 {
     let count = ports_used(m.read_count);
     read_start(m, count)
 }
 
-pub fn trits_total(m: Memory) -> usize
-    ensures { (result ≡ trits_total m) × (result ≤ 0x1900000000) }
+pub fn trits_total(m: &Memory) -> usize
+    ensures { (result ≡ trits_total m.now) × (result ≤ 0x1900000000) }
 {
     let count = ports_used(m.read_count);
     trit_start(m, count)
@@ -302,10 +280,10 @@ pub fn trits_total(m: Memory) -> usize
 
 impl<'a> Given<'a> {
     // Write port i; one without nets where there is none.
-    pub fn write_port(self, i: usize) -> WritePort<'a>
-        ensures port { write_of result ≡ write_at (mem_of self.entry) i }
-        ensures nets { result.nets.now ≡ write_nets self.entry.memory self.entry.nets.now i }
-        ensures own { i < min max_ports self.entry.memory.write_count → result.port ≡ write_port self.entry.memory i }
+    pub fn write_port(&self, i: usize) -> WritePort<'a>
+        ensures port { write_of result ≡ write_at (mem_of self.now) i }
+        ensures nets { result.nets.now ≡ write_nets self.now.memory self.now.nets.now i }
+        ensures own { i < min max_ports self.now.memory.write_count → result.port ≡ write_port self.now.memory i }
     {
         if ports_used(self.memory.write_count) <= i {
             return WritePort {
@@ -316,16 +294,16 @@ impl<'a> Given<'a> {
         let port = self.memory.write_ports[i];
         WritePort {
             port,
-            nets: lists::part(self.nets, write_start(self.memory, i), write_size(port)),
+            nets: lists::part(self.nets, write_start(&self.memory, i), write_size(port)),
         }
     }
 
     // Read port i, with its trits also where it has no flip-flop; one without both where there is none.
-    pub fn read_port(self, i: usize) -> ReadPort<'a>
-        ensures port { read_of result ≡ read_at_of (mem_of self.entry) i }
-        ensures nets { (result.nets.now ≡ read_nets self.entry.memory self.entry.nets.now i) × (length result.nets.now < 0x100000000) }
-        ensures trits { (result.trits.now ≡ read_trits self.entry.memory self.entry.trits.now i) × (length result.trits.now < 0x300000000) }
-        ensures own { i < min max_ports self.entry.memory.read_count → result.port ≡ read_port self.entry.memory i }
+    pub fn read_port(&self, i: usize) -> ReadPort<'a>
+        ensures port { read_of result ≡ read_at_of (mem_of self.now) i }
+        ensures nets { (result.nets.now ≡ read_nets self.now.memory self.now.nets.now i) × (length result.nets.now < 0x100000000) }
+        ensures trits { (result.trits.now ≡ read_trits self.now.memory self.now.trits.now i) × (length result.trits.now < 0x300000000) }
+        ensures own { i < min max_ports self.now.memory.read_count → result.port ≡ read_port self.now.memory i }
     {
         if ports_used(self.memory.read_count) <= i {
             return ReadPort {
@@ -337,63 +315,28 @@ impl<'a> Given<'a> {
         let port = self.memory.read_ports[i];
         ReadPort {
             port,
-            nets: lists::part(self.nets, read_start(self.memory, i), addr_size(port)),
-            trits: lists::part(self.trits, trit_start(self.memory, i), trit_size(port)),
+            nets: lists::part(self.nets, read_start(&self.memory, i), addr_size(port)),
+            trits: lists::part(self.trits, trit_start(&self.memory, i), trit_size(port)),
         }
     }
 }
 
-// The nets of write port i; none where there is no such port.
-pub fn write_nets(m: Memory, nets: &[u32], i: usize) -> &[u32]
-    ensures { result.now ≡ write_nets m nets.now i }
-{
-    if ports_used(m.write_count) <= i {
-        return &nets[..0];
-    }
-    let p = m.write_ports[i];
-    lists::part(nets, write_start(m, i), write_size(p))
-}
-
-// The nets of read port i.
-pub fn read_nets(m: Memory, nets: &[u32], i: usize) -> &[u32]
-    ensures { (result.now ≡ read_nets m nets.now i) × (length result.now < 0x100000000) }
-{
-    if ports_used(m.read_count) <= i {
-        return &nets[..0];
-    }
-    let p = m.read_ports[i];
-    lists::part(nets, read_start(m, i), p.addr_len as usize)
-}
-
 // How many data bits read port i has; none where there is no such port.
-pub fn read_data_len(m: Memory, i: usize) -> usize
-    ensures by_index { (nets trits : List ℕ) → result ≡ (read_at_of (memory_of m nets trits) i).data_len }
+pub fn read_data_len(m: &Memory, i: usize) -> usize
+    ensures by_index { (nets trits : List ℕ) → result ≡ (read_at_of (memory_of m.now nets trits) i).data_len }
     ensures upper_bound { result < 0x100000000 }
 {
     if ports_used(m.read_count) <= i {
         return 0;
     }
-    let p = m.read_ports[i];
-    p.data_len as usize
+    data_size(m.read_ports[i])
 }
 
 // Where the outputs of read port i start; their end where there is no such port.
-pub fn output_start(m: Memory, i: usize) -> usize
-    ensures by_index { (nets trits : List ℕ) → result ≡ output_start (memory_of m nets trits) i }
+pub fn output_start(m: &Memory, i: usize) -> usize
+    ensures by_index { (nets trits : List ℕ) → result ≡ output_start (memory_of m.now nets trits) i }
     ensures upper_bound { result ≤ 0x800000000 }
 {
     let end = i.min(ports_used(m.read_count));
-    let mut at = 0;
-    for port in &m.read_ports[..end] {
-        at += port.data_len as usize;
-    }
-    at
-}
-
-// How many data nets a write port with these nets has.
-pub fn data_count(p: MemoryWritePort, nets: &[u32]) -> usize
-    ensures { (result ≡ length (write_by p nets.now []).bits) × (result < 0x100000000) }
-{
-    let bits = lists::part(nets, p.addr_len as usize, p.data_len as usize);
-    bits.len()
+    end_of(0, &m.read_ports[..end], data_size)
 }

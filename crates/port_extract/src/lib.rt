@@ -24,8 +24,8 @@ fn output_part(m: Memory, output: &[u32], i: usize) -> &[u32]
 {
     lists::part(
         output,
-        net_memory::output_start(m, i),
-        net_memory::read_data_len(m, i),
+        net_memory::output_start(&m, i),
+        net_memory::read_data_len(&m, i),
     )
 }
 
@@ -84,7 +84,7 @@ fn put_nets(room: &mut [u32], given: Given<'_>, list: &[u32]) -> usize
     ensures value { result ≡ length (new_nets given.entry.memory given.entry.nets.now list.now) }
     ensures room_after { room.new ≡ sets room.old 0 (new_nets given.entry.memory given.entry.nets.now list.now) }
 {
-    let front = lists::part(given.nets, 0, net_memory::reads_start(given.memory));
+    let front = lists::part(given.nets, 0, net_memory::reads_start(&given.memory));
     lists::copy(room, 0, front);
     put_parts(room, front.len(), list, |k| given.read_port(k).nets)
 }

@@ -32,7 +32,7 @@ pub struct OutputSlice {
 fn outputs_of(m: Memory) -> usize
     ensures { (nets trits : List ℕ) → result ≡ output_len (memory_of m nets trits) }
 {
-    net_memory::output_start(m, rules::MAX_PORTS)
+    net_memory::output_start(&m, rules::MAX_PORTS)
 }
 
 // The outputs are not as many as the read ports' data bits.
@@ -94,8 +94,8 @@ pub fn read_port_output_slice(given: Given<'_>, port: usize) -> Result<OutputSli
 {
     slice_refusal(given, port)?;
     Ok(OutputSlice {
-        start: net_memory::output_start(given.memory, port),
-        size: net_memory::read_data_len(given.memory, port),
+        start: net_memory::output_start(&given.memory, port),
+        size: net_memory::read_data_len(&given.memory, port),
     })
 }
 

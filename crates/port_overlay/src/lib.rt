@@ -59,7 +59,7 @@ fn emit_related<'a, O: Over>(
 )
     ensures { Gave (laid_as (mem_of given.entry) r.entry.k (read_of r.entry) x j (data_and (take r.entry.count overlay.old.under) (O.mask over.old r.entry.count))) (lent_of log.old) (lent_of log.new) (data_and (take r.entry.count overlay.new.under) (O.mask over.new r.entry.count)) }
 {
-    if x != MemoryPortRelation::Transparent.code() {
+    if x != u8::from(MemoryPortRelation::Transparent) {
         return;
     }
     emit_pair(log, overlay, over, given, j, r);

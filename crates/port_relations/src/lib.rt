@@ -52,7 +52,7 @@ fn relation_to(p: MemoryReadPort, j: usize) -> u8
     ensures { result ≡ get_or (part 0 p.relations_len p.relations) j 0 }
 {
     let named = lists::part(&p.relations, 0, p.relations_len as usize);
-    let undefined = MemoryPortRelation::Undefined.code();
+    let undefined = u8::from(MemoryPortRelation::Undefined);
     named.get(j).copied().unwrap_or(undefined)
 }
 
@@ -60,7 +60,7 @@ fn relation_to(p: MemoryReadPort, j: usize) -> u8
 fn port_relates(p: MemoryReadPort, j: usize, relation: MemoryPortRelation) -> bool
     ensures { result ≡ port_relates (code_of relation) j p }
 {
-    p.flip_flop.is_some() && relation_to(p, j) == relation.code()
+    p.flip_flop.is_some() && relation_to(p, j) == u8::from(relation)
 }
 
 // One of these ports is clocked, and has this relation to write port j.

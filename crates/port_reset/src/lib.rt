@@ -142,7 +142,7 @@ fn unmap_clocked(
         state: st,
     };
     let done = emit_port(&mut log, &mut room, given, i, c, incl, output);
-    let start = net_memory::output_start(m, i);
+    let start = net_memory::output_start(&m, i);
     lists::store_run(output, start, done.first, done.last);
     port_unreset::blank(trits, m, i);
     Ok(Driven {

@@ -48,7 +48,7 @@ fn settle_relation(reads: &[MemoryReadPort], relation: u8, j: usize) -> u8
     ensures { result ≡ undefined_if (reads_before reads.now j) relation }
 {
     if port_relations::any_relates(reads, j, MemoryPortRelation::ReadBeforeWrite) {
-        return MemoryPortRelation::Undefined.code();
+        return u8::from(MemoryPortRelation::Undefined);
     }
     relation
 }

@@ -54,7 +54,7 @@ pub fn parts_of<'a>(
     };
     let flip_flop = FlipFlop {
         controls: c,
-        bits: lists::part(output, net_memory::output_start(given.memory, i), count),
+        bits: lists::part(output, net_memory::output_start(&given.memory, i), count),
         clear: own.clear(),
         reset: own.reset(),
         init: own.init(),
@@ -114,7 +114,7 @@ pub fn pair_short(given: Given<'_>, raddr: &[u32], kr: u32, j: usize) -> bool
 fn related_short(given: Given<'_>, raddr: &[u32], kr: u32, x: u8, j: usize) -> bool
     ensures { (r : rules.ReadPort) → kr ≡ read_wide_log2 (mem_of given.entry) r → raddr.now ≡ r.addr → result ≡ (is_transparent x && short_pair (mem_of given.entry) r j) }
 {
-    x == MemoryPortRelation::Transparent.code() && pair_short(given, raddr, kr, j)
+    x == u8::from(MemoryPortRelation::Transparent) && pair_short(given, raddr, kr, j)
 }
 
 // Some pair of these relations has too few. (`Given` goes by value, here and below: behind a reference the length of its ports is not known.)
@@ -190,7 +190,7 @@ fn unmap_clocked(
         state: st,
     };
     let last = emit_port(&mut log, &mut overlay, given, i, c, output);
-    let start = net_memory::output_start(given.memory, i);
+    let start = net_memory::output_start(&given.memory, i);
     lists::store_run(output, start, st.next, last);
     Ok(Driven {
         memory: unclock(given.memory, i),

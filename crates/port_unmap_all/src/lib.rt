@@ -38,14 +38,14 @@ fn emit_clocked(
     requires { i < min max_ports given.memory.read_count }
     ensures { Gave (unmapped_of (some (own_flip_flop given.entry.memory given.entry.trits.now i c)) (mem_of given.entry) i output.now after.old) (lent_of log.old) (lent_of log.new) after.new }
 {
-    if rules::MAX_MERGE < net_memory::read_data_len(given.memory, i) {
+    if rules::MAX_MERGE < net_memory::read_data_len(&given.memory, i) {
         return;
     }
     let first = log.state.next;
     let last = port_unmap::emit_port(log, overlay, given, i, c, output);
     lists::store_run(
         after,
-        net_memory::output_start(given.memory, i),
+        net_memory::output_start(&given.memory, i),
         first,
         last,
     );

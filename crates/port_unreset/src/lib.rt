@@ -25,7 +25,7 @@ pub fn wanted_relations(rels: &[u8], incl: bool) -> &[u8]
 fn any_transparent(rels: &[u8]) -> bool
     ensures { result ≡ not (is_empty (transparent_from 0 rels.now)) }
 {
-    let transparent = MemoryPortRelation::Transparent.code();
+    let transparent = u8::from(MemoryPortRelation::Transparent);
     rels.contains(&transparent)
 }
 
@@ -53,8 +53,8 @@ pub fn port_plain(own: ReadPort<'_>, c: Controls, incl: bool) -> bool
 fn kept_relation(x: u8) -> u8
     ensures { result ≡ no_transparent x }
 {
-    if x == MemoryPortRelation::Transparent.code() {
-        return MemoryPortRelation::Undefined.code();
+    if x == u8::from(MemoryPortRelation::Transparent) {
+        return u8::from(MemoryPortRelation::Undefined);
     }
     x
 }
@@ -105,7 +105,7 @@ pub fn blank(trits: &mut [u8], m: Memory, i: usize)
         return;
     }
     let p = m.read_ports[i];
-    let start = net_memory::trit_start(m, i);
+    let start = net_memory::trit_start(&m, i);
     let clear = p.clear_len as usize;
     let reset = p.reset_len as usize;
     let init = p.init_len as usize;

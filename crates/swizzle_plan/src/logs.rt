@@ -48,7 +48,7 @@ pub fn write_log(given: Given<'_>, port: u32) -> u32
 pub fn read_log(m: Memory, port: u32) -> u32
     ensures { (nets trits : List ℕ) → result ≡ read_wide_log2 (memory_of m nets trits) (read_at_of (memory_of m nets trits) port) }
 {
-    let bits = net_memory::read_data_len(m, port as usize);
+    let bits = net_memory::read_data_len(&m, port as usize);
     net_memory::wide::wide_log(m.width, bits)
 }
 

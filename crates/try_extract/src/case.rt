@@ -29,9 +29,9 @@ pub(crate) struct Case {
 pub(crate) fn of(m: Memory) -> Case {
     Case {
         m,
-        nets: net_memory::nets_total(m),
-        trits: net_memory::trits_total(m),
-        outs: net_memory::output_start(m, 8),
+        nets: net_memory::nets_total(&m),
+        trits: net_memory::trits_total(&m),
+        outs: net_memory::output_start(&m, 8),
         net_at: NETS,
         net: 0,
         trit_at: TRITS,

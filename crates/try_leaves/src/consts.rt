@@ -6,7 +6,7 @@ use try_kit::tally::{Tally, add};
 
 fn code_case(t: Tally, code: u8, want: Result<Trit, Refusal>, back: u8) -> Tally {
     let t = add(t, net_logic::trit_from_code(code) == want);
-    add(t, net_logic::trit_code(net_logic::trit_at(code)) == back)
+    add(t, u8::from(net_logic::trit_at(code)) == back)
 }
 
 pub(crate) fn codes(t: Tally) -> Tally {
@@ -21,9 +21,9 @@ pub(crate) fn codes(t: Tally) -> Tally {
 fn line(t: Tally, a: u8, b: u8, not: u8, and: u8, or: u8) -> Tally {
     let x = net_logic::trit_at(a);
     let y = net_logic::trit_at(b);
-    let t = add(t, net_logic::trit_code(net_logic::trit_not(x)) == not);
-    let t = add(t, net_logic::trit_code(net_logic::trit_and(x, y)) == and);
-    add(t, net_logic::trit_code(net_logic::trit_or(x, y)) == or)
+    let t = add(t, u8::from(net_logic::trit_not(x)) == not);
+    let t = add(t, u8::from(net_logic::trit_and(x, y)) == and);
+    add(t, u8::from(net_logic::trit_or(x, y)) == or)
 }
 
 pub(crate) fn tables(t: Tally) -> Tally {

@@ -30,8 +30,8 @@ pub(crate) struct Lent {
 pub(crate) fn of(m: Memory) -> Case {
     Case {
         m,
-        nets: net_memory::nets_total(m),
-        trits: net_memory::trits_total(m),
+        nets: net_memory::nets_total(&m),
+        trits: net_memory::trits_total(&m),
         net_at: NETS,
         net: 0,
         trit_at: TRITS,

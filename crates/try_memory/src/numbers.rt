@@ -332,8 +332,8 @@ pub(crate) fn nexts(t: Tally) -> Tally {
 }
 
 fn total(t: Tally, m: Memory, nets: usize, trits: usize) -> Tally {
-    let t = add(t, net_memory::nets_total(m) == nets);
-    add(t, net_memory::trits_total(m) == trits)
+    let t = add(t, net_memory::nets_total(&m) == nets);
+    add(t, net_memory::trits_total(&m) == trits)
 }
 
 // How much a memory says that it is lent.

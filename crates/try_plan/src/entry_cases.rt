@@ -264,8 +264,8 @@ fn granules(t: Tally, width: u32, size: u32, lent: usize, want: Result<&[u32], R
         t,
         Given {
             memory: m,
-            nets: lists::part(&nets, 0, net_memory::nets_total(m)),
-            trits: lists::part(&trits, 0, net_memory::trits_total(m)),
+            nets: lists::part(&nets, 0, net_memory::nets_total(&m)),
+            trits: lists::part(&trits, 0, net_memory::trits_total(&m)),
         },
         &[size],
         lent,

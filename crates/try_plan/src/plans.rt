@@ -51,8 +51,8 @@ fn call(m: Memory, plan: Plan<'_>, out: &mut [u32]) -> Result<(), Refusal> {
     let trits = [1u8; TRITS];
     let given = Given {
         memory: m,
-        nets: lists::part(&nets, 0, net_memory::nets_total(m)),
-        trits: lists::part(&trits, 0, net_memory::trits_total(m)),
+        nets: lists::part(&nets, 0, net_memory::nets_total(&m)),
+        trits: lists::part(&trits, 0, net_memory::trits_total(&m)),
     };
     swizzle_sizes::swizzle_depths(out, given, plan)
 }
@@ -92,8 +92,8 @@ fn mux_call(m: Memory, list: &[u32], plan: Plan<'_>) -> Result<MuxBits, Refusal>
     let trits = [1u8; TRITS];
     let given = Given {
         memory: m,
-        nets: lists::part(&nets, 0, net_memory::nets_total(m)),
-        trits: lists::part(&trits, 0, net_memory::trits_total(m)),
+        nets: lists::part(&nets, 0, net_memory::nets_total(&m)),
+        trits: lists::part(&trits, 0, net_memory::trits_total(&m)),
     };
     swizzle_sizes::swizzle_mux_bits(given, list, plan)
 }

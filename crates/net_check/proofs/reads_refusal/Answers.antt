@@ -1,5 +1,5 @@
 -- `net_check::reads_refusal` meets its contract.
-use mathlib.Core.Path.{◌≡◌, refl, sym, ap, ◌∙◌}
+use mathlib.Core.Path.{◌≡◌, refl, ap, ◌∙◌}
 use Prim.Native.Nat.{◌<◌, min}
 use native.Mathlib.Omega.{arith}
 use lib.ListN.{get_or, take, length-take}
@@ -25,7 +25,8 @@ loop-port-preserved c =
     let i = l.port-index in
     let k = c.ports_used-count in
     let n = reads_length g.memory _ c.well_formed.0.1.1.0 g.nets.now g.trits.now in
-    let w = writes_length g.memory _ c.well_formed.0.1.1.0 g.nets.now ∙ sym c.ports_used-writes.ensures.0 in
+    let w = writes_length g.memory _ c.well_formed.0.1.1.0 g.nets.now in
+    let s = rw c.of-bounds.ensures at c.read_refusal.ensures in
     let t : i < min 8 g.memory.read_count = omega (arith, length-take k.result g.memory.read_ports) in
     let p : get_or (take k.result g.memory.read_ports) i no_read_port ≡ read_port g.memory i = get_or-take k.result g.memory.read_ports i no_read_port (omega (arith, k.ensures.0)) in
     let a = c.addr_size.ensures.0 ∙ ap addr_size p in
@@ -33,7 +34,7 @@ loop-port-preserved c =
     let x = c.part.ensures.part ∙ (λ j. part (l.invariant.0 j) (a j) g.nets.now) in
     let y = c.part-in-loop-port.ensures.part ∙ (λ j. part (l.invariant.1 j) (b j) g.trits.now) in
     let q = c.lower-refusal.ensures ∙ ap (least (number_if l.refusal)) (read_is g.memory g.nets.now g.trits.now v.next i _ t w (number_if c.read_refusal.result) _ _ x y
-    (λ m d e f. c.read_refusal.ensures m d e f ∙ ap (λ (r : MemoryReadPort). read_number v.next m (read_by r c.part.result.now c.part-in-loop-port.result.now)) p)) in (
+    (λ m d e f. s m d e f ∙ ap (λ (r : MemoryReadPort). read_number v.next m (read_by r c.part.result.now c.part-in-loop-port.result.now)) p)) in (
       omega (arith, c.addr_size-at.ensures.0, ap addr_size p, sum_take_more addr_size no_read_port refl g.memory.read_ports i),
       omega (arith, c.trit_size-from.ensures.0, ap trit_size p, sum_take_more trit_size no_read_port refl g.memory.read_ports i),
       omega arith,

@@ -8,4 +8,4 @@ pub returns : goal.returns
 unfolding nets_total
 returns c =
     let e = c.ports_used-count.ensures.0 in
-    (c.read_start.ensures.0 ∙ ap (read_start c.args.m) e, omega arith)
+    (c.read_start.ensures.0 ∙ ap (read_start c.args.m.now) e, omega arith)

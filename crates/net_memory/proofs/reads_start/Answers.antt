@@ -7,4 +7,4 @@ use Rattle.net_memory.proofs.reads_start.Goals as goal
 pub returns : goal.returns
 returns c =
     let e = c.ports_used-count.ensures.0 in
-    (c.write_start.ensures.0 ∙ ap (write_start c.args.m) e, omega arith)
+    (c.write_start.ensures.0 ∙ ap (write_start c.args.m.now) e, omega arith)

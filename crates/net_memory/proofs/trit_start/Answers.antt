@@ -1,24 +1,16 @@
 -- `net_memory::trit_start` meets its contract.
-use Rattle.std.proofs.Common.{◌≡◌, refl, ap, ◌∙◌, ℕ, ◌+◌, min, take, arith}
-use lib.ListN.{length-take}
-use lib.Seq.{take_all}
+use mathlib.Core.Path.{◌≡◌, ap, ◌∙◌}
+use Prim.Native.Nat.{ℕ, ◌+◌, min}
+use native.Mathlib.Omega.{arith}
+use lib.ListN.{length-take, take}
 use Rattle.lists.specs.Lists.{sum_by}
-use Rattle.lists.proofs.Sum.{sum_take_more}
-use Rattle.net_memory.specs.View.{trit_size, no_read_port}
-use Rattle.net_memory.proofs.Outputs.{take_few}
-use Rattle.net_memory.proofs.Sized.{read_ports_8}
+use Rattle.rules.specs.Limits.{max_ports}
+use Rattle.net_memory.specs.View.{trit_size}
 use Rattle.net_memory.proofs.trit_start.Goals as goal
-
-pub loop-port-preserved : goal.loop-port-preserved
-loop-port-preserved c =
-    let l = c.loop-port in
-    record { sum = omega (arith, sum_take_more trit_size no_read_port refl (take c.min.result c.args.m.read_ports) l.port-index); most = omega arith }
 
 pub returns : goal.returns
 returns c =
     let v = c.args in
-    let l = c.loop-port in
-    let n = read_ports_8 v.m _ c.well_formed.0 in
-    let e : c.min.result ≡ min v.i 8 = omega arith in
-    let k = length-take c.min.result v.m.read_ports in
-    (l.invariant.sum ∙ ap (λ (n : ℕ). v.m.init_len + n) (ap (sum_by trit_size) (take_all l.port-index _ (omega arith) ∙ ap (λ (n : ℕ). take n v.m.read_ports) e ∙ take_few v.i 8 v.m.read_ports n)), omega (arith, n, k))
+    let q = c.end_of.ensures in
+    let i : c.min.result ≡ min v.i max_ports = omega arith in
+    (q.value trit_size (λ p n h. h.0) ∙ ap (λ (k : ℕ). v.m.now.init_len + sum_by trit_size (take k v.m.now.read_ports)) i, omega (arith, q.bound 0x300000000 (λ p n h. omega (arith, h.1)), length-take c.min.result v.m.now.read_ports, c.min.ensures))

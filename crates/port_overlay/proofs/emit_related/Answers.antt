@@ -10,7 +10,7 @@ pub returns-then-x-code : goal.returns-then-x-code
 returns-then-x-code g c =
     let v = c.args in
     let n = v.r.count in
-    as_not (mem_of v.given) v.r.k (read_of v.r) v.x v.j (data_and (take n v.overlay.now.under) (g.O.Over.mask v.over.now n)) (lent_of v.log.now) (is_not v.x (rw c.code.ensures at c.if-x-code.true))
+    as_not (mem_of v.given) v.r.k (read_of v.r) v.x v.j (data_and (take n v.overlay.now.under) (g.O.Over.mask v.over.now n)) (lent_of v.log.now) (is_not v.x (rw c.from.ensures at c.if-x-from.true))
 
 pub returns : goal.returns
 returns g c =
@@ -18,4 +18,4 @@ returns g c =
     let p = c.emit_pair in
     let n = v.r.count in
     let k = g.O.Over.mask in
-    as_laid (mem_of v.given) v.r.k (read_of v.r) v.x v.j (data_and (take n v.overlay.now.under) (k v.over.now n)) (lent_of v.log.now) (is_yes v.x (rw c.code.ensures at c.if-x-code.false)) (lent_of p.new.log) (data_and (take n p.new.overlay.under) (k p.new.over n)) p.ensures
+    as_laid (mem_of v.given) v.r.k (read_of v.r) v.x v.j (data_and (take n v.overlay.now.under) (k v.over.now n)) (lent_of v.log.now) (is_yes v.x (rw c.from.ensures at c.if-x-from.false)) (lent_of p.new.log) (data_and (take n p.new.overlay.under) (k p.new.over n)) p.ensures
