@@ -11,10 +11,12 @@ ghost use Rattle.swizzle_split.specs.Steps.{can_split};
 ghost use Rattle.swizzle_counts.specs.Needs.{plus_needs, all_needs, Most, port_most, split_of, Lengths, Ranges, read_from, read_needs, ReadFits, ReadsFit, reads_needs, write_from, kept_nets, MaskFits, write_needs, WriteFits, WritesFit, writes_needs};
 
 use image_geometry::{Layout, Params};
+use log_entries::LogState;
 use merge_keys::columns::Columns;
 use merge_keys::table::Table;
 use net_memory::Given;
 use swizzle_columns::WidePort;
+use swizzle_plan::Plan;
 use swizzle_split::Split;
 
 pub mod refusal;
@@ -29,9 +31,19 @@ pub struct Needs {
     pub scratch: usize,
 }
 
-// What a swizzle is lent: room for the image, for the nets and the trits of the resulting memories, and scratch.
+// A swizzle that is asked for: of a memory with the outputs that it drives, by a plan.
+#[derive(Clone, Copy)]
+pub struct Swizzle<'a> {
+    pub given: Given<'a>,
+    pub output: &'a [u32],
+    pub plan: Plan<'a>,
+}
+
+// What a swizzle is lent: a log of so many words with its state, room for the image, for the nets and the trits of the resulting memories, and scratch.
 #[derive(Clone, Copy)]
 pub struct SwizzleRooms {
+    pub log: usize,
+    pub state: LogState,
     pub image: usize,
     pub nets: usize,
     pub trits: usize,

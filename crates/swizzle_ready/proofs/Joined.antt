@@ -42,7 +42,7 @@ use Rattle.swizzle_reads.specs.Planned.{addrs_of, ReadPlanned}
 use Rattle.swizzle_reads.proofs.Whole.{with_read_ports}
 use Rattle.swizzle_reads.proofs.Planned.{ReadsDone, held_reads, reads_planned}
 use Rattle.swizzle_ready.proofs.Planned.{number_0, layout_facts, write_pairs, read_pairs, nets_enough, write_planned, layout_planned, read_planned}
-use Rattle.swizzle_ready.proofs.Runs.{writes_next, writes_used, writes_held, reads_start_lem, rows_held, rows_split}
+use Rattle.swizzle_ready.proofs.Runs.{writes_next, writes_used, writes_held, reads_start_lem, rows_split}
 use Rattle.swizzle_ready.proofs.Shares as shares
 use Rattle.swizzle_ready.proofs.HeldWrites as held
 use Rattle.swizzle_ready.proofs.HeldWrites.{writes_most, held_writes}
