@@ -15,7 +15,7 @@ ghost use Rattle.port_transparency.specs.Gave.{Gave};
 ghost use Rattle.fallback_row.specs.Row.{start_if, over, over_if, held_back, held_if, driven_by};
 
 use log_entries::Log;
-use merge_mux::emit::Keys;
+use merge_keys::Keys;
 use net_flip_flop::{Controls, FlipFlop};
 use net_value::ControlNet;
 

@@ -13,7 +13,7 @@ ghost use Rattle.fallback_rows.specs.Rows.{writes_by, register_by, row_by, drive
 
 use fallback_row::Row;
 use log_entries::Log;
-use merge_mux::emit::Keys;
+use merge_keys::Keys;
 use swizzle_result::WideMemory;
 
 // The write ports of memory n over the row, in order.

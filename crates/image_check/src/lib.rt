@@ -1,15 +1,16 @@
 // Tests of a plan: each bit of the width named exactly once (number 7), and the test of a laid-out state behind number 23.
 #![tactic(auto)]
 
-ghost use Rattle.std.specs.Prelude.{◌≡◌, not, ◌+◌, ◌-◌, ◌≤◌, ◌<◌, eqb, get_or, replicate};
+ghost use Rattle.std.specs.Prelude.{◌≡◌, IfErr, not, ◌+◌, ◌-◌, ◌≤◌, ◌<◌, eqb, get_or, replicate};
 ghost use Rattle.lists.specs.Lists.{any, up_from};
 ghost use Rattle.rules.specs.Limits.{max_width};
 ghost use Rattle.rules.specs.Conditions.{bad_entry, bad_names, bad_entries};
 ghost use Rattle.rules.specs.Beside.Shape.{entries_number, laid_shape};
 ghost use Rattle.rules.specs.Refusal.{number_of};
+ghost use Rattle.rules.specs.declared.numbers.Refusal.TheVariants.{NotLaidOut};
 ghost use Rattle.image_geometry.specs.View.{layout_of};
 ghost use Rattle.image_check.specs.Marks.{bumped, Marked, not_once};
-ghost use Rattle.image_check.specs.View.{checked_of};
+ghost use Rattle.image_check.specs.View.{shape_if, checked_of};
 
 use image_geometry::{Layout, Shape, check_soft_mask};
 use rules::Refusal;
@@ -104,9 +105,9 @@ pub fn check_entries(width: u32, entries: &[u32]) -> Result<(), Refusal>
     Ok(())
 }
 
-// The sizes of a layout that an accepted swizzle can have handed on: it passes numbers 1, 7, 8 and 10.
-pub fn check_layout(layout: Layout<'_>) -> Option<Shape>
-    ensures { checked_of result ≡ laid_shape (layout_of layout.entry) }
+// The sizes of a layout that passes numbers 1, 7, 8 and 10.
+fn laid_shape(layout: Layout<'_>) -> Option<Shape>
+    ensures { shape_if result ≡ laid_shape (layout_of layout.entry) }
 {
     let p = layout.params;
     let s = layout.measure().ok()?;
@@ -114,11 +115,16 @@ pub fn check_layout(layout: Layout<'_>) -> Option<Shape>
         return None;
     }
     check_soft_mask(p.depth, p.soft_mask).ok()?;
-    if p.width == 0 {
-        return Some(s);
-    }
-    if rules::MAX_COLUMNS < s.columns || rules::MAX_IMAGE < s.trits {
+    if p.width != 0 && s.is_too_large() {
         return None;
     }
     Some(s)
+}
+
+// The sizes of a layout that an accepted swizzle can have handed on, or number 23.
+pub fn check_layout(layout: Layout<'_>) -> Result<Shape, Refusal>
+    ensures shape { checked_of result ≡ laid_shape (layout_of layout.entry) }
+    ensures number { IfErr result (λ e. e ≡ NotLaidOut) }
+{
+    laid_shape(layout).ok_or(Refusal::NotLaidOut)
 }

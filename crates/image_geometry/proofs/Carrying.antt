@@ -1,9 +1,11 @@
 -- The spot of the next row by carrying: what is left of the row number and of the next one, each laid onto the same weights.
-use Prim.Native.Nat.{ℕ, ◌+◌, ◌-◌, ◌*◌, ◌/◌, ◌%◌, ◌^◌, ◌≤◌, ◌<◌}
+use Prim.Native.Nat.{ℕ, zero, suc, ◌+◌, ◌-◌, ◌*◌, ◌/◌, ◌%◌, ◌^◌, ◌≤◌, ◌<◌}
 use mathlib.Core.Path.{◌≡◌, refl, sym, ap, ◌∙◌, subst}
 use mathlib.Core.Bool.{Bool, true, false}
 use native.Mathlib.Omega.{arith}
-use native.Mathlib.Nat.{mul-add, mul_assoc, mul_left_comm, mul-le-mul_left, mul-one, le_trans}
+use native.Mathlib.Nat.{pow-succ', mul-add, mul_assoc, mul_left_comm, mul-le-mul_left, mul-one, le_trans}
+use lib.Count as count
+use lib.Count.{count_trailing_zeros}
 use Rattle.rules.specs.Limits.{addr_bits}
 use Rattle.rules.specs.Geometry.{Spot, to_chunk, hard_left, under, walk}
 use Rattle.rules.proofs.Walks.{walk_pos, walk_le, pow_pos_suc}
@@ -178,3 +180,64 @@ whole w c r hard e = λ i. record { chunk = w.chunk; cb = (e i).cb; row = w.row;
 
 pub told : (w : Walk) (c r hard : ℕ) {x y : ℕ} → w ≡ record { chunk = c; cb = 1; row = r; rb = 1; hard = hard } → c ≡ x → r ≡ y → held w ≡ record { chunk = x; row = y }
 told w c r hard e f g = ap held e ∙ λ i. record { chunk = f i; row = g i }
+
+-- ---- the ones at the end of a row number: so many of the lowest bits that are left
+pub record Ones (rest ones : ℕ) : Type 0 where
+  pub left : ℕ
+  pub rest_fits : rest < 2 ^ left
+  pub ones_are : ones ≡ count_trailing_zeros left (2 ^ left - 1 - rest)
+
+other_bit : (n r : ℕ) → r < 2 ^ suc n → (2 ^ suc n - 1 - r) % 2 ≡ 1 - r % 2
+other_bit n r l = omega (arith, pow-succ' 2 n)
+
+other_half : (n r : ℕ) → r < 2 ^ suc n → (2 ^ suc n - 1 - r) / 2 ≡ 2 ^ n - 1 - r / 2
+other_half n r l = omega (arith, pow-succ' 2 n)
+
+ones_more : (n r : ℕ) → r < 2 ^ suc n → count_trailing_zeros (suc n) (2 ^ suc n - 1 - r) ≡ count.under (1 - r % 2) (count_trailing_zeros n (2 ^ n - 1 - r / 2))
+unfolding count_trailing_zeros
+ones_more n r l = λ i. count.under (other_bit n r l i) (count_trailing_zeros n (other_half n r l i))
+
+no_bits : (m : ℕ) → count_trailing_zeros 0 m ≡ 0
+unfolding count_trailing_zeros
+no_bits m = refl
+
+none_first : (b t : ℕ) → 0 < b → count.under b t ≡ 0
+none_first zero t l = absurd (omega arith)
+none_first (suc b) t l = refl
+
+one_first : (b t : ℕ) → b ≡ 0 → count.under b t ≡ suc t
+one_first zero t e = refl
+one_first (suc b) t e = absurd (omega arith)
+
+ones_turn_lem : (n r t : ℕ) → r < 2 ^ n → t ≡ count_trailing_zeros n (2 ^ n - 1 - r) → 0 < t → (r % 2 ≡ 1) × Ones (r / 2) (t - 1)
+ones_turn_lem zero r t h e l = absurd (omega (arith, no_bits (2 ^ 0 - 1 - r)))
+ones_turn_lem (suc n) r t h e l = on (r % 2) refl
+  where
+    on : (b : ℕ) → r % 2 ≡ b → (r % 2 ≡ 1) × Ones (r / 2) (t - 1)
+    on zero f = absurd (omega (arith, e, ones_more n r h, none_first (1 - r % 2) (count_trailing_zeros n (2 ^ n - 1 - r / 2)) (omega arith)))
+    on (suc b) f = (
+      omega arith,
+      record {
+        left = n;
+        rest_fits = omega (arith, pow-succ' 2 n);
+        ones_are = omega (arith, e, ones_more n r h, one_first (1 - r % 2) (count_trailing_zeros n (2 ^ n - 1 - r / 2)) (omega arith));
+      },
+    )
+
+ones_end_lem : (n r t : ℕ) → r < 2 ^ n → t ≡ count_trailing_zeros n (2 ^ n - 1 - r) → t ≡ 0 → r % 2 ≡ 0
+ones_end_lem zero r t h e z = omega arith
+ones_end_lem (suc n) r t h e z = on (r % 2) refl
+  where
+    on : (b : ℕ) → r % 2 ≡ b → r % 2 ≡ 0
+    on zero f = f
+    on (suc b) f = absurd (omega (arith, e, ones_more n r h, one_first (1 - r % 2) (count_trailing_zeros n (2 ^ n - 1 - r / 2)) (omega arith)))
+
+pub ones_start : (row : ℕ) → row < 4294967296 → Ones row (count_trailing_zeros 32 (4294967295 - row))
+ones_start row h = record { left = 32; rest_fits = h; ones_are = refl }
+
+module _ (rest ones : ℕ) (h : Ones rest ones) where
+  pub ones_turn : 0 < ones → (rest % 2 ≡ 1) × Ones (rest / 2) (ones - 1)
+  ones_turn l = ones_turn_lem h.left rest ones h.rest_fits h.ones_are l
+
+  pub ones_end : ones ≡ 0 → rest % 2 ≡ 0
+  ones_end z = ones_end_lem h.left rest ones h.rest_fits h.ones_are z

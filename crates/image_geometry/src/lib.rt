@@ -6,7 +6,8 @@ ghost use Rattle.std.specs.Prelude.{◌≡◌, true, List, ℕ, ◌+◌, ◌-◌
 ghost use Rattle.rules.specs.Limits.{addr_bits, max_row};
 ghost use Rattle.rules.specs.Numbers.{softs, top_bits};
 ghost use Rattle.rules.specs.Geometry.{soft_bits, chunk_mux_bits, to_chunk, walk};
-ghost use Rattle.rules.specs.Conditions.{bad_layout_sizes};
+ghost use Rattle.rules.specs.Geometry as rules;
+ghost use Rattle.rules.specs.Conditions.{bad_layout_sizes, result_too_large};
 ghost use Rattle.rules.specs.Beside.Shape.{shape_of, shape_call, depths_call, soft_mask_number, result_number};
 ghost use Rattle.rules.specs.Answers.{filled_with};
 ghost use Rattle.rules.specs.Refusal.{number_of};
@@ -183,6 +184,16 @@ impl Params {
     }
 }
 
+impl Shape {
+    // The columns or the trits pass their limits.
+    #[tactic(auto, unfolding(rules::specs::Conditions::result_too_large, rules::specs::Beside::Shape::shape_of))]
+    pub fn is_too_large(self) -> bool
+        ensures { (q : rules.Layout) → shape_by self ≡ shape_of q → result ≡ result_too_large q }
+    {
+        rules::MAX_COLUMNS < self.columns || rules::MAX_IMAGE < self.trits
+    }
+}
+
 impl<'a> Layout<'a> {
     // The sizes of a layout, unless they pass number 1's limits.
     pub fn measure(self) -> Result<Shape, Refusal>
@@ -213,8 +224,7 @@ impl<'a> Layout<'a> {
     pub fn check_result(self) -> Result<(), Refusal>
         ensures { number_of result ≡ result_number (layout_of self.entry) }
     {
-        let s = self.measure()?;
-        if rules::MAX_COLUMNS < s.columns || rules::MAX_IMAGE < s.trits {
+        if self.measure()?.is_too_large() {
             return Err(Refusal::ResultTooLarge);
         }
         Ok(())
@@ -293,13 +303,8 @@ pub fn walk_row(mask: u32, hard: u32, row: u32) -> Spot
     ensures { view_spot result ≡ walk addr_bits mask hard row }
 {
     let mut w = Walk::from(0, 0, hard);
-    let mut soft = mask;
-    let mut rest = row;
-    // no count: it ends with the highest bit that is set
-    while 0 < rest {
-        w = w.step(soft, u64::from(rest % 2));
-        soft /= 2;
-        rest /= 2;
+    for i in 0..top_bits(row) {
+        w = w.step(mask >> i, u64::from((row >> i) % 2));
     }
     w.spot()
 }
@@ -311,12 +316,9 @@ pub fn next_row(mask: u32, hard: u32, row: u32, spot: Spot) -> Spot
 {
     let mut w = Walk::from(u64::from(spot.chunk), u64::from(spot.row), hard);
     let mut soft = mask;
-    let mut rest = row;
-    // no count: it ends with the lowest bit that is 0
-    while rest % 2 == 1 {
+    for i in 0..row.trailing_ones() {
         w = w.pass(soft);
         soft /= 2;
-        rest /= 2;
     }
     w.step(soft, 1).spot()
 }

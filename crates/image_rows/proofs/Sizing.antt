@@ -1,9 +1,8 @@
 -- A layout and its sizes, as the tests give them.
 use Prim.Native.Nat.{ℕ, ◌*◌, ◌≤◌}
-use mathlib.Core.Path.{◌≡◌, sym, ap, ◌∙◌}
+use mathlib.Core.Path.{◌≡◌, ap, ◌∙◌}
 use mathlib.Core.Bool.{false}
 use mathlib.Core.Option.{none, some}
-use mathlib.Core.Option as rules-option
 use mathlib.Core.List.{List}
 use lib.ListN.{length}
 use native.Mathlib.Omega.{arith}
@@ -20,11 +19,6 @@ use Rattle.image_geometry.specs.declared.Params.{Params}
 use Rattle.image_geometry.specs.declared.Layout as lent
 use Rattle.image_geometry.specs.declared.Shape.{Shape}
 use Rattle.image_geometry.specs.View.{layout_by, shape_by}
-use Rattle.std.specs.Prelude.{Option, Some, None, Result, Err, ok_or}
-use Rattle.rules.specs.Refusal.{number, number_of}
-use Rattle.rules.specs.declared.numbers.Refusal.{Refusal}
-use Rattle.rules.specs.declared.numbers.Refusal.TheVariants.{NotLaidOut}
-use Rattle.image_check.specs.View.{checked_of}
 use Rattle.image_rows.specs.declared.Steps.{Steps}
 use Rattle.image_rows.specs.Steps.{steps_by, Ready, ReadyRows}
 
@@ -57,16 +51,6 @@ module _ (p : Params) (es : List ℕ) (s : Shape) (b : layout_too_large (layout_
     sizes = b;
     steps = e ∙ (λ i. record { full = full_is i; full_step = deep_is i * p.unit; part_step = part_is i * p.unit; unit = p.unit });
   }
-
--- ---- the test's answer, and the sizes or the refusal that `?` takes from it
-pub found : {o : Option Shape} {x : rules-option.Option sizes.Shape} (s : Shape) → o ≡ Some s → checked_of o ≡ x → some (shape_by s) ≡ x
-found s e q = sym (ap checked_of e) ∙ q
-
-pub missing : {o : Option Shape} {x : rules-option.Option sizes.Shape} → o ≡ None → checked_of o ≡ x → none ≡ x
-missing e q = sym (ap checked_of e) ∙ q
-
-pub not_laid : (o : Option Shape) (x : Refusal) → o ≡ None → Err x ≡ ok_or o NotLaidOut → number x ≡ 23
-not_laid o x e v = ap (λ (r : Result Shape Refusal). number_of r) (v ∙ ap (λ (z : Option Shape). ok_or z NotLaidOut) e)
 
 -- ---- a layout that passes, and its sizes
 module _ (p : Params) (es : List ℕ) (s : Shape) (h : some (shape_by s) ≡ laid_shape (layout_by p es)) where

@@ -2,13 +2,13 @@
 use Rattle.std.specs.Prelude.{ℕ, zero, suc, ◌+◌, ◌-◌, ◌*◌, ◌≤◌, ◌<◌, ◌≡◌, false, List, [], ◌∷◌, eqb, ltb, length, drop, get_or}
 use Rattle.lists.specs.Choice.{when◌then◌else◌}
 use Rattle.rules.specs.Limits.{addr_bits, max_row, None, trit_x}
-use Rattle.rules.specs.Geometry.{Layout, Spot, row_len_of, full_mems, full_depth_of, part_depth_of, walk}
+use Rattle.rules.specs.Geometry.{Layout, row_len_of, full_mems, full_depth_of, part_depth_of, walk}
 use Rattle.rules.specs.Image.{place_of, flat_at, put, put_row}
 use Rattle.rules.specs.Conditions.{bad_layout_sizes}
 use Rattle.image_geometry.specs.declared.Params.{Params}
 use Rattle.image_geometry.specs.declared.Shape.{Shape}
 use Rattle.image_geometry.specs.declared.Layout as lent
-use Rattle.image_geometry.specs.View.{layout_by}
+use Rattle.image_geometry.specs.View.{layout_by, view_spot}
 use Rattle.image_rows.specs.declared.Steps.{Steps}
 use Rattle.image_rows.specs.declared.Cursor.{Cursor}
 use Rattle.image_rows.specs.declared.Line.{Line}
@@ -32,7 +32,7 @@ pub record ReadyRows (l : lent.Layout) (g : Steps) (plain : ℕ) : Type 0 where
 
 -- the spot of the row's number
 abbrev pub OnSpot : Params → Line → Type 0
-OnSpot p l = ◌≡◌ {A = Spot} (record { chunk = l.chunk; row = l.row }) (walk addr_bits p.soft_mask p.hard l.number)
+OnSpot p l = view_spot l.spot ≡ walk addr_bits p.soft_mask p.hard l.number
 
 -- the cursor at entry i of a row
 pub record At (q : Layout) (row i : ℕ) (c : Cursor) : Type 0 where

@@ -46,12 +46,11 @@ struct Cursor {
     start: u64,
 }
 
-// A row's number with its spot: the chunk, and the row in it.
+// A row's number with its spot.
 #[derive(Clone, Copy)]
 struct Line {
     number: u32,
-    chunk: u32,
-    row: u32,
+    spot: Spot,
 }
 
 // A layout whose rows are written and read: with its steps, and so many of the first entries that are their own numbers, of which a run is a copy.
@@ -67,11 +66,9 @@ impl Line {
     fn at(p: Params, number: u32) -> Line
         ensures { (result.number ≡ number) × OnSpot p result }
     {
-        let s = walk_row(p.soft_mask, p.hard, number);
         Line {
             number,
-            chunk: s.chunk,
-            row: s.row,
+            spot: walk_row(p.soft_mask, p.hard, number),
         }
     }
 
@@ -80,15 +77,9 @@ impl Line {
         requires { (self.number < p.depth) × OnSpot p self }
         ensures { (result.number ≡ self.number + 1) × OnSpot p result }
     {
-        let spot = Spot {
-            chunk: self.chunk,
-            row: self.row,
-        };
-        let s = next_row(p.soft_mask, p.hard, self.number, spot);
         Line {
             number: self.number + 1,
-            chunk: s.chunk,
-            row: s.row,
+            spot: next_row(p.soft_mask, p.hard, self.number, self.spot),
         }
     }
 }
@@ -203,10 +194,10 @@ impl<'a> Rows<'a> {
         ensures { At (layout_of self.entry.layout) line.number entry result }
     {
         let g = self.steps;
-        let column = u64::from(line.chunk) * self.layout.entries.len() as u64 + entry as u64;
+        let column = u64::from(line.spot.chunk) * self.layout.entries.len() as u64 + entry as u64;
         let memory = column / g.unit;
         let bit = column % g.unit;
-        let above = u64::from(line.row) * g.unit;
+        let above = u64::from(line.spot.row) * g.unit;
         let full = memory.min(g.full);
         Cursor {
             memory,
@@ -262,6 +253,7 @@ impl<'a> Rows<'a> {
         let p = self.layout.params;
         let width = p.width as usize;
         let mut line = Line::at(p, 0);
+        // by number: rows of width 0 are written too, and have no chunks
         for number in 0..p.depth {
             let from = number as usize * width;
             self.write_row(image, line, &rows[from..from + width]);
@@ -306,7 +298,7 @@ pub fn patch_row(
     ensures { filled_with (number_of result) image.new ≡ patch_call (handed_on (layout_of layout.entry)) (record { row = row; trits = trits.now; room = length image.old }) image.old }
 {
     let p = layout.params;
-    let s = check_layout(layout).ok_or(Refusal::NotLaidOut)?;
+    let s = check_layout(layout)?;
     check_patch(image.len(), p, s.image_size, row, trits)?;
     let rows = Rows::of(layout, s, 0);
     rows.write_row(image, Line::at(p, row), trits);
@@ -334,7 +326,7 @@ fn check_fill(room: usize, p: Params, size: u64, rows: &[u8]) -> Result<(), Refu
 pub fn check_rows(room: usize, layout: Layout<'_>, rows: &[u8]) -> Result<(), Refusal>
     ensures { number_of result ≡ fill_refusal (handed_on (layout_of layout.entry)) room rows.now }
 {
-    let s = check_layout(layout).ok_or(Refusal::NotLaidOut)?;
+    let s = check_layout(layout)?;
     check_fill(room, layout.params, s.image_size, rows)
 }
 
@@ -342,7 +334,7 @@ pub fn check_rows(room: usize, layout: Layout<'_>, rows: &[u8]) -> Result<(), Re
 pub fn fill_rows(image: &mut [u8], layout: Layout<'_>, rows: &[u8]) -> Result<(), Refusal>
     ensures { filled_with (number_of result) image.new ≡ fill_call (handed_on (layout_of layout.entry)) rows.now image.old }
 {
-    let s = check_layout(layout).ok_or(Refusal::NotLaidOut)?;
+    let s = check_layout(layout)?;
     check_fill(image.len(), layout.params, s.image_size, rows)?;
     lists::fill(image, 0, s.image_size as usize, rules::TRIT_X);
     let lines = Rows::of(layout, s, plain_entries(layout.entries));
@@ -369,7 +361,7 @@ pub fn read_row(room: &mut [u8], layout: Layout<'_>, image: &[u8], row: u32) -> 
     ensures { filled_with (number_of result) room.new ≡ read_row_call (handed_on (layout_of layout.entry)) room.old image.now row }
 {
     let p = layout.params;
-    let s = check_layout(layout).ok_or(Refusal::NotLaidOut)?;
+    let s = check_layout(layout)?;
     check_read(room.len(), p, s.image_size, image.len(), row)?;
     let rows = Rows::of(layout, s, 0);
     rows.take_row(room, row, image);
@@ -390,7 +382,7 @@ pub fn place_of(layout: Layout<'_>, row: u32, entry: usize) -> Result<Place, Ref
     let c = rows.cursor_at(line, entry);
     Ok(Place {
         memory: c.memory,
-        row: u64::from(line.row),
+        row: u64::from(line.spot.row),
         bit: c.bit,
         index: c.start + c.bit,
     })

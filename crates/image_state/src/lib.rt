@@ -168,6 +168,6 @@ fn layout_sizes(p: Params, s: Shape) -> record_sizes::Sizes
 fn sizes_by(layout: Layout<'_>) -> Result<record_sizes::Sizes, Refusal>
     ensures { sizes_answer result ≡ sizes_call (handed_on (layout_of layout.entry)) }
 {
-    let s = check_layout(layout).ok_or(Refusal::NotLaidOut)?;
+    let s = check_layout(layout)?;
     Ok(layout_sizes(layout.params, s))
 }

@@ -21,7 +21,7 @@ use Rattle.rules.specs.Refusals.{dff_number, merge_dff_number, result_refusal}
 use Rattle.rules.proofs.Counted.{start_le}
 use Rattle.net_flip_flop.specs.View.{flip_flop}
 use Rattle.merge_mux.specs.Results.{limited}
-use Rattle.merge_mux.proofs.Found.{limited-all}
+use Rattle.merge_mux.proofs.Limited.{limited-all}
 
 -- ---- the numbers
 module _ (next : ℕ) (f : FlipFlop) where

@@ -8,6 +8,7 @@ use lib.Seq.{sets, take_all}
 use Rattle.lists.specs.Lists.{pairs, up_from}
 use Rattle.lists.specs.Distinct.{kept, places}
 use Rattle.lists.proofs.Choice.{cases_le}
+use Rattle.lists.proofs.Distinct.{length_kept}
 use Rattle.lists.proofs.Store.{sets_room}
 use Rattle.lists.proofs.Stores.{take_stored}
 use Rattle.rules.specs.Limits.{max_merge}
@@ -17,9 +18,11 @@ use Rattle.rules.specs.Merge.{Key2, same2, spread, add_dedup_dff_of}
 use Rattle.rules.proofs.Chain.{chains_dff}
 use Rattle.log_entries.specs.Emission.{Lent, is_over, run}
 use Rattle.log_entries.proofs.Emission.{run_same}
-use Rattle.merge_keys.specs.Keys.{firsts, seconds}
+use Rattle.merge_keys.specs.declared.Kept.{Kept}
+use Rattle.merge_keys.specs.Keys.{firsts, seconds, MergeOf}
 use Rattle.net_flip_flop.specs.View.{flip_flop}
-use Rattle.merge_mux.specs.Results.{limited, results, Found}
+use Rattle.merge_mux.specs.Results.{limited, results}
+use Rattle.merge_mux.proofs.Limited.{limited_pairs}
 use Rattle.merge_mux.proofs.Nets.{request_nets, trace_results}
 use Rattle.merge_dff.specs.Packs.{packed_byte, packs, unpacked, merge_packed, Bytes}
 use Rattle.merge_dff.proofs.Keys.{merged_keys, merged-places}
@@ -56,17 +59,21 @@ module _ (x : Controls) (bits ps : List ℕ) where
   unfolding merge_packed ◌>>=◌ done
   packed_value n = refl
 
-pub kept_few : (bits ps kx ky at : List ℕ) (n k : ℕ) → Found bits ps kx ky at n k → length (take k ky) ≤ max_merge
-kept_few bits ps kx ky at n k f = omega (arith, length-take k ky, f.few)
+module _ (bits ps : List ℕ) (k : Kept) (f : MergeOf (take max_merge (pairs bits ps)) k) where
+  pub kept_few : length k.y.now ≤ max_merge
+  kept_few =
+      let ks : List Key2 = take max_merge (pairs bits ps) in
+      omega (arith, ap length f.kept_y, length-map (kept same2 ks) (λ q. q.1), length_kept same2 [] ks, length-take max_merge (pairs bits ps))
 
-module _ (x : Controls) (bits ps kx ky at out out' : List ℕ) (n k : ℕ) (f : Found bits ps kx ky at n k) (l l1 : Lent)
-    (e : l1 ≡ run (add_dff_of (unpacked x (take k kx) (take k ky))) l)
-    (g : out' ≡ results (is_over l1.state) out 0 (spread (take n at) (add_dff_of (unpacked x (take k kx) (take k ky)) l.state.next).value)) where
-  pub merged-run : l1 ≡ run (merge_packed x (limited bits) (limited ps)) l
-  merged-run = (rw (f.kept_x, f.kept_y) at e) ∙ packed_run x (limited bits) (limited ps) l
+  module _ (x : Controls) (out out' : List ℕ) (l l1 : Lent) (e : l1 ≡ run (add_dff_of (unpacked x k.x.now k.y.now)) l)
+      (g : out' ≡ results (is_over l1.state) out 0 (spread k.at.now (add_dff_of (unpacked x k.x.now k.y.now) l.state.next).value)) where
+    pub merged-run : l1 ≡ run (merge_packed x (limited bits) (limited ps)) l
+    merged-run = (rw (f.kept_x, f.kept_y, limited_pairs bits ps) at e) ∙ packed_run x (limited bits) (limited ps) l
 
-  pub merged-results : out' ≡ results (is_over l1.state) out 0 (merge_packed x (limited bits) (limited ps) l.state.next).value
-  merged-results = (rw (f.kept_x, f.kept_y, f.placed) at g) ∙ ap (results (is_over l1.state) out 0) (packed_value x (limited bits) (limited ps) l.state.next)
+    pub merged-results : out' ≡ results (is_over l1.state) out 0 (merge_packed x (limited bits) (limited ps) l.state.next).value
+    merged-results =
+        (rw (f.kept_x, f.kept_y, f.placed, limited_pairs bits ps) at g)
+        ∙ ap (results (is_over l1.state) out 0) (packed_value x (limited bits) (limited ps) l.state.next)
 
 -- ---- as the rules have it
 pairs_left : {A B : Type 0} (n : ℕ) (a : List A) (b : List B) → length a ≤ n → pairs a (take n b) ≡ pairs a b

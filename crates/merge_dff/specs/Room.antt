@@ -1,5 +1,5 @@
 -- The room for the trits of kept bits before anything is stored in it.
-use Rattle.merge_mux.specs.Room.{zeros}
+use Rattle.merge_keys.specs.Keys.{zeros}
 use Rattle.merge_dff.specs.declared.Trits.{Trits}
 
 unfoldable pub zero_trits : Trits

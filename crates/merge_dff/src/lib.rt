@@ -20,7 +20,8 @@ ghost use Rattle.merge_dff.specs.Packs.{pack_of, packed_byte, packs, unpacked, m
 ghost use Rattle.merge_dff.specs.Room.{zero_trits};
 
 use log_entries::{Log, LogState};
-use merge_mux::emit::Keys;
+use merge_keys::columns::Columns;
+use merge_keys::{Kept, Keys};
 use net_flip_flop::{Controls, FlipFlop};
 use rules::Refusal;
 
@@ -79,32 +80,24 @@ impl Trits {
     }
 
     // A flip-flop of kept bits, whose result nets go to each bit by its place; their trits are unpacked.
-    fn emit_kept(
-        &mut self,
-        log: &mut Log,
-        out: &mut [u32],
-        c: Controls,
-        bits: &[u32],
-        ps: &[u32],
-        at: &[u32],
-    )
-        requires { length ps.now ≤ max_merge }
-        ensures log_after { lent_of log.new ≡ run (add_dff_of (unpacked (controls_of c) bits.now ps.now)) (lent_of log.old) }
-        ensures out_after { out.new ≡ results (is_over (state_of log.new.state)) out.old 0 (spread at.now (add_dff_of (unpacked (controls_of c) bits.now ps.now) log.old.state.next).value) }
+    fn emit_kept(&mut self, log: &mut Log, out: &mut [u32], c: Controls, kept: Kept<'_>)
+        requires { length kept.y.now ≤ max_merge }
+        ensures log_after { lent_of log.new ≡ run (add_dff_of (unpacked (controls_of c) kept.entry.x.now kept.entry.y.now)) (lent_of log.old) }
+        ensures out_after { out.new ≡ results (is_over (state_of log.new.state)) out.old 0 (spread kept.entry.at.now (add_dff_of (unpacked (controls_of c) kept.entry.x.now kept.entry.y.now) log.old.state.next).value) }
     {
-        unpack_part(&mut self.clear, ps, 256);
-        unpack_part(&mut self.reset, ps, 1);
-        unpack_part(&mut self.init, ps, 65536);
-        let n = ps.len();
+        unpack_part(&mut self.clear, kept.y, 256);
+        unpack_part(&mut self.reset, kept.y, 1);
+        unpack_part(&mut self.init, kept.y, 65536);
+        let n = kept.y.len();
         let st = log.state;
         log.emit_dff(FlipFlop {
             controls: c,
-            bits,
+            bits: kept.x,
             clear: &self.clear[..n],
             reset: &self.reset[..n],
             init: &self.init[..n],
         });
-        merge_mux::emit::spread_results(out, 0, st, log.state, at);
+        merge_mux::emit::spread_results(out, 0, st, log.state, kept.at);
     }
 }
 
@@ -121,9 +114,8 @@ fn emit_merged(
     ensures log_after { lent_of log.new ≡ run (merge_packed (controls_of c) (limited bits.now) (limited ps.now)) (lent_of log.old) }
     ensures out_after { out.new ≡ results (is_over (state_of log.new.state)) out.old 0 (merge_packed (controls_of c) (limited bits.now) (limited ps.now) log.old.state.next).value }
 {
-    let n = rules::MAX_MERGE.min(bits.len().min(ps.len()));
-    let k = keys.merge(bits, ps);
-    trits.emit_kept(log, out, c, &keys.x[..k], &keys.y[..k], &keys.at[..n]);
+    let kept = keys.merge(Columns { x: bits, y: ps });
+    trits.emit_kept(log, out, c, kept);
 }
 
 // add_dedup_dff without its numbers: a flip-flop in which equal bits are kept once. `column` is room for each bit's packed trits.

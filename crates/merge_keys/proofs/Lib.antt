@@ -1,5 +1,5 @@
 -- Laws of the keys kept in two columns.
 pub mod Pairs
-pub mod Kept
-pub mod Slots
+pub mod Search
 pub mod Turn
+pub mod Whole

@@ -1,8 +1,7 @@
 -- What the loop of `merge_all` keeps after i keys: the keys kept of those, in the two columns, and the place of each.
 use mathlib.Core.Path.{◌≡◌, refl, sym, ap, ◌∙◌}
 use mathlib.Core.Bool.{Bool, true, false}
-use mathlib.Core.Logic.{◌⊎◌, inl, inr}
-use Prim.Native.Nat.{ℕ, ◌+◌, ◌-◌, ◌<◌, ◌≤◌, min, max}
+use Prim.Native.Nat.{ℕ, ◌+◌, ◌<◌, ◌≤◌, max}
 use native.Mathlib.Omega.{arith}
 use mathlib.Core.List.{List, [], ◌∷◌, ◌++◌, map}
 use lib.ListN.{length, take, get_or, get_or-append, set, length-append, length-map}
@@ -14,14 +13,10 @@ use Rattle.lists.proofs.Choice.{cases_le}
 use Rattle.lists.specs.Lists.{pairs}
 use Rattle.lists.specs.Distinct.{place_in, with_new, kept_from_of, places_from}
 use Rattle.lists.proofs.Store.{sets_at, part_sets}
-use Rattle.lists.proofs.Parts.{take_most}
-use Rattle.lists.proofs.Pairs.{pairs_size, take_pairs, pairs-columns}
+use Rattle.lists.proofs.Pairs.{take_pairs, pairs-columns}
 use Rattle.lists.proofs.Distinct.{with_new_found, with_new_new, place_with_new, place_le, length_kept, kept_more, places-more, length_places}
-use Rattle.rules.specs.Limits.{max_merge}
 use Rattle.rules.specs.Merge.{Key2, same2}
-use Rattle.merge_keys.specs.Keys.{room, merging, Bounded, Roomy, firsts, seconds}
-use Rattle.merge_keys.specs.Slots.{Stands}
-use Rattle.merge_keys.proofs.Slots.{stands_later}
+use Rattle.merge_keys.specs.Keys.{Bounded, Roomy, firsts, seconds}
 
 -- ---- columns of keys
 front : (ks : List Key2) (ws l : List ℕ) → length ws ≡ length ks → length ks ≤ length l → take (length ks) (sets l 0 ws) ≡ ws
@@ -54,15 +49,14 @@ same_refl k = rw (eq-eqb k.0 k.0 refl, eq-eqb k.1 k.1 refl)
 abbrev pub kept_of : List Key2 → ℕ → List Key2
 kept_of ps i = kept_from_of same2 [] (take i ps)
 
-pub record Merged (ps : List Key2) (kx₀ ky₀ at₀ kx ky at : List ℕ) (count last i : ℕ) : Type 0 where
+pub record Merged (ps : List Key2) (kx₀ ky₀ at₀ kx ky at : List ℕ) (count i : ℕ) : Type 0 where
   pub within : i ≤ length ps
   pub counted : count ≡ length (kept_of ps i)
   pub in_kx : kx ≡ sets kx₀ 0 (firsts (kept_of ps i))
   pub in_ky : ky ≡ sets ky₀ 0 (seconds (kept_of ps i))
   pub in_at : at ≡ sets at₀ 0 (places_from same2 [] (take i ps))
-  pub latest : 0 < i → last ≡ place_in same2 (get_or ps (i - 1) (0, 0)) (kept_of ps i)
 
-module _ (ps : List Key2) (kx₀ ky₀ at₀ kx ky at : List ℕ) (count last i : ℕ) (r : Roomy ps kx₀ ky₀ at₀) (m : Merged ps kx₀ ky₀ at₀ kx ky at count last i) where
+module _ {ps : List Key2} {kx₀ ky₀ at₀ kx ky at : List ℕ} {count i : ℕ} (r : Roomy ps kx₀ ky₀ at₀) (m : Merged ps kx₀ ky₀ at₀ kx ky at count i) where
   abbrev ks : List Key2
   ks = kept_of ps i
 
@@ -83,105 +77,62 @@ module _ (ps : List Key2) (kx₀ ky₀ at₀ kx ky at : List ℕ) (count last i 
       ∙ rw (m.counted, m.in_kx, m.in_ky)
       (stored_front ks kx₀ ky₀ (omega (arith, m.counted, few, m.within, r.in_kx)) (omega (arith, m.counted, few, m.within, r.in_ky)))
 
-  module _ (h : i < length ps) where
-    -- the key at i
-    abbrev key : Key2
-    key = get_or ps i (0, 0)
+  pub room_left : i < length ps → (count < length kx) × (count < length ky)
+  room_left h = (omega (arith, few, r.in_kx, lengths.0), omega (arith, few, r.in_ky, lengths.1))
 
-    pub room_left : (count < length kx) × (count < length ky)
-    room_left = (omega (arith, few, r.in_kx, lengths.0), omega (arith, few, r.in_ky, lengths.1))
-
+  -- a turn: key is the one at i, and place its place
+  module _ (h : i < length ps) {key : Key2} (k : get_or ps i (0, 0) ≡ key) (place : ℕ) (e : place ≡ place_in same2 key ks) where
     more : kept_of ps (i + 1) ≡ with_new same2 key ks
-    more = kept_more same2 [] ps i (0, 0) h
+    more = kept_more same2 [] ps i (0, 0) h ∙ ap (λ (q : Key2). with_new same2 q ks) k
 
-    -- a turn: place is that of the key at i
-    module _ (place : ℕ) (e : place ≡ place_in same2 key ks) where
-      pub place_few : place ≤ count
-      place_few = omega (arith, e, place_le same2 key ks, m.counted)
+    pub place_few : place ≤ count
+    place_few = omega (arith, e, place_le same2 key ks, m.counted)
 
-      placed : set at i place ≡ sets at₀ 0 (places_from same2 [] (take (i + 1) ps))
-      placed =
-          let l : List ℕ = places_from same2 [] (take i ps) in
-          let q : i ≡ 0 + length l = omega (arith, length_places same2 [] (take i ps), length-take-le i ps m.within) in
-          rw (places-more same2 [] ps i (0, 0) h, ← e, m.in_at) (sets_at at₀ 0 i l (place ∷ []) q)
+    placed : set at i place ≡ sets at₀ 0 (places_from same2 [] (take (i + 1) ps))
+    placed =
+        let l : List ℕ = places_from same2 [] (take i ps) in
+        let q : i ≡ 0 + length l = omega (arith, length_places same2 [] (take i ps), length-take-le i ps m.within) in
+        rw (places-more same2 [] ps i (0, 0) h, k, ← e, m.in_at) (sets_at at₀ 0 i l (place ∷ []) q)
 
-      last_place : place ≡ place_in same2 (get_or ps (i + 1 - 1) (0, 0)) (kept_of ps (i + 1))
-      last_place =
-          let j : i + 1 - 1 ≡ i = omega arith in
-          rw (j, more) (e ∙ sym (place_with_new same2 key ks (same_refl key)))
+    -- the key is new
+    turn_new : place ≡ count → Merged ps kx₀ ky₀ at₀ (set kx count key.0) (set ky count key.1) (set at i place) (count + 1) (i + 1)
+    turn_new q =
+        let w : kept_of ps (i + 1) ≡ ks ++ (key ∷ []) = more ∙ with_new_new same2 key ks (omega (arith, e, q, m.counted)) in
+        record {
+          within = omega (arith, h);
+          counted = rw (w, length-append ks (key ∷ []), ← m.counted) refl;
+          in_kx = rw w (one_more (λ k. k.0) kx₀ kx ks key count m.in_kx m.counted);
+          in_ky = rw w (one_more (λ k. k.1) ky₀ ky ks key count m.in_ky m.counted);
+          in_at = placed;
+        }
 
-      -- the key is new
-      turn_new : place ≡ count → Merged ps kx₀ ky₀ at₀ (set kx count key.0) (set ky count key.1) (set at i place) (count + 1) place (i + 1)
-      turn_new q =
-          let w : kept_of ps (i + 1) ≡ ks ++ (key ∷ []) = more ∙ with_new_new same2 key ks (omega (arith, e, q, m.counted)) in
-          record {
-            within = omega (arith, h);
-            counted = rw (w, length-append ks (key ∷ []), ← m.counted) refl;
-            in_kx = rw w (one_more (λ k. k.0) kx₀ kx ks key count m.in_kx m.counted);
-            in_ky = rw w (one_more (λ k. k.1) ky₀ ky ks key count m.in_ky m.counted);
-            in_at = placed;
-            latest = λ g. last_place;
-          }
+    turn_old : (place ≡ count → ⊥) → Merged ps kx₀ ky₀ at₀ kx ky (set at i place) count (i + 1)
+    turn_old q =
+        let l : place < count = cases_le count place (λ g. absurd (q (omega (arith, place_few, g)))) (λ g. g) in
+        let w : kept_of ps (i + 1) ≡ ks = more ∙ with_new_found same2 key ks (omega (arith, e, l, m.counted)) in
+        record { within = omega (arith, h); counted = rw w m.counted; in_kx = rw w m.in_kx; in_ky = rw w m.in_ky; in_at = placed }
 
-      turn_old : (place ≡ count → ⊥) → Merged ps kx₀ ky₀ at₀ kx ky (set at i place) count place (i + 1)
-      turn_old q =
-          let l : place < count = cases_le count place (λ g. absurd (q (omega (arith, place_few, g)))) (λ g. g) in
-          let w : kept_of ps (i + 1) ≡ ks = more ∙ with_new_found same2 key ks (omega (arith, e, l, m.counted)) in
-          record { within = omega (arith, h); counted = rw w m.counted; in_kx = rw w m.in_kx; in_ky = rw w m.in_ky; in_at = placed; latest = λ g. last_place }
+    pub turn : Merged ps kx₀ ky₀ at₀ (when eqb place count then set kx count key.0 else kx) (when eqb place count then set ky count key.1 else ky) (set at i place) (when eqb place count then count + 1 else count) (i + 1)
+    turn = on (eqb place count) refl
+      where
+        on : (b : Bool) → eqb place count ≡ b
+            → Merged ps kx₀ ky₀ at₀ (when b then set kx count key.0 else kx) (when b then set ky count key.1 else ky) (set at i place) (when b then count + 1 else count) (i + 1)
+        on true q = turn_new (eqb-true place count q)
+        on false q = turn_old (eqb-false place count q)
 
-      pub turn : Merged ps kx₀ ky₀ at₀ (when eqb place count then set kx count key.0 else kx) (when eqb place count then set ky count key.1 else ky) (set at i place) (when eqb place count then count + 1 else count) place (i + 1)
-      turn = on (eqb place count) refl
-        where
-          on : (b : Bool) → eqb place count ≡ b
-              → Merged ps kx₀ ky₀ at₀ (when b then set kx count key.0 else kx) (when b then set ky count key.1 else ky) (set at i place) (when b then count + 1 else count) place (i + 1)
-          on true q = turn_new (eqb-true place count q)
-          on false q = turn_old (eqb-false place count q)
+    pub place_then : place ≡ place_in same2 key (kept_of ps (i + 1))
+    place_then = rw more (e ∙ sym (place_with_new same2 key ks (same_refl key)))
 
--- ---- what is known of the keys kept, and of one more
-kept_cases : (key : Key2) (ks : List Key2) → (with_new same2 key ks ≡ ks) ⊎ (with_new same2 key ks ≡ ks ++ (key ∷ []))
-kept_cases key ks =
-    cases_le (length ks) (place_in same2 key ks)
-    (λ g. inr (with_new_new same2 key ks g))
-    (λ g. inl (with_new_found same2 key ks g))
-
-module _ (ps : List Key2) (i : ℕ) (h : i < length ps) where
-  abbrev next : Key2
-  next = get_or ps i (0, 0)
-
-  pub stands_turn : (last before : List ℕ) (count : ℕ) → Stands (kept_of ps i) last before count → Stands (kept_of ps (i + 1)) last before count
-  stands_turn last before count s =
-      rw (kept_more same2 [] ps i (0, 0) h)
-      (elim (kept_cases next (kept_of ps i)) [
-        | inl e ↦ rw e s
-        | inr e ↦ rw e (stands_later (kept_of ps i) (next ∷ []) last before count s)
-      ])
-
-  -- the largest first word
-  pub bound_turn : (most : ℕ) → Bounded (kept_of ps i) most → Bounded (kept_of ps (i + 1)) (max most next.0)
-  bound_turn most b =
-      rw (kept_more same2 [] ps i (0, 0) h)
-      (elim (kept_cases next (kept_of ps i)) [
-        | inl e ↦ rw e (λ j g. omega (arith, b j g))
-        | inr e ↦ rw e (new_bound (kept_of ps i) b)
-      ])
-    where
-      new_bound : (ks : List Key2) → Bounded ks most → Bounded (ks ++ (next ∷ [])) (max most next.0)
-      new_bound ks b j g =
-          cases_le (length ks) j
-          (λ q. let e : j ≡ length ks = omega (arith, g, q, length-append ks (next ∷ [])) in rw (e, get_or-append_seam ks next [] (0, 0)) (omega arith))
-          (λ q. rw (get_or-append ks (next ∷ []) (0, 0) j q) (omega (arith, b j q)))
-
--- ---- as many keys as there is room for
-pub merging_first : (x y kx ky at : List ℕ) (n : ℕ) → n ≡ min (min max_merge (min (length kx) (min (length ky) (length at)))) (min (length x) (length y))
-    → pairs (take n x) (take n y) ≡ merging x y kx ky at
-unfolding merging room
-merging_first x y kx ky at n e =
-    sym (take_pairs n x y)
-    ∙ ap (λ (k : ℕ). take k (pairs x y)) (e ∙ ap (min (min max_merge (min (length kx) (min (length ky) (length at))))) (sym (pairs_size x y)))
-    ∙ take_most (min max_merge (min (length kx) (min (length ky) (length at)))) (pairs x y)
-
-pub roomy_first : (x y kx ky at : List ℕ) (n : ℕ) → n ≡ min (min max_merge (min (length kx) (min (length ky) (length at)))) (min (length x) (length y))
-    → Roomy (pairs (take n x) (take n y)) kx ky at
-roomy_first x y kx ky at n e =
-    let s : length (pairs (take n x) (take n y)) ≤ n = omega (arith, pairs_size (take n x) (take n y), length-take-le n x (omega (arith, e))) in
-    record { in_kx = omega (arith, s, e); in_ky = omega (arith, s, e); in_at = omega (arith, s, e); few = omega (arith, s, e) }
+    -- the largest first word
+    pub bound_then : (most : ℕ) → Bounded ks most → Bounded (kept_of ps (i + 1)) (max most key.0)
+    bound_then most b =
+        rw more
+        (cases_le (length ks) (place_in same2 key ks)
+        (λ g. rw (with_new_new same2 key ks g) new_bound)
+        (λ g. rw (with_new_found same2 key ks g) (λ j q. omega (arith, b j q))))
+      where
+        new_bound : Bounded (ks ++ (key ∷ [])) (max most key.0)
+        new_bound j g =
+            cases_le (length ks) j
+            (λ q. let e : j ≡ length ks = omega (arith, g, q, length-append ks (key ∷ [])) in rw (e, get_or-append_seam ks key [] (0, 0)) (omega arith))
+            (λ q. rw (get_or-append ks (key ∷ []) (0, 0) j q) (omega (arith, b j q)))

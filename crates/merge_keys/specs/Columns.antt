@@ -1,7 +1,6 @@
 -- The keys of two columns.
-use Rattle.std.specs.Prelude.{◌≡◌, ◌≤◌, List, length}
+use Rattle.std.specs.Prelude.{List}
 use Rattle.lists.specs.Lists.{pairs}
-use Rattle.rules.specs.Limits.{max_merge}
 use Rattle.rules.specs.Merge.{Key2}
 use Rattle.merge_keys.specs.declared.columns.Columns.{Columns}
 use Rattle.merge_keys.specs.declared.columns.Key.{Key}
@@ -11,8 +10,3 @@ key_of k = (k.x, k.y)
 
 abbrev pub keys_in : Columns → List Key2
 keys_in c = pairs c.x.now c.y.now
-
--- the columns have one length, no more than a merge takes
-pub record Even (c : Columns) : Type 0 where
-  pub same : length c.x.now ≡ length c.y.now
-  pub few : length c.x.now ≤ max_merge

@@ -1,4 +1,3 @@
 -- The definitions that the contracts of merge_keys cite.
 pub mod Columns
 pub mod Keys
-pub mod Slots

@@ -1,6 +1,6 @@
 -- Laws of merges.
 pub mod Spread
-pub mod Found
+pub mod Limited
 pub mod Nets
 pub mod Mux
 pub mod RunLaws

@@ -5,14 +5,17 @@ use mathlib.Core.List.{List}
 use lib.ListN.{length, take}
 use Rattle.lists.specs.Lists.{pairs, up_from}
 use Rattle.lists.specs.Distinct.{kept, places}
+use Rattle.rules.specs.Limits.{max_merge}
 use Rattle.rules.specs.Value.{Value, Control, Pos, Neg}
 use Rattle.rules.specs.Log.{Mux, ◌>>=◌, done, mux_by, add_mux_of}
 use Rattle.rules.specs.Merge.{Key2, same2, spread, add_dedup_mux_of}
 use Rattle.rules.proofs.Chain.{chains_mux}
 use Rattle.log_entries.specs.Emission.{Lent, is_over, run}
 use Rattle.log_entries.proofs.Emission.{run_same}
-use Rattle.merge_keys.specs.Keys.{firsts, seconds}
-use Rattle.merge_mux.specs.Results.{limited, results, Found}
+use Rattle.merge_keys.specs.declared.Kept.{Kept}
+use Rattle.merge_keys.specs.Keys.{firsts, seconds, MergeOf}
+use Rattle.merge_mux.specs.Results.{limited, results}
+use Rattle.merge_mux.proofs.Limited.{limited_pairs}
 use Rattle.merge_mux.proofs.Nets.{request_nets, trace_results}
 
 -- the nets that a mux gives are those up to its next free net
@@ -40,11 +43,10 @@ module _ (c : Control) (a b : Value) where
   unfolding add_dedup_mux_of ◌>>=◌ done
   dedup_value n = refl
 
-module _ (c : Control) (a b kx ky at out out' : List ℕ) (to n k : ℕ) (f : Found a b kx ky at n k) (l l1 : Lent)
-    (e : l1 ≡ run (add_mux_of c (take k kx) (take k ky)) l)
-    (g : out' ≡ results (is_over l1.state) out to (spread (take n at) (add_mux_of c (take k kx) (take k ky) l.state.next).value)) where
+module _ (c : Control) (a b out out' : List ℕ) (to : ℕ) (k : Kept) (f : MergeOf (take max_merge (pairs a b)) k) (l l1 : Lent)
+    (e : l1 ≡ run (add_mux_of c k.x.now k.y.now) l) (g : out' ≡ results (is_over l1.state) out to (spread k.at.now (add_mux_of c k.x.now k.y.now l.state.next).value)) where
   pub merged-run : l1 ≡ run (add_dedup_mux_of c (limited a) (limited b)) l
-  merged-run = (rw (f.kept_x, f.kept_y) at e) ∙ dedup_run c (limited a) (limited b) l
+  merged-run = (rw (f.kept_x, f.kept_y, limited_pairs a b) at e) ∙ dedup_run c (limited a) (limited b) l
 
   pub merged-results : out' ≡ results (is_over l1.state) out to (add_dedup_mux_of c (limited a) (limited b) l.state.next).value
-  merged-results = (rw (f.kept_x, f.kept_y, f.placed) at g) ∙ ap (results (is_over l1.state) out to) (dedup_value c (limited a) (limited b) l.state.next)
+  merged-results = (rw (f.kept_x, f.kept_y, f.placed, limited_pairs a b) at g) ∙ ap (results (is_over l1.state) out to) (dedup_value c (limited a) (limited b) l.state.next)

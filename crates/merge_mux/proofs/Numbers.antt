@@ -17,7 +17,7 @@ use Rattle.rules.specs.Refusals.{mux_number, bitwise_lens_number, bitwise_number
 use Rattle.log_requests.proofs.Numbers.{mux_lens}
 use Rattle.merge_mux.specs.Results.{limited}
 use Rattle.merge_mux.specs.Runs.{bits_taken, bitwise_of}
-use Rattle.merge_mux.proofs.Found.{limited-all}
+use Rattle.merge_mux.proofs.Limited.{limited-all}
 
 -- ---- the bits of a call without a number
 module _ (next room : ℕ) (c : Control) (a b : Value) (e : (mux_number next c a b or_else result_refusal room a) ≡ 0) where

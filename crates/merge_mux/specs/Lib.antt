@@ -1,4 +1,3 @@
 -- The definitions that the contracts of merge_mux cite.
 pub mod Results
-pub mod Room
 pub mod Runs

@@ -2,7 +2,7 @@
 ghost use Rattle.std.specs.Prelude.{◌≡◌, false, not, ◌+◌, ◌-◌, ◌<◌, ◌≤◌, min, length, drop, get_or, eqb, position};
 ghost use Rattle.std.proofs.lemmas.List.Edits.{sets};
 ghost use Rattle.lists.specs.Lists.{part, up_from};
-ghost use Rattle.rules.specs.Limits.{max_merge, X};
+ghost use Rattle.rules.specs.Limits.{X};
 ghost use Rattle.rules.specs.Log.{add_mux_of};
 ghost use Rattle.rules.specs.Merge.{spread, add_dedup_mux_of, add_bitwise_mux_of};
 ghost use Rattle.rules.specs.Value.{Pos};
@@ -10,50 +10,12 @@ ghost use Rattle.net_value.specs.View.{control_of};
 ghost use Rattle.log_entries.specs.Emission.{is_over, run};
 ghost use Rattle.log_entries.specs.View.{state_of, lent_of};
 ghost use Rattle.merge_mux.specs.Runs.{run_at, Bits, Within, bits_taken, bitwise_of};
-ghost use Rattle.merge_mux.specs.Results.{limited, results, Found};
-ghost use Rattle.merge_mux.specs.Room.{zero_keys};
+ghost use Rattle.merge_mux.specs.Results.{limited, results};
 
 use log_entries::{Log, LogState};
 use merge_keys::columns::Columns;
-use merge_keys::table::Table;
+use merge_keys::{Kept, Keys};
 use net_value::{ControlNet, Net};
-
-// The keys that a merge keeps, and each bit's place among them: room that is lent, so that many merges clear it once.
-#[derive(Drop)]
-pub struct Keys {
-    pub x: [u32; rules::MAX_MERGE],
-    pub y: [u32; rules::MAX_MERGE],
-    pub at: [u32; rules::MAX_MERGE],
-    pub table: Table,
-}
-
-impl Keys {
-    // A room of zeros.
-    pub fn new() -> Keys
-        ensures { result ≡ zero_keys }
-    {
-        Keys {
-            x: [0; rules::MAX_MERGE],
-            y: [0; rules::MAX_MERGE],
-            at: [0; rules::MAX_MERGE],
-            table: Table::new(),
-        }
-    }
-
-    // Keeps the keys of two columns, as many as a merge takes, and returns how many are kept.
-    pub fn merge(&mut self, a: &[u32], b: &[u32]) -> usize
-        ensures { Found a.now b.now self.new.x self.new.y self.new.at (min max_merge (min (length a.now) (length b.now))) result }
-    {
-        let given = Columns { x: a, y: b };
-        merge_keys::merge(
-            &mut self.x,
-            &mut self.y,
-            &mut self.at,
-            &mut self.table,
-            given,
-        )
-    }
-}
 
 // The net of a kept bit: `first` is that of the first of `width` kept bits.
 #[tactic(auto, using(lists::proofs::UpFrom::up_at, lists::proofs::UpFrom::up_past))]
@@ -92,21 +54,13 @@ pub fn spread_results(out: &mut [u32], to: usize, st: LogState, after: LogState,
 }
 
 // A mux of kept bits, whose result nets go to each bit by its place, from `to` on.
-pub fn emit_kept_mux(
-    log: &mut Log,
-    out: &mut [u32],
-    to: usize,
-    select: ControlNet,
-    a: &[u32],
-    b: &[u32],
-    at: &[u32],
-)
-    ensures log_after { lent_of log.new ≡ run (add_mux_of (control_of select) a.now b.now) (lent_of log.old) }
-    ensures out_after { out.new ≡ results (is_over (state_of log.new.state)) out.old to (spread at.now (add_mux_of (control_of select) a.now b.now log.old.state.next).value) }
+pub fn emit_kept_mux(log: &mut Log, out: &mut [u32], to: usize, select: ControlNet, kept: Kept<'_>)
+    ensures log_after { lent_of log.new ≡ run (add_mux_of (control_of select) kept.entry.x.now kept.entry.y.now) (lent_of log.old) }
+    ensures out_after { out.new ≡ results (is_over (state_of log.new.state)) out.old to (spread kept.entry.at.now (add_mux_of (control_of select) kept.entry.x.now kept.entry.y.now log.old.state.next).value) }
 {
     let st = log.state;
-    log.emit_mux(select, a, b);
-    spread_results(out, to, st, log.state, at);
+    log.emit_mux(select, kept.x, kept.y);
+    spread_results(out, to, st, log.state, kept.at);
 }
 
 // add_dedup_mux without its numbers: a mux in which equal bits are kept once. The result net of each bit goes to `out`, from `to` on.
@@ -122,17 +76,8 @@ pub fn emit_dedup_mux(
     ensures log_after { lent_of log.new ≡ run (add_dedup_mux_of (control_of select) (limited a.now) (limited b.now)) (lent_of log.old) }
     ensures out_after { out.new ≡ results (is_over (state_of log.new.state)) out.old to (add_dedup_mux_of (control_of select) (limited a.now) (limited b.now) log.old.state.next).value }
 {
-    let n = rules::MAX_MERGE.min(a.len().min(b.len()));
-    let k = keys.merge(a, b);
-    emit_kept_mux(
-        log,
-        out,
-        to,
-        select,
-        &keys.x[..k],
-        &keys.y[..k],
-        &keys.at[..n],
-    );
+    let kept = keys.merge(Columns { x: a, y: b });
+    emit_kept_mux(log, out, to, select, kept);
 }
 
 // Where the first element stands that differs from x.

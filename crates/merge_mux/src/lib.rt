@@ -13,8 +13,8 @@ ghost use Rattle.log_requests.specs.Merged.{merged_of};
 ghost use Rattle.merge_mux.specs.Results.{limited};
 ghost use Rattle.merge_mux.specs.Runs.{bitwise_of};
 
-use emit::Keys;
 use log_entries::{Log, LogState};
+use merge_keys::Keys;
 use net_value::ControlNet;
 use rules::Refusal;
 

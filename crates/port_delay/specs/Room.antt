@@ -1,5 +1,5 @@
 -- The room of a delayed port before anything is stored in it.
-use Rattle.merge_mux.specs.Room.{zeros, zero_keys}
+use Rattle.merge_keys.specs.Keys.{zeros, zero_keys}
 use Rattle.merge_dff.specs.Room.{zero_trits}
 use Rattle.port_delay.specs.declared.Room.{Room}
 

@@ -16,7 +16,7 @@ ghost use Rattle.port_delay.specs.Room.{zero_room};
 
 use log_entries::Log;
 use merge_dff::Trits;
-use merge_mux::emit::Keys;
+use merge_keys::Keys;
 use net_flip_flop::{Controls, FlipFlop};
 use net_memory::WritePort;
 use net_value::ControlNet;

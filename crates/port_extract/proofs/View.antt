@@ -7,6 +7,7 @@ use lib.ListN.{length, take, drop, get_or, set, length-drop, length-append, leng
 use lib.Seq.{sets, sets-eq, take_all, take_at, drop_at, length-take-le, get_or-take}
 use Rattle.lists.specs.Lists.{sum_by, part, concat_map}
 use Rattle.lists.specs.Views.{views}
+use Rattle.lists.proofs.Choice.{cases_le}
 use Rattle.lists.proofs.Concat.{views_concat, concat_map_lem, length_concat}
 use Rattle.lists.proofs.Parts.{length_part}
 use Rattle.lists.proofs.Store.{sets_more}
@@ -15,6 +16,8 @@ use Rattle.lists.proofs.Views.{get_d_views, views_front}
 use Rattle.rules.specs.Limits.{max_ports}
 use Rattle.rules.specs.Cell.{ReadPort, read_at_of, with_reads, port_nets, port_trits, flat_nets, flat_trits}
 use Rattle.rules.specs.Ports.{extract_read_ports}
+use Rattle.net_flip_flop.specs.declared.Controls.{Controls}
+use Rattle.std.specs.Prelude.{None, Some}
 use Rattle.net_memory.specs.FlipFlop.{MemoryReadFlipFlop}
 use Rattle.net_memory.specs.declared.MemoryReadPort.{MemoryReadPort}
 use Rattle.net_memory.specs.declared.Memory.{Memory}
@@ -29,11 +32,22 @@ port_is m k h = get_or-take (min max_ports m.read_count) m.read_ports k no_read_
 
 -- the trits that are kept of a port: none where it is not there, or has no flip-flop
 module _ (m : Memory) (trits : List ℕ) (k : ℕ) where
-  pub kept_none : min max_ports m.read_count ≤ k → [] ≡ kept_trits m trits k
+  kept_none : min max_ports m.read_count ≤ k → [] ≡ kept_trits m trits k
   kept_none h = sym (ap (kept_list (port_of m k).flip_flop) (trits_none m [] trits k h) ∙ kept_nil (port_of m k).flip_flop)
 
-  pub kept_by : (f : MemoryReadFlipFlop) → k < min max_ports m.read_count → (read_port m k).flip_flop ≡ f → kept_list f (read_trits m trits k) ≡ kept_trits m trits k
+  kept_by : (f : MemoryReadFlipFlop) → k < min max_ports m.read_count → (read_port m k).flip_flop ≡ f → kept_list f (read_trits m trits k) ≡ kept_trits m trits k
   kept_by f h e = ap (λ (g : MemoryReadFlipFlop). kept_list g (read_trits m trits k)) (sym (ap (λ (p : MemoryReadPort). p.flip_flop) (port_is m k h) ∙ e))
+
+  -- by the port that is read
+  module _ (p : MemoryReadPort) (own : k < min max_ports m.read_count → p ≡ read_port m k) where
+    pub kept_without : p.flip_flop ≡ None → [] ≡ kept_trits m trits k
+    kept_without q = cases_le (min max_ports m.read_count) k kept_none (λ h. kept_by None h (ap (λ (r : MemoryReadPort). r.flip_flop) (sym (own h)) ∙ q))
+
+    pub kept_with : (c : Controls) (y : List ℕ) → p.flip_flop ≡ Some c → y ≡ read_trits m trits k → y ≡ kept_trits m trits k
+    kept_with c y q e =
+        cases_le (min max_ports m.read_count) k
+        (λ h. e ∙ trits_none m [] trits k h ∙ kept_none h)
+        (λ h. e ∙ kept_by (Some c) h (ap (λ (r : MemoryReadPort). r.flip_flop) (sym (own h)) ∙ q))
 
 -- a turn of the loop that stores the listed ports
 pub ports_turn : (m : Memory) (list : List ℕ) (j k : ℕ) (p : MemoryReadPort) → j < length list → k ≡ get_or list j 0 → ListedPorts m list → p ≡ kept_port (read_port m k)

@@ -18,28 +18,25 @@ use rules::Refusal;
 
 // Port i's part of the outputs.
 #[tactic(auto, unfolding(rules::specs::Cell::output_slice))]
-fn output_part(m: Memory, output: &[u32], i: usize) -> &[u32]
-    ensures by_index { (nets trits : List ℕ) → result.now ≡ output_slice (memory_of m nets trits) i output.now }
+fn output_part<'a>(m: &Memory, output: &'a [u32], i: usize) -> &'a [u32]
+    ensures by_index { (nets trits : List ℕ) → result.now ≡ output_slice (memory_of m.now nets trits) i output.now }
     ensures result_len_bound { length result.now < 0x100000000 }
 {
     lists::part(
         output,
-        net_memory::output_start(&m, i),
-        net_memory::read_data_len(&m, i),
+        net_memory::output_start(m, i),
+        net_memory::read_data_len(m, i),
     )
 }
 
 // The trits of port i where it has a flip-flop; none otherwise.
-#[tactic(auto, using(crate::proofs::View::kept_none, crate::proofs::View::kept_by))]
-fn clocked_trits<'a>(given: Given<'a>, i: usize) -> &'a [u8]
-    ensures { (result.now ≡ kept_trits given.entry.memory given.entry.trits.now i) × (length result.now < 0x300000000) }
+#[tactic(auto, using(crate::proofs::View::kept_without))]
+fn clocked_trits<'a>(given: &Given<'a>, i: usize) -> &'a [u8]
+    ensures { (result.now ≡ kept_trits given.now.memory given.now.trits.now i) × (length result.now < 0x300000000) }
 {
-    if net_memory::ports_used(given.memory.read_count) <= i {
-        return &given.trits[..0];
-    }
     let r = given.read_port(i);
     match r.port.flip_flop {
-        None => &given.trits[..0],
+        None => &r.trits[..0],
         Some(_) => r.trits,
     }
 }
@@ -69,20 +66,20 @@ fn put_parts<'a, T: Copy + 'a, F: Fn(usize) -> &'a [T]>(
 
 // Stores the outputs of the listed ports, and says where they end.
 #[tactic(auto, unfolding(rules::specs::Ports::extract_read_ports))]
-fn put_outputs(room: &mut [u32], m: Memory, output: &[u32], list: &[u32]) -> usize
+fn put_outputs(room: &mut [u32], m: &Memory, output: &[u32], list: &[u32]) -> usize
     requires { length list.now ≤ max_ports }
-    ensures by_index { (nets trits : List ℕ) → result ≡ length (new_output m nets trits list.now output.now) }
-    ensures by_index_2 { (nets trits : List ℕ) → room.new ≡ sets room.old 0 (new_output m nets trits list.now output.now) }
+    ensures by_index { (nets trits : List ℕ) → result ≡ length (new_output m.now nets trits list.now output.now) }
+    ensures by_index_2 { (nets trits : List ℕ) → room.new ≡ sets room.old 0 (new_output m.now nets trits list.now output.now) }
 {
     put_parts(room, 0, list, |k| output_part(m, output, k))
 }
 
 // Stores the new nets, and says how many they are.
 #[tactic(auto, using(crate::proofs::Stored::joined, crate::proofs::Stored::joined_length))]
-fn put_nets(room: &mut [u32], given: Given<'_>, list: &[u32]) -> usize
+fn put_nets(room: &mut [u32], given: &Given<'_>, list: &[u32]) -> usize
     requires { length list.now ≤ max_ports }
-    ensures value { result ≡ length (new_nets given.entry.memory given.entry.nets.now list.now) }
-    ensures room_after { room.new ≡ sets room.old 0 (new_nets given.entry.memory given.entry.nets.now list.now) }
+    ensures value { result ≡ length (new_nets given.now.memory given.now.nets.now list.now) }
+    ensures room_after { room.new ≡ sets room.old 0 (new_nets given.now.memory given.now.nets.now list.now) }
 {
     let front = lists::part(given.nets, 0, net_memory::reads_start(&given.memory));
     lists::copy(room, 0, front);
@@ -91,10 +88,10 @@ fn put_nets(room: &mut [u32], given: Given<'_>, list: &[u32]) -> usize
 
 // Stores the new trits, and says how many they are.
 #[tactic(auto, using(crate::proofs::Stored::joined, crate::proofs::Stored::joined_length))]
-fn put_trits(room: &mut [u8], given: Given<'_>, list: &[u32]) -> usize
+fn put_trits(room: &mut [u8], given: &Given<'_>, list: &[u32]) -> usize
     requires { length list.now ≤ max_ports }
-    ensures value { result ≡ length (new_trits given.entry.memory given.entry.trits.now list.now) }
-    ensures room_after { room.new ≡ sets room.old 0 (new_trits given.entry.memory given.entry.trits.now list.now) }
+    ensures value { result ≡ length (new_trits given.now.memory given.now.trits.now list.now) }
+    ensures room_after { room.new ≡ sets room.old 0 (new_trits given.now.memory given.now.trits.now list.now) }
 {
     let front = lists::part(given.trits, 0, net_memory::init_size(given.memory));
     lists::copy(room, 0, front);
@@ -116,11 +113,11 @@ fn kept_port(p: MemoryReadPort) -> MemoryReadPort
 
 // The struct with the listed ports.
 #[tactic(auto, using(crate::proofs::View::ports_turn))]
-fn pick_ports(m: Memory, list: &[u32]) -> Memory
-    requires { ListedPorts m list.now }
-    ensures { result ≡ with_ports m list.now }
+fn pick_ports(m: &Memory, list: &[u32]) -> Memory
+    requires { ListedPorts m.now list.now }
+    ensures { result ≡ with_ports m.now list.now }
 {
-    let mut out = m;
+    let mut out = *m;
     out.read_count = list.len() as u32;
     for (j, k) in list.iter().enumerate() {
         out.read_ports[j] = kept_port(m.read_ports[*k as usize]);
@@ -129,9 +126,9 @@ fn pick_ports(m: Memory, list: &[u32]) -> Memory
 }
 
 // What is to be stored does not fit its room: a run without room stores nothing that is kept.
-fn rooms_bad(given: Given<'_>, list: &[u32], output: &[u32], a: usize, b: usize, c: usize) -> bool
-    requires { Ready given.memory given.nets.now given.trits.now list.now }
-    ensures { result ≡ no_rooms (record { nets = a; trits = b; output = c }) (extraction_of given.entry.memory given.entry.nets.now given.entry.trits.now list.now output.now) }
+fn rooms_bad(given: &Given<'_>, list: &[u32], output: &[u32], a: usize, b: usize, c: usize) -> bool
+    requires { Ready given.now.memory given.now.nets.now given.now.trits.now list.now }
+    ensures { result ≡ no_rooms (record { nets = a; trits = b; output = c }) (extraction_of given.now.memory given.now.nets.now given.now.trits.now list.now output.now) }
 {
     let mut words = [0u32; 1];
     let mut codes = [0u8; 1];
@@ -141,7 +138,7 @@ fn rooms_bad(given: Given<'_>, list: &[u32], output: &[u32], a: usize, b: usize,
     if b < put_trits(&mut codes, given, list) {
         return true;
     }
-    c < put_outputs(&mut words, given.memory, output, list)
+    c < put_outputs(&mut words, &given.memory, output, list)
 }
 
 // 1 to 4, 15 and 20 of an extraction with rooms of these lengths.
@@ -161,7 +158,7 @@ fn extract_refusal(
     if port_outputs::port_missing(given.memory, list) {
         return Err(Refusal::OutOfRange);
     }
-    if rooms_bad(given, list, output, a, b, c) {
+    if rooms_bad(&given, list, output, a, b, c) {
         return Err(Refusal::NoRoom);
     }
     Ok(())
@@ -187,8 +184,8 @@ pub fn extract_read_ports(
         room_trits.len(),
         room_output.len(),
     )?;
-    put_nets(room_nets, given, list);
-    put_trits(room_trits, given, list);
-    put_outputs(room_output, given.memory, output, list);
-    Ok(pick_ports(given.memory, list))
+    put_nets(room_nets, &given, list);
+    put_trits(room_trits, &given, list);
+    put_outputs(room_output, &given.memory, output, list);
+    Ok(pick_ports(&given.memory, list))
 }

@@ -133,10 +133,3 @@ module _ (masked : Bool) (m : Memory) (nets trits : List ℕ) (i j : ℕ) (bits 
 
     pub log_last : (x : rules.Overlaid) → room ≡ 0 → x ≡ overlaid (log_refusal (length log) (state_of st) T) bits-to mask-to log (state_of st) T → x ≡ call
     log_last x q e = e ∙ ap (λ (n : ℕ). overlaid n bits-to mask-to log (state_of st) T) (sym (rest ∙ else_rest room _ q)) ∙ call_is
-
--- ---- a store
-pub store_is : (wanted : Bool) (n : ℕ) (to to' x from : List ℕ) → wanted ≡ true → x ≡ take n from → to' ≡ sets to 0 x → to' ≡ sets to 0 (wanted_of wanted (take n from))
-store_is wanted n to to' x from q e h = h ∙ ap (sets to 0) e ∙ ap (λ (t : Bool). sets to 0 (wanted_of t (take n from))) (sym q)
-
-pub store_not : (wanted : Bool) (to v : List ℕ) → wanted ≡ false → to ≡ sets to 0 (wanted_of wanted v)
-store_not wanted to v q = ap (λ (t : Bool). sets to 0 (wanted_of t v)) (sym q)

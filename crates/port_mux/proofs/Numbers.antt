@@ -13,18 +13,19 @@ use Rattle.rules.specs.Refusal.{number}
 use Rattle.rules.proofs.Answers.{else_err, else_ok}
 use Rattle.rules.specs.Limits.{max_ports}
 use Rattle.rules.specs.Value.{Value}
-use Rattle.rules.specs.Cell.{ReadPort, Mem, wide_log2, read_wide_log2, read_at_of, held}
+use Rattle.rules.specs.Cell.{ReadPort, Mem, read_at_of, held}
 use Rattle.rules.specs.Conditions.{short_pair, bad_port, not_below, no_room_of, long_value, bad_value}
 use Rattle.rules.specs.Ports.{Overlay}
 use Rattle.rules.specs.Refusals.{mem_number, overlay_values, bad_overlay_lens, no_pair, pair_ports_number, transparency_mux_number, overlay_refusal}
 use Rattle.net_memory.specs.declared.Memory.{Memory}
 use Rattle.net_memory.specs.View.{memory_of, reads_of, writes_of, read_port}
 use Rattle.net_memory.specs.Given.{given_of}
-use Rattle.port_overlay.proofs.Laid.{width_is}
 use Rattle.net_memory.proofs.Ports.{read_of_view, reads_at}
-use Rattle.port_mux.specs.Call.{overlay_of, given_mask}
+use Rattle.port_mux.specs.declared.Asked.{Asked}
+use Rattle.port_mux.specs.Call.{overlay_of, given_mask, asked_of}
 use Rattle.std.specs.Prelude.{Option, None, Some, is_some}
 use Rattle.std.specs.Borrow.{Bor}
+use Rattle.std.specs.Option.{MatchOption}
 
 -- ---- a mask that is handed, or none
 pub none_is : (o : Option (Bor Value)) → o ≡ None → is_some o ≡ false
@@ -34,37 +35,39 @@ pub some_is : (o : Option (Bor Value)) (k : Bor Value) → o ≡ Some k → (is_
 some_is o k e = (ap (λ (x : Option (Bor Value)). is_some x) e, sym (ap given_mask e))
 
 -- ---- a test of the overlay's values
+abbrev pub is_some_so : (Value → Bool) → Option (Bor Value) → Bool
+is_some_so f None = false
+is_some_so f (Some k) = f k.now
+
+pub some_so : (f : Value → Bool) (o : Option (Bor Value)) (r : Bool) (Q : Bor Value → Type 0) → MatchOption o (r ≡ false) Q → ((v : Bor Value) → Q v → r ≡ f v.now) → r ≡ is_some_so f o
+some_so f None r Q h e = h
+some_so f (Some k) r Q h e = e k h
+
 or_none : (a : Bool) → a ≡ (a || false)
 or_none true = refl
 or_none false = refl
 
-module _ (f : Value → Bool) (b k : Value) (masked : Bool) where
-  pub any_first : f b ≡ true → true ≡ any f (overlay_values (overlay_of masked b k))
+module _ (f : Value → Bool) (o : Asked) where
+  pub any_first : f o.bits.now ≡ true → true ≡ any f (overlay_values (asked_of o))
   unfolding overlay_values
-  any_first e = sym (ap (λ (t : Bool). t || any f (held (overlay_of masked b k).mask)) e)
+  any_first e = sym (ap (λ (t : Bool). t || any f (held (asked_of o).mask)) e)
 
-  pub any-plain : masked ≡ false → f b ≡ false → false ≡ any f (overlay_values (overlay_of masked b k))
-  unfolding overlay_values held
-  any-plain e h = sym (λ i. h i || any f (held (overlay_of (e i) b k).mask))
+  mask_held : (m : Option (Bor Value)) → any f (held (overlay_of (is_some m) o.bits.now (given_mask m)).mask) ≡ is_some_so f m
+  unfolding held
+  mask_held None = refl
+  mask_held (Some k) = sym (or_none (f k.now))
 
-  pub any-masked : (r : Bool) → masked ≡ true → f b ≡ false → r ≡ f k → r ≡ any f (overlay_values (overlay_of masked b k))
-  unfolding overlay_values held
-  any-masked r e h q = q ∙ or_none (f k) ∙ sym (λ i. h i || any f (held (overlay_of (e i) b k).mask))
+  pub any_rest : f o.bits.now ≡ false → is_some_so f o.mask ≡ any f (overlay_values (asked_of o))
+  unfolding overlay_values
+  any_rest e = sym (mask_held o.mask) ∙ sym (ap (λ (t : Bool). t || any f (held (asked_of o).mask)) e)
 
 -- ---- the port that the code reads
-wide_by : (v : Mem) (r : ReadPort) → wide_log2 v.width r.data_len ≡ read_wide_log2 v r
-unfolding read_wide_log2
-wide_by v r = refl
-
 module _ (m : Memory) (nets trits : List ℕ) (i : ℕ) (h : i < min max_ports m.read_count) where
   abbrev M : Mem
   M = memory_of m nets trits
 
   pub data_at : (read_at_of M i).data_len ≡ (read_port m i).data_len
   data_at = ap (λ (r : ReadPort). r.data_len) (read_of_view m nets trits i ∙ reads_at m nets trits i h)
-
-  pub wide_at : (kr n : ℕ) → kr ≡ wide_log2 m.width n → n ≡ (read_port m i).data_len → kr ≡ read_wide_log2 M (read_at_of M i)
-  wide_at kr n e d = e ∙ (λ j. wide_log2 (width_is m nets trits j) ((d ∙ sym data_at) j)) ∙ wide_by M (read_at_of M i)
 
 module _ (m : Memory) (nets trits : List ℕ) (i : ℕ) (rl : length (reads_of m nets trits) ≡ min max_ports m.read_count) where
   pub port_none : min max_ports m.read_count ≤ i → bad_port (memory_of m nets trits) i ≡ true

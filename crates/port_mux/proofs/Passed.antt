@@ -15,7 +15,7 @@ use Rattle.lists.proofs.All.{any_at}
 use Rattle.lists.proofs.Stores.{take_stored}
 use Rattle.rules.specs.Limits.{max_ports, X}
 use Rattle.rules.specs.Value.{Value}
-use Rattle.rules.specs.Cell.{Mem, wide_log2, write_at, read_at_of, held, or_empty}
+use Rattle.rules.specs.Cell.{Mem, read_wide_log2, write_at, read_at_of, held, or_empty}
 use Rattle.rules.specs.Log.{LogState, start_net}
 use Rattle.rules.specs.Conditions.{bad_write_shape, bad_read_shape, bad_shape, bad_port, not_below, short_pair, no_room_of, long_value, bad_value}
 use Rattle.rules.specs.Ports.{Overlay, transparency_mux}
@@ -33,7 +33,7 @@ use Rattle.port_overlay.proofs.Laid.{width_is}
 use Rattle.port_overlay.proofs.Fits.{Reads, Writes, writes_shaped, reads_shaped, size_few, laid_is}
 use Rattle.port_overlay.proofs.Bounds.{Small, FewMask, most_mux}
 use Rattle.port_mux.specs.Call.{overlay_of, Paired}
-use Rattle.port_mux.proofs.Numbers.{data_at, wide_at}
+use Rattle.port_mux.proofs.Numbers.{data_at}
 
 -- ---- what the numbers tell
 and_false : (a b : Bool) → (not a && b) ≡ false → a ≡ false → b ≡ false
@@ -179,34 +179,32 @@ module _ (m : Memory) (nets trits : List ℕ) (i j : ℕ) (masked : Bool) (bits 
       mask_few q = omega (arith, g.mask_like q, data_few)
 
   -- the pair as the code has it
-  pub pair_is : (kr n : ℕ) (raddr : Value) (x : Overlay) → kr ≡ wide_log2 m.width n → n ≡ (read_port m i).data_len → raddr ≡ (read_at_of W i).addr
-      → laid_by W kr (reading raddr n) j x ≡ transparency_mux W i j x
-  pair_is kr n raddr x ek en ea =
-      let k = wide_at m nets trits i g.there kr n ek en in
-      let d = en ∙ sym (data_at m nets trits i g.there) in
-      (λ q. laid_by W (k q) (reading (ea q) (d q)) j x) ∙ laid_is W i g.writes_good reads_of_lem thin_of j x g.written g.enough
+  module _ (kr n : ℕ) (raddr : List ℕ) (ek : kr ≡ read_wide_log2 W (read_at_of W i)) (ea : raddr ≡ (read_at_of W i).addr) (en : n ≡ (read_at_of W i).data_len) where
+    pair_is : (x : Overlay) → laid_by W kr (reading raddr n) j x ≡ transparency_mux W i j x
+    pair_is x = (λ q. laid_by W (ek q) (reading (ea q) (en q)) j x) ∙ laid_is W i g.writes_good reads_of_lem thin_of j x g.written g.enough
 
-  module _ (kr : ℕ) (raddr under under1 under2 : List ℕ) (l l1 : Lent) (ek : kr ≡ wide_log2 m.width (length bits))
-      (ea : raddr ≡ (read_at_of W i).addr) (eu : under1 ≡ sets under 0 bits) (ru : 4096 ≤ length under) where
-    abbrev n : ℕ
-    n = length bits
+    n_is : n ≡ length bits
+    n_is = en ∙ sym len_is
 
-    bits_are : take n under1 ≡ bits
-    bits_are = take_stored under under1 bits n eu refl (omega (arith, g.bits_like, data_few))
+    module _ (under under1 under2 : List ℕ) (l l1 : Lent) (eu : under1 ≡ sets under 0 bits) (ru : 4096 ≤ length under) where
+      bits_are : take n under1 ≡ bits
+      bits_are = take_stored under under1 bits n eu n_is (omega (arith, n_is, g.bits_like, data_few))
 
-    pub gave_plain : (over2 : List ℕ) → masked ≡ false → Gave (laid_by W kr (reading raddr n) j (plain (take n under1))) l l1 (plain (take n under2))
-        → Gave (transparency_mux W i j (overlay_of masked bits mask)) l l1 (overlay_of masked (take n under2) (take n over2))
-    gave_plain over2 q h =
-        subst (λ (b : Bool). Gave (transparency_mux W i j (overlay_of b bits mask)) l l1 (overlay_of b (take n under2) (take n over2))) (sym q)
-        (subst (λ (v : Value). Gave (transparency_mux W i j (plain v)) l l1 (plain (take n under2))) bits_are
-        (rw (pair_is kr n raddr (plain (take n under1)) ek g.bits_like ea) at h))
+      pub gave_plain : (over2 : List ℕ) → masked ≡ false → Gave (laid_by W kr (reading raddr n) j (plain (take n under1))) l l1 (plain (take n under2))
+          → Gave (transparency_mux W i j (overlay_of masked bits mask)) l l1 (overlay_of masked (take (length bits) under2) (take (length bits) over2))
+      gave_plain over2 q h =
+          subst (λ (k : ℕ). Gave (transparency_mux W i j (overlay_of masked bits mask)) l l1 (overlay_of masked (take k under2) (take k over2))) n_is
+          (subst (λ (b : Bool). Gave (transparency_mux W i j (overlay_of b bits mask)) l l1 (overlay_of b (take n under2) (take n over2))) (sym q)
+          (subst (λ (v : Value). Gave (transparency_mux W i j (plain v)) l l1 (plain (take n under2))) bits_are
+          (rw (pair_is (plain (take n under1))) at h)))
 
-    pub gave_masked : (over over1 over2 : List ℕ) → masked ≡ true → over1 ≡ sets over 0 mask → 4096 ≤ length over
-        → Gave (laid_by W kr (reading raddr n) j (with_mask (take n under1) (take n over1))) l l1 (with_mask (take n under2) (take n over2))
-        → Gave (transparency_mux W i j (overlay_of masked bits mask)) l l1 (overlay_of masked (take n under2) (take n over2))
-    gave_masked over over1 over2 q eo ro h =
-        let b = take_stored over over1 mask n eo (g.bits_like ∙ sym (g.mask_like q)) (omega (arith, g.bits_like, data_few)) in
-        subst (λ (t : Bool). Gave (transparency_mux W i j (overlay_of t bits mask)) l l1 (overlay_of t (take n under2) (take n over2))) (sym q)
-        (subst (λ (v : Value). Gave (transparency_mux W i j (with_mask bits v)) l l1 (with_mask (take n under2) (take n over2))) b
-        (subst (λ (v : Value). Gave (transparency_mux W i j (with_mask v (take n over1))) l l1 (with_mask (take n under2) (take n over2))) bits_are
-        (rw (pair_is kr n raddr (with_mask (take n under1) (take n over1)) ek g.bits_like ea) at h)))
+      pub gave_masked : (over over1 over2 : List ℕ) → masked ≡ true → over1 ≡ sets over 0 mask → 4096 ≤ length over
+          → Gave (laid_by W kr (reading raddr n) j (with_mask (take n under1) (take n over1))) l l1 (with_mask (take n under2) (take n over2))
+          → Gave (transparency_mux W i j (overlay_of masked bits mask)) l l1 (overlay_of masked (take (length bits) under2) (take (length bits) over2))
+      gave_masked over over1 over2 q eo ro h =
+          let b = take_stored over over1 mask n eo (n_is ∙ g.bits_like ∙ sym (g.mask_like q)) (omega (arith, n_is, g.bits_like, data_few)) in
+          subst (λ (k : ℕ). Gave (transparency_mux W i j (overlay_of masked bits mask)) l l1 (overlay_of masked (take k under2) (take k over2))) n_is
+          (subst (λ (t : Bool). Gave (transparency_mux W i j (overlay_of t bits mask)) l l1 (overlay_of t (take n under2) (take n over2))) (sym q)
+          (subst (λ (v : Value). Gave (transparency_mux W i j (with_mask bits v)) l l1 (with_mask (take n under2) (take n over2))) b
+          (subst (λ (v : Value). Gave (transparency_mux W i j (with_mask v (take n over1))) l l1 (with_mask (take n under2) (take n over2))) bits_are
+          (rw (pair_is (with_mask (take n under1) (take n over1))) at h))))

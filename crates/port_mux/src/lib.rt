@@ -3,9 +3,10 @@
 // Where no mask is wanted the room for the mask after it plays no part.
 #![tactic(auto)]
 
-ghost use Rattle.std.specs.Prelude.{◌≡◌, length, take, is_some};
+ghost use Rattle.std.specs.Prelude.{◌≡◌, Bool, length, take, is_some};
 ghost use Rattle.std.proofs.lemmas.List.Edits.{sets};
 ghost use Rattle.lists.specs.Lists.{any};
+ghost use Rattle.rules.specs.Value.{Value};
 ghost use Rattle.rules.specs.Conditions.{long_value, bad_value};
 ghost use Rattle.rules.specs.Ports.{transparency_mux};
 ghost use Rattle.rules.specs.Refusal.{number_of};
@@ -19,7 +20,7 @@ ghost use Rattle.port_mux.specs.Call.{overlay_of, given_mask, asked_of, wanted_o
 use log_entries::{Log, LogState};
 use net_check::Breaks;
 use net_memory::Given;
-use port_transparency::{NoMask, Overlay, Reading};
+use port_transparency::{NoMask, Overlay};
 use rules::Refusal;
 
 // What a write port is laid over: data, and a mask where one is wanted.
@@ -29,17 +30,21 @@ pub struct Asked<'a> {
     pub mask: Option<&'a [u32]>,
 }
 
+impl<'a> Asked<'a> {
+    // One of the values is so.
+    fn any<F: Fn(&'a [u32]) -> bool>(self, test: F) -> bool
+        requires callable { F.IsAlwaysCallable test }
+        ensures { (f : Value → Bool) → ((v : _) (r : _) → F.post test v r → r ≡ f v.now) → result ≡ any f (overlay_values (asked_of self.entry)) }
+    {
+        test(self.bits) || self.mask.is_some_and(test)
+    }
+}
+
 // A value has more nets than a merge takes.
 fn overlay_long(o: Asked<'_>) -> bool
     ensures { result ≡ any long_value (overlay_values (asked_of o.entry)) }
 {
-    if rules::MAX_MERGE < o.bits.len() {
-        return true;
-    }
-    match o.mask {
-        None => false,
-        Some(mask) => rules::MAX_MERGE < mask.len(),
-    }
+    o.any(|value| rules::MAX_MERGE < value.len())
 }
 
 // A value is not as long as the data of read port i.
@@ -50,26 +55,14 @@ fn overlay_unlike(given: Given<'_>, o: Asked<'_>, i: usize) -> bool
         return false;
     }
     let n = given.read_port(i).port.data_len as usize;
-    if o.bits.len() != n {
-        return true;
-    }
-    match o.mask {
-        None => false,
-        Some(mask) => mask.len() != n,
-    }
+    o.any(|value| value.len() != n)
 }
 
 // A value has a net that is none.
 fn overlay_bad(next: u32, o: Asked<'_>) -> bool
     ensures { result ≡ any (bad_value next) (overlay_values (asked_of o.entry)) }
 {
-    if !net_value::value_good(next, o.bits) {
-        return true;
-    }
-    match o.mask {
-        None => false,
-        Some(mask) => !net_value::value_good(next, mask),
-    }
+    o.any(|value| !net_value::value_good(next, value))
 }
 
 // 14 and 15 of a pair of ports.
@@ -82,9 +75,8 @@ fn pair_refusal(given: Given<'_>, i: usize, j: usize) -> Result<(), Refusal>
     if net_memory::ports_used(given.memory.write_count) <= j {
         return Err(Refusal::OutOfRange);
     }
-    let r = given.read_port(i);
-    let kr = net_memory::wide::wide_log(given.memory.width, r.port.data_len as usize);
-    if port_unmap::pair_short(given, r.addr(), kr, j) {
+    let r = port_unmap::reading(given.memory.width, given.read_port(i));
+    if port_unmap::pair_short(given, r, j) {
         return Err(Refusal::ShortAddress);
     }
     Ok(())
@@ -130,11 +122,7 @@ fn emit_mux<'a>(
     requires { Paired given.memory given.nets.now given.trits.now i j (is_some o.mask) o.bits.now (given_mask o.mask) }
     ensures { Gave (transparency_mux (mem_of given.entry) i j (asked_of o.entry)) (lent_of log.old) (lent_of log.new) (overlay_of (is_some o.entry.mask) (take (length o.entry.bits.now) overlay.new.under) (take (length o.entry.bits.now) over.new)) }
 {
-    let r = Reading {
-        k: net_memory::wide::wide_log(given.memory.width, o.bits.len()),
-        addr: given.read_port(i).addr(),
-        count: o.bits.len(),
-    };
+    let r = port_unmap::reading(given.memory.width, given.read_port(i));
     lists::copy(&mut overlay.under, 0, o.bits);
     match o.mask {
         None => port_overlay::emit_pair(log, overlay, &mut NoMask, given, j, r),

@@ -25,7 +25,7 @@ use Rattle.net_flip_flop.specs.View.{flip_flop}
 use Rattle.log_entries.specs.Emission.{Lent, is_over, run}
 use Rattle.merge_mux.specs.Results.{limited, results}
 use Rattle.merge_mux.specs.Runs.{bitwise_of}
-use Rattle.merge_mux.proofs.Found.{limited-all}
+use Rattle.merge_mux.proofs.Limited.{limited-all}
 use Rattle.merge_mux.proofs.Spread.{length_spread, results_are}
 use Rattle.port_transparency.specs.Gave.{Gave}
 use Rattle.port_transparency.specs.Pairs.{with_mask}

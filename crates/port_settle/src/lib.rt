@@ -2,12 +2,22 @@
 // to them are Undefined.
 #![tactic(auto)]
 
-ghost use Rattle.std.specs.Prelude.{◌≡◌, List, ℕ, min};
+ghost use Rattle.std.specs.Prelude.{◌≡◌, ◌≤◌, List, ℕ, length, min};
 ghost use Rattle.rules.specs.Limits.{max_ports};
 ghost use Rattle.net_memory.specs.View.{memory_of};
-ghost use Rattle.port_settle.specs.Settled.{is_read, reads_before, turned_mem, settled_mem, other_edge_of, turned_port, undefined_if, settled_by, turning, settling};
+ghost use Rattle.port_settle.specs.Settled.{is_read, reads_before, turned_mem, settled_mem, other_edge_of, turned_port, undefined_if, first_changed, settled_by, turning, settling};
 
 use net_memory::{Memory, MemoryPortRelation, MemoryReadPort, MemoryWritePort};
+
+// The first `count` elements changed, each as `change` says by its number.
+fn change_first<T: Copy, F: Fn(usize, T) -> T>(list: &mut [T], count: usize, change: F)
+    requires { F.IsAlwaysCallable change × (count ≤ length list.old) }
+    ensures { (f : ℕ → T → T) → ((j : ℕ) (x r : T) → F.post change j x r → r ≡ f j x) → list.new ≡ first_changed f 0 count list.old }
+{
+    for (j, x) in list[..count].iter_mut().enumerate() {
+        *x = change(j, *x);
+    }
+}
 
 // A write port at the other edge of its clock.
 fn other_edge(p: MemoryWritePort) -> MemoryWritePort
@@ -35,11 +45,11 @@ pub fn turn_clocks(m: Memory) -> Memory
     ensures by_index_2 { (x y : List ℕ) → result ≡ turning (is_read m x y) (min max_ports m.write_count) m }
 {
     let reads = &m.read_ports[..net_memory::ports_used(m.read_count)];
+    let count = net_memory::ports_used(m.write_count);
     let mut out = m;
-    // By number, here and below: of a part of an array that was lent by `iter_mut` a proof knows the length alone.
-    for j in 0..net_memory::ports_used(m.write_count) {
-        out.write_ports[j] = turn_port(reads, out.write_ports[j], j);
-    }
+    change_first(&mut out.write_ports, count, |j, port| {
+        turn_port(reads, port, j)
+    });
     out
 }
 
@@ -57,10 +67,11 @@ fn settle_relation(reads: &[MemoryReadPort], relation: u8, j: usize) -> u8
 fn settle_port(reads: &[MemoryReadPort], p: MemoryReadPort) -> MemoryReadPort
     ensures { result ≡ settled_by (reads_before reads.now) p }
 {
+    let count = net_memory::ports_used(p.relations_len);
     let mut out = p;
-    for j in 0..net_memory::ports_used(p.relations_len) {
-        out.relations[j] = settle_relation(reads, out.relations[j], j);
-    }
+    change_first(&mut out.relations, count, |j, relation| {
+        settle_relation(reads, relation, j)
+    });
     out
 }
 
@@ -70,9 +81,10 @@ pub fn settle_relations(m: Memory, from: Memory) -> Memory
     ensures by_index_2 { (x y : List ℕ) → result ≡ settling (is_read m x y) (min max_ports from.read_count) from }
 {
     let reads = &m.read_ports[..net_memory::ports_used(m.read_count)];
+    let count = net_memory::ports_used(from.read_count);
     let mut out = from;
-    for i in 0..net_memory::ports_used(from.read_count) {
-        out.read_ports[i] = settle_port(reads, out.read_ports[i]);
-    }
+    change_first(&mut out.read_ports, count, |_, port| {
+        settle_port(reads, port)
+    });
     out
 }

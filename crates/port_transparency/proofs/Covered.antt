@@ -28,7 +28,7 @@ use Rattle.log_entries.specs.Emission.{Lent, is_over, run}
 use Rattle.merge_mux.specs.Results.{limited, results}
 use Rattle.merge_mux.specs.Runs.{bits_taken, bitwise_of}
 use Rattle.merge_mux.proofs.Spread.{length_spread, results_are}
-use Rattle.merge_mux.proofs.Found.{limited-all}
+use Rattle.merge_mux.proofs.Limited.{limited-all}
 use Rattle.merge_mux.proofs.Bitwise.{bitwise_length}
 use Rattle.port_transparency.specs.Gave.{Gave}
 use Rattle.port_transparency.specs.Pairs.{writing, reading, covered, laid_over, laid_if, like_wide, fitting, Fit, Sized}

@@ -1,5 +1,5 @@
 -- The room of an overlay before anything is stored in it.
-use Rattle.merge_mux.specs.Room.{zeros, zero_keys}
+use Rattle.merge_keys.specs.Keys.{zeros, zero_keys}
 use Rattle.port_transparency.specs.declared.Overlay.{Overlay}
 
 unfoldable pub zero_overlay : Overlay

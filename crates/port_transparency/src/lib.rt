@@ -19,7 +19,7 @@ ghost use Rattle.port_transparency.specs.Pairs.{writing, reading, write_of, read
 ghost use Rattle.port_transparency.specs.Room.{zero_overlay};
 
 use log_entries::Log;
-use merge_mux::emit::Keys;
+use merge_keys::Keys;
 use net_flip_flop::FlipFlop;
 use net_value::{ControlNet, Net};
 

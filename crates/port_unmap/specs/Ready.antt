@@ -7,6 +7,7 @@ use Rattle.rules.specs.Conditions.{bad_write_shape, bad_read_shape, short_pair}
 use Rattle.net_flip_flop.specs.declared.Controls.{Controls}
 use Rattle.net_memory.specs.declared.Memory.{Memory}
 use Rattle.std.specs.Prelude.{Some}
+use Rattle.port_unmap.specs.declared.Clocked.{Clocked}
 use Rattle.net_memory.specs.View.{memory_of, read_port, read_trits, clocked_by}
 
 -- the flip-flop of port i
@@ -27,3 +28,10 @@ pub record PortShape (m : Memory) (nets trits : List ℕ) (i : ℕ) (c : Control
 pub record Ready (m : Memory) (nets trits : List ℕ) (i : ℕ) (c : Controls) : Type 0 where
   pub port : PortShape m nets trits i c
   pub long : any (short_pair (memory_of m nets trits) (read_at_of (memory_of m nets trits) i)) (transparent_ports (own_flip_flop m trits i c)) ≡ false
+
+-- the same of the struct that holds them
+abbrev pub flip_flop_in : Clocked → ReadFlipFlop
+flip_flop_in p = own_flip_flop p.given.memory p.given.trits.now p.i p.controls
+
+abbrev pub ReadyIn : Clocked → Type 0
+ReadyIn p = Ready p.given.memory p.given.nets.now p.given.trits.now p.i p.controls

@@ -13,16 +13,17 @@ ghost use Rattle.rules.specs.Answers.{driven, unmap_read_dff_call};
 ghost use Rattle.rules.specs.Ports.{unmap_dff, unmap_read_dff};
 ghost use Rattle.log_entries.specs.Emission.{is_over, run};
 ghost use Rattle.log_entries.specs.View.{state_of, lent_of};
-ghost use Rattle.net_memory.specs.View.{read_port, clocked_by};
+ghost use Rattle.net_memory.specs.View.{memory_of, read_port, clocked_by};
 ghost use Rattle.net_memory.specs.Ports.{read_of};
 ghost use Rattle.net_memory.specs.Given.{view_given, mem_of};
-ghost use Rattle.port_unmap.specs.Ready.{own_flip_flop, Ready};
+ghost use Rattle.port_unmap.specs.Ready.{flip_flop_in, ReadyIn};
+ghost use Rattle.port_unmap.specs.Short.{ReadBy};
 ghost use Rattle.port_unmap.specs.Trace.{FlipFlopOf, port_trace};
 ghost use Rattle.port_unmap.specs.Call.{unclocking, driving, rooms_of, driven_of, NewStruct};
 
 use log_entries::{Log, LogState};
 use net_flip_flop::{Controls, FlipFlop};
-use net_memory::{Given, Memory, MemoryPortRelation, MemoryReadPort, ReadPort};
+use net_memory::{Given, Memory, MemoryPortRelation, ReadPort};
 use port_transparency::{Overlay, Reading};
 use rules::Refusal;
 
@@ -31,6 +32,19 @@ use rules::Refusal;
 pub struct Driven {
     pub memory: Memory,
     pub state: LogState,
+}
+
+// What an overlay reads of a read port, in a memory of this width.
+#[tactic(auto, using(crate::proofs::Emitted::wide_from))]
+pub fn reading<'a>(width: u32, own: ReadPort<'a>) -> Reading<'a>
+    ensures { (v : rules.Mem) (r : rules.ReadPort) → width ≡ v.width → read_of own.entry ≡ r → ReadBy v r result × (result.count ≡ r.data_len) }
+{
+    let count = own.port.data_len as usize;
+    Reading {
+        k: net_memory::wide::wide_log(width, count),
+        addr: own.addr(),
+        count,
+    }
 }
 
 // What an unmapping reads of read port i: its data as they are read, and its flip-flop as a cell of its own, whose bits are the port's outputs.
@@ -46,15 +60,11 @@ pub fn parts_of<'a>(
     ensures flip_flop { FlipFlopOf result.1 (clocked_by c own.entry.port own.entry.trits.now) }
     ensures related { length own.entry.port.relations ≡ max_ports }
 {
-    let count = own.port.data_len as usize;
-    let reading = Reading {
-        k: net_memory::wide::wide_log(given.memory.width, count),
-        addr: own.addr(),
-        count,
-    };
+    let reading = reading(given.memory.width, own);
+    let start = net_memory::output_start(&given.memory, i);
     let flip_flop = FlipFlop {
         controls: c,
-        bits: lists::part(output, net_memory::output_start(&given.memory, i), count),
+        bits: lists::part(output, start, reading.count),
         clear: own.clear(),
         reset: own.reset(),
         init: own.init(),
@@ -62,83 +72,100 @@ pub fn parts_of<'a>(
     (reading, flip_flop)
 }
 
-// Port i, whose controls are c, unmapped: the same function runs dry on an empty log. Gives the net after the void nets.
-pub fn emit_port(
-    log: &mut Log,
-    overlay: &mut Overlay,
-    given: Given<'_>,
-    i: usize,
-    c: Controls,
-    output: &[u32],
-) -> u32
-    ensures log_after { i < min max_ports given.entry.memory.read_count → lent_of log.new ≡ run (port_trace (mem_of given.entry) i output.now (own_flip_flop given.entry.memory given.entry.trits.now i c)) (lent_of log.old) }
-    ensures last_value { (read_at_of (mem_of given.entry) i).data_len ≤ max_merge → is_over (state_of log.new.state) ≡ false → result ≡ log.old.state.next + (read_at_of (mem_of given.entry) i).data_len }
-{
-    let own = given.read_port(i);
-    let (r, f) = parts_of(given, i, own, c, output);
-    port_overlay::emit_unmap(log, overlay, given, own.relations(), r, f)
+// A clocked read port to unmap: its memory, its number there, and its controls.
+#[derive(Clone, Copy)]
+pub struct Clocked<'a> {
+    pub given: Given<'a>,
+    pub i: usize,
+    pub controls: Controls,
 }
 
-// 20 and 21 of it, by a run without a log.
-fn dry_refusal(
-    room: usize,
-    st: LogState,
-    overlay: &mut Overlay,
-    given: Given<'_>,
-    i: usize,
-    c: Controls,
-    output: &[u32],
-) -> Result<(), Refusal>
-    requires { Ready given.memory given.nets.now given.trits.now i c }
-    ensures { number_of result ≡ log_refusal room (state_of st) (unmap_dff (mem_of given.entry) i output.now (own_flip_flop given.entry.memory given.entry.trits.now i c)) }
-{
-    let mut dry = Log {
-        words: &mut [],
-        state: st.dry_start(),
-    };
-    emit_port(&mut dry, overlay, given, i, c, output);
-    st.dry_refusal(room, dry.state)
+impl<'a> Clocked<'a> {
+    // The port unmapped: the same function runs dry on an empty log. Gives the net after the void nets.
+    pub fn emit(&self, log: &mut Log, overlay: &mut Overlay, output: &[u32]) -> u32
+        ensures log_after { self.now.i < min max_ports self.now.given.memory.read_count → lent_of log.new ≡ run (port_trace (mem_of self.now.given) self.now.i output.now (flip_flop_in self.now)) (lent_of log.old) }
+        ensures last_value { (read_at_of (mem_of self.now.given) self.now.i).data_len ≤ max_merge → is_over (state_of log.new.state) ≡ false → result ≡ log.old.state.next + (read_at_of (mem_of self.now.given) self.now.i).data_len }
+    {
+        let own = self.given.read_port(self.i);
+        let (r, f) = parts_of(self.given, self.i, own, self.controls, output);
+        port_overlay::emit_unmap(log, overlay, self.given, own.relations(), r, f)
+    }
+
+    // 20 and 21 of it, by a run without a log.
+    fn dry_refusal(
+        &self,
+        room: usize,
+        st: LogState,
+        overlay: &mut Overlay,
+        output: &[u32],
+    ) -> Result<(), Refusal>
+        requires { ReadyIn self.now }
+        ensures { number_of result ≡ log_refusal room (state_of st) (unmap_dff (mem_of self.now.given) self.now.i output.now (flip_flop_in self.now)) }
+    {
+        let mut dry = Log {
+            words: &mut [],
+            state: st.dry_start(),
+        };
+        self.emit(&mut dry, overlay, output);
+        st.dry_refusal(room, dry.state)
+    }
+
+    // 20 and 21 by a dry run, then the same for good. (Log and state stay apart down to here: the dry run asks for the log's length and for the state
+    // alone, and the answer holds the state.)
+    fn unmap(&self, log: &mut [u32], st: LogState, output: &mut [u32]) -> Result<Driven, Refusal>
+        requires { ReadyIn self.now }
+        ensures log_after { driven_of self.now.given.memory result self.now.given.nets.now self.now.given.trits.now output.new log.new ≡ driven (log_refusal (length log.old) (state_of st) (unmap_dff (mem_of self.now.given) self.now.i output.old (flip_flop_in self.now))) log.old (state_of st) (driving self.now.given.memory self.now.given.nets.now self.now.given.trits.now output.old) (unmap_dff (mem_of self.now.given) self.now.i output.old (flip_flop_in self.now)) }
+        ensures new_struct { NewStruct self.now.given.memory self.now.i result }
+    {
+        let mut overlay = Overlay::new();
+        self.dry_refusal(log.len(), st, &mut overlay, output)?;
+        let mut log = Log {
+            words: log,
+            state: st,
+        };
+        let last = self.emit(&mut log, &mut overlay, output);
+        let start = net_memory::output_start(&self.given.memory, self.i);
+        lists::store_run(output, start, st.next, last);
+        Ok(Driven {
+            memory: unclock(self.given.memory, self.i),
+            state: log.state,
+        })
+    }
 }
 
-// The pair of a read port of this k and address and write port j has too few address bits.
+// The pair of a read port and write port j has too few address bits.
 #[tactic(auto, using(crate::proofs::Short::short_is))]
-pub fn pair_short(given: Given<'_>, raddr: &[u32], kr: u32, j: usize) -> bool
-    ensures { (r : rules.ReadPort) → kr ≡ read_wide_log2 (mem_of given.entry) r → raddr.now ≡ r.addr → result ≡ short_pair (mem_of given.entry) r j }
+pub fn pair_short(given: Given<'_>, r: Reading, j: usize) -> bool
+    ensures { (trits : List ℕ) (p : rules.ReadPort) → ReadBy (memory_of given.entry.memory given.entry.nets.now trits) p r.entry → result ≡ short_pair (memory_of given.entry.memory given.entry.nets.now trits) p j }
 {
     let w = port_overlay::writing(given, j);
-    net_value::narrower_select_refusal(w.addr, raddr, w.k, kr).is_err()
+    net_value::narrower_select_refusal(w.addr, r.addr, w.k, r.k).is_err()
 }
 
 // The same where the relation to it is Transparent.
 #[tactic(auto, unfolding(rules::specs::Cell::is_transparent))]
-fn related_short(given: Given<'_>, raddr: &[u32], kr: u32, x: u8, j: usize) -> bool
-    ensures { (r : rules.ReadPort) → kr ≡ read_wide_log2 (mem_of given.entry) r → raddr.now ≡ r.addr → result ≡ (is_transparent x && short_pair (mem_of given.entry) r j) }
+fn related_short(given: Given<'_>, r: Reading, x: u8, j: usize) -> bool
+    ensures { (trits : List ℕ) (p : rules.ReadPort) → ReadBy (memory_of given.entry.memory given.entry.nets.now trits) p r.entry → result ≡ (is_transparent x && short_pair (memory_of given.entry.memory given.entry.nets.now trits) p j) }
 {
-    x == u8::from(MemoryPortRelation::Transparent) && pair_short(given, raddr, kr, j)
+    x == u8::from(MemoryPortRelation::Transparent) && pair_short(given, r, j)
 }
 
-// Some pair of these relations has too few. (`Given` goes by value, here and below: behind a reference the length of its ports is not known.)
-fn pairs_short(given: Given<'_>, raddr: &[u32], kr: u32, rels: &[u8]) -> bool
-    ensures { (r : rules.ReadPort) → kr ≡ read_wide_log2 (mem_of given.entry) r → raddr.now ≡ r.addr → result ≡ any (short_pair (mem_of given.entry) r) (transparent_from 0 rels.now) }
+// Some pair of these relations has too few.
+fn pairs_short(given: Given<'_>, r: Reading, rels: &[u8]) -> bool
+    ensures { (trits : List ℕ) (p : rules.ReadPort) → ReadBy (memory_of given.entry.memory given.entry.nets.now trits) p r.entry → result ≡ any (short_pair (memory_of given.entry.memory given.entry.nets.now trits) p) (transparent_from 0 rels.now) }
 {
     rels.iter()
         .enumerate()
-        .any(|(j, x)| related_short(given, raddr, kr, *x, j))
+        .any(|(j, x)| related_short(given, r, *x, j))
 }
 
 // A transparent pair of port i has too few; a port that is not there has none.
-#[tactic(auto, using(crate::proofs::Short::at_none))]
 pub fn port_short(given: Given<'_>, i: usize) -> bool
-    ensures { result ≡ short_port (mem_of given.entry) (read_at_of (mem_of given.entry) i) }
+    ensures { (trits : List ℕ) → result ≡ short_port (memory_of given.entry.memory given.entry.nets.now trits) (read_at_of (memory_of given.entry.memory given.entry.nets.now trits) i) }
 {
     let own = given.read_port(i);
-    match own.port.flip_flop {
-        None => false,
-        Some(_) => {
-            let kr = net_memory::wide::wide_log(given.memory.width, own.port.data_len as usize);
-            pairs_short(given, own.addr(), kr, own.relations())
-        }
-    }
+    own.port.flip_flop.is_some()
+        && pairs_short(given, reading(given.memory.width, own), own.relations())
 }
 
 // 1 to 4, 14 and 15.
@@ -162,40 +189,8 @@ fn unclock(m: Memory, i: usize) -> Memory
     ensures { result ≡ unclocking m i }
 {
     let mut out = m;
-    out.read_ports[i] = MemoryReadPort {
-        flip_flop: None,
-        ..m.read_ports[i]
-    };
+    out.read_ports[i].flip_flop = None;
     out
-}
-
-// A port that has a flip-flop: 20 and 21 by a dry run, then the same for good. (Log and state stay apart down to here: the dry run asks for the log's length
-// and for the state alone, and the answer holds the state.)
-fn unmap_clocked(
-    log: &mut [u32],
-    st: LogState,
-    output: &mut [u32],
-    given: Given<'_>,
-    i: usize,
-    c: Controls,
-) -> Result<Driven, Refusal>
-    requires { Ready given.memory given.nets.now given.trits.now i c }
-    ensures log_after { driven_of given.entry.memory result given.entry.nets.now given.entry.trits.now output.new log.new ≡ driven (log_refusal (length log.old) (state_of st) (unmap_dff (mem_of given.entry) i output.old (own_flip_flop given.entry.memory given.entry.trits.now i c))) log.old (state_of st) (driving given.entry.memory given.entry.nets.now given.entry.trits.now output.old) (unmap_dff (mem_of given.entry) i output.old (own_flip_flop given.entry.memory given.entry.trits.now i c)) }
-    ensures new_struct { NewStruct given.entry.memory i result }
-{
-    let mut overlay = Overlay::new();
-    dry_refusal(log.len(), st, &mut overlay, given, i, c, output)?;
-    let mut log = Log {
-        words: log,
-        state: st,
-    };
-    let last = emit_port(&mut log, &mut overlay, given, i, c, output);
-    let start = net_memory::output_start(&given.memory, i);
-    lists::store_run(output, start, st.next, last);
-    Ok(Driven {
-        memory: unclock(given.memory, i),
-        state: log.state,
-    })
 }
 
 // A port that numbers 1 to 4, 14 and 15 pass; without a flip-flop nothing is done.
@@ -218,7 +213,10 @@ fn unmap_port(
                 state: st,
             })
         }
-        Some(c) => unmap_clocked(log, st, output, given, i, c),
+        Some(controls) => {
+            let port = Clocked { given, i, controls };
+            port.unmap(log, st, output)
+        }
     }
 }
 

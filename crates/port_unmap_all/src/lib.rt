@@ -9,46 +9,42 @@ ghost use Rattle.rules.specs.Limits.{max_ports};
 ghost use Rattle.rules.specs.Conditions.{short_ports};
 ghost use Rattle.log_entries.specs.View.{lent_of};
 ghost use Rattle.port_transparency.specs.Gave.{Gave};
-ghost use Rattle.port_unmap.specs.Ready.{own_flip_flop};
+ghost use Rattle.port_unmap.specs.Ready.{flip_flop_in};
 ghost use Rattle.port_unmap_all.specs.All.{unmapped_of, unmapped_at, unmapped_all};
 ghost use Rattle.net_memory.specs.Given.{mem_of};
+ghost use Rattle.net_memory.specs.View.{memory_of};
 
 use log_entries::Log;
-use net_flip_flop::Controls;
 use net_memory::Given;
 use port_transparency::Overlay;
+use port_unmap::Clocked;
 
 // Some transparent pair of a clocked read port has too few address bits.
 pub fn ports_short(given: Given<'_>) -> bool
-    ensures { result ≡ short_ports (mem_of given.entry) }
+    ensures { (trits : List ℕ) → result ≡ short_ports (memory_of given.entry.memory given.entry.nets.now trits) }
 {
     (0..net_memory::ports_used(given.memory.read_count)).any(|i| port_unmap::port_short(given, i))
 }
 
-// Port i, whose controls are c, and its void nets in its place among the outputs after.
+// A clocked port, and its void nets in its place among the outputs after. (The room for overlays and that for the outputs after are lent apart, here and
+// below: callers have both among rooms of their own.)
 fn emit_clocked(
     log: &mut Log,
     overlay: &mut Overlay,
     after: &mut [u32],
-    given: Given<'_>,
-    i: usize,
-    c: Controls,
+    port: Clocked<'_>,
     output: &[u32],
 )
-    requires { i < min max_ports given.memory.read_count }
-    ensures { Gave (unmapped_of (some (own_flip_flop given.entry.memory given.entry.trits.now i c)) (mem_of given.entry) i output.now after.old) (lent_of log.old) (lent_of log.new) after.new }
+    requires { port.i < min max_ports port.given.memory.read_count }
+    ensures { Gave (unmapped_of (some (flip_flop_in port.entry)) (mem_of port.entry.given) port.entry.i output.now after.old) (lent_of log.old) (lent_of log.new) after.new }
 {
-    if rules::MAX_MERGE < net_memory::read_data_len(&given.memory, i) {
+    if rules::MAX_MERGE < net_memory::read_data_len(&port.given.memory, port.i) {
         return;
     }
     let first = log.state.next;
-    let last = port_unmap::emit_port(log, overlay, given, i, c, output);
-    lists::store_run(
-        after,
-        net_memory::output_start(&given.memory, i),
-        first,
-        last,
-    );
+    let last = port.emit(log, overlay, output);
+    let start = net_memory::output_start(&port.given.memory, port.i);
+    lists::store_run(after, start, first, last);
 }
 
 // Port i; without a flip-flop nothing is done.
@@ -65,7 +61,10 @@ fn emit_at(
 {
     match given.read_port(i).port.flip_flop {
         None => {}
-        Some(c) => emit_clocked(log, overlay, after, given, i, c, output),
+        Some(controls) => {
+            let port = Clocked { given, i, controls };
+            emit_clocked(log, overlay, after, port, output)
+        }
     }
 }
 

@@ -1,7 +1,7 @@
 -- The cursor over the columns of a grid, and the loop that stores a run of them.
 use mathlib.Core.Path.{◌≡◌, refl, sym, ap, ◌∙◌}
 use Prim.Native.Nat.{ℕ, suc, ◌+◌, ◌-◌, ◌*◌, ◌/◌, ◌%◌, ◌<◌, ◌≤◌, min}
-use native.Mathlib.Nat.{add-zero, zero-mul, one-mul, add-mul, mul_assoc, mul_left_comm, mul-le-mul_left, mul-le-mul_right, mod-lt, div-add-mod'}
+use native.Mathlib.Nat.{zero-mul, one-mul, add-mul, mul_assoc, mul_left_comm, mul-le-mul_left, mul-le-mul_right, mod-lt, div-add-mod'}
 use native.Mathlib.Numerals.{add-one}
 use native.Mathlib.Omega.{arith}
 use mathlib.Core.List.{List, [], ◌∷◌}
@@ -151,16 +151,10 @@ module _ (g : Grid) (size : ℕ) (o : Good g size) where
           back_low = λ k l. omega (arith, a.index_is, o.back_is, home_wrapped M R U i o.mems_pos o.rows_pos o.unit_pos (omega (arith, a.bit_is)) (omega (arith, a.mem_is)));
         }
 
-    pub in_room : i < size → c.index < size
-    in_room h = omega (arith, index_lt i h, a.index_is)
-
 -- ---- the run: what is left from i on gives the whole
 module _ {A : Type 0} (g : Grid) where
   abbrev pub left : ℕ → List A → List A → ℕ → List A
   left start l ws i = spill g.mems g.rows g.unit l (start + i) (drop i ws)
-
-  pub run_starts : (start : ℕ) (l ws : List A) → left start l ws 0 ≡ spill g.mems g.rows g.unit l start ws
-  run_starts start l ws = ap (λ (n : ℕ). spill g.mems g.rows g.unit l n ws) (add-zero start)
 
   spill_cons : (l : List A) (i : ℕ) (w : A) (ws : List A)
       → spill g.mems g.rows g.unit l i (w ∷ ws) ≡ spill g.mems g.rows g.unit (set l (home g.mems g.rows g.unit i) w) (suc i) ws

@@ -1,14 +1,14 @@
 -- A port within the limits, as tests and as facts, and what its parts ask.
-use mathlib.Core.Path.{◌≡◌, refl, ◌∙◌, subst}
-use Prim.Native.Nat.{ℕ, zero, suc, ◌+◌, ◌-◌, ◌*◌, ◌<◌, ◌≤◌}
-use native.Mathlib.Nat.{mul-le-mul, mul-zero, zero-mul, mul_left_comm, one-mul}
+use mathlib.Core.Path.{◌≡◌, refl, subst}
+use Prim.Native.Nat.{ℕ, zero, suc, ◌+◌, ◌*◌, ◌<◌, ◌≤◌}
+use native.Mathlib.Nat.{mul-le-mul, mul-zero, zero-mul, one-mul}
 use native.Mathlib.Omega.{arith}
 use mathlib.Core.Bool.{true, false}
 use mathlib.Core.List.{List}
 use lib.ListN.{length}
 use lib.Seq.{sets}
-use lib.Dec.{eqb, leb, ltb}
-use borrow.Author.Tests.{le-leb, lt-leb, leb-true, eqb-true, eq-eqb, ne_eqb, ltb-true, lt-ltb}
+use lib.Dec.{eqb, leb}
+use borrow.Author.Tests.{le-leb, leb-true, eqb-true, eq-eqb, ltb-true, lt-ltb}
 use Rattle.lists.proofs.Choice.{and_true}
 use Rattle.rules.specs.Limits.{X, max_columns, max_row, max_width, max_nets, max_merge}
 use Rattle.rules.specs.Swizzle.{repeating}
@@ -17,63 +17,10 @@ use Rattle.swizzle_columns.specs.declared.WidePort.{WidePort}
 use Rattle.swizzle_columns.specs.Steps.{Good}
 use Rattle.swizzle_columns.specs.Rows.{Bases, all_sources}
 use Rattle.swizzle_columns.specs.Jobs.{Narrow, Port}
-use Rattle.swizzle_columns.specs.Wide.{max_rows, sizes_fit, rows_fit, can_store, Stores, PortFits, grid_of, port_starts, stored_of, mask_row, port_bits, bits_of, port_trits, trits_of}
+use Rattle.swizzle_columns.specs.Wide.{max_rows, sizes_fit, rows_fit, can_store, Stores, PortFits, grid_of, port_starts, stored_of, mask_row, port_columns, columns_of}
 
 pub bounded : (a b c d : ℕ) → a ≤ c → b ≤ d → a * b ≤ c * d
 bounded a b c d h g = mul-le-mul {n₁ = a} {m₁ = b} {n₂ = c} {m₂ = d} h g
-
--- ---- the tests in turn
-module _ (p : WidePort) (size : ℕ) where
-  pub sizes_rows : max_rows < p.rows → false ≡ sizes_fit p size
-  unfolding sizes_fit
-  sizes_rows h = rw (lt-leb p.rows max_rows h)
-
-  pub sizes-columns : (c : ℕ) → p.rows ≤ max_rows → c ≡ p.mems * p.unit → max_columns < c → false ≡ sizes_fit p size
-  unfolding sizes_fit
-  sizes-columns c h e g = rw (le-leb p.rows max_rows h, lt-leb (p.mems * p.unit) max_columns (omega arith))
-
-  pub sizes_none : (c : ℕ) → p.rows ≤ max_rows → c ≡ p.mems * p.unit → c ≤ max_columns → size ≡ 0 → false ≡ sizes_fit p size
-  unfolding sizes_fit
-  sizes_none c h e g z = rw (le-leb p.rows max_rows h, le-leb (p.mems * p.unit) max_columns (omega arith), lt-leb 1 size (omega arith))
-
-  pub sizes_are : (c z k : ℕ) → p.rows ≤ max_rows → c ≡ p.mems * p.unit → c ≤ max_columns → (size ≡ 0 → ⊥) → z ≡ size → k ≡ p.rows * (p.mems * p.unit) → eqb z k ≡ sizes_fit p size
-  unfolding sizes_fit
-  sizes_are c z k h e g n f m =
-      (λ i. eqb (f i) (m i)) ∙ rw (le-leb p.rows max_rows h, le-leb (p.mems * p.unit) max_columns (omega arith), le-leb 1 size (omega arith))
-
-module _ (p : WidePort) (len : ℕ) where
-  pub rows_long : max_row < len → false ≡ rows_fit p len
-  unfolding rows_fit
-  rows_long h = rw (lt-leb len max_row h)
-
-  pub rows_olds : len ≤ max_row → max_rows < p.olds → false ≡ rows_fit p len
-  unfolding rows_fit
-  rows_olds h g = rw (le-leb len max_row h, lt-leb p.olds max_rows g)
-
-  pub rows_wide : len ≤ max_row → p.olds ≤ max_rows → max_width < p.width → false ≡ rows_fit p len
-  unfolding rows_fit
-  rows_wide h g k = rw (le-leb len max_row h, le-leb p.olds max_rows g, lt-leb p.width max_width k)
-
-  pub rows_are : len ≤ max_row → p.olds ≤ max_rows → p.width ≤ max_width → leb p.pieces max_nets ≡ rows_fit p len
-  unfolding rows_fit
-  rows_are h g k = rw (le-leb len max_row h, le-leb p.olds max_rows g, le-leb p.width max_width k)
-
-module _ (p : WidePort) (len size n x : ℕ) where
-  pub can_sizes : sizes_fit p size ≡ false → false ≡ can_store p len size n x
-  unfolding can_store
-  can_sizes e = rw e
-
-  pub can_rows : sizes_fit p size ≡ true → rows_fit p len ≡ false → false ≡ can_store p len size n x
-  unfolding can_store
-  can_rows e f = rw (e, f)
-
-  pub can_long : sizes_fit p size ≡ true → rows_fit p len ≡ true → (n ≡ p.olds * len → ⊥) → false ≡ can_store p len size n x
-  unfolding can_store
-  can_long e f h = rw (e, f, ne_eqb n (p.olds * len) h)
-
-  pub can_are : sizes_fit p size ≡ true → rows_fit p len ≡ true → n ≡ p.olds * len → ltb x p.pieces ≡ can_store p len size n x
-  unfolding can_store
-  can_are e f i = rw (e, f, eq-eqb n (p.olds * len) i)
 
 -- ---- what they say
 module _ (p : WidePort) (len size : ℕ) where
@@ -144,19 +91,6 @@ module _ (p : WidePort) (len size : ℕ) (f : PortFits p len size) where
   pub unit_max : p.unit ≤ max_columns
   unit_max = omega (arith, bounded 1 p.unit p.mems p.unit mems_pos (omega arith), one-mul p.unit, f.columns_max)
 
-  -- the products that the grid holds
-  pub row_columns : p.rows * p.unit ≤ 524288
-  row_columns = omega (arith, bounded p.rows p.unit 16 32768 f.rows_max unit_max)
-
-  pub hop_max : (p.rows - 1) * p.unit ≤ 524288
-  hop_max = omega (arith, bounded (p.rows - 1) p.unit p.rows p.unit (omega arith) (omega arith), row_columns)
-
-  pub back_max : (p.mems - 1) * (p.rows * p.unit) ≤ 524288
-  back_max =
-      let a = bounded (p.mems - 1) (p.rows * p.unit) p.mems (p.rows * p.unit) (omega arith) (omega arith) in
-      let b = bounded p.rows (p.mems * p.unit) 16 32768 f.rows_max f.columns_max in
-      omega (arith, mul_left_comm p.mems p.rows p.unit)
-
   pub size_low : size ≤ 4611686018427387903
   size_low = omega (arith, f.size_is, bounded p.rows (p.mems * p.unit) 16 32768 f.rows_max f.columns_max)
 
@@ -217,11 +151,7 @@ module _ (p : WidePort) (es v out : List ℕ) where
   unfolding mask_row
   mask_can e = rw e
 
-module _ (p : WidePort) (es v room : List ℕ) where
-  pub trits_can : sizes_fit p (length room) ≡ true → rows_fit p (length es) ≡ true → trits_of p es v room ≡ port_trits p es v (length room)
-  unfolding trits_of
-  trits_can e f = rw (e, f)
-
-  pub bits_can : sizes_fit p (length room) ≡ true → rows_fit p (length es) ≡ true → bits_of p es v room ≡ port_bits p es v (length room)
-  unfolding bits_of
-  bits_can e f = rw (e, f)
+module _ {A : Type 0} (blank : A) (p : WidePort) (es : List ℕ) (v room : List A) where
+  pub columns_can : sizes_fit p (length room) ≡ true → rows_fit p (length es) ≡ true → columns_of blank p es v room ≡ port_columns blank p es v (length room)
+  unfolding columns_of
+  columns_can e f = rw (e, f)

@@ -4,7 +4,7 @@ use Prim.Native.Nat.{ℕ, ◌+◌, ◌-◌, ◌*◌, ◌^◌, ◌<◌, ◌≤◌
 use native.Mathlib.Omega.{arith}
 use mathlib.Core.List.{List}
 use lib.ListN.{length}
-use Rattle.rules.specs.Limits.{addr_bits}
+use Rattle.rules.specs.Limits.{addr_bits, trit_x}
 use Rattle.rules.specs.Value.{Value}
 use Rattle.rules.specs.Geometry.{Layout, walk, row_len_of, all_mems, columns}
 use Rattle.rules.specs.Swizzle.{Split, spot_by, split_addr, split_by, piece_start, const_columns}
@@ -14,7 +14,7 @@ use Rattle.swizzle_columns.specs.declared.WidePort.{WidePort}
 use Rattle.swizzle_columns.specs.Rows.{start_of}
 use Rattle.swizzle_columns.specs.Matches.{Laid}
 use Rattle.swizzle_columns.specs.Wide.{PortFits, grid_of, port_trits, trits_of}
-use Rattle.swizzle_columns.proofs.Fits.{grid_good, fits_tested, trits_can}
+use Rattle.swizzle_columns.proofs.Fits.{grid_good, fits_tested, columns_can}
 use Rattle.swizzle_columns.proofs.Trits.{laid_trits}
 
 -- what a port's numbers are
@@ -82,10 +82,9 @@ module _ (q : Layout) (old new : ℕ) (addr : Value) (ok : Splittable q old new 
   }
 
   trits_value : (v : List ℕ) (size : ℕ) → PortFits p (length q.entries) size → port_trits p q.entries v size ≡ ordered q s (const_columns q s v)
-  unfolding port_trits
   trits_value v size f = laid_trits _ _ _ _ _ _ _ v q s laid size (grid_good p (length q.entries) size f)
 
   pub trits_rules : (v room : List ℕ) → PortFits p (length q.entries) (length room) → trits_of p q.entries v room ≡ ordered q s (const_columns q s v)
   trits_rules v room f =
       let t = fits_tested p (length q.entries) (length room) f in
-      trits_can p q.entries v room t.0 t.1 ∙ trits_value v (length room) f
+      columns_can trit_x p q.entries v room t.0 t.1 ∙ trits_value v (length room) f

@@ -6,7 +6,7 @@ use native.Mathlib.Numerals.{add-one}
 use native.Mathlib.Omega.{arith}
 use mathlib.Core.List.{List, [], ◌∷◌, ◌++◌}
 use lib.Dec.{eqb}
-use lib.ListN.{length, take, drop, get_or, set, length-map, length-take, length-drop, get_or-map, drop_of_length-le}
+use lib.ListN.{length, take, drop, get_or, set, length-map, get_or-map, drop_of_length-le}
 use lib.Seq.{sets, drop-cons, drop-drop}
 use Rattle.lists.specs.Choice.{when◌then◌else◌}
 use Rattle.lists.specs.Lists.{up_from, concat_map}
@@ -25,10 +25,6 @@ rows_in n j L at size h e f =
 
 pub row_next : (j L at : ℕ) → at ≡ j * L → at + L ≡ (j + 1) * L
 row_next j L at e = omega (arith, add-mul j 1 L)
-
--- parts of lists of one length
-pub same_part : (a m : ℕ) (x y : List ℕ) → length x ≡ length y → length (take m (drop a x)) ≡ length (take m (drop a y))
-same_part a m x y e = omega (arith, length-take m (drop a x), length-take m (drop a y), length-drop a x, length-drop a y)
 
 -- past the end the default stands
 pub get_d_past : (l : List ℕ) (n d : ℕ) → length l ≤ n → get_or l n d ≡ d

@@ -1,7 +1,6 @@
 -- A read port's trits: what the code leaves is what the rules give, in the order of the memories.
 use mathlib.Core.Path.{◌≡◌, refl, sym, ap, ◌∙◌}
 use Prim.Native.Nat.{ℕ, ◌+◌, ◌-◌, ◌*◌, ◌^◌, ◌<◌, ◌≤◌}
-use native.Mathlib.Nat.{sub-zero}
 use native.Mathlib.Omega.{arith}
 use mathlib.Core.List.{List, [], ◌∷◌}
 use lib.ListN.{replicate}
@@ -29,9 +28,6 @@ module _ {A : Type 0} (M R U L : ℕ) (starts : ℕ → List ℕ) (v : List A) (
   each_none : (l : List A) → spill_each M R U L starts [] v l ≡ l
   unfolding spill_each
   each_none l = refl
-
-  pub each_first : (l : List A) → spill_each M R U L starts (up_from 0 (N - 0)) v l ≡ spill_each M R U L starts (up_from 0 N) v l
-  each_first l = ap (λ (k : ℕ). spill_each M R U L starts (up_from 0 k) v l) (sub-zero N)
 
   pub each_turn : (x : ℕ) (l l' : List A) → x < N → l' ≡ spill_at M R U L (starts x) v l
       → spill_each M R U L starts (up_from (x + 1) (N - (x + 1))) v l' ≡ spill_each M R U L starts (up_from x (N - x)) v l

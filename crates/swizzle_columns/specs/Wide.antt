@@ -63,6 +63,8 @@ grid_of p len = record {
   rows = p.rows;
   unit = p.unit;
   entries = len;
+  columns = p.mems * p.unit;
+  chunks = p.chunks;
   hop = (p.rows - 1) * p.unit;
   back = (p.mems - 1) * (p.rows * p.unit);
 }
@@ -77,10 +79,10 @@ module _ {A : Type 0} where
   port_columns blank p es v size =
       spill_each p.mems p.rows p.unit (length es) (port_starts p (length es)) (up_from 0 p.pieces) (arrange blank (all_sources p.olds p.width es) v) (replicate size blank)
 
-unfoldable pub port_bits : WidePort → List ℕ → List ℕ → ℕ → List ℕ
+abbrev pub port_bits : WidePort → List ℕ → List ℕ → ℕ → List ℕ
 port_bits p es v size = port_columns X p es v size
 
-unfoldable pub port_trits : WidePort → List ℕ → List ℕ → ℕ → List ℕ
+abbrev pub port_trits : WidePort → List ℕ → List ℕ → ℕ → List ℕ
 port_trits p es v size = port_columns trit_x p es v size
 
 -- ---- any numbers: `room` is what a lent room holds before
@@ -90,8 +92,12 @@ stored_of p len x v room = when can_store p len (length room) (length v) x then 
 unfoldable pub mask_row : WidePort → List ℕ → List ℕ → List ℕ → List ℕ
 mask_row p es v out = when rows_fit p (length es) then sets out 0 (repeating X (all_sources p.olds p.width es) v) else out
 
-unfoldable pub bits_of : WidePort → List ℕ → List ℕ → List ℕ → List ℕ
-bits_of p es v room = when sizes_fit p (length room) && rows_fit p (length es) then port_bits p es v (length room) else room
+module _ {A : Type 0} where
+  unfoldable pub columns_of : A → WidePort → List ℕ → List A → List A → List A
+  columns_of blank p es v room = when sizes_fit p (length room) && rows_fit p (length es) then port_columns blank p es v (length room) else room
 
-unfoldable pub trits_of : WidePort → List ℕ → List ℕ → List ℕ → List ℕ
-trits_of p es v room = when sizes_fit p (length room) && rows_fit p (length es) then port_trits p es v (length room) else room
+abbrev pub bits_of : WidePort → List ℕ → List ℕ → List ℕ → List ℕ
+bits_of p es v room = columns_of X p es v room
+
+abbrev pub trits_of : WidePort → List ℕ → List ℕ → List ℕ → List ℕ
+trits_of p es v room = columns_of trit_x p es v room

@@ -10,20 +10,23 @@ ghost use Rattle.rules.specs.Swizzle.{arrange, repeating};
 ghost use Rattle.swizzle_laws.specs.Stores.{spill_fit, spill_at, spill_each};
 ghost use Rattle.swizzle_columns.specs.Steps.{Good, At, next_of, Steppable, Rowed};
 ghost use Rattle.swizzle_columns.specs.Rows.{source_of, row_sources, all_sources, last_of, Bases, start_of, starts_by};
-ghost use Rattle.swizzle_columns.specs.Wide.{wide_of, sizes_fit, rows_fit, PortFits, grid_of, port_starts, can_store, Stores, stored_of, mask_row, port_columns, bits_of, trits_of};
+ghost use Rattle.swizzle_columns.specs.Wide.{wide_of, sizes_fit, rows_fit, PortFits, grid_of, port_starts, can_store, Stores, stored_of, mask_row, port_columns, columns_of, bits_of, trits_of};
 ghost use Rattle.swizzle_columns.specs.Jobs.{Narrow};
 
 use image_geometry::Params;
 use swizzle_split::Split;
 
-// How the columns of a port stand: so many memories, rows of the port, columns of a memory, and entries of a row; and the steps from the last
-// column of a memory's row to the same row of the next memory, and back to the first memory.
+// How the columns of a port stand: so many memories, rows of the port, columns of a memory, and entries of a row; the columns of a row of all
+// memories; the bits of a piece's number that are chunk bits; and the steps from the last column of a memory's row to the same row of the next
+// memory, and back to the first memory.
 #[derive(Clone, Copy)]
 pub struct Grid {
     pub mems: usize,
     pub rows: usize,
     pub unit: usize,
     pub entries: usize,
+    pub columns: usize,
+    pub chunks: u32,
     pub hop: usize,
     pub back: usize,
 }
@@ -56,6 +59,13 @@ impl WidePort {
             pieces: s.pieces,
         }
     }
+
+    // The columns of one new row.
+    fn columns(self) -> usize
+        ensures { result ≡ self.mems * self.unit }
+    {
+        self.mems as usize * self.unit as usize
+    }
 }
 
 // The rows of a port with the largest wide log.
@@ -66,7 +76,7 @@ const MAX_ROWS: u32 = 16;
 pub fn sizes_fit(p: WidePort, size: usize) -> bool
     ensures { result ≡ sizes_fit p size }
 {
-    let columns = (p.mems as usize) * (p.unit as usize);
+    let columns = p.columns();
     p.rows <= MAX_ROWS
         && columns <= (rules::MAX_COLUMNS as usize)
         && size != 0
@@ -97,17 +107,11 @@ fn grid_of(p: WidePort, len: usize, size: usize) -> Grid
         rows,
         unit,
         entries: len,
+        columns: p.columns(),
+        chunks: p.chunks,
         hop: (rows - 1) * unit,
         back: (mems - 1) * (rows * unit),
     }
-}
-
-// The columns of one new row.
-fn columns_of(p: WidePort, len: usize, size: usize) -> usize
-    requires { PortFits p len size }
-    ensures { result ≡ p.mems * p.unit }
-{
-    (p.mems as usize) * (p.unit as usize)
 }
 
 // A column on the way: its place memory after memory, its bit and its memory.
@@ -234,23 +238,25 @@ fn repeat_rows(out: &mut [u32], olds: u32, width: u32, entries: &[u32], v: &[u32
     }
 }
 
-// Where the piece of a number starts among the columns, by the bits of the number that are chunk bits.
-fn start_of(chunks: u32, columns: usize, entries: usize, n: u32) -> usize
-    requires { n * (columns + entries) ≤ 4611686018427387904 }
-    ensures { result ≡ start_of chunks columns entries n }
-{
-    let spot = image_geometry::walk_row(chunks, rules::ADDR_BITS, n);
-    (spot.row as usize) * columns + (spot.chunk as usize) * entries
-}
+impl Grid {
+    // Where the piece of a number starts among the columns, by the bits of the number that are chunk bits.
+    fn start_of(self, n: u32) -> usize
+        requires { n * (self.columns + self.entries) ≤ 4611686018427387904 }
+        ensures { result ≡ start_of self.chunks self.columns self.entries n }
+    {
+        let spot = image_geometry::walk_row(self.chunks, rules::ADDR_BITS, n);
+        (spot.row as usize) * self.columns + (spot.chunk as usize) * self.entries
+    }
 
-// Where piece x starts for each old row.
-fn piece_starts(starts: &mut [usize], chunks: u32, columns: usize, entries: usize, x: usize)
-    requires { Narrow (length starts.old) columns entries x }
-    ensures { starts.new ≡ starts_by chunks columns entries (length starts.old) x }
-{
-    let first = starts.len() * x;
-    for (j, start) in starts.iter_mut().enumerate() {
-        *start = start_of(chunks, columns, entries, (j + first) as u32);
+    // Where piece x starts for each old row.
+    fn piece_starts(self, starts: &mut [usize], x: usize)
+        requires { Narrow (length starts.old) self.columns self.entries x }
+        ensures { starts.new ≡ starts_by self.chunks self.columns self.entries (length starts.old) x }
+    {
+        let first = starts.len() * x;
+        for (j, start) in starts.iter_mut().enumerate() {
+            *start = self.start_of((j + first) as u32);
+        }
     }
 }
 
@@ -267,19 +273,12 @@ fn store_from<T: Copy>(to: &mut [T], g: Grid, start: usize, n: usize, v: &[T])
     }
 }
 
-// How many of `want` elements fit an array of length `room` from `at` on.
-fn fitting(room: usize, at: usize, want: usize) -> usize
-    ensures { result ≡ min want (room - at) }
-{
-    want.min(room.saturating_sub(at))
-}
-
 // The same where there may be none.
 fn store_run<T: Copy>(to: &mut [T], g: Grid, start: usize, v: &[T])
     requires { Good g (length to.old) }
     ensures { to.new ≡ spill_fit g.mems g.rows g.unit to.old start v.now }
 {
-    let n = fitting(to.len(), start, v.len());
+    let n = v.len().min(to.len().saturating_sub(start));
     if n == 0 {
         return;
     }
@@ -292,48 +291,29 @@ fn store_piece<T: Copy>(to: &mut [T], g: Grid, starts: &[usize], v: &[T])
     requires rowed { Rowed g starts.now v.now }
     ensures { to.new ≡ spill_at g.mems g.rows g.unit g.entries starts.now v.now to.old }
 {
-    let mut at = 0;
     for (j, start) in starts.iter().enumerate() {
-        let end = at + g.entries;
-        store_run(to, g, *start, &v[at..end]);
-        at = end;
+        store_run(to, g, *start, lists::part(v, j * g.entries, g.entries));
     }
 }
 
 // Stores piece x; its starts stand in lent scratch.
-fn store_at<T: Copy>(
-    to: &mut [T],
-    g: Grid,
-    columns: usize,
-    chunks: u32,
-    starts: &mut [usize],
-    v: &[T],
-    x: usize,
-)
+fn store_at<T: Copy>(to: &mut [T], g: Grid, starts: &mut [usize], v: &[T], x: usize)
     requires good { Good g (length to.old) }
-    requires v_len { (length v.now ≡ length starts.old * g.entries) × Narrow (length starts.old) columns g.entries x }
-    ensures { to.new ≡ spill_at g.mems g.rows g.unit g.entries (starts_by chunks columns g.entries (length starts.old) x) v.now to.old }
+    requires v_len { (length v.now ≡ length starts.old * g.entries) × Narrow (length starts.old) g.columns g.entries x }
+    ensures { to.new ≡ spill_at g.mems g.rows g.unit g.entries (starts_by g.chunks g.columns g.entries (length starts.old) x) v.now to.old }
 {
-    piece_starts(starts, chunks, columns, g.entries, x);
+    g.piece_starts(starts, x);
     store_piece(to, g, starts, v);
 }
 
 // A row stored as each piece.
-fn store_pieces<T: Copy>(
-    to: &mut [T],
-    g: Grid,
-    columns: usize,
-    pieces: usize,
-    chunks: u32,
-    starts: &mut [usize],
-    v: &[T],
-)
+fn store_pieces<T: Copy>(to: &mut [T], g: Grid, pieces: usize, starts: &mut [usize], v: &[T])
     requires good { Good g (length to.old) }
-    requires v_len { (length v.now ≡ length starts.old * g.entries) × Narrow (length starts.old) columns g.entries pieces }
-    ensures { to.new ≡ spill_each g.mems g.rows g.unit g.entries (starts_by chunks columns g.entries (length starts.old)) (up_from 0 pieces) v.now to.old }
+    requires v_len { (length v.now ≡ length starts.old * g.entries) × Narrow (length starts.old) g.columns g.entries pieces }
+    ensures { to.new ≡ spill_each g.mems g.rows g.unit g.entries (starts_by g.chunks g.columns g.entries (length starts.old)) (up_from 0 pieces) v.now to.old }
 {
     for x in 0..pieces {
-        store_at(to, g, columns, chunks, starts, v, x);
+        store_at(to, g, starts, v, x);
     }
 }
 
@@ -344,10 +324,8 @@ fn store_in(to: &mut [u32], p: WidePort, len: usize, v: &[u32], x: usize)
 {
     let size = to.len();
     let g = grid_of(p, len, size);
-    let columns = columns_of(p, len, size);
-    let olds = p.olds as usize;
-    let mut starts = [0usize; 16];
-    store_at(to, g, columns, p.chunks, &mut starts[..olds], v, x);
+    let mut starts = [0usize; MAX_ROWS as usize];
+    store_at(to, g, &mut starts[..p.olds as usize], v, x);
 }
 
 // Whether a port is within the limits, its room as large as its columns, a row as long as its old rows, and x one of its pieces.
@@ -387,43 +365,39 @@ fn columns_in<T: Copy>(to: &mut [T], row: &mut [T], p: WidePort, entries: &[u32]
 {
     let size = to.len();
     let g = grid_of(p, entries.len(), size);
-    let columns = columns_of(p, entries.len(), size);
     let olds = p.olds as usize;
     let n = olds * g.entries;
-    let mut starts = [0usize; 16];
+    let mut starts = [0usize; MAX_ROWS as usize];
     arrange_rows(row, p.olds, p.width, entries, v, blank);
     lists::fill(to, 0, size, blank);
-    store_pieces(
-        to,
-        g,
-        columns,
-        p.pieces as usize,
-        p.chunks,
-        &mut starts[..olds],
-        &row[..n],
-    );
+    store_pieces(to, g, p.pieces as usize, &mut starts[..olds], &row[..n]);
+}
+
+// The same of any port. The row is lent: an array of a T is not known to fit a memory.
+#[tactic(auto, unfolding(crate::specs::Wide::columns_of))]
+fn columns<T: Copy>(to: &mut [T], row: &mut [T], p: WidePort, entries: &[u32], v: &[T], blank: T)
+    requires { length row.old ≡ max_merge }
+    ensures { to.new ≡ columns_of blank p entries.now v.now to.old }
+{
+    if sizes_fit(p, to.len()) && rows_fit(p, entries.len()) {
+        columns_in(to, row, p, entries, v, blank);
+    }
 }
 
 // A write port's data in the order of the memories. Nothing is done where the port passes the limits or the room is not as
 // large as its columns.
-#[tactic(auto, unfolding(crate::specs::Wide::bits_of, crate::specs::Wide::port_bits))]
 pub fn data_columns(to: &mut [u32], p: WidePort, entries: &[u32], v: &[u32])
     ensures { to.new ≡ bits_of p entries.now v.now to.old }
 {
-    if sizes_fit(p, to.len()) && rows_fit(p, entries.len()) {
-        let mut row = [0u32; rules::MAX_MERGE];
-        columns_in(to, &mut row, p, entries, v, rules::NET_X);
-    }
+    let mut row = [rules::NET_X; rules::MAX_MERGE];
+    columns(to, &mut row, p, entries, v, rules::NET_X);
 }
 
 // A clocked read port's trits of one kind in the order of the memories. Nothing is done where the port passes the limits or the room is not as
 // large as its columns.
-#[tactic(auto, unfolding(crate::specs::Wide::trits_of, crate::specs::Wide::port_trits))]
 pub fn trit_columns(to: &mut [u8], p: WidePort, entries: &[u32], v: &[u8])
     ensures { to.new ≡ trits_of p entries.now v.now to.old }
 {
-    if sizes_fit(p, to.len()) && rows_fit(p, entries.len()) {
-        let mut row = [0u8; rules::MAX_MERGE];
-        columns_in(to, &mut row, p, entries, v, rules::TRIT_X);
-    }
+    let mut row = [rules::TRIT_X; rules::MAX_MERGE];
+    columns(to, &mut row, p, entries, v, rules::TRIT_X);
 }

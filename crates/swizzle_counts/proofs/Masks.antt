@@ -1,10 +1,10 @@
 -- The nets of a row's mask that differ, by a merge against zeros.
 use mathlib.Core.Path.{◌≡◌, refl, sym, ap, ◌∙◌}
-use Prim.Native.Nat.{ℕ, ◌*◌, ◌≤◌, min}
+use Prim.Native.Nat.{ℕ, ◌*◌, ◌≤◌}
 use native.Mathlib.Nat.{mul-le-mul}
 use native.Mathlib.Omega.{arith}
 use mathlib.Core.List.{List, []}
-use lib.ListN.{length, take, replicate, length-replicate}
+use lib.ListN.{length, take, replicate, length-map, length-replicate}
 use lib.Seq.{sets, length-sets, take_all}
 use lib.Dec.{eqb}
 use borrow.Author.Tests.{le-leb}
@@ -17,7 +17,8 @@ use Rattle.rules.specs.Limits.{X, max_merge, max_width, max_row, max_nets}
 use Rattle.rules.specs.Value.{Value}
 use Rattle.rules.specs.Merge.{Key2, same2}
 use Rattle.rules.specs.Swizzle.{repeating}
-use Rattle.merge_keys.specs.Keys.{room, merging}
+use Rattle.merge_keys.specs.declared.Kept.{Kept}
+use Rattle.merge_keys.specs.Keys.{MergeOf}
 use Rattle.swizzle_laws.proofs.WriteCounts.{length_zero_kept}
 use Rattle.swizzle_columns.specs.declared.WidePort.{WidePort}
 use Rattle.swizzle_columns.specs.Rows.{all_sources}
@@ -33,10 +34,6 @@ mask_fits w len n h g k l e = record {
   count = e;
   few = omega (arith, e, mul-le-mul {n₁ = w.olds} {m₁ = len} {n₂ = 16} {m₂ = 256} h k);
 }
-
-merge_all : (x y kx ky at : List ℕ) → length kx ≡ 4096 → length ky ≡ 4096 → length at ≡ 4096 → length (pairs x y) ≤ 4096 → merging x y kx ky at ≡ pairs x y
-unfolding merging room
-merge_all x y kx ky at a b c h = take_all (min max_merge (min (length kx) (min (length ky) (length at)))) (pairs x y) (omega arith)
 
 module _ (w : WidePort) (n : ℕ) (es v row : List ℕ) (f : MaskFits w (length es) n) (long : length row ≡ 4096) where
   abbrev nets : Value
@@ -55,21 +52,23 @@ module _ (w : WidePort) (n : ℕ) (es v row : List ℕ) (f : MaskFits w (length 
     nets_are : take n row' ≡ nets
     nets_are = mask_row_lem w.olds w.width (length es) n es v row row' refl f.count (omega (arith, long, f.few)) stored
 
-    module _ (zeros kx ky at : List ℕ) (z : zeros ≡ replicate 4096 0) (a : length kx ≡ 4096) (b : length ky ≡ 4096) (c : length at ≡ 4096) where
+    module _ (zeros : List ℕ) (z : zeros ≡ replicate 4096 0) where
       zeros_are : take n zeros ≡ replicate (length nets) 0
       zeros_are = ap (take n) z ∙ part_replicate 0 n 4096 0 (omega (arith, f.few)) ∙ ap (λ (k : ℕ). replicate k 0) (sym nets_size)
 
       abbrev none : Value
       none = replicate (length nets) 0
 
-      pairs_few : length (pairs nets none) ≤ 4096
+      pairs_few : length (pairs nets none) ≤ max_merge
       pairs_few = omega (arith, length_pairs nets none (sym (length-replicate {A = ℕ} (length nets) 0)), nets_size, f.few)
 
-      merged : merging (take n row') (take n zeros) kx ky at ≡ pairs nets none
-      merged = (λ i. merging (nets_are i) (zeros_are i) kx ky at) ∙ merge_all nets none kx ky at a b c pairs_few
+      merged : take max_merge (pairs (take n row') (take n zeros)) ≡ pairs nets none
+      merged = (λ i. take max_merge (pairs (nets_are i) (zeros_are i))) ∙ take_all max_merge (pairs nets none) pairs_few
 
       -- as many as the merge keeps
-      pub counted : (r : ℕ) → r ≡ length (kept same2 (merging (take n row') (take n zeros) kx ky at)) → (r ≡ kept_nets w.olds w.width es v) × (r ≤ max_merge)
-      counted r q =
-          let k = q ∙ ap (λ (l : List Key2). length (kept same2 l)) merged ∙ length_zero_kept nets in
-          (k, omega (arith, k, length_kept eqb [] nets, nets_size, f.few))
+      pub counted : (k : Kept) → MergeOf (take max_merge (pairs (take n row') (take n zeros))) k
+          → (length k.x.now ≡ kept_nets w.olds w.width es v) × (length k.x.now ≤ max_merge)
+      counted k q =
+          let ks : List Key2 = kept same2 (pairs nets none) in
+          let e = ap length (rw merged at q.kept_x) ∙ length-map ks (λ p. p.0) ∙ length_zero_kept nets in
+          (e, omega (arith, e, length_kept eqb [] nets, nets_size, f.few))

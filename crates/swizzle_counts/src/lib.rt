@@ -12,8 +12,8 @@ ghost use Rattle.swizzle_counts.specs.Needs.{plus_needs, all_needs, Most, port_m
 
 use image_geometry::{Layout, Params};
 use log_entries::LogState;
+use merge_keys::Keys;
 use merge_keys::columns::Columns;
-use merge_keys::table::Table;
 use net_memory::Given;
 use swizzle_columns::WidePort;
 use swizzle_plan::Plan;
@@ -142,16 +142,14 @@ fn mask_count(w: WidePort, n: usize, entries: &[u32], mask: &[u32]) -> usize
     ensures { (result ≡ kept_nets w.olds w.width entries.now mask.now) × (result ≤ max_merge) }
 {
     let mut row = [0u32; rules::MAX_MERGE];
-    let mut kx = [0u32; rules::MAX_MERGE];
-    let mut ky = [0u32; rules::MAX_MERGE];
-    let mut at = [0u32; rules::MAX_MERGE];
     let zeros = [0u32; rules::MAX_MERGE];
+    let mut keys = Keys::new();
     swizzle_columns::mask_row(&mut row, w, entries, mask);
     let given = Columns {
         x: &row[..n],
         y: &zeros[..n],
     };
-    merge_keys::merge(&mut kx, &mut ky, &mut at, &mut Table::new(), given)
+    keys.merge(given).x.len()
 }
 
 // Those of a port with so many old rows.

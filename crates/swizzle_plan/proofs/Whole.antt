@@ -41,10 +41,9 @@ first_ports (suc (suc (suc (suc (suc (suc (suc zero))))))) h = refl
 first_ports (suc (suc (suc (suc (suc (suc (suc (suc zero)))))))) h = refl
 first_ports (suc (suc (suc (suc (suc (suc (suc (suc (suc n))))))))) h = absurd (omega arith)
 
-pub every_port : (m : Memory) (nets trits : List ℕ) (n : ℕ) → length (reads_of m nets trits) ≡ n → n ≤ 8
-    → part 0 n (0 ∷ 1 ∷ 2 ∷ 3 ∷ 4 ∷ 5 ∷ 6 ∷ 7 ∷ []) ≡ all_reads (memory_of m nets trits)
+pub every_port : (m : Memory) (nets trits : List ℕ) (n : ℕ) → length (reads_of m nets trits) ≡ n → up_from 0 n ≡ all_reads (memory_of m nets trits)
 unfolding all_reads memory_of
-every_port m nets trits n e h = first_ports n h ∙ ap (up_from 0) (sym e)
+every_port m nets trits n e = ap (up_from 0) (sym e)
 
 -- 7 and 8
 seven_eight : (a b : Bool) → ◌≡◌ {A = ℕ} ((when a then 7 else 0) or_else (when b then 8 else 0)) (when a then 7 else when b then 8 else 0)

@@ -14,6 +14,8 @@ use Rattle.rules.specs.Conditions.{bad_wide, bad_writes, bad_reads}
 use Rattle.rules.specs.Cell.{Mem, Plan, wide_log2, write_wide_log2, read_wide_log2, write_at, read_at_of}
 use Rattle.net_memory.specs.declared.Memory.{Memory}
 use Rattle.net_memory.specs.View.{memory_of, writes_of}
+use Rattle.swizzle_plan.specs.declared.MemorySwizzle.{MemorySwizzle}
+use Rattle.swizzle_plan.specs.Calls.{plan_of}
 use Rattle.swizzle_plan.proofs.Wides.{any_first}
 use Rattle.swizzle_plan.specs.Numbers.{wides_bad, write_logs, read_logs}
 
@@ -30,11 +32,15 @@ by_place l d f =
     (λ i h. let k : i < length l = omega (arith, h, length-map (up_from 0 (length l)) (λ (j : ℕ). f (get_or l j d)), length_up 0 (length l)) in
     get_d_up (λ (j : ℕ). f (get_or l j d)) 0 (length l) i 0 k ∙ ap (λ (j : ℕ). f (get_or l j d)) (zero-add i) ∙ sym (get_or-map f l i d 0 k))
 
+-- the old wide logs of the write ports, by their numbers
+pub write_logs_by : (m : Mem) (n : ℕ) → length m.writes ≡ n → map (λ (i : ℕ). write_wide_log2 m (write_at m i)) (up_from 0 n) ≡ write_logs m
+unfolding write_at
+write_logs_by m n e = ap (λ (k : ℕ). map (λ (i : ℕ). write_wide_log2 m (write_at m i)) (up_from 0 k)) (sym e) ∙ by_place m.writes _ (write_wide_log2 m)
+
 pub writes_form : (m : Mem) (p : Plan) (n : ℕ) → length m.writes ≡ n → wides_bad p (map (λ (i : ℕ). write_wide_log2 m (write_at m i)) (up_from 0 n)) p.write_wide ≡ bad_writes m p
-unfolding bad_writes write_at
+unfolding bad_writes
 writes_form m p n e =
-    ap (λ (k : ℕ). wides_bad p (map (λ (i : ℕ). write_wide_log2 m (write_at m i)) (up_from 0 k)) p.write_wide) (sym e)
-    ∙ ap (λ (l : List ℕ). wides_bad p l p.write_wide) (by_place m.writes _ (write_wide_log2 m))
+    ap (λ (l : List ℕ). wides_bad p l p.write_wide) (write_logs_by m n e)
     ∙ (λ i. not (eqb (length p.write_wide) (length-map m.writes (write_wide_log2 m) i)) || any_first (write_wide_log2 m) (bad_wide p) m.writes p.write_wide i)
 
 pub reads_form : (m : Mem) (p : Plan) (ports : List ℕ) → wides_bad p (read_logs m ports) p.read_wide_of ≡ bad_reads m ports p
@@ -54,3 +60,8 @@ logs_length m nets trits = length-map (writes_of m nets) (write_wide_log2 (memor
 pub write_log_at : (m : Mem) (i : ℕ) → i < length (write_logs m) → get_or (write_logs m) i 0 ≡ write_wide_log2 m (write_at m i)
 unfolding write_at
 write_log_at m i h = get_or-map (write_wide_log2 m) m.writes i _ 0 (omega (arith, h, length-map m.writes (write_wide_log2 m)))
+
+-- number 9 of new wide logs reads no entries
+pub wides_any : (s : MemorySwizzle) (es fs ws rs olds news : List ℕ) → wides_bad (plan_of s es ws rs) olds news ≡ wides_bad (plan_of s fs ws rs) olds news
+unfolding bad_wide
+wides_any s es fs ws rs olds news = refl

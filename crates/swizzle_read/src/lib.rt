@@ -16,7 +16,6 @@ ghost use Rattle.swizzle_pieces.specs.Steps.{load_of};
 
 use log_entries::Log;
 use net_flip_flop::{Controls, FlipFlop};
-use net_value::{ControlNet, Net};
 use swizzle_pieces::Pieces;
 
 // The nets of a mux address that a port has room for.
@@ -37,11 +36,9 @@ fn addr_controls(port: Controls) -> Controls
     ensures { controls_of result ≡ (with_enable (new_flip_flop [] (control_of port.clock)) (control_of port.enable)).controls }
 {
     Controls {
-        clock: port.clock,
-        clear: ControlNet::Pos(Net(0)),
-        reset: ControlNet::Pos(Net(0)),
         enable: port.enable,
         reset_over_enable: true,
+        ..Controls::plain(port.clock)
     }
 }
 

@@ -18,9 +18,6 @@ use Rattle.swizzle_result.specs.declared.WideWritePort.{WideWritePort}
 use Rattle.swizzle_result.specs.declared.WideReadPort.{WideReadPort}
 use Rattle.swizzle_result.specs.declared.WideMemory.{WideMemory}
 
-abbrev pub mems_of : WideMemory → ℕ
-mems_of g = g.mems
-
 -- a memory's bits of a port with this wide log, and those of all memories
 abbrev pub own : WideMemory → ℕ → ℕ
 own g wide = 2 ^ wide * g.unit

@@ -1,9 +1,6 @@
 // The memories that a swizzle gives, by value: they share ports, whose nets and trits stand in lent arrays, memory after memory.
 #![tactic(auto)]
 
-ghost use Rattle.std.specs.Prelude.{◌≡◌, ◌*◌};
-ghost use Rattle.swizzle_result.specs.View.{mems_of};
-
 use net_flip_flop::Controls;
 use net_value::{ControlNet, Net};
 
@@ -72,11 +69,4 @@ impl WideMemory {
         write_ports: [WideWritePort::NONE; rules::MAX_PORTS],
         read_ports: [WideReadPort::NONE; rules::MAX_PORTS],
     };
-}
-
-// How many memories there are.
-pub fn mems_of(g: WideMemory) -> u32
-    ensures { result ≡ mems_of g }
-{
-    g.mems
 }

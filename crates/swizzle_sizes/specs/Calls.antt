@@ -17,7 +17,7 @@ pub record SmallLogs (base : ℕ) (news : List ℕ) : Type 0 where
   pub base_small : base ≤ 1000
   pub news_small : (j : ℕ) → j < length news → get_or news j 0 ≤ 4
 
--- and few old wide logs
-pub record Countable (base : ℕ) (olds news : List ℕ) : Type 0 where
+-- and few ports
+pub record Countable (base : ℕ) (ports news : List ℕ) : Type 0 where
   pub small : SmallLogs base news
-  pub olds_few : length olds ≤ 8
+  pub few : length ports ≤ 8

@@ -26,29 +26,6 @@ pub struct MuxBits {
     pub reads: [u32; rules::MAX_PORTS],
 }
 
-// The old wide logs of the listed read ports.
-fn read_logs(m: Memory, ports: &[u32]) -> [u32; rules::MAX_PORTS]
-    requires { length ports.now ≤ 8 }
-    ensures { (nets trits : List ℕ) → result ≡ in_eight (read_logs (memory_of m nets trits) ports.now) }
-{
-    let mut logs = [0u32; rules::MAX_PORTS];
-    for (j, port) in ports.iter().enumerate() {
-        logs[j] = swizzle_plan::logs::read_log(m, *port);
-    }
-    logs
-}
-
-// The old wide logs of the write ports.
-fn write_logs(given: Given<'_>) -> [u32; rules::MAX_PORTS]
-    ensures { result ≡ in_eight (write_logs (mem_of given.entry)) }
-{
-    let mut logs = [0u32; rules::MAX_PORTS];
-    for i in 0..net_memory::ports_used(given.memory.write_count) {
-        logs[i] = swizzle_plan::logs::write_log(given, i as u32);
-    }
-    logs
-}
-
 // By what `swizzle_mux_bits` is refused.
 #[tactic(auto, using(crate::proofs::Refused::planned_err))]
 fn mux_refusal(given: Given<'_>, ports: &[u32], plan: Plan<'_>) -> Result<(), Refusal>
@@ -65,15 +42,20 @@ fn mux_refusal(given: Given<'_>, ports: &[u32], plan: Plan<'_>) -> Result<(), Re
     Ok(())
 }
 
-// The mux bits of ports with these old and new wide logs, over the bits that all ports have.
-fn bits_of(base: u32, olds: &[u32], news: &[u32]) -> [u32; rules::MAX_PORTS]
-    requires { Countable base olds.now news.now }
-    ensures { result ≡ in_eight (map (λ x. base + x.1 - x.0) (pairs olds.now news.now)) }
+// The mux bits of these ports, whose old wide logs `old` gives, over the bits that all ports have.
+fn bits_of<F: Fn(u32) -> u32>(
+    base: u32,
+    ports: &[u32],
+    news: &[u32],
+    old: F,
+) -> [u32; rules::MAX_PORTS]
+    requires called { F.IsAlwaysCallable old }
+    requires counted { Countable base ports.now news.now }
+    ensures { (g : ℕ → ℕ) → ((x r : ℕ) → F.post old x r → r ≡ g x) → result ≡ in_eight (map (λ x. base + x.1 - x.0) (pairs (map g ports.now) news.now)) }
 {
     let mut bits = [0u32; rules::MAX_PORTS];
-    // By number: over a `zip` the invariant has no index of a place.
-    for i in 0..olds.len().min(news.len()) {
-        bits[i] = (base + news[i]).saturating_sub(olds[i]);
+    for (i, (port, new)) in ports.iter().zip(news).enumerate() {
+        bits[i] = (base + *new).saturating_sub(old(*port));
     }
     bits
 }
@@ -83,19 +65,26 @@ fn write_bits(given: Given<'_>, base: u32, news: &[u32]) -> [u32; rules::MAX_POR
     requires { SmallLogs base news.now }
     ensures { result ≡ in_eight (map (λ x. base + x.1 - x.0) (pairs (write_logs (mem_of given.entry)) news.now)) }
 {
-    let logs = write_logs(given);
-    let olds = lists::part(&logs, 0, net_memory::ports_used(given.memory.write_count));
-    bits_of(base, olds, news)
+    let ports = swizzle_plan::logs::ports_in_use(given.memory.write_count);
+    bits_of(
+        base,
+        ports,
+        news,
+        |i| swizzle_plan::logs::write_log(given, i),
+    )
 }
 
 // The mux bits of the listed read ports.
 fn read_bits(given: Given<'_>, ports: &[u32], base: u32, news: &[u32]) -> [u32; rules::MAX_PORTS]
-    requires { (length ports.now ≤ 8) × SmallLogs base news.now }
+    requires { Countable base ports.now news.now }
     ensures { result ≡ in_eight (map (λ x. base + x.1 - x.0) (pairs (read_logs (mem_of given.entry) ports.now) news.now)) }
 {
-    let logs = read_logs(given.memory, ports);
-    let olds = lists::part(&logs, 0, ports.len());
-    bits_of(base, olds, news)
+    bits_of(
+        base,
+        ports,
+        news,
+        |i| swizzle_plan::logs::read_log(given.memory, i),
+    )
 }
 
 // The mux bits that every port has: those that select among chunks, and the soft bits.

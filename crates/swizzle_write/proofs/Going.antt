@@ -13,6 +13,7 @@ use Rattle.log_entries.specs.Emission.{Lent, is_over, run}
 use Rattle.log_entries.proofs.Emission.{run-done, run_then, run_next, run-held}
 use Rattle.swizzle_laws.specs.Stores.{spill_at, piece_by, spill_masks}
 use Rattle.swizzle_columns.specs.declared.WidePort.{WidePort}
+use Rattle.merge_keys.specs.declared.Kept.{Kept}
 use Rattle.swizzle_write.specs.Jobs.{Job}
 use Rattle.swizzle_write.proofs.Pieces.{chains_piece}
 
@@ -92,6 +93,6 @@ module _ (M R U L : ℕ) (starts : ℕ → List ℕ) (mux mask : List ℕ) where
           ∙ g.value (ap (λ (y : Lent). is_over y.state) nothing ∙ o)
 
 -- arrays of the same lengths
-pub job_same : (p : WidePort) (len : ℕ) (mux mask kx ky at : List ℕ) {nl pl tl nl' pl' tl' : ℕ} → nl' ≡ nl → pl' ≡ pl → tl' ≡ tl
-    → Job p len mux mask kx ky at nl pl tl → Job p len mux mask kx ky at nl' pl' tl'
-job_same p len mux mask kx ky at a b c j = rw (a, b, c) j
+pub job_same : (p : WidePort) (len : ℕ) (mux mask : List ℕ) (k : Kept) {nl pl tl nl' pl' tl' : ℕ} → nl' ≡ nl → pl' ≡ pl → tl' ≡ tl
+    → Job p len mux mask k nl pl tl → Job p len mux mask k nl' pl' tl'
+job_same p len mux mask k a b c j = rw (a, b, c) j

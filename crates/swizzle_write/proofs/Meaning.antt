@@ -3,6 +3,7 @@ use mathlib.Core.Path.{◌≡◌, refl, sym, ap, ◌∙◌}
 use Prim.Native.Nat.{ℕ, ◌*◌, ◌^◌, ◌≤◌}
 use mathlib.Core.List.{List}
 use lib.ListN.{length}
+use Rattle.rules.specs.Limits.{X}
 use Rattle.rules.specs.Value.{Value}
 use Rattle.rules.specs.Cell.{WritePort}
 use Rattle.rules.specs.Log.{Trace}
@@ -13,7 +14,7 @@ use Rattle.swizzle_laws.specs.Order.{ordered}
 use Rattle.swizzle_laws.proofs.Places.{Splittable}
 use Rattle.swizzle_columns.specs.declared.WidePort.{WidePort}
 use Rattle.swizzle_columns.specs.Wide.{PortFits, grid_of, port_bits, bits_of}
-use Rattle.swizzle_columns.proofs.Fits.{grid_good, fits_tested, bits_can}
+use Rattle.swizzle_columns.proofs.Fits.{grid_good, fits_tested, columns_can}
 use Rattle.swizzle_columns.proofs.Meaning.{Means, row_length, old_is, new_is, columns_are, starts_are}
 use Rattle.swizzle_write.specs.Matches.{Matches}
 use Rattle.swizzle_write.specs.Wide.{mux_room, port_masks, masks_of}
@@ -52,7 +53,6 @@ module _ (q : Layout) (old new : ℕ) (addr : Value) (ok : Splittable q old new 
       masks_value n = matched_mask _ _ _ _ _ _ _ _ _ _ q s w matches size (grid_good p (length q.entries) size f) n
 
       bits_value : (n : ℕ) → port_bits p q.entries w.bits size ≡ ordered q s (swizzle_write q s w n).value.port.bits
-      unfolding port_bits
       bits_value n = matched_bits _ _ _ _ _ _ _ _ _ _ q s w matches size (grid_good p (length q.entries) size f) n
 
     -- the write port, where its rooms are as large as its columns and the mux address is not too long
@@ -70,4 +70,4 @@ module _ (q : Layout) (old new : ℕ) (addr : Value) (ok : Splittable q old new 
       pub write_bits : (n : ℕ) → bits_of p q.entries w.bits room ≡ ordered q s (swizzle_write q s w n).value.port.bits
       write_bits n =
           let t = fits_tested p (length q.entries) (length room) f in
-          bits_can p q.entries w.bits room t.0 t.1 ∙ bits_value (length room) f n
+          columns_can X p q.entries w.bits room t.0 t.1 ∙ bits_value (length room) f n

@@ -21,11 +21,12 @@ use Rattle.rules.proofs.Chain.{chains_eq, chains_done, chains_if, chains_bind, c
 use Rattle.rules.proofs.Entries.{next_eq}
 use Rattle.log_entries.specs.Emission.{Lent, is_over, run}
 use Rattle.log_entries.proofs.Emission.{run-done, run_then, run_same, run_next, run-held}
-use Rattle.merge_keys.specs.Keys.{firsts, seconds}
+use Rattle.merge_keys.specs.declared.Kept.{Kept}
+use Rattle.merge_keys.specs.Keys.{firsts, seconds, MergeOf}
 use Rattle.merge_mux.specs.Results.{results}
 use Rattle.merge_mux.proofs.Spread.{length_spread, results_are}
 use Rattle.swizzle_laws.specs.Stores.{piece_by}
-use Rattle.swizzle_write.specs.Jobs.{Kept}
+use Rattle.swizzle_write.specs.Jobs.{with_zeros}
 
 empty_is : (v : Value) → length v ≡ 0 → is_empty v ≡ true
 unfolding is_empty
@@ -85,7 +86,7 @@ module _ (mux mask number : Value) (x : ℕ) (l l1 : Lent) (en : number ≡ from
     alone_value piece piece' p =
         p ∙ ap (sets piece 0) (sym (value ∙ ap (λ (t : Trace Value). (t (l.state.next + 1)).value) (rest_none l.state.next) ∙ done_value mask (l.state.next + 1)))
 
-  module _ (s : 0 < length mux) (kx ky at : List ℕ) (k : Kept mask kx ky at) (l2 : Lent) (f : l2 ≡ run (add_mux_of (Pos l.state.next) kx ky) l1) where
+  module _ (s : 0 < length mux) (w : Kept) (k : MergeOf (with_zeros mask) w) (l2 : Lent) (f : l2 ≡ run (add_mux_of (Pos l.state.next) w.x.now w.y.now) l1) where
     abbrev zeros : Value
     zeros = replicate (length mask) 0
 
@@ -109,13 +110,13 @@ module _ (mux mask number : Value) (x : ℕ) (l l1 : Lent) (en : number ≡ from
 
     mux_run : l2 ≡ run (rest mux mask n) l1
     mux_run =
-        f ∙ ap (λ (a : List ℕ). run (add_mux_of (Pos n) a ky) l1) k.first ∙ ap (λ (b : List ℕ). run (add_mux_of (Pos n) (firsts ks) b) l1) k.second
+        f ∙ ap (λ (a : List ℕ). run (add_mux_of (Pos n) a w.y.now) l1) k.kept_x ∙ ap (λ (b : List ℕ). run (add_mux_of (Pos n) (firsts ks) b) l1) k.kept_y
         ∙ dedup_run ∙ ap (λ (t : Trace Value). run t l1) (sym (rest_some n))
 
     pub muxed_run : l2 ≡ run (piece_by mux mask x) l
     muxed_run = joined l2 mux_run
 
-    pub muxed_value : (piece piece' : List ℕ) → piece' ≡ results (is_over l2.state) piece 0 (spread at (add_mux_of (Pos n) kx ky l1.state.next).value)
+    pub muxed_value : (piece piece' : List ℕ) → piece' ≡ results (is_over l2.state) piece 0 (spread w.at.now (add_mux_of (Pos n) w.x.now w.y.now l1.state.next).value)
         → is_over l2.state ≡ false → piece' ≡ sets piece 0 (piece_by mux mask x n).value
     muxed_value piece piece' p o =
         let o1 : is_over l1.state ≡ false = run-held (rest mux mask n) l1 (sym (ap (λ (y : Lent). is_over y.state) mux_run) ∙ o) in
@@ -123,15 +124,15 @@ module _ (mux mask number : Value) (x : ℕ) (l l1 : Lent) (en : number ≡ from
         ap (λ (y : Lent). y.state.next) compared
         ∙ run_next first l (chains_eq mux (from_uint (length mux) x)) (sym (ap (λ (y : Lent). is_over y.state) compared) ∙ o1)
         ∙ next_eq mux (from_uint (length mux) x) n in
-        let v : spread at (add_mux_of (Pos n) kx ky l1.state.next).value ≡ (piece_by mux mask x n).value =
-        ap (λ (a : List ℕ). spread a (add_mux_of (Pos n) kx ky l1.state.next).value) k.placed
-        ∙ ap (λ (a : List ℕ). spread (places same2 (pairs mask zeros)) (add_mux_of (Pos n) a ky l1.state.next).value) k.first
-        ∙ ap (λ (a : List ℕ). spread (places same2 (pairs mask zeros)) (add_mux_of (Pos n) (firsts ks) a l1.state.next).value) k.second
+        let v : spread w.at.now (add_mux_of (Pos n) w.x.now w.y.now l1.state.next).value ≡ (piece_by mux mask x n).value =
+        ap (λ (a : List ℕ). spread a (add_mux_of (Pos n) w.x.now w.y.now l1.state.next).value) k.placed
+        ∙ ap (λ (a : List ℕ). spread (places same2 (pairs mask zeros)) (add_mux_of (Pos n) a w.y.now l1.state.next).value) k.kept_x
+        ∙ ap (λ (a : List ℕ). spread (places same2 (pairs mask zeros)) (add_mux_of (Pos n) (firsts ks) a l1.state.next).value) k.kept_y
         ∙ ap (λ (m : ℕ). spread (places same2 (pairs mask zeros)) (add_mux_of (Pos n) (firsts ks) (seconds ks) m).value) q
         ∙ dedup_value (n + 1)
         ∙ ap (λ (t : Trace Value). (t (n + 1)).value) (sym (rest_some n))
         ∙ sym value in
-        p ∙ results_are (is_over l2.state) piece 0 (spread at (add_mux_of (Pos n) kx ky l1.state.next).value) o ∙ ap (sets piece 0) v
+        p ∙ results_are (is_over l2.state) piece 0 (spread w.at.now (add_mux_of (Pos n) w.x.now w.y.now l1.state.next).value) o ∙ ap (sets piece 0) v
 
 -- ---- a piece has as many nets as the row's mask
 muxed_length : (e : ℕ) (mask : Value) (n : ℕ) → length (add_dedup_mux_of (Pos e) mask (replicate (length mask) 0) n).value ≡ length mask

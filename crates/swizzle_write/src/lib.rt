@@ -7,14 +7,17 @@ ghost use Rattle.std.proofs.lemmas.List.Edits.{sets};
 ghost use Rattle.rules.specs.Value.{from_uint};
 ghost use Rattle.log_entries.specs.Emission.{is_over, run};
 ghost use Rattle.log_entries.specs.View.{state_of, lent_of};
+ghost use Rattle.merge_keys.specs.Keys.{MergeOf};
 ghost use Rattle.swizzle_laws.specs.Stores.{spill_at, piece_by};
 ghost use Rattle.swizzle_columns.specs.Wide.{port_starts};
-ghost use Rattle.swizzle_write.specs.Jobs.{Kept, Job, Rooms, Row};
+ghost use Rattle.swizzle_write.specs.Jobs.{with_zeros, Job, Rooms, Row};
 ghost use Rattle.swizzle_write.specs.View.{masks_by};
 ghost use Rattle.swizzle_write.specs.Wide.{can_write, Writes, port_masks, masks_of};
 
 use log_entries::Log;
-use merge_mux::emit::{self, Keys};
+use merge_keys::columns::Columns;
+use merge_keys::{Kept, Keys};
+use merge_mux::emit;
 use net_value::{ControlNet, Net};
 use swizzle_columns::WidePort;
 
@@ -28,14 +31,6 @@ struct Masked<'a> {
     per_row: usize,
     mux: &'a [u32],
     row: &'a [u32],
-}
-
-// What a merge of the row with zeros keeps, and the place of each net.
-#[derive(Clone, Copy)]
-struct KeptNets<'a> {
-    x: &'a [u32],
-    y: &'a [u32],
-    at: &'a [u32],
 }
 
 // The low bits of a number as constant nets.
@@ -54,12 +49,12 @@ impl Masked<'_> {
     fn emit_piece(
         self,
         log: &mut Log,
-        kept: KeptNets,
+        kept: Kept<'_>,
         number: &mut [u32],
         piece: &mut [u32],
         x: usize,
     )
-        requires { Kept self.row.now kept.x.now kept.y.now kept.at.now × (length number.old ≡ length self.mux.now) }
+        requires { MergeOf (with_zeros self.row.now) kept × (length number.old ≡ length self.mux.now) }
         ensures log_after { lent_of log.new ≡ run (piece_by self.entry.mux.now self.entry.row.now x) (lent_of log.old) }
         ensures piece_after { is_over (state_of log.new.state) ≡ false → piece.new ≡ sets piece.old 0 (piece_by self.entry.mux.now self.entry.row.now x log.old.state.next).value }
     {
@@ -70,20 +65,20 @@ impl Masked<'_> {
             lists::copy(piece, 0, self.row);
             return;
         }
-        emit::emit_kept_mux(log, piece, 0, select, kept.x, kept.y, kept.at);
+        emit::emit_kept_mux(log, piece, 0, select, kept);
     }
 
     // Piece x, emitted and stored.
     fn write_piece(
         self,
         log: &mut Log,
-        kept: KeptNets,
+        kept: Kept<'_>,
         number: &mut [u32],
         piece: &mut [u32],
         to: &mut [u32],
         x: usize,
     )
-        requires job { Job self.port self.per_row self.mux.now self.row.now kept.x.now kept.y.now kept.at.now (length number.old) (length piece.old) (length to.old) }
+        requires job { Job self.port self.per_row self.mux.now self.row.now kept (length number.old) (length piece.old) (length to.old) }
         requires x_lt_pieces { x < self.port.pieces }
         ensures log_after { lent_of log.new ≡ run (piece_by self.entry.mux.now self.entry.row.now x) (lent_of log.old) }
         ensures piece_after { is_over (state_of log.new.state) ≡ false → piece.new ≡ (piece_by self.entry.mux.now self.entry.row.now x log.old.state.next).value }
@@ -97,12 +92,12 @@ impl Masked<'_> {
     fn write_pieces(
         self,
         log: &mut Log,
-        kept: KeptNets,
+        kept: Kept<'_>,
         number: &mut [u32],
         piece: &mut [u32],
         to: &mut [u32],
     )
-        requires { Job self.port self.per_row self.mux.now self.row.now kept.x.now kept.y.now kept.at.now (length number.old) (length piece.old) (length to.old) }
+        requires { Job self.port self.per_row self.mux.now self.row.now kept (length number.old) (length piece.old) (length to.old) }
         ensures log_after { lent_of log.new ≡ run (masks_by self.entry to.old) (lent_of log.old) }
         ensures to_after { is_over (state_of log.new.state) ≡ false → to.new ≡ (masks_by self.entry to.old log.old.state.next).value }
     {
@@ -125,13 +120,11 @@ impl Masked<'_> {
         ensures log_after { lent_of log.new ≡ run (masks_by self.entry to.old) (lent_of log.old) }
         ensures to_after { is_over (state_of log.new.state) ≡ false → to.new ≡ (masks_by self.entry to.old log.old.state.next).value }
     {
-        let n = self.row.len();
-        let k = keys.merge(self.row, zeros);
-        let kept = KeptNets {
-            x: &keys.x[..k],
-            y: &keys.y[..k],
-            at: &keys.at[..n],
+        let given = Columns {
+            x: self.row,
+            y: zeros,
         };
+        let kept = keys.merge(given);
         self.write_pieces(log, kept, number, piece, to);
     }
 

@@ -20,7 +20,8 @@ use Rattle.rules.specs.Limits.{max_depth, max_width}
 use Rattle.rules.specs.Geometry.{Layout}
 use Rattle.rules.specs.Conditions.{bad_layout_sizes, bad_layout}
 use Rattle.rules.specs.Beside.Shape.{Shape, shape_of, laid_shape}
-use Rattle.std.specs.Prelude.{not, Option as Checked, Some, None, is_some}
+use Rattle.std.specs.Prelude.{Result, Ok, Err, is_err}
+use Rattle.rules.specs.declared.numbers.Refusal.{Refusal}
 use Rattle.image_check.specs.View.{checked_of}
 use Rattle.image_geometry.specs.declared.Shape.{Shape as Measured}
 use Rattle.image_geometry.specs.declared.Params.{Params}
@@ -73,11 +74,9 @@ unfolding laid_shape
 is_good q s e = from_some (bad_layout q) (shape_of q) s e
 
 -- by what the code's check gives
-pub bad_by : (q : Layout) (r : Checked Measured) (b : Bool) → checked_of r ≡ laid_shape q → is_some r ≡ not b → b ≡ bad_layout q
-bad_by q None true e h = is_bad q e
-bad_by q None false e h = cc
-bad_by q (Some s) true e h = cc
-bad_by q (Some s) false e h = is_good q _ e
+pub bad_by : (q : Layout) (r : Result Measured Refusal) → checked_of r ≡ laid_shape q → is_err r ≡ bad_layout q
+bad_by q (Err x) e = is_bad q e
+bad_by q (Ok s) e = is_good q _ e
 
 -- a row that is too wide
 pub wide_bad : (q : Layout) → max_width < q.width → bad_layout q ≡ true

@@ -6,6 +6,7 @@ use Rattle.image_geometry.specs.View.{layout_by}
 use Rattle.table_text.specs.View.{reason_number}
 use Rattle.table_read.specs.declared.Table.{Table}
 use Rattle.table_read.specs.declared.Fault.{Fault}
+use Rattle.table_read.specs.declared.Entries.{Entries}
 use Rattle.table_read.specs.Table.{Parsed, NoTable, IsTable}
 
 -- a layout's numbers among the words of a header
@@ -18,8 +19,12 @@ params_read ws count = record {
   unit = get_or ws (count - 1) 0;
 }
 
+-- the layout of numbers and the entries in use
+abbrev pub layout_given : Params → Entries → Layout
+layout_given p es = layout_by p (take es.len es.list)
+
 abbrev pub layout_in : Table → Layout
-layout_in t = layout_by t.params (take t.entries.len t.entries.list)
+layout_in t = layout_given t.params t.entries
 
 unfoldable pub parsed_of : Result Table Fault → Parsed
 parsed_of (Ok t) = IsTable (record { layout = layout_in t; rows = take (t.params.depth * t.params.width) t.rows })

@@ -9,7 +9,7 @@ ghost use Rattle.image_geometry.specs.View.{layout_by, layout_of};
 ghost use Rattle.table_text.specs.Bytes.{max_text};
 ghost use Rattle.table_text.specs.View.{head_of};
 ghost use Rattle.table_read.specs.Table.{max_words, entries_read, layout_read, head_number, rows_table, layout_table, head_table, parse_table};
-ghost use Rattle.table_read.specs.View.{layout_in, params_read, parsed_of};
+ghost use Rattle.table_read.specs.View.{layout_in, layout_given, params_read, parsed_of};
 
 use image_geometry::{Layout, Params};
 use std::fmt;
@@ -45,6 +45,30 @@ pub struct Fault {
     pub reason: Reason,
 }
 
+// A text that is not too long.
+#[derive(Clone, Copy)]
+struct Text<'a> {
+    bytes: &'a [u8],
+    ghost short: { length bytes.now ≤ max_text },
+}
+
+// What a header line gives: a layout's numbers and its entries.
+#[derive(Clone, Copy)]
+struct Header {
+    params: Params,
+    entries: Entries,
+    ghost few: { entries.len ≤ max_row },
+}
+
+impl Fault {
+    // A fault of the first line, or of the whole text.
+    pub fn in_header(reason: Reason) -> Fault
+        ensures { result ≡ record { line = 1; reason = reason } }
+    {
+        Fault { line: 1, reason }
+    }
+}
+
 impl fmt::Display for Fault {
     fn fmt<W: fmt::Write>(&self, f: &mut fmt::Formatter<W>) -> fmt::Result {
         write!(f, "line {}: {}", self.line, self.reason)
@@ -58,6 +82,16 @@ impl Entries {
     {
         lists::part(&self.list, 0, self.len as usize)
     }
+
+    // The layout of these numbers and the entries in use.
+    fn layout(&self, params: Params) -> Layout<'_>
+        ensures { layout_of result ≡ layout_given params self.now }
+    {
+        Layout {
+            params,
+            entries: self.used(),
+        }
+    }
 }
 
 impl Table {
@@ -65,10 +99,7 @@ impl Table {
     pub fn layout(&self) -> Layout<'_>
         ensures { layout_of result ≡ layout_in self.now }
     {
-        Layout {
-            params: self.params,
-            entries: self.entries.used(),
-        }
+        self.entries.layout(self.params)
     }
 
     // The trits in use.
@@ -98,7 +129,7 @@ fn is_bad_head(head: Head) -> bool
 }
 
 // Not of a slice that ends behind the last word: that the last three are found there takes a proof that no header has fewer words.
-fn params_of(words: &[u32], count: u32) -> Params
+fn params_of(words: &[u32; MAX_WORDS], count: u32) -> Params
     ensures { result ≡ params_read words.now count }
 {
     Params {
@@ -111,8 +142,8 @@ fn params_of(words: &[u32], count: u32) -> Params
 }
 
 // The entries among the words; where none is given, each bit in its place.
-fn entries_of(words: &[u32], count: u32, width: u32) -> Entries
-    requires { (length words.now ≡ max_words) × (count ≤ max_words) × (width ≡ get_or words.now 1 0) × (width ≤ max_width) }
+fn entries_of(words: &[u32; MAX_WORDS], count: u32, width: u32) -> Entries
+    requires { (count ≤ max_words) × (width ≡ get_or words.now 1 0) × (width ≤ max_width) }
     ensures { (take result.len result.list ≡ entries_read words.now count) × (result.len ≤ max_row) }
 {
     let mut list = [0u32; rules::MAX_ROW];
@@ -127,72 +158,61 @@ fn entries_of(words: &[u32], count: u32, width: u32) -> Entries
 
 // ---- the table
 
-fn is_bad_layout(params: Params, entries: Entries) -> bool
-    requires { entries.len ≤ max_row }
-    ensures { result ≡ bad_layout (layout_by params (take entries.len entries.list)) }
-{
-    let layout = Layout {
-        params,
-        entries: entries.used(),
-    };
-    image_check::check_layout(layout).is_none()
-}
-
-// The rows of a layout, from a place of the text on.
-fn rows_of(params: Params, entries: Entries, text: &[u8], at: usize) -> Result<Table, Fault>
-    requires { (params.width ≤ max_width) × (length text.now ≤ max_text) }
-    ensures { parsed_of result ≡ rows_table (layout_by params (take entries.len entries.list)) (drop at (text.now ++ (10 ∷ []))) }
-{
-    let mut rows = [rules::TRIT_X; MAX_TRITS];
-    let end = scan::read_rows(&mut rows, params.depth, params.width, text, at);
-    match end.kind {
-        scan::Kind::Refused(reason) => Err(Fault {
-            line: end.line,
-            reason,
-        }),
-        // Behind the line break at its end a text that is not refused is between words.
-        _ => Ok(Table {
-            params,
-            entries,
-            rows,
-        }),
+impl Header {
+    // No accepted swizzle has its layout.
+    fn is_bad(&self) -> bool
+        ensures { result ≡ bad_layout (layout_given self.now.params self.now.entries) }
+    {
+        image_check::check_layout(self.entries.layout(self.params)).is_err()
     }
-}
 
-fn layout_table(params: Params, entries: Entries, text: &[u8], at: usize) -> Result<Table, Fault>
-    requires { (entries.len ≤ max_row) × (length text.now ≤ max_text) }
-    ensures { parsed_of result ≡ layout_table (layout_by params (take entries.len entries.list)) (drop at (text.now ++ (10 ∷ []))) }
-{
-    if is_bad_layout(params, entries) {
-        return Err(Fault {
-            line: 1,
-            reason: Reason::BadLayout,
-        });
+    // The table with the rows from a place of the text on.
+    fn with_rows(&self, text: Text<'_>, at: usize) -> Result<Table, Fault>
+        requires { self.now.params.width ≤ max_width }
+        ensures { parsed_of result ≡ rows_table (layout_given self.now.params self.now.entries) (drop at (text.entry.bytes.now ++ (10 ∷ []))) }
+    {
+        let params = self.params;
+        let mut rows = [rules::TRIT_X; MAX_TRITS];
+        let end = scan::read_rows(&mut rows, params.depth, params.width, text.bytes, at);
+        match end.kind {
+            scan::Kind::Refused(reason) => Err(Fault {
+                line: end.line,
+                reason,
+            }),
+            // Behind the line break at its end a text that is not refused is between words.
+            _ => Ok(Table {
+                params,
+                entries: self.entries,
+                rows,
+            }),
+        }
     }
-    rows_of(params, entries, text, at)
+
+    // The same, where an accepted swizzle has the layout.
+    fn table(&self, text: Text<'_>, at: usize) -> Result<Table, Fault>
+        ensures { parsed_of result ≡ layout_table (layout_given self.now.params self.now.entries) (drop at (text.entry.bytes.now ++ (10 ∷ []))) }
+    {
+        if self.is_bad() {
+            return Err(Fault::in_header(Reason::BadLayout));
+        }
+        self.with_rows(text, at)
+    }
 }
 
 // The table behind a header that is read.
-fn head_table(text: &[u8], words: &[u32], end: Ended) -> Result<Table, Fault>
-    requires { (length text.now ≤ max_text) × (length words.now ≡ max_words) }
-    ensures { parsed_of result ≡ head_table (record { state = head_of end.head; words = words.now; rest = drop end.at (text.now ++ (10 ∷ [])) }) }
+fn head_table(text: Text<'_>, words: &[u32; MAX_WORDS], end: Ended) -> Result<Table, Fault>
+    ensures { parsed_of result ≡ head_table (record { state = head_of end.head; words = words.now; rest = drop end.at (text.entry.bytes.now ++ (10 ∷ [])) }) }
 {
     if is_bad_head(end.head) {
-        return Err(Fault {
-            line: 1,
-            reason: Reason::BadHeader,
-        });
+        return Err(Fault::in_header(Reason::BadHeader));
     }
     let count = end.head.count;
     let params = params_of(words, count);
     if rules::MAX_WIDTH < params.width {
-        return Err(Fault {
-            line: 1,
-            reason: Reason::BadLayout,
-        });
+        return Err(Fault::in_header(Reason::BadLayout));
     }
     let entries = entries_of(words, count, params.width);
-    layout_table(params, entries, text, end.at)
+    Header { params, entries }.table(text, end.at)
 }
 
 // The table of a text.
@@ -200,12 +220,9 @@ pub fn read_table(text: &[u8]) -> Result<Table, Fault>
     ensures { parsed_of result ≡ parse_table text.now }
 {
     if table_text::bytes::MAX_TEXT < text.len() {
-        return Err(Fault {
-            line: 1,
-            reason: Reason::TextTooLong,
-        });
+        return Err(Fault::in_header(Reason::TextTooLong));
     }
     let mut words = [0u32; MAX_WORDS];
-    let end = table_text::head::read_head(&mut words, text);
-    head_table(text, &words, end)
+    let end = head::read_head(&mut words, text);
+    head_table(Text { bytes: text }, &words, end)
 }

@@ -43,13 +43,11 @@ fn put_all(room: &mut [u8], layout: Layout<'_>, image: &[u8])
 }
 
 // Number 20, where the image has `size` trits.
+#[tactic(auto, unfolding(crate::specs::Rows::read_rows_refusal_by, rules::specs::Conditions::no_room_of))]
 fn check_room(room: usize, p: Params, size: u64, len: usize) -> Result<(), Refusal>
     ensures { number_of result ≡ read_rows_refusal_by p.depth p.width size room len }
 {
-    if (len as u64) < size {
-        return Err(Refusal::NoRoom);
-    }
-    if (room as u64) < u64::from(p.depth) * u64::from(p.width) {
+    if (len as u64) < size || (room as u64) < u64::from(p.depth) * u64::from(p.width) {
         return Err(Refusal::NoRoom);
     }
     Ok(())
@@ -59,7 +57,7 @@ fn check_room(room: usize, p: Params, size: u64, len: usize) -> Result<(), Refus
 pub fn read_rows(room: &mut [u8], layout: Layout<'_>, image: &[u8]) -> Result<(), Refusal>
     ensures { filled_with (number_of result) room.new ≡ read_rows_call (handed_on (layout_of layout.entry)) room.old image.now }
 {
-    let s = image_check::check_layout(layout).ok_or(Refusal::NotLaidOut)?;
+    let s = image_check::check_layout(layout)?;
     check_room(room.len(), layout.params, s.image_size, image.len())?;
     put_all(room, layout, image);
     Ok(())

@@ -1,35 +1,40 @@
 -- `image_geometry::next_row` meets its contract.
-use mathlib.Core.Path.{◌∙◌}
+use Prim.Native.Nat.{◌+◌, ◌-◌}
+use mathlib.Core.Path.{◌≡◌, ◌∙◌}
+use native.Mathlib.Nat.{div-one, sub-zero}
 use native.Mathlib.Omega.{arith}
+use lib.Count.{count_trailing_zeros}
 use Rattle.rules.specs.Geometry.{to_chunk}
 use Rattle.image_geometry.proofs.Fields.{chunk_word, row_word}
-use Rattle.image_geometry.proofs.Carrying.{held, whole, told, carry_starts, carry_turn, carry_ends, roomy, small_turn, small_starts, words-held, next_words}
+use Rattle.image_geometry.proofs.Walking.{halved}
+use Rattle.image_geometry.proofs.Carrying.{held, whole, told, carry_starts, carry_turn, carry_ends, small_turn, small_starts, words-held, next_words, ones_start, ones_turn, ones_end}
 use Rattle.image_geometry.proofs.next_row.Goals as goal
 
-pub loop-rest-init : goal.loop-rest-init
-loop-rest-init c =
-    let a = c.args in (
+pub loop-i-init : goal.loop-i-init
+loop-i-init c =
+    let a = c.args in
+    let t : c.trailing_ones-i-end.result - 0 ≡ count_trailing_zeros 32 (4294967295 - a.row) = sub-zero _ ∙ c.trailing_ones-i-end.ensures in
+    rw (div-one a.row, t) (
+      ones_start a.row (omega (arith, c.ranges.row)),
       small_starts _ _ a.hard a.row _ (omega (arith, c.from.ensures, chunk_word a.spot _ c.well_formed.1.1.1.0)) (omega (arith, c.from-2.ensures, row_word a.spot _ c.well_formed.1.1.1.0)) (omega (arith, c.ranges.row)) c.from-w.ensures,
       λ h e. carry_starts a.mask a.hard a.row _ (held c.from-w.result) h e (whole c.from-w.result _ _ _ c.from-w.ensures),
     )
 
-pub pass-w-requires : goal.pass-w-requires
-pass-w-requires c = roomy _ _ c.loop-rest.invariant.0
-
-pub loop-rest-preserved : goal.loop-rest-preserved
-loop-rest-preserved c =
-    let l = c.loop-rest in (
-      small_turn (to_chunk l.soft l.w.hard) _ _ _ c.loop-rest-test.true c.pass-w.ensures l.invariant.0,
-      λ h e. carry_turn _ _ _ _ _ _ (l.invariant.1 h e) _ c.loop-rest-test.true c.pass-w.ensures,
+pub loop-i-preserved : goal.loop-i-preserved
+loop-i-preserved c =
+    let l = c.loop-i in
+    let o = ones_turn _ _ l.invariant.0 (omega (arith, c.loop-i-test.true)) in
+    let k : c.trailing_ones-i-end.result - (l.i + 1) ≡ c.trailing_ones-i-end.result - l.i - 1 = omega arith in
+    rw (halved c.args.row l.i, k) (
+      o.1,
+      small_turn (to_chunk l.soft l.w.hard) _ _ _ o.0 c.pass-w.ensures l.invariant.1,
+      λ h e. carry_turn _ _ _ _ _ _ (l.invariant.2 h e) _ o.0 c.pass-w.ensures,
     )
-
-pub step-requires : goal.step-requires
-step-requires c = roomy _ _ c.loop-rest.invariant.0
 
 pub returns : goal.returns
 returns c =
     let a = c.args in
-    let l = c.loop-rest in
+    let l = c.loop-i in
     λ h e.
     let k = next_words a.mask a.hard a.row h in
-    words-held _ _ c.step.result _ (carry_ends _ _ _ _ _ _ (l.invariant.1 h (told _ _ _ _ c.from-w.ensures c.from.ensures c.from-2.ensures ∙ e)) _ (omega (arith, c.loop-rest-test.false)) c.step.ensures) k.0 k.1 c.spot.ensures.chunk c.spot.ensures.row
+    words-held _ _ c.step.result _ (carry_ends _ _ _ _ _ _ (l.invariant.2 h (told _ _ _ _ c.from-w.ensures c.from.ensures c.from-2.ensures ∙ e)) _ (ones_end _ _ l.invariant.0 (omega (arith, c.loop-i-test.false))) c.step.ensures) k.0 k.1 c.spot.ensures.chunk c.spot.ensures.row

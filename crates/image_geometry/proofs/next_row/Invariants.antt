@@ -1,13 +1,12 @@
 -- The invariants of `image_geometry::next_row`.
 use mathlib.Core.Path.{◌≡◌}
-use Prim.Native.Nat.{◌<◌}
+use Prim.Native.Nat.{◌-◌, ◌/◌, ◌^◌, ◌<◌}
 use Rattle.rules.specs.Limits.{addr_bits}
 use Rattle.rules.specs.Geometry.{walk}
-use Rattle.image_geometry.proofs.Carrying.{Small, Carrying, held}
+use Rattle.image_geometry.proofs.Carrying.{Ones, Small, Carrying, held}
 use Rattle.image_geometry.proofs.next_row.Given as goal
 
-abbrev pub invariant-loop-rest : goal.invariant-loop-rest
-invariant-loop-rest l = Small l.w l.rest × (l.row < 4294967295 → held l.initial.w ≡ walk addr_bits l.mask l.hard l.row → Carrying l.mask l.hard l.row l.w l.soft l.rest)
-
-abbrev pub decreases-loop-rest : goal.decreases-loop-rest
-decreases-loop-rest l = l.rest
+abbrev pub invariant-loop-i : goal.invariant-loop-i
+invariant-loop-i l =
+    let rest = l.row / 2 ^ l.i in
+    Ones rest (l.i-end - l.i) × Small l.w rest × (l.row < 4294967295 → held l.initial.w ≡ walk addr_bits l.mask l.hard l.row → Carrying l.mask l.hard l.row l.w l.soft rest)

@@ -6,8 +6,8 @@ use Rattle.port_transparency.specs.Pairs.{read_of, data_and}
 use Rattle.port_overlay.proofs.Laid.{as_laid, as_not, is_not, is_yes}
 use Rattle.port_overlay.proofs.emit_related.Goals as goal
 
-pub returns-then-x-code : goal.returns-then-x-code
-returns-then-x-code g c =
+pub returns-then-x-from : goal.returns-then-x-from
+returns-then-x-from g c =
     let v = c.args in
     let n = v.r.count in
     as_not (mem_of v.given) v.r.k (read_of v.r) v.x v.j (data_and (take n v.overlay.now.under) (g.O.Over.mask v.over.now n)) (lent_of v.log.now) (is_not v.x (rw c.from.ensures at c.if-x-from.true))

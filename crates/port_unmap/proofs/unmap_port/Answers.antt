@@ -12,14 +12,14 @@ use Rattle.port_unmap.specs.Call.{driving}
 use Rattle.port_unmap.proofs.Passed.{is_there_lem, ready, flip_none, flip_some, dff_some, driven_as, none_refused, none_done, struct_none}
 use Rattle.port_unmap.proofs.unmap_port.Goals as goal
 
-pub unmap_clocked-requires : goal.unmap_clocked-requires
-unmap_clocked-requires c =
+pub unmap-requires : goal.unmap-requires
+unmap-requires c =
     let v = c.args in
     let x = reads_length v.given.memory _ c.well_formed.1.1.1.0.1.1.0 v.given.nets.now v.given.trits.now in
     let y = writes_length v.given.memory _ c.well_formed.1.1.1.0.1.1.0 v.given.nets.now in
     let h = is_there_lem v.st.next v.given.memory v.given.nets.now v.given.trits.now v.i v.output.now c.requires x y in
     let e = ap (λ (q : MemoryReadPort). q.flip_flop) (sym (c.read_port.ensures.own h)) ∙ c.in-Some.is in
-    ready v.st.next v.given.memory v.given.nets.now v.given.trits.now v.i v.output.now c.requires x y c.in-Some.c e
+    ready v.st.next v.given.memory v.given.nets.now v.given.trits.now v.i v.output.now c.requires x y c.in-Some.controls e
 
 pub returns-in_err-room_refusal-in-None : goal.returns-in_err-room_refusal-in-None
 returns-in_err-room_refusal-in-None c =
@@ -46,8 +46,8 @@ returns-in-Some c =
     let x = reads_length v.given.memory _ c.well_formed.1.1.1.0.1.1.0 v.given.nets.now v.given.trits.now in
     let y = writes_length v.given.memory _ c.well_formed.1.1.1.0.1.1.0 v.given.nets.now in
     let h = is_there_lem v.st.next v.given.memory v.given.nets.now v.given.trits.now v.i v.output.now c.requires x y in
-    let k = c.in-Some.c in
+    let k = c.in-Some.controls in
     let e = ap (λ (q : MemoryReadPort). q.flip_flop) (sym (c.read_port.ensures.own h)) ∙ c.in-Some.is in
     let w = memory_of v.given.memory v.given.nets.now v.given.trits.now in
     let f = own_flip_flop v.given.memory v.given.trits.now v.i k in
-    record { log_after = driven_as (driving v.given.memory v.given.nets.now v.given.trits.now v.output.now) v.log.now (state_of v.st) (length v.log.now) (unmap_dff w v.i v.output.now f) (unmap_read_dff w v.i v.output.now) _ (dff_some w v.i v.output.now f (flip_some v.given.memory v.given.nets.now v.given.trits.now v.i h k e)) c.unmap_clocked.ensures.log_after; new_struct = c.unmap_clocked.ensures.new_struct }
+    record { log_after = driven_as (driving v.given.memory v.given.nets.now v.given.trits.now v.output.now) v.log.now (state_of v.st) (length v.log.now) (unmap_dff w v.i v.output.now f) (unmap_read_dff w v.i v.output.now) _ (dff_some w v.i v.output.now f (flip_some v.given.memory v.given.nets.now v.given.trits.now v.i h k e)) c.unmap.ensures.log_after; new_struct = c.unmap.ensures.new_struct }

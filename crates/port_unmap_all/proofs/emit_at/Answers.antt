@@ -17,7 +17,7 @@ returns-in-None c =
 pub returns-in-Some : goal.returns-in-Some
 returns-in-Some c =
     let v = c.args in
-    let k = c.in-Some.c in
+    let k = c.in-Some.controls in
     let u = c.emit_clocked in
     let e = ap (λ (p : MemoryReadPort). p.flip_flop) (sym (c.read_port.ensures.own c.requires)) ∙ c.in-Some.is in
     at_some (mem_of v.given) v.i v.output.now (own_flip_flop v.given.memory v.given.trits.now v.i k) v.after.now (lent_of v.log.now) (lent_of u.new.log) u.new.after (flip_some v.given.memory v.given.nets.now v.given.trits.now v.i c.requires k e) u.ensures

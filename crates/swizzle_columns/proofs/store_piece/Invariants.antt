@@ -6,4 +6,4 @@ use Rattle.swizzle_laws.specs.Stores.{spill_at}
 use Rattle.swizzle_columns.proofs.store_piece.Given as goal
 
 abbrev pub invariant-loop-j : goal.invariant-loop-j
-invariant-loop-j g l = (l.j ≤ length l.starts) × (length l.to ≡ length l.initial.to) × (l.at ≡ l.j * l.g.entries) × (spill_at l.g.mems l.g.rows l.g.unit l.g.entries (drop l.j l.starts) (drop l.at l.v) l.to ≡ spill_at l.g.mems l.g.rows l.g.unit l.g.entries l.starts l.v l.initial.to)
+invariant-loop-j g l = (l.j ≤ length l.starts) × (length l.to ≡ length l.initial.to) × (spill_at l.g.mems l.g.rows l.g.unit l.g.entries (drop l.j l.starts) (drop (l.j * l.g.entries) l.v) l.to ≡ spill_at l.g.mems l.g.rows l.g.unit l.g.entries l.starts l.v l.initial.to)

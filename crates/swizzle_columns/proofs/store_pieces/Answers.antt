@@ -18,7 +18,7 @@ store_at-requires g c =
       good = subst (λ (n : ℕ). Good v.g n) (sym w.1) c.requires.good;
       v_len = (
         c.requires.v_len.0 ∙ ap (λ (n : ℕ). n * v.g.entries) (sym w.2),
-        narrow_less (length v.starts.now) _ v.columns v.g.entries c.loop-x.x v.pieces w.2 (omega arith) c.requires.v_len.1,
+        narrow_less (length v.starts.now) _ v.g.columns v.g.entries c.loop-x.x v.pieces w.2 (omega arith) c.requires.v_len.1,
       );
     }
 
@@ -32,7 +32,7 @@ loop-x-preserved g c =
       omega (arith, c.loop-x-test.true),
       p.auto.to ∙ w.1,
       p.auto.starts ∙ w.2,
-      each_turn g.mems g.rows g.unit g.entries (starts_by v.chunks v.columns g.entries (length v.starts.now)) v.v.now v.pieces h.x h.to p.new.to c.loop-x-test.true (p.ensures ∙ ap (λ (n : ℕ). spill_at g.mems g.rows g.unit g.entries (starts_by v.chunks v.columns g.entries n h.x) v.v.now h.to) w.2) ∙ w.3,
+      each_turn g.mems g.rows g.unit g.entries (starts_by v.g.chunks v.g.columns g.entries (length v.starts.now)) v.v.now v.pieces h.x h.to p.new.to c.loop-x-test.true (p.ensures ∙ ap (λ (n : ℕ). spill_at g.mems g.rows g.unit g.entries (starts_by v.g.chunks v.g.columns g.entries n h.x) v.v.now h.to) w.2) ∙ w.3,
     )
 
 pub returns : goal.returns
@@ -40,4 +40,4 @@ returns g c =
     let h = c in
     let v = c.args in
     let g = v.g in
-    sym (each_end g.mems g.rows g.unit g.entries (starts_by v.chunks v.columns g.entries (length v.starts.now)) v.v.now v.pieces h.loop-x.x h.loop-x.to c.loop-x-test.false) ∙ h.loop-x.invariant.3
+    sym (each_end g.mems g.rows g.unit g.entries (starts_by v.g.chunks v.g.columns g.entries (length v.starts.now)) v.v.now v.pieces h.loop-x.x h.loop-x.to c.loop-x-test.false) ∙ h.loop-x.invariant.3

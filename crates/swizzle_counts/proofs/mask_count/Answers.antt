@@ -11,6 +11,5 @@ slice_bounds-row-end c =
 
 pub returns : goal.returns
 returns c =
-    let k = c in
-    let v = k.args in
-    counted v.w v.n v.entries.now v.mask.now (replicate 4096 0) k.requires refl _ c.mask_row.ensures (replicate 4096 0) (replicate 4096 0) (replicate 4096 0) (replicate 4096 0) refl refl refl refl _ c.merge.ensures.value
+    let v = c.args in
+    counted v.w v.n v.entries.now v.mask.now (replicate 4096 0) c.requires refl _ c.mask_row.ensures (replicate 4096 0) refl c.merge.result c.merge.ensures

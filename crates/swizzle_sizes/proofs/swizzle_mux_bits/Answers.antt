@@ -17,7 +17,7 @@ pub read_bits-requires : goal.read_bits-requires
 read_bits-requires c =
     let v = c.args in
     let z = mux_planned v.given.memory v.given.nets.now v.given.trits.now v.ports.now (plan_of v.plan.swizzle v.plan.entries.now v.plan.writes.now v.plan.reads.now) c.in_ok-mux_refusal.ensures in
-    (ports_few v.given.memory v.given.nets.now v.given.trits.now v.ports.now v.plan.swizzle v.plan.entries.now v.plan.writes.now v.plan.reads.now z, record { base_small = omega (arith, c.shared_bits-base.ensures.upper_bound); news_small = reads_small v.given.memory v.given.nets.now v.given.trits.now v.ports.now v.plan.swizzle v.plan.entries.now v.plan.writes.now v.plan.reads.now z })
+    record { few = ports_few v.given.memory v.given.nets.now v.given.trits.now v.ports.now v.plan.swizzle v.plan.entries.now v.plan.writes.now v.plan.reads.now z; small = record { base_small = omega (arith, c.shared_bits-base.ensures.upper_bound); news_small = reads_small v.given.memory v.given.nets.now v.given.trits.now v.ports.now v.plan.swizzle v.plan.entries.now v.plan.writes.now v.plan.reads.now z } }
 
 pub returns : goal.returns
 returns c =

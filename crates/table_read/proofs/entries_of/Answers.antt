@@ -7,8 +7,8 @@ use Rattle.table_read.proofs.entries_of.Goals as goal
 
 pub returns-then-count-eq5 : goal.returns-then-count-eq5
 returns-then-count-eq5 c =
-    let a = c.args in (plain_entries (replicate 256 0) a.words.now _ a.count refl a.width c.if-count-eq5.true c.requires.2 c.requires.3 c.store_run.ensures, omega (arith, c.requires))
+    let a = c.args in (plain_entries (replicate 256 0) a.words.now _ a.count refl a.width c.if-count-eq5.true c.requires.1 c.requires.2 c.store_run.ensures, omega (arith, c.requires))
 
 pub returns : goal.returns
 returns c =
-    let a = c.args in (given_entries (replicate 256 0) a.words.now _ a.count refl _ _ c.if-count-eq5.false c.requires.0 c.requires.1 c.saturating_sub-len.ensures refl (cc), omega (arith, c.requires, c.saturating_sub-len.ensures))
+    let a = c.args in (given_entries (replicate 256 0) a.words.now _ a.count refl _ _ c.if-count-eq5.false (omega (arith, c.well_formed)) c.requires.0 c.saturating_sub-len.ensures refl (cc), omega (arith, c.requires, c.saturating_sub-len.ensures))

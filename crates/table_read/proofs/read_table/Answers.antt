@@ -8,7 +8,7 @@ use Rattle.table_read.proofs.read_table.Goals as goal
 
 pub returns-then-text-gt-MAX_TEXT : goal.returns-then-text-gt-MAX_TEXT
 unfolding parse_table parsed_of
-returns-then-text-gt-MAX_TEXT c = rw (lt-ltb _ _ c.if-text-gt-MAX_TEXT.true)
+returns-then-text-gt-MAX_TEXT c = rw (lt-ltb _ _ c.if-text-gt-MAX_TEXT.true, c.in_header.ensures)
 
 pub returns : goal.returns
 unfolding parse_table

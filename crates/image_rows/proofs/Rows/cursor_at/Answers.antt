@@ -4,7 +4,7 @@ use native.Mathlib.Omega.{arith}
 use Rattle.rules.specs.Geometry.{row_len_of}
 use Rattle.rules.specs.Image.{spot_of}
 use Rattle.rules.proofs.Shaping.{shape_small}
-use Rattle.image_geometry.specs.View.{layout_of}
+use Rattle.image_geometry.specs.View.{layout_of, view_spot}
 use Rattle.image_rows.proofs.Cursors.{Held, held_at, product_fits, column_fits, unit_pos, above_fits, full_fits, over_fits, made}
 use Rattle.image_rows.proofs.Rows.cursor_at.Goals as goal
 
@@ -14,7 +14,7 @@ overflow_mul-column c =
     let q = layout_of c.args.self.layout in
     let small = shape_small q c.args.self.ready.ready.sizes in
     let n = c.requires.number_lt_depth in
-    let held : Held q c.args.self.steps c.args.line.number c.from.result c.args.line.row = held_at q c.args.self.steps c.args.line.number (record { chunk = c.args.line.chunk; row = c.args.line.row }) _ _ c.args.self.ready.ready.steps n.2 c.from.ensures refl in
+    let held : Held q c.args.self.steps c.args.line.number c.from.result c.args.line.spot.row = held_at q c.args.self.steps c.args.line.number (view_spot c.args.line.spot) _ _ c.args.self.ready.ready.steps n.2 c.from.ensures refl in
     omega (arith, product_fits q small c.args.self.steps c.args.line.number c.args.entry n.0 n.1 _ _ held)
 
 pub overflow_add-column : goal.overflow_add-column
@@ -23,7 +23,7 @@ overflow_add-column c =
     let q = layout_of c.args.self.layout in
     let small = shape_small q c.args.self.ready.ready.sizes in
     let n = c.requires.number_lt_depth in
-    let held : Held q c.args.self.steps c.args.line.number c.from.result c.args.line.row = held_at q c.args.self.steps c.args.line.number (record { chunk = c.args.line.chunk; row = c.args.line.row }) _ _ c.args.self.ready.ready.steps n.2 c.from.ensures refl in
+    let held : Held q c.args.self.steps c.args.line.number c.from.result c.args.line.spot.row = held_at q c.args.self.steps c.args.line.number (view_spot c.args.line.spot) _ _ c.args.self.ready.ready.steps n.2 c.from.ensures refl in
     omega (arith, column_fits q small c.args.self.steps c.args.line.number c.args.entry n.0 n.1 _ _ held)
 
 pub nonzero_div-memory : goal.nonzero_div-memory
@@ -32,7 +32,7 @@ nonzero_div-memory c =
     let q = layout_of c.args.self.layout in
     let small = shape_small q c.args.self.ready.ready.sizes in
     let n = c.requires.number_lt_depth in
-    let held : Held q c.args.self.steps c.args.line.number c.from.result c.args.line.row = held_at q c.args.self.steps c.args.line.number (record { chunk = c.args.line.chunk; row = c.args.line.row }) _ _ c.args.self.ready.ready.steps n.2 c.from.ensures refl in
+    let held : Held q c.args.self.steps c.args.line.number c.from.result c.args.line.spot.row = held_at q c.args.self.steps c.args.line.number (view_spot c.args.line.spot) _ _ c.args.self.ready.ready.steps n.2 c.from.ensures refl in
     unit_pos q small c.args.self.steps c.args.line.number c.args.entry n.0 n.1 _ _ held
 
 pub nonzero_rem-bit : goal.nonzero_rem-bit
@@ -41,7 +41,7 @@ nonzero_rem-bit c =
     let q = layout_of c.args.self.layout in
     let small = shape_small q c.args.self.ready.ready.sizes in
     let n = c.requires.number_lt_depth in
-    let held : Held q c.args.self.steps c.args.line.number c.from.result c.args.line.row = held_at q c.args.self.steps c.args.line.number (record { chunk = c.args.line.chunk; row = c.args.line.row }) _ _ c.args.self.ready.ready.steps n.2 c.from.ensures refl in
+    let held : Held q c.args.self.steps c.args.line.number c.from.result c.args.line.spot.row = held_at q c.args.self.steps c.args.line.number (view_spot c.args.line.spot) _ _ c.args.self.ready.ready.steps n.2 c.from.ensures refl in
     unit_pos q small c.args.self.steps c.args.line.number c.args.entry n.0 n.1 _ _ held
 
 pub overflow_mul-above : goal.overflow_mul-above
@@ -50,7 +50,7 @@ overflow_mul-above c =
     let q = layout_of c.args.self.layout in
     let small = shape_small q c.args.self.ready.ready.sizes in
     let n = c.requires.number_lt_depth in
-    let held : Held q c.args.self.steps c.args.line.number c.from.result c.from-2.result = held_at q c.args.self.steps c.args.line.number (record { chunk = c.args.line.chunk; row = c.args.line.row }) _ _ c.args.self.ready.ready.steps n.2 c.from.ensures c.from-2.ensures in
+    let held : Held q c.args.self.steps c.args.line.number c.from.result c.from-2.result = held_at q c.args.self.steps c.args.line.number (view_spot c.args.line.spot) _ _ c.args.self.ready.ready.steps n.2 c.from.ensures c.from-2.ensures in
     omega (arith, above_fits q small c.args.self.steps c.args.line.number c.args.entry n.0 n.1 _ _ held)
 
 pub overflow_mul-result : goal.overflow_mul-result
@@ -59,7 +59,7 @@ overflow_mul-result c =
     let q = layout_of c.args.self.layout in
     let small = shape_small q c.args.self.ready.ready.sizes in
     let n = c.requires.number_lt_depth in
-    let held : Held q c.args.self.steps c.args.line.number c.from.result c.from-2.result = held_at q c.args.self.steps c.args.line.number (record { chunk = c.args.line.chunk; row = c.args.line.row }) _ _ c.args.self.ready.ready.steps n.2 c.from.ensures c.from-2.ensures in
+    let held : Held q c.args.self.steps c.args.line.number c.from.result c.from-2.result = held_at q c.args.self.steps c.args.line.number (view_spot c.args.line.spot) _ _ c.args.self.ready.ready.steps n.2 c.from.ensures c.from-2.ensures in
     omega (arith, full_fits q small c.args.self.steps c.args.line.number c.args.entry n.0 n.1 _ _ held c.min-full.result c.min-full.ensures)
 
 pub overflow_mul-result-2 : goal.overflow_mul-result-2
@@ -68,7 +68,7 @@ overflow_mul-result-2 c =
     let q = layout_of c.args.self.layout in
     let small = shape_small q c.args.self.ready.ready.sizes in
     let n = c.requires.number_lt_depth in
-    let held : Held q c.args.self.steps c.args.line.number c.from.result c.from-2.result = held_at q c.args.self.steps c.args.line.number (record { chunk = c.args.line.chunk; row = c.args.line.row }) _ _ c.args.self.ready.ready.steps n.2 c.from.ensures c.from-2.ensures in
+    let held : Held q c.args.self.steps c.args.line.number c.from.result c.from-2.result = held_at q c.args.self.steps c.args.line.number (view_spot c.args.line.spot) _ _ c.args.self.ready.ready.steps n.2 c.from.ensures c.from-2.ensures in
     omega (arith, over_fits q small c.args.self.steps c.args.line.number c.args.entry n.0 n.1 _ _ held c.min-full.result c.min-full.ensures)
 
 pub overflow_add-result : goal.overflow_add-result
@@ -77,7 +77,7 @@ overflow_add-result c =
     let q = layout_of c.args.self.layout in
     let small = shape_small q c.args.self.ready.ready.sizes in
     let n = c.requires.number_lt_depth in
-    let held : Held q c.args.self.steps c.args.line.number c.from.result c.from-2.result = held_at q c.args.self.steps c.args.line.number (record { chunk = c.args.line.chunk; row = c.args.line.row }) _ _ c.args.self.ready.ready.steps n.2 c.from.ensures c.from-2.ensures in
+    let held : Held q c.args.self.steps c.args.line.number c.from.result c.from-2.result = held_at q c.args.self.steps c.args.line.number (view_spot c.args.line.spot) _ _ c.args.self.ready.ready.steps n.2 c.from.ensures c.from-2.ensures in
     omega (arith, full_fits q small c.args.self.steps c.args.line.number c.args.entry n.0 n.1 _ _ held c.min-full.result c.min-full.ensures, over_fits q small c.args.self.steps c.args.line.number c.args.entry n.0 n.1 _ _ held c.min-full.result c.min-full.ensures)
 
 pub overflow_add-result-2 : goal.overflow_add-result-2
@@ -86,7 +86,7 @@ overflow_add-result-2 c =
     let q = layout_of c.args.self.layout in
     let small = shape_small q c.args.self.ready.ready.sizes in
     let n = c.requires.number_lt_depth in
-    let held : Held q c.args.self.steps c.args.line.number c.from.result c.from-2.result = held_at q c.args.self.steps c.args.line.number (record { chunk = c.args.line.chunk; row = c.args.line.row }) _ _ c.args.self.ready.ready.steps n.2 c.from.ensures c.from-2.ensures in
+    let held : Held q c.args.self.steps c.args.line.number c.from.result c.from-2.result = held_at q c.args.self.steps c.args.line.number (view_spot c.args.line.spot) _ _ c.args.self.ready.ready.steps n.2 c.from.ensures c.from-2.ensures in
     omega (arith, full_fits q small c.args.self.steps c.args.line.number c.args.entry n.0 n.1 _ _ held c.min-full.result c.min-full.ensures, over_fits q small c.args.self.steps c.args.line.number c.args.entry n.0 n.1 _ _ held c.min-full.result c.min-full.ensures, above_fits q small c.args.self.steps c.args.line.number c.args.entry n.0 n.1 _ _ held)
 
 pub returns : goal.returns
@@ -95,5 +95,5 @@ returns c =
     let q = layout_of c.args.self.layout in
     let small = shape_small q c.args.self.ready.ready.sizes in
     let n = c.requires.number_lt_depth in
-    let held : Held q c.args.self.steps c.args.line.number c.from.result c.from-2.result = held_at q c.args.self.steps c.args.line.number (record { chunk = c.args.line.chunk; row = c.args.line.row }) _ _ c.args.self.ready.ready.steps n.2 c.from.ensures c.from-2.ensures in
+    let held : Held q c.args.self.steps c.args.line.number c.from.result c.from-2.result = held_at q c.args.self.steps c.args.line.number (view_spot c.args.line.spot) _ _ c.args.self.ready.ready.steps n.2 c.from.ensures c.from-2.ensures in
     made q small c.args.self.steps c.args.line.number c.args.entry n.0 n.1 _ _ held c.min-full.result c.min-full.ensures

@@ -13,7 +13,8 @@ pub returns : goal.returns
 returns c =
     let v = c.args in
     let s = v.self.now in
-    let ps = v.ps.now in
+    let k = v.kept in
+    let ps = k.y.now in
     let n = length ps in
     let ec : take n c.unpack_part.new.to ≡ map (packed_byte 256) ps = part-kept s.clear c.unpack_part.new.to ps 256 n c.unpack_part.ensures refl (omega arith) in
     let er : take n c.unpack_part-2.new.to ≡ map (packed_byte 1) ps = part-kept s.reset c.unpack_part-2.new.to ps 1 n c.unpack_part-2.ensures refl (omega arith) in
@@ -21,4 +22,4 @@ returns c =
     let p = c.emit_dff in
     let l = lent_of v.log.now in
     let l1 = lent_of p.new.self in
-    record { log_after = kept_run (controls_of v.c) v.bits.now ps v.at.now v.out.now _ _ _ l l1 ec er ei p.ensures; out_after = c.spread_results.ensures ∙ kept-results (controls_of v.c) v.bits.now ps v.at.now v.out.now _ _ _ l l1 ec er ei p.ensures }
+    record { log_after = kept_run (controls_of v.c) k.x.now ps k.at.now v.out.now _ _ _ l l1 ec er ei p.ensures; out_after = c.spread_results.ensures ∙ kept-results (controls_of v.c) k.x.now ps k.at.now v.out.now _ _ _ l l1 ec er ei p.ensures }

@@ -9,4 +9,4 @@ pub returns : goal.returns
 returns c =
     let v = c.args in
     let p = c.emit_mux in
-    record { log_after = p.ensures; out_after = c.spread_results.ensures ∙ mux_results (control_of v.select) v.a.now v.b.now v.at.now v.out.now v.to (lent_of v.log.now) (lent_of p.new.self) p.ensures }
+    record { log_after = p.ensures; out_after = c.spread_results.ensures ∙ mux_results (control_of v.select) v.kept.x.now v.kept.y.now v.kept.at.now v.out.now v.to (lent_of v.log.now) (lent_of p.new.self) p.ensures }

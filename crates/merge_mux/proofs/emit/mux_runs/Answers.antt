@@ -5,7 +5,7 @@ use native.Mathlib.Omega.{arith}
 use lib.ListN.{length, drop, length-take}
 use Rattle.lists.specs.Lists.{part}
 use Rattle.rules.specs.Limits.{max_merge}
-use Rattle.merge_mux.proofs.Found.{limited-all}
+use Rattle.merge_mux.proofs.Limited.{limited-all}
 use Rattle.merge_mux.proofs.Bitwise.{going_starts, turn, going_ends, nets_end}
 use Rattle.merge_mux.specs.Runs.{run_at}
 use Rattle.log_entries.specs.View.{lent_of}

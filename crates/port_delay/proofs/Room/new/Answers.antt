@@ -1,7 +1,7 @@
 -- `port_delay::Room::new` meets its contract.
 use mathlib.Core.Path.{ap, ◌∙◌}
-use Rattle.merge_mux.specs.Room.{zeros, zero_keys}
-use Rattle.merge_mux.specs.declared.emit.Keys.{Keys}
+use Rattle.merge_keys.specs.Keys.{zeros, zero_keys}
+use Rattle.merge_keys.specs.declared.Keys.{Keys}
 use Rattle.merge_dff.specs.declared.Trits.{Trits}
 use Rattle.port_delay.specs.Room.{zero_room}
 use Rattle.port_delay.specs.declared.Room.{Room}

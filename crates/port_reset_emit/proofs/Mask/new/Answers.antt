@@ -1,6 +1,6 @@
 -- `port_reset_emit::Mask::new` meets its contract.
 use mathlib.Core.Path.{ap}
-use Rattle.merge_mux.specs.Room.{zeros}
+use Rattle.merge_keys.specs.Keys.{zeros}
 use Rattle.merge_dff.specs.declared.Trits.{Trits}
 use Rattle.port_reset_emit.specs.Room.{zero_mask}
 use Rattle.port_reset_emit.specs.declared.Mask.{Mask}

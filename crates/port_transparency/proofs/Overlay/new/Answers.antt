@@ -1,7 +1,7 @@
 -- `port_transparency::Overlay::new` meets its contract.
 use mathlib.Core.Path.{ap}
-use Rattle.merge_mux.specs.Room.{zeros}
-use Rattle.merge_mux.specs.declared.emit.Keys.{Keys}
+use Rattle.merge_keys.specs.Keys.{zeros}
+use Rattle.merge_keys.specs.declared.Keys.{Keys}
 use Rattle.port_transparency.specs.Room.{zero_overlay}
 use Rattle.port_transparency.specs.declared.Overlay.{Overlay}
 use Rattle.port_transparency.proofs.Overlay.new.Goals as goal

@@ -1,21 +1,21 @@
 -- `swizzle_plan::logs::writes_bad` meets its contract.
-use Rattle.std.proofs.Common.{ℕ, List, map, ap, sym, ◌∙◌, rules}
-use Rattle.rules.specs.Cell.{write_wide_log2, write_at}
-use Rattle.net_memory.specs.Given.{mem_of}
+use Rattle.std.proofs.Common.{ℕ, List, map, ap, ◌∙◌, rules}
+use Rattle.rules.specs.Cell.{Mem, Plan, write_wide_log2, write_at}
+use Rattle.net_memory.specs.View.{memory_of}
 use Rattle.net_memory.proofs.Sized.{writes_length}
-use Rattle.swizzle_plan.specs.Calls.{view_plan}
+use Rattle.swizzle_plan.specs.Calls.{plan_of}
 use Rattle.swizzle_plan.specs.Numbers.{wides_bad}
-use Rattle.swizzle_plan.proofs.Whole.{first_ports}
-use Rattle.swizzle_plan.proofs.WideLogs.{writes_form, writes_count}
+use Rattle.swizzle_plan.proofs.WideLogs.{wides_any, writes_form, writes_count}
 use Rattle.swizzle_plan.proofs.logs.writes_bad.Goals as goal
 
 pub returns : goal.returns
-returns c =
+returns c trits es =
     let g = c.args.given in
-    let m = mem_of g in
-    let p = view_plan c.args.plan in
+    let q = c.args.plan in
+    let m : Mem = memory_of g.memory g.nets.now trits in
+    let p : Plan = plan_of q.swizzle es q.writes.now q.reads.now in
     let f : ℕ → ℕ = λ (i : ℕ). write_wide_log2 m (write_at m i) in
-    let n = c.ports_used-count.ensures in
     c.wides_bad.ensures f (λ x r q. search rules)
-    ∙ ap (λ (l : List ℕ). wides_bad p (map f l) p.write_wide) (c.part-ports.ensures.part ∙ first_ports _ n.1)
-    ∙ writes_form m p _ (writes_count g.memory g.nets.now g.trits.now ∙ writes_length g.memory _ c.well_formed.0.1.1.0 g.nets.now ∙ sym n.0)
+    ∙ wides_any q.swizzle _ es q.writes.now q.reads.now _ _
+    ∙ ap (λ (l : List ℕ). wides_bad p (map f l) p.write_wide) c.ports_in_use-ports.ensures
+    ∙ writes_form m p _ (writes_count g.memory g.nets.now trits ∙ writes_length g.memory _ c.well_formed.0.1.1.0 g.nets.now)

@@ -32,6 +32,6 @@ returns c =
     let l2 = lent_of p.new.log in
     let s : 0 < length m.mux.now = omega (arith, c.if-self-eq0.false) in
     record {
-      log_after = muxed_run m.mux.now m.row.now n c.args.x l l1 e c.emit_eq.ensures s k.x.now k.y.now k.at.now c.requires.0 l2 p.ensures.log_after;
-      piece_after = muxed_value m.mux.now m.row.now n c.args.x l l1 e c.emit_eq.ensures s k.x.now k.y.now k.at.now c.requires.0 l2 p.ensures.log_after c.args.piece.now _ p.ensures.out_after;
+      log_after = muxed_run m.mux.now m.row.now n c.args.x l l1 e c.emit_eq.ensures s k c.requires.0 l2 p.ensures.log_after;
+      piece_after = muxed_value m.mux.now m.row.now n c.args.x l l1 e c.emit_eq.ensures s k c.requires.0 l2 p.ensures.log_after c.args.piece.now _ p.ensures.out_after;
     }

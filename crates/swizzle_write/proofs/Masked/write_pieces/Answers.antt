@@ -15,7 +15,7 @@ write_piece-requires c =
     let k = c.args.kept in
     let h = c.loop-x.auto in
     record {
-      job = job_same m.port m.per_row m.mux.now m.row.now k.x.now k.y.now k.at.now h.number h.piece h.to c.requires;
+      job = job_same m.port m.per_row m.mux.now m.row.now k h.number h.piece h.to c.requires;
       x_lt_pieces = c.loop-x-test.true;
     }
 

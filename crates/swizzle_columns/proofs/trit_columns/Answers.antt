@@ -1,8 +1,0 @@
--- `swizzle_columns::trit_columns` meets its contract.
-use Rattle.std.proofs.Common.{◌∙◌, sym, length}
-use Rattle.swizzle_columns.proofs.Fits.{fits_say}
-use Rattle.swizzle_columns.proofs.trit_columns.Goals as goal
-
-pub columns_in-requires-clause-fits : goal.columns_in-requires-clause-fits
-columns_in-requires-clause-fits c =
-    let v = c.args in fits_say v.p (length v.entries.now) (length v.to.now) (sym c.sizes_fit.ensures ∙ c.if-sizes_fit.true) (sym c.rows_fit.ensures ∙ c.if-rows_fit.true)
