@@ -40,12 +40,7 @@ pub struct Made {
 
 // The log, the rooms for nets and trits, and the struct of the memories, of a swizzle that no number refuses. Scratch is open where the pieces
 // of a read port stood.
-fn act(
-    log: &mut Log,
-    made: &mut Reads,
-    scratch: &mut [u32],
-    asked: Swizzle<'_>,
-)
+fn act(log: &mut Log, made: &mut Reads, scratch: &mut [u32], asked: Swizzle<'_>)
     requires passed { Passed asked.given.memory asked.given.nets.now asked.given.trits.now asked.output.now asked.plan.swizzle asked.plan.entries.now asked.plan.writes.now asked.plan.reads.now log.old.state log.old.words.now made.old.nets.now made.old.trits.now scratch.old }
     requires none_yet { NoneYet made.old }
     ensures acted { Acted (mem_of asked.entry.given) (layout_of (mem_of asked.entry.given) (view_plan asked.entry.plan)) (swizzle (mem_of asked.entry.given) asked.entry.output.now (view_plan asked.entry.plan)) (going_of log.old made.old) (going_of log.new made.new) }

@@ -268,7 +268,7 @@ impl Reads<'_> {
         ensures ports_after { going_of log.new self.new ≡ reads_if (layout_of q.entry) (length scratch.old) (in_ports given.entry.memory given.entry.nets.now given.entry.trits.now) wide.now output.now (going_of log.old self.old) }
         ensures all_kept { AllKept (layout_of q.entry) (in_ports given.entry.memory given.entry.nets.now given.entry.trits.now) wide.now scratch.old scratch.new }
     {
-        let Some(shape) = image_check::check_layout(q) else {
+        let Ok(shape) = image_check::check_layout(q) else {
             return;
         };
         if q.params.width == 0 {

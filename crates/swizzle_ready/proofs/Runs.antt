@@ -106,4 +106,3 @@ module _ (r : SwizzleRooms) (room : ℕ) (s : LogState) (g : Given) (output : Va
     -- the read ports start where the trace of the rules has them start
     pub reads_start_lem : (run (swizzle_writes m q m.writes p.write_wide) l).state.next ≡ (swizzle_writes m q m.writes p.write_wide s.next).next
     reads_start_lem = writes_next ∙ sym (writes.nets s.next)
-

@@ -14,10 +14,7 @@ use swizzle_counts::{Swizzle, SwizzleRooms};
 
 // By what a swizzle is refused.
 #[tactic(auto, using(crate::proofs::Joined::joined_err))]
-pub fn swizzle_refusal(
-    r: SwizzleRooms,
-    asked: Swizzle<'_>,
-) -> Result<(), Refusal>
+pub fn swizzle_refusal(r: SwizzleRooms, asked: Swizzle<'_>) -> Result<(), Refusal>
     ensures { number_of result ≡ swizzle_refusal (rooms_of r) r.log (state_of r.state) (view_given asked.entry.given) asked.entry.output.now (view_plan asked.entry.plan) }
 {
     swizzle_counts::refusal::rows_refusal(r, asked)?;

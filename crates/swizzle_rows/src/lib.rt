@@ -89,7 +89,7 @@ pub fn emit_rows<'a>(
     ensures rows_ran { RowsRan (layout_of q.entry) given.entry.memory given.entry.nets.now given.entry.trits.now writes.now reads.now output.now (length scratch.old) (going_of log.old made.old) (going_of log.new made.new) }
     ensures all_kept { AllKept (layout_of q.entry) (in_ports given.entry.memory given.entry.nets.now given.entry.trits.now) reads.now scratch.old scratch.new }
 {
-    let Some(s) = image_check::check_layout(q) else {
+    let Ok(s) = image_check::check_layout(q) else {
         return;
     };
     if q.params.width != 0 {
