@@ -9,7 +9,8 @@ ghost use Rattle.c_log.specs.View.{given_controls, controls_struct, logged_struc
 
 use c_net::Control;
 use log_entries::LogState;
-use log_requests::{PosNet, Remapped};
+use log_requests::After;
+use net_value::Net;
 use rules::Refusal;
 
 pub mod merges;
@@ -90,18 +91,21 @@ pub fn answer_struct(r: Result<LogState, Refusal>, st: LogState) -> Logged
     Logged { number, state }
 }
 
-fn net_answer_struct(r: Result<PosNet, Refusal>, st: LogState) -> NetLogged
+fn net_answer_struct(r: Result<After<Net>, Refusal>, st: LogState) -> NetLogged
     ensures { result ≡ net_struct st (net_answer_of r) }
 {
-    let made = r.map(|made| (made.net.0, made.state));
+    let made = r.map(|made| (made.value.0, made.state));
     let (number, (net, state)) = c_net::parts(made, (0, st));
     NetLogged { number, net, state }
 }
 
-fn controls_answer_struct(r: Result<Remapped, Refusal>, st: LogState) -> ControlsLogged
+fn controls_answer_struct(
+    r: Result<After<net_flip_flop::Controls>, Refusal>,
+    st: LogState,
+) -> ControlsLogged
     ensures { result ≡ new_controls_struct st (controls_answer_of r) }
 {
-    let made = r.map(|made| (made.controls.into(), made.state));
+    let made = r.map(|made| (made.value.into(), made.state));
     let (number, (controls, state)) = c_net::parts(made, (Controls::default(), st));
     ControlsLogged {
         number,

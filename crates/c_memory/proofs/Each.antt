@@ -1,21 +1,18 @@
 -- A list of the images of another list's elements.
 use mathlib.Core.Path.{◌≡◌, refl, sym, ap, subst, ◌∙◌}
-use Prim.Native.Nat.{ℕ, zero, suc, ◌<◌}
-use native.Mathlib.Omega.{arith}
+use Prim.Native.Nat.{ℕ, ◌<◌}
 use mathlib.Core.List.{List, [], ◌∷◌, map}
-use lib.ListN.{length, get_or, replicate}
+use lib.ListN.{get_or, replicate}
 use Rattle.std.specs.Array.{AllOfLen}
+use Rattle.std.specs.List.{AllZip}
 use Rattle.std.proofs.lemmas.List.{ext_get_or, length-replicate, get_or-replicate}
 
-module _ {A B : Type 0} (f : A → B) where
-  -- an image that is known place by place
-  pub by_place : (xs : List A) (ys : List B) (n : ℕ) → length xs ≡ n → length ys ≡ n → ((i : ℕ) (d : A) (e : B) → i < n → get_or ys i e ≡ f (get_or xs i d)) → ys ≡ map f xs
-  by_place [] [] n hx hy h = refl
-  by_place [] (y ∷ ys) n hx hy h = absurd (omega arith)
-  by_place (x ∷ xs) [] n hx hy h = absurd (omega arith)
-  by_place (x ∷ xs) (y ∷ ys) zero hx hy h = absurd (omega arith)
-  by_place (x ∷ xs) (y ∷ ys) (suc n) hx hy h =
-      λ i. h 0 x y (omega arith) i ∷ by_place xs ys n (omega arith) (omega arith) (λ k d e l. h (suc k) d e (omega arith)) i
+-- an array whose elements are the images of another's, place by place
+pub by_each : {A B : Type 0} (f : A → B) (R : A → B → Type 0) → ((x : A) (y : B) → R x y → y ≡ f x) → (xs : List A) (ys : List B) → AllZip R xs ys → ys ≡ map f xs
+by_each f R is [] [] e = refl
+by_each f R is [] (y ∷ ys) e = absurd e
+by_each f R is (x ∷ xs) [] e = absurd e
+by_each f R is (x ∷ xs) (y ∷ ys) e = λ i. is x y e.0 i ∷ by_each f R is xs ys e.1 i
 
 -- a function after another that it undoes
 pub undone : {A B : Type 0} (f : A → B) (g : B → A) → ((b : B) → f (g b) ≡ b) → (l : List B) → map f (map g l) ≡ l

@@ -1,5 +1,5 @@
 -- How the answer of a request or a merge on a lent log state reads, with the state, the log and the room for results after it.
-use Rattle.std.specs.Prelude.{ℕ, List, [], ◌∷◌, Result}
+use Rattle.std.specs.Prelude.{ℕ, List, [], ◌∷◌, Result, Ok, Err}
 use Rattle.lists.specs.Lists.{up_from}
 use Rattle.rules.specs.Value.{Value}
 use Rattle.rules.specs.Cell as cell
@@ -43,3 +43,12 @@ none_of_of v r = answer_by (λ u. v) r
 
 abbrev pub new_controls_of : Result Controls Refusal → Answer cell.Controls
 new_controls_of r = answer_by controls_of r
+
+-- of a request that makes so many nets, by its core's answer
+abbrev pub made_nets : machine.LogState → ℕ → Result machine.LogState Refusal → Result NewNets Refusal
+made_nets s width (Ok r) = Ok (record { first = s.next; width = width })
+made_nets s width (Err e) = Err e
+
+abbrev pub state_then : machine.LogState → Result machine.LogState Refusal → machine.LogState
+state_then s (Ok r) = r
+state_then s (Err e) = s

@@ -10,7 +10,7 @@ ghost use Rattle.rules.specs.Answers.{add_void_call, add_not_call, add_pair_call
 ghost use Rattle.net_value.specs.View.{control_of};
 ghost use Rattle.net_flip_flop.specs.View.{controls_of, flip_flop_of};
 ghost use Rattle.log_entries.specs.View.{state_of};
-ghost use Rattle.log_lent.specs.Returned.{returned, returned_merge, nets_of, net_of, pos_of_of, no_nets, none_of_of, new_controls_of};
+ghost use Rattle.log_lent.specs.Returned.{returned, returned_merge, nets_of, net_of, pos_of_of, no_nets, none_of_of, new_controls_of, made_nets, state_then};
 
 use log_entries::LogState;
 use net_flip_flop::{Controls, FlipFlop};
@@ -24,55 +24,58 @@ pub struct NewNets {
     pub width: usize,
 }
 
+// Stores the state after a request, and gives the nets that it made.
+fn nets_made(
+    st: &mut LogState,
+    width: usize,
+    r: Result<LogState, Refusal>,
+) -> Result<NewNets, Refusal>
+    ensures value { result ≡ made_nets st.old width r }
+    ensures state { st.new ≡ state_then st.old r }
+{
+    let first = st.next;
+    *st = r?;
+    Ok(NewNets { first, width })
+}
+
 // Kind 1: so many new nets.
+#[tactic(auto, using(crate::proofs::Made::nets_made))]
 pub fn add_void(log: &mut [u32], st: &mut LogState, width: u32) -> Result<NewNets, Refusal>
     ensures { returned (nets_of result) st.new log.new ≡ lent_call (state_of st.old) (add_void_call log.old (state_of st.old) width) }
 {
-    let first = st.next;
-    *st = log_requests::add_void(log, *st, width)?;
-    Ok(NewNets {
-        first,
-        width: width as usize,
-    })
+    let r = log_requests::add_void(log, *st, width);
+    nets_made(st, width as usize, r)
 }
 
 // Kind 2: the inverse of each net.
+#[tactic(auto, using(crate::proofs::Made::nets_made))]
 pub fn add_not(log: &mut [u32], st: &mut LogState, a: &[u32]) -> Result<NewNets, Refusal>
     ensures { returned (nets_of result) st.new log.new ≡ lent_call (state_of st.old) (add_not_call log.old (state_of st.old) a.now) }
 {
-    let first = st.next;
-    *st = log_requests::add_not(log, *st, a)?;
-    Ok(NewNets {
-        first,
-        width: a.len(),
-    })
+    let r = log_requests::add_not(log, *st, a);
+    nets_made(st, a.len(), r)
 }
 
 // Kind 3: net by net.
+#[tactic(auto, using(crate::proofs::Made::nets_made))]
 pub fn add_and(log: &mut [u32], st: &mut LogState, a: &[u32], b: &[u32]) -> Result<NewNets, Refusal>
     ensures { returned (nets_of result) st.new log.new ≡ lent_call (state_of st.old) (add_pair_call add_and_of log.old (state_of st.old) a.now b.now) }
 {
-    let first = st.next;
-    *st = log_requests::add_and(log, *st, a, b)?;
-    Ok(NewNets {
-        first,
-        width: a.len(),
-    })
+    let r = log_requests::add_and(log, *st, a, b);
+    nets_made(st, a.len(), r)
 }
 
 // Kind 4: net by net.
+#[tactic(auto, using(crate::proofs::Made::nets_made))]
 pub fn add_or(log: &mut [u32], st: &mut LogState, a: &[u32], b: &[u32]) -> Result<NewNets, Refusal>
     ensures { returned (nets_of result) st.new log.new ≡ lent_call (state_of st.old) (add_pair_call add_or_of log.old (state_of st.old) a.now b.now) }
 {
-    let first = st.next;
-    *st = log_requests::add_or(log, *st, a, b)?;
-    Ok(NewNets {
-        first,
-        width: a.len(),
-    })
+    let r = log_requests::add_or(log, *st, a, b);
+    nets_made(st, a.len(), r)
 }
 
 // Kind 5: a mux.
+#[tactic(auto, using(crate::proofs::Made::nets_made))]
 pub fn add_mux(
     log: &mut [u32],
     st: &mut LogState,
@@ -82,12 +85,8 @@ pub fn add_mux(
 ) -> Result<NewNets, Refusal>
     ensures { returned (nets_of result) st.new log.new ≡ lent_call (state_of st.old) (add_mux_call log.old (state_of st.old) (control_of select) a.now b.now) }
 {
-    let first = st.next;
-    *st = log_requests::add_mux(log, *st, select, a, b)?;
-    Ok(NewNets {
-        first,
-        width: a.len(),
-    })
+    let r = log_requests::add_mux(log, *st, select, a, b);
+    nets_made(st, a.len(), r)
 }
 
 // Kind 6: whether two values are equal, in one net.
@@ -100,6 +99,7 @@ pub fn add_eq(log: &mut [u32], st: &mut LogState, a: &[u32], b: &[u32]) -> Resul
 }
 
 // Kind 7: a value moved up by select times stride.
+#[tactic(auto, using(crate::proofs::Made::nets_made))]
 pub fn add_shl(
     log: &mut [u32],
     st: &mut LogState,
@@ -109,15 +109,12 @@ pub fn add_shl(
 ) -> Result<NewNets, Refusal>
     ensures { returned (nets_of result) st.new log.new ≡ lent_call (state_of st.old) (add_shift_call add_shl_of log.old (state_of st.old) stride select.now a.now) }
 {
-    let first = st.next;
-    *st = log_requests::add_shl(log, *st, stride, select, a)?;
-    Ok(NewNets {
-        first,
-        width: a.len(),
-    })
+    let r = log_requests::add_shl(log, *st, stride, select, a);
+    nets_made(st, a.len(), r)
 }
 
 // Kind 8: down.
+#[tactic(auto, using(crate::proofs::Made::nets_made))]
 pub fn add_ushr(
     log: &mut [u32],
     st: &mut LogState,
@@ -127,24 +124,17 @@ pub fn add_ushr(
 ) -> Result<NewNets, Refusal>
     ensures { returned (nets_of result) st.new log.new ≡ lent_call (state_of st.old) (add_shift_call add_ushr_of log.old (state_of st.old) stride select.now a.now) }
 {
-    let first = st.next;
-    *st = log_requests::add_ushr(log, *st, stride, select, a)?;
-    Ok(NewNets {
-        first,
-        width: a.len(),
-    })
+    let r = log_requests::add_ushr(log, *st, stride, select, a);
+    nets_made(st, a.len(), r)
 }
 
 // Kind 9: a flip-flop of controls, data, and clear, reset and init trits.
+#[tactic(auto, using(crate::proofs::Made::nets_made))]
 pub fn add_dff(log: &mut [u32], st: &mut LogState, f: FlipFlop) -> Result<NewNets, Refusal>
     ensures { returned (nets_of result) st.new log.new ≡ lent_call (state_of st.old) (add_dff_call log.old (state_of st.old) (flip_flop_of f.entry)) }
 {
-    let first = st.next;
-    *st = log_requests::add_dff(log, *st, f)?;
-    Ok(NewNets {
-        first,
-        width: f.bits.len(),
-    })
+    let r = log_requests::add_dff(log, *st, f);
+    nets_made(st, f.bits.len(), r)
 }
 
 // Kind 10: each net of a value replaced by another's.
@@ -166,7 +156,7 @@ pub fn into_pos(log: &mut [u32], st: &mut LogState, c: ControlNet) -> Result<Net
 {
     let made = log_requests::into_pos(log, *st, c)?;
     *st = made.state;
-    Ok(made.net)
+    Ok(made.value)
 }
 
 // remap_reset_over_enable, of a flip-flop's controls or of a read port's.
@@ -179,7 +169,7 @@ pub fn remap_reset_over_enable(
 {
     let made = log_requests::remap_reset_over_enable(log, *st, c)?;
     *st = made.state;
-    Ok(made.controls)
+    Ok(made.value)
 }
 
 // A mux in which equal bits are kept once; the result net of each bit goes to `out`.

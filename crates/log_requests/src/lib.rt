@@ -21,17 +21,10 @@ use net_flip_flop::{Controls, FlipFlop};
 use net_value::{ControlNet, Net};
 use rules::Refusal;
 
-// A net, and the state after it was asked for.
+// What a request gives, and the state after it.
 #[derive(Clone, Copy)]
-pub struct PosNet {
-    pub net: Net,
-    pub state: LogState,
-}
-
-// Controls, and the state after they were asked for.
-#[derive(Clone, Copy)]
-pub struct Remapped {
-    pub controls: Controls,
+pub struct After<T> {
+    pub value: T,
     pub state: LogState,
 }
 
@@ -351,7 +344,7 @@ fn emit_into_pos(log: &mut Log, c: ControlNet) -> Net
 }
 
 // into_pos: a net that is the control.
-pub fn into_pos(log: &mut [u32], st: LogState, c: ControlNet) -> Result<PosNet, Refusal>
+pub fn into_pos(log: &mut [u32], st: LogState, c: ControlNet) -> Result<After<Net>, Refusal>
     ensures { net_logged_of result log.new ≡ into_pos_call log.old (state_of st) (control_of c) }
 {
     into_pos_refusal(log.len(), st, c)?;
@@ -359,9 +352,9 @@ pub fn into_pos(log: &mut [u32], st: LogState, c: ControlNet) -> Result<PosNet, 
         words: log,
         state: st,
     };
-    let net = emit_into_pos(&mut log, c);
-    Ok(PosNet {
-        net,
+    let value = emit_into_pos(&mut log, c);
+    Ok(After {
+        value,
         state: log.state,
     })
 }
@@ -420,7 +413,7 @@ pub fn remap_reset_over_enable(
     log: &mut [u32],
     st: LogState,
     c: Controls,
-) -> Result<Remapped, Refusal>
+) -> Result<After<Controls>, Refusal>
     ensures { controls_logged_of result log.new ≡ remap_call log.old (state_of st) (controls_of c) }
 {
     remap_input_refusal(st.next, c)?;
@@ -434,9 +427,9 @@ pub fn remap_reset_over_enable(
         words: log,
         state: st,
     };
-    let controls = emit_remap(&mut log, c);
-    Ok(Remapped {
-        controls,
+    let value = emit_remap(&mut log, c);
+    Ok(After {
+        value,
         state: log.state,
     })
 }

@@ -1,13 +1,16 @@
 -- The loops that pack the trits of each bit and take a byte of each word: `to` is what `to₀` became after k stores.
-use mathlib.Core.Path.{◌≡◌, sym, ap, ◌∙◌}
+use mathlib.Core.Path.{◌≡◌, refl, sym, ap, ◌∙◌}
 use Prim.Native.Nat.{ℕ, ◌+◌, ◌<◌, min}
 use native.Mathlib.Nat.{zero-add}
 use native.Mathlib.Omega.{arith}
-use mathlib.Core.List.{List, map}
+use native.Mathlib.Numerals.{add-one}
+use mathlib.Core.Logic.{◌⊎◌, ⊎_elim}
+use mathlib.Core.List.{List, ◌∷◌, map}
+use Rattle.std.proofs.lemmas.List.{nil_from_length}
 use lib.ListN.{length, take, get_or, set, length-map}
 use lib.Seq.{sets}
 use Rattle.lists.specs.Lists.{pairs}
-use Rattle.lists.proofs.Pairs.{pairs_size, pairs_at}
+use Rattle.lists.proofs.Pairs.{pairs_size}
 use Rattle.lists.proofs.Maps.{map_turn}
 use Rattle.lists.proofs.Store.{copy_done}
 use Rattle.merge_dff.specs.Packs.{pack_of, packed_byte, packs}
@@ -17,22 +20,17 @@ module _ (r c i : List ℕ) where
   unfolding packs
   packs_size = length-map (pairs r (pairs c i)) _ ∙ pairs_size r (pairs c i) ∙ ap (min (length r)) (pairs_size c i)
 
-  module _ (to₀ to : List ℕ) (k : ℕ) (e : to ≡ sets to₀ 0 (take k (packs r c i))) where
-    pub pack_turn : (w : ℕ) → w ≡ pack_of (get_or r k 0) (get_or c k 0) (get_or i k 0) → k < length r → k < length c → k < length i
-        → set to k w ≡ sets to₀ 0 (take (k + 1) (packs r c i))
-    unfolding packs
-    pack_turn w q h g f =
-        ap (set to k) (q ∙ ap (λ (t : ℕ × (ℕ × ℕ)). pack_of t.0 t.1.0 t.1.1) (sym at_k))
-        ∙ map_turn (λ (t : ℕ × (ℕ × ℕ)). pack_of t.0 t.1.0 t.1.1) (pairs r (pairs c i)) to₀ to 0 k e (0, (0, 0)) k (sym (zero-add k))
-        (omega (arith, pairs_size r (pairs c i), pairs_size c i))
-      where
-        at_k : get_or (pairs r (pairs c i)) k (0, (0, 0)) ≡ (get_or r k 0, (get_or c k 0, get_or i k 0))
-        at_k =
-            pairs_at r (pairs c i) k 0 (0, 0) h (omega (arith, pairs_size c i))
-            ∙ ap (λ (p : ℕ × ℕ). (get_or r k 0, p)) (pairs_at c i k 0 0 g f)
+  -- nothing is left
+  pub packs_none : length r ≡ 0 ⊎ (length c ≡ 0 ⊎ length i ≡ 0) → (to : List ℕ) (k : ℕ) → to ≡ sets to k (packs r c i)
+  packs_none e to k =
+      let n : length (packs r c i) ≡ 0 = ⊎_elim (λ h. omega (arith, packs_size, h)) (⊎_elim (λ h. omega (arith, packs_size, h)) (λ h. omega (arith, packs_size, h))) e in
+      ap (sets to k) (sym (nil_from_length (packs r c i) n))
 
-    pub pack_done : k ≡ min (length to₀) (min (length r) (min (length c) (length i))) → to ≡ sets to₀ 0 (packs r c i)
-    pack_done h = copy_done to₀ to 0 k (packs r c i) e (omega (arith, packs_size))
+  -- a turn: one of each
+  pub pack_turn : (to : List ℕ) (k : ℕ) {r' c' i' to' : List ℕ} {x y z w k' : ℕ} → r ≡ x ∷ r' → c ≡ y ∷ c' → i ≡ z ∷ i' → w ≡ pack_of x y z → k' ≡ k + 1
+      → to' ≡ set to k w → sets to' k' (packs r' c' i') ≡ sets to k (packs r c i)
+  unfolding packs
+  pack_turn to k a b d e n s = rw (a, b, d, s, e, n, add-one k) refl
 
 module _ (ps : List ℕ) (by : ℕ) (to₀ to : List ℕ) (k : ℕ) (e : to ≡ sets to₀ 0 (take k (map (packed_byte by) ps))) where
   pub part_turn : k < length ps → set to k (packed_byte by (get_or ps k 0)) ≡ sets to₀ 0 (take (k + 1) (map (packed_byte by) ps))

@@ -39,12 +39,11 @@ fn pack_trits(to: &mut [u32], reset: &[u8], clear: &[u8], init: &[u8]) -> usize
     ensures to_after { to.new ≡ sets to.old 0 (packs reset.now clear.now init.now) }
     ensures bytes { Bytes reset.now clear.now init.now }
 {
-    let n = to.len().min(reset.len().min(clear.len().min(init.len())));
-    // four arrays side by side: over a `zip` the invariant has no index of a place
-    for i in 0..n {
-        to[i] = pack(reset[i], clear[i], init[i]);
+    let trits = reset.iter().zip(clear.iter().zip(init));
+    for (i, (reset, (clear, init))) in trits.enumerate() {
+        lists::put(to, i, pack(*reset, *clear, *init));
     }
-    n
+    to.len().min(reset.len().min(clear.len().min(init.len())))
 }
 
 // Stores the byte of weight `by` of each word in `to`, as far as it reaches.
@@ -58,9 +57,10 @@ fn unpack_part(to: &mut [u8], ps: &[u32], by: u32)
     }
 }
 
-// Room for the trits of a flip-flop's kept bits.
+// Room for a flip-flop's trits: those of each bit in one word, and those of its kept bits.
 #[derive(Drop)]
 pub struct Trits {
+    pub packed: [u32; rules::MAX_MERGE],
     pub clear: [u8; rules::MAX_MERGE],
     pub reset: [u8; rules::MAX_MERGE],
     pub init: [u8; rules::MAX_MERGE],
@@ -73,6 +73,7 @@ impl Trits {
         ensures { result ≡ zero_trits }
     {
         Trits {
+            packed: [0; rules::MAX_MERGE],
             clear: [0; rules::MAX_MERGE],
             reset: [0; rules::MAX_MERGE],
             init: [0; rules::MAX_MERGE],
@@ -101,38 +102,24 @@ impl Trits {
     }
 }
 
-// A flip-flop of the distinct bits: a bit's key is its data net and its packed trits.
-fn emit_merged(
-    log: &mut Log,
-    keys: &mut Keys,
-    trits: &mut Trits,
-    out: &mut [u32],
-    c: Controls,
-    bits: &[u32],
-    ps: &[u32],
-)
-    ensures log_after { lent_of log.new ≡ run (merge_packed (controls_of c) (limited bits.now) (limited ps.now)) (lent_of log.old) }
-    ensures out_after { out.new ≡ results (is_over (state_of log.new.state)) out.old 0 (merge_packed (controls_of c) (limited bits.now) (limited ps.now) log.old.state.next).value }
-{
-    let kept = keys.merge(Columns { x: bits, y: ps });
-    trits.emit_kept(log, out, c, kept);
-}
-
-// add_dedup_dff without its numbers: a flip-flop in which equal bits are kept once. `column` is room for each bit's packed trits.
-#[tactic(auto, using(crate::proofs::Dff::column, crate::proofs::Dff::rules_merge))]
+// add_dedup_dff without its numbers: a flip-flop in which equal bits are kept once.
 pub fn emit_dedup_dff(
     log: &mut Log,
     keys: &mut Keys,
     trits: &mut Trits,
-    column: &mut [u32; rules::MAX_MERGE],
     out: &mut [u32],
     f: FlipFlop,
 )
     ensures log_after { lent_of log.new ≡ run (add_dedup_dff_of (limited_dff f.entry)) (lent_of log.old) }
     ensures out_after { out.new ≡ results (is_over (state_of log.new.state)) out.old 0 (add_dedup_dff_of (limited_dff f.entry) log.old.state.next).value }
 {
-    let n = pack_trits(column, f.reset, f.clear, f.init);
-    emit_merged(log, keys, trits, out, f.controls, f.bits, &column[..n]);
+    let n = pack_trits(&mut trits.packed, f.reset, f.clear, f.init);
+    let given = Columns {
+        x: f.bits,
+        y: &trits.packed[..n],
+    };
+    let kept = keys.merge(given);
+    trits.emit_kept(log, out, f.controls, kept);
 }
 
 // 1, 2 and 4 of a merging flip-flop.
@@ -161,7 +148,6 @@ fn log_refusal(
     st: LogState,
     keys: &mut Keys,
     trits: &mut Trits,
-    column: &mut [u32; rules::MAX_MERGE],
     f: FlipFlop,
 ) -> Result<(), Refusal>
     ensures { number_of result ≡ log_refusal room (state_of st) (add_dedup_dff_of (limited_dff f.entry)) }
@@ -170,7 +156,7 @@ fn log_refusal(
         words: &mut [],
         state: st.dry_start(),
     };
-    emit_dedup_dff(&mut dry, keys, trits, column, &mut [], f);
+    emit_dedup_dff(&mut dry, keys, trits, &mut [], f);
     st.dry_refusal(room, dry.state)
 }
 
@@ -187,12 +173,11 @@ pub fn add_dedup_dff(
     input_refusal(out.len(), st.next, f)?;
     let mut keys = Keys::new();
     let mut trits = Trits::new();
-    let mut column = [0; rules::MAX_MERGE];
-    log_refusal(log.len(), st, &mut keys, &mut trits, &mut column, f)?;
+    log_refusal(log.len(), st, &mut keys, &mut trits, f)?;
     let mut log = Log {
         words: log,
         state: st,
     };
-    emit_dedup_dff(&mut log, &mut keys, &mut trits, &mut column, out, f);
+    emit_dedup_dff(&mut log, &mut keys, &mut trits, out, f);
     Ok(log.state)
 }

@@ -53,6 +53,15 @@ pub struct MemoryReadPort {
     pub flip_flop: Option<Controls>,
 }
 
+impl MemoryReadPort {
+    // The relations that it names.
+    pub fn relations(&self) -> &[u8]
+        ensures { result.now ≡ part 0 self.now.relations_len self.now.relations }
+    {
+        lists::part(&self.relations, 0, self.relations_len as usize)
+    }
+}
+
 // What stands in for a port that is not there.
 impl Default for MemoryWritePort {
     fn default() -> MemoryWritePort
@@ -204,11 +213,10 @@ impl<'a> ReadPort<'a> {
         )
     }
 
-    // The relations that it names.
     pub fn relations(&self) -> &[u8]
         ensures { result.now ≡ part 0 self.now.port.relations_len self.now.port.relations }
     {
-        lists::part(&self.port.relations, 0, self.port.relations_len as usize)
+        self.port.relations()
     }
 }
 

@@ -29,7 +29,6 @@ pub struct Room {
     pub bits: [u32; rules::MAX_MERGE],
     pub mask: [u32; rules::MAX_MERGE],
     pub starts: [u8; rules::MAX_MERGE],
-    pub column: [u32; rules::MAX_MERGE],
     pub keys: Keys,
     pub trits: Trits,
 }
@@ -89,7 +88,6 @@ impl Room {
             bits: [0; rules::MAX_MERGE],
             mask: [0; rules::MAX_MERGE],
             starts: [0; rules::MAX_MERGE],
-            column: [0; rules::MAX_MERGE],
             keys: Keys::new(),
             trits: Trits::new(),
         }
@@ -112,14 +110,7 @@ impl Room {
             reset: own,
             init: own,
         };
-        merge_dff::emit_dedup_dff(
-            log,
-            &mut self.keys,
-            &mut self.trits,
-            &mut self.column,
-            &mut self.mask,
-            f,
-        );
+        merge_dff::emit_dedup_dff(log, &mut self.keys, &mut self.trits, &mut self.mask, f);
     }
 
     // The three flip-flops of a port with this clock.

@@ -1,11 +1,11 @@
 -- A memory without a number is delayed by few nets, whose lists fit the scratch.
-use mathlib.Core.Path.{◌≡◌, refl, subst}
-use Prim.Native.Nat.{ℕ, suc, ◌+◌, ◌*◌, ◌^◌, ◌<◌, ◌≤◌}
+use mathlib.Core.Path.{◌≡◌, refl, subst, ◌∙◌}
+use Prim.Native.Nat.{ℕ, suc, ◌+◌, ◌*◌, ◌^◌, ◌<◌, ◌≤◌, min}
 use native.Mathlib.Nat.{mul-le-mul}
 use native.Mathlib.Omega.{arith}
 use mathlib.Core.Bool.{Bool, false, not}
 use mathlib.Core.List.{List, [], ◌∷◌}
-use lib.ListN.{length, get_or, length-map}
+use lib.ListN.{length, length-take, get_or, length-map}
 use lib.Pow.{pow_mono}
 use lib.Dec.{eqb}
 use Rattle.lists.specs.Choice.{when◌then◌else◌, ◌or_else◌}
@@ -15,7 +15,8 @@ use Rattle.lists.proofs.Choice.{or_false, else_zero}
 use Rattle.lists.proofs.All.{any_at}
 use Rattle.lists.proofs.Distinct.{length_kept}
 use Rattle.lists.proofs.Pairs.{pairs_size}
-use Rattle.rules.specs.Limits.{X}
+use Rattle.lists.proofs.Views.{length_views}
+use Rattle.rules.specs.Limits.{max_ports, X}
 use Rattle.rules.specs.Logic.{is_undef}
 use Rattle.rules.specs.Cell.{FlipFlop, WritePort, Mem, new_flip_flop, with_init, is_read_before_write}
 use Rattle.rules.specs.Log.{Trace, ◌>>=◌, done, add_dff_of, LogState, start_net}
@@ -26,11 +27,15 @@ use Rattle.rules.specs.Refusals.{mem_number, emulate_number}
 use Rattle.rules.proofs.Counted.{AtMost, most_counted, most-done, most_bind, most_if, counted_dff, start_le}
 use Rattle.net_memory.specs.declared.Memory.{Memory}
 use Rattle.net_memory.specs.Given.{given_of}
-use Rattle.net_memory.specs.View.{writes_of, reads_start, nets_total, memory_of}
+use Rattle.net_memory.specs.View.{write_ports_of, write_size, no_trits, write_by, writes_of, reads_start, nets_total, memory_of}
 use Rattle.net_check.proofs.Accept.{Valid, valid, exact, sizes}
 use Rattle.port_overlay.proofs.Fits.{Shaped, writes_shaped}
 use Rattle.port_emulate.specs.Delays.{delays, no_write_of, Fitting}
 use Rattle.port_emulate.proofs.Delays.{delays_are}
+
+-- as many write ports as the count says, up to eight
+pub writes_by : (m : Memory) → length m.write_ports ≡ 8 → (nets : List ℕ) → length (writes_of m nets) ≡ min max_ports m.write_count
+writes_by m e nets = length_views write_size no_trits write_by (write_ports_of m) nets [] ∙ omega (arith, length-take (min max_ports m.write_count) m.write_ports, e)
 
 abbrev pub nets_of : WritePort → ℕ
 nets_of p = length p.addr + (length p.bits + (length p.mask + 0))

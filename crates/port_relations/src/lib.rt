@@ -51,9 +51,8 @@ fn clocks_differ(ports: &[MemoryReadPort]) -> bool
 fn relation_to(p: MemoryReadPort, j: usize) -> u8
     ensures { result ≡ get_or (part 0 p.relations_len p.relations) j 0 }
 {
-    let named = lists::part(&p.relations, 0, p.relations_len as usize);
     let undefined = u8::from(MemoryPortRelation::Undefined);
-    named.get(j).copied().unwrap_or(undefined)
+    p.relations().get(j).copied().unwrap_or(undefined)
 }
 
 // The port is clocked, and has this relation to write port j.
@@ -71,8 +70,8 @@ pub fn any_relates(ports: &[MemoryReadPort], j: usize, relation: MemoryPortRelat
 }
 
 // Some clocked read port has this relation to write port j.
-pub fn relates_to(m: Memory, j: usize, relation: MemoryPortRelation) -> bool
-    ensures { (nets trits : List ℕ) → result ≡ any (has_relation (code_of relation) j) (flip_flops_from m nets trits 0) }
+pub fn relates_to(m: &Memory, j: usize, relation: MemoryPortRelation) -> bool
+    ensures { (nets trits : List ℕ) → result ≡ any (has_relation (code_of relation) j) (flip_flops_from m.now nets trits 0) }
 {
     let count = net_memory::ports_used(m.read_count);
     any_relates(&m.read_ports[..count], j, relation)

@@ -87,7 +87,6 @@ fn emit_mask(
         log,
         &mut overlay.keys,
         &mut mask.trits,
-        &mut overlay.select,
         &mut overlay.mask,
         f,
     );

@@ -40,13 +40,13 @@ fn turn_port(reads: &[MemoryReadPort], p: MemoryWritePort, j: usize) -> MemoryWr
 }
 
 // The memory whose write ports stand at the other edge of their clock where a read port reads before they write.
-pub fn turn_clocks(m: Memory) -> Memory
-    ensures by_index { (nets nets' trits : List ℕ) → memory_of result nets' trits ≡ turned_mem (is_read m nets trits) (memory_of m nets' trits) }
-    ensures by_index_2 { (x y : List ℕ) → result ≡ turning (is_read m x y) (min max_ports m.write_count) m }
+pub fn turn_clocks(m: &Memory) -> Memory
+    ensures by_index { (nets nets' trits : List ℕ) → memory_of result nets' trits ≡ turned_mem (is_read m.now nets trits) (memory_of m.now nets' trits) }
+    ensures by_index_2 { (x y : List ℕ) → result ≡ turning (is_read m.now x y) (min max_ports m.now.write_count) m.now }
 {
     let reads = &m.read_ports[..net_memory::ports_used(m.read_count)];
     let count = net_memory::ports_used(m.write_count);
-    let mut out = m;
+    let mut out = *m;
     change_first(&mut out.write_ports, count, |j, port| {
         turn_port(reads, port, j)
     });
@@ -76,9 +76,9 @@ fn settle_port(reads: &[MemoryReadPort], p: MemoryReadPort) -> MemoryReadPort
 }
 
 // The memory whose relations to a write port are Undefined where a read port of `m` reads before that one writes.
-pub fn settle_relations(m: Memory, from: Memory) -> Memory
-    ensures by_index { (nets nets' trits : List ℕ) → memory_of result nets' trits ≡ settled_mem (memory_of m nets trits) (memory_of from nets' trits) }
-    ensures by_index_2 { (x y : List ℕ) → result ≡ settling (is_read m x y) (min max_ports from.read_count) from }
+pub fn settle_relations(m: &Memory, from: Memory) -> Memory
+    ensures by_index { (nets nets' trits : List ℕ) → memory_of result nets' trits ≡ settled_mem (memory_of m.now nets trits) (memory_of from nets' trits) }
+    ensures by_index_2 { (x y : List ℕ) → result ≡ settling (is_read m.now x y) (min max_ports from.read_count) from }
 {
     let reads = &m.read_ports[..net_memory::ports_used(m.read_count)];
     let count = net_memory::ports_used(from.read_count);

@@ -13,14 +13,14 @@ ghost use Rattle.record_bits.specs.Groups.{group_trits, bad_pair, bad_group};
 pub fn known_bit(t: u8) -> u8
     ensures { result ≡ known_bit t }
 {
-    if t == rules::TRIT_X { 0 } else { 1 }
+    u8::from(t != rules::TRIT_X)
 }
 
 #[tactic(auto, unfolding(rules::specs::Record::value_bit))]
 pub fn value_bit(t: u8) -> u8
     ensures { result ≡ value_bit t }
 {
-    if t == 1 { 1 } else { 0 }
+    u8::from(t == 1)
 }
 
 #[tactic(auto, unfolding(rules::specs::Record::trit_by))]

@@ -139,10 +139,7 @@ fn check_write(room: usize, sizes: Sizes, image: &[u8]) -> Result<(), Refusal>
         return Err(Refusal::BadSizes);
     }
     let count = sizes.trits_within(rules::MAX_IMAGE);
-    if (image.len() as u64) < count {
-        return Err(Refusal::NoRoom);
-    }
-    if room < record_bytes(sizes) {
+    if (image.len() as u64) < count || room < record_bytes(sizes) {
         return Err(Refusal::NoRoom);
     }
     Ok(())

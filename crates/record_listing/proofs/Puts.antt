@@ -13,7 +13,8 @@ use lib.Seq.{sets, take_all}
 use Rattle.lists.proofs.Store.{sets_at}
 use Rattle.rules.specs.Record.{Sizes, size_mems, size_trits}
 use Rattle.rules.specs.Lister.{head_line, memories_text, trits_text, decimal, refused_line, listed, lister}
-use Rattle.record_listing.specs.Put.{Put}
+use Rattle.record_listing.specs.declared.text.Text.{Text}
+use Rattle.record_listing.specs.Put.{Put, Added}
 
 module _ {l l1 l2 : List ℕ} {at n1 n2 : ℕ} {a b : List ℕ} where
   -- one piece after another
@@ -27,6 +28,15 @@ module _ {l l1 l2 : List ℕ} {at n1 n2 : ℕ} {a b : List ℕ} where
 module _ {l l1 : List ℕ} {at n : ℕ} {a : List ℕ} (b : List ℕ) where
   pub put_as : a ≡ b → Put l at a l1 n → Put l at b l1 n
   put_as e p = record { stored = p.stored ∙ ap (sets l at) e; place = p.place ∙ ap (λ (w : List ℕ). at + length w) e }
+
+-- the same in the array that is lent
+module _ {x y z : Text} {a b : List ℕ} where
+  pub added_then : Added x a y → Added y b z → Added x (a ++ b) z
+  added_then p q = record { put = put_then p.put q.put; name = q.name ∙ p.name }
+
+module _ {x y : Text} {a : List ℕ} (b : List ℕ) where
+  pub added_as : a ≡ b → Added x a y → Added x b y
+  added_as e p = record { put = put_as b e p.put; name = p.name }
 
 -- the end of an array of ten
 pub all_from : (d w : List ℕ) (i : ℕ) → length d ≡ 10 → drop i d ≡ w → take (10 - i) (drop i d) ≡ w

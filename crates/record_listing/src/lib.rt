@@ -14,13 +14,13 @@ ghost use Rattle.rules.specs.Beside.Stored.{lister_stored, list_input_call};
 ghost use Rattle.record_sizes.specs.View.{view_sizes};
 ghost use Rattle.record_listing.specs.Summary.{view_summary};
 ghost use Rattle.record_listing.specs.Text.{listed_as};
-ghost use Rattle.record_listing.specs.Put.{max_text, max_place, Put};
+ghost use Rattle.record_listing.specs.Put.{max_text, max_place, Put, Added};
 ghost use Rattle.record_listing.specs.Starts.{Accepted, Starts};
 
 use record_sizes::Sizes;
 use rules::Refusal;
 use summary::Summary;
-use text::{put_number, put_text};
+use text::Text;
 
 pub mod summary;
 pub mod text;
@@ -31,57 +31,59 @@ pub const MAX_TEXT: usize = 1638437;
 // ---- parts of a line
 
 // A space and a number.
-fn put_field(out: &mut [u8], at: usize, n: usize) -> usize
-    requires { at + 11 ≤ max_place }
-    ensures { Put out.old at (space ∷ decimal n) out.new result × (result ≤ at + 11) }
+fn put_field(text: &mut Text<'_>, n: usize)
+    requires { text.old.at + 11 ≤ max_place }
+    ensures { Added text.old (space ∷ decimal n) text.new × (text.new.at ≤ text.old.at + 11) }
 {
-    let a = put_text(out, at, b" ");
-    put_number(out, a, n)
+    text.put(b" ");
+    text.put_number(n);
 }
 
 // A space, and blank or load.
-fn put_kind(out: &mut [u8], at: usize, blank: bool) -> usize
-    requires { at + 6 ≤ max_place }
-    ensures { Put out.old at (space ∷ (when blank then blank_text else load_text)) out.new result × (result ≤ at + 6) }
+fn put_kind(text: &mut Text<'_>, blank: bool)
+    requires { text.old.at + 6 ≤ max_place }
+    ensures { Added text.old (space ∷ (when blank then blank_text else load_text)) text.new × (text.new.at ≤ text.old.at + 6) }
 {
     if blank {
-        put_text(out, at, b" blank")
+        text.put(b" blank");
     } else {
-        put_text(out, at, b" load")
+        text.put(b" load");
     }
 }
 
 // ---- lines
 
-fn put_head(out: &mut [u8], s: Sizes, memories: usize, trits: usize) -> usize
-    requires { (memories ≡ size_mems (view_sizes s)) × (trits ≡ size_trits (view_sizes s)) }
-    ensures { Put out.old 0 (head_line (view_sizes s)) out.new result × (result ≤ 37) }
+fn put_head(text: &mut Text<'_>, s: Sizes, memories: usize, trits: usize)
+    requires { (memories ≡ size_mems (view_sizes s)) × (trits ≡ size_trits (view_sizes s)) × (text.old.at + 37 ≤ max_place) }
+    ensures { Added text.old (head_line (view_sizes s)) text.new × (text.new.at ≤ text.old.at + 37) }
 {
-    let a = put_text(out, 0, b"memories ");
-    let b = put_number(out, a, memories);
-    let c = put_text(out, b, b" trits ");
-    let d = put_number(out, c, trits);
-    put_text(out, d, b"\n")
+    text.put(b"memories ");
+    text.put_number(memories);
+    text.put(b" trits ");
+    text.put_number(trits);
+    text.put(b"\n");
 }
 
-fn put_memory(out: &mut [u8], at: usize, y: Summary) -> usize
-    requires { at + 50 ≤ max_place }
-    ensures { Put out.old at (memory_line (view_summary y)) out.new result × (result ≤ at + 50) }
+fn put_memory(text: &mut Text<'_>, y: Summary)
+    requires { text.old.at + 50 ≤ max_place }
+    ensures { Added text.old (memory_line (view_summary y)) text.new × (text.new.at ≤ text.old.at + 50) }
 {
-    let a = put_number(out, at, y.index);
-    let b = put_field(out, a, y.depth);
-    let c = put_field(out, b, y.known);
-    let d = put_field(out, c, y.ones);
-    let e = put_kind(out, d, y.is_blank());
-    put_text(out, e, b"\n")
+    text.put_number(y.index);
+    put_field(text, y.depth);
+    put_field(text, y.known);
+    put_field(text, y.ones);
+    put_kind(text, y.is_blank());
+    text.put(b"\n");
 }
 
 fn put_refused(out: &mut [u8], refusal: Refusal) -> usize
     ensures { Put out.old 0 (refused_line (number refusal)) out.new result × (result ≤ 19) }
 {
-    let a = put_text(out, 0, b"refused ");
-    let b = put_number(out, a, refusal.number() as usize);
-    put_text(out, b, b"\n")
+    let mut text = Text { out, at: 0 };
+    text.put(b"refused ");
+    text.put_number(refusal.number() as usize);
+    text.put(b"\n");
+    text.at
 }
 
 // ---- the memories
@@ -115,18 +117,16 @@ fn summary_in(bytes: &[u8], s: Sizes, index: usize, from: usize) -> Summary
 }
 
 // The lines of all memories of a record that no number refuses.
-fn put_memories(out: &mut [u8], at: usize, bytes: &[u8], s: Sizes, count: usize) -> usize
-    requires { Accepted bytes.now s × (count ≡ size_mems (view_sizes s)) × (at ≤ 37) }
-    ensures { Put out.old at (concat_map memory_line (summaries (head_sizes bytes.now) (decode_image bytes.now))) out.new result × (result ≤ at + 50 * count) }
+fn put_memories(text: &mut Text<'_>, bytes: &[u8], s: Sizes, count: usize)
+    requires { Accepted bytes.now s × (count ≡ size_mems (view_sizes s)) × (text.old.at ≤ 37) }
+    ensures { Added text.old (concat_map memory_line (summaries (head_sizes bytes.now) (decode_image bytes.now))) text.new × (text.new.at ≤ text.old.at + 50 * count) }
 {
-    let mut next = at;
     let mut from: usize = 0;
     for i in 0..count {
         let y = summary_in(bytes, s, i, from);
-        next = put_memory(out, next, y);
+        put_memory(text, y);
         from += y.depth * (s.unit as usize);
     }
-    next
 }
 
 // ---- the whole text
@@ -138,8 +138,15 @@ fn put_listed(out: &mut [u8], bytes: &[u8]) -> usize
 {
     let s = record_reader::head_sizes(bytes);
     let count = s.memories() as usize;
-    let at = put_head(out, s, count, record_reader::head_trits(bytes) as usize);
-    put_memories(out, at, bytes, s, count)
+    let mut text = Text { out, at: 0 };
+    put_head(
+        &mut text,
+        s,
+        count,
+        record_reader::head_trits(bytes) as usize,
+    );
+    put_memories(&mut text, bytes, s, count);
+    text.at
 }
 
 // Stores the lister's output for a record on its standard input, as far as the room goes; its length.

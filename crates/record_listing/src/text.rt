@@ -1,15 +1,13 @@
-// Pieces of text, stored one after another in a lent array: what lies past its end is not stored. Each function gives the place after its piece.
-// (Array and place go side by side: a struct of both would have to promise with each piece that the same array is still lent, where `Put` says all at once.)
-ghost use Rattle.std.specs.Prelude.{◌≡◌, ◌+◌, ◌≤◌, length, drop};
+// Pieces of text, stored one after another in a lent array: what lies past its end is not stored.
+ghost use Rattle.std.specs.Prelude.{◌≡◌, ◌+◌, ◌≤◌, ◌<◌, [], ◌∷◌, length, drop};
 ghost use Rattle.rules.specs.Lister.{decimal};
-ghost use Rattle.record_listing.specs.Put.{max_place, Put};
+ghost use Rattle.record_listing.specs.Put.{max_place, Added};
 
-// Stores bytes.
-pub fn put_text(out: &mut [u8], at: usize, text: &[u8]) -> usize
-    ensures { at + length text.now ≤ max_place → Put out.old at text.now out.new result }
-{
-    lists::copy(out, at, text);
-    at.saturating_add(text.len())
+// A lent array, and the place behind the text so far.
+#[derive(Drop)]
+pub struct Text<'a> {
+    pub out: &'a mut [u8],
+    pub at: usize,
 }
 
 // The decimal digits of a number, at the end of an array; where they start.
@@ -27,11 +25,29 @@ fn digits_of(digits: &mut [u8; 10], n: usize) -> usize
     0
 }
 
-// Stores a number in decimal.
-pub fn put_number(out: &mut [u8], at: usize, n: usize) -> usize
-    ensures { at + 10 ≤ max_place → Put out.old at (decimal n) out.new result × (result ≤ at + 10) }
-{
-    let mut digits = [0u8; 10];
-    let from = digits_of(&mut digits, n);
-    put_text(out, at, &digits[from..])
+impl Text<'_> {
+    // Stores bytes.
+    pub fn put(&mut self, text: &[u8])
+        ensures { self.old.at + length text.now ≤ max_place → Added self.old text.now self.new }
+    {
+        lists::copy(self.out, self.at, text);
+        self.at = self.at.saturating_add(text.len());
+    }
+
+    // Stores one byte.
+    pub fn put_byte(&mut self, byte: u8)
+        ensures { self.old.at < max_place → Added self.old (byte ∷ []) self.new }
+    {
+        lists::put(self.out, self.at, byte);
+        self.at = self.at.saturating_add(1);
+    }
+
+    // Stores a number in decimal.
+    pub fn put_number(&mut self, n: usize)
+        ensures { self.old.at + 10 ≤ max_place → Added self.old (decimal n) self.new × (self.new.at ≤ self.old.at + 10) }
+    {
+        let mut digits = [0u8; 10];
+        let from = digits_of(&mut digits, n);
+        self.put(&digits[from..]);
+    }
 }

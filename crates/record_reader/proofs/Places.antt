@@ -1,6 +1,6 @@
 -- The trit of a number: the two bits that the code takes, and the trit of the image that the record is read to.
 use Rattle.std.specs.Option.{unwrap_or}
-use Rattle.std.specs.Prelude.{Option, Some, None}
+use Rattle.std.specs.Prelude.{Option, Some, None, is_some}
 use mathlib.Core.Path.{◌≡◌, refl, sym, ap, ◌∙◌}
 use mathlib.Core.Bool.{Bool, true, false, not}
 use Prim.Native.Nat.{ℕ, suc, ◌+◌, ◌-◌, ◌*◌, ◌/◌, ◌%◌, ◌<◌, ◌≤◌}
@@ -17,11 +17,11 @@ use Rattle.lists.proofs.Pairs.{get_d_pairs}
 use Rattle.rules.specs.Limits.{head_bytes, record_mark, trit_x}
 use Rattle.rules.specs.Numbers.{ceil_div}
 use Rattle.rules.specs.Value.{from_uint}
-use Rattle.rules.specs.Record.{size_trits, word_at, array_bytes, trit_by, head_sizes, record_bytes, known_bits, value_bits, bit_pairs, decode_image, trit_at_of, next_word, next_trit, after_trit}
+use Rattle.rules.specs.Record.{size_trits, word_at, array_bytes, trit_by, head_sizes, record_bytes, known_bits, value_bits, bit_pairs, decode_image, trit_at_of, next_word, next_trit}
 use Rattle.rules.specs.Conditions.{bad_head}
 use Rattle.rules.proofs.Written.{length_bits}
 use Rattle.record_bits.proofs.Arrays.{bits_at}
-use Rattle.record_reader.specs.Reading.{has_word, word_there, has_trit_at, trit_numbered, trit_there, place_after_trit}
+use Rattle.record_reader.specs.Reading.{has_word, word_there, has_trit_at, trit_numbered, trit_there}
 
 module _ (bytes : List ℕ) where
   abbrev T : ℕ
@@ -119,9 +119,9 @@ has_code : (b : Bool) (t u : ℕ) → (when b then Some t else None) ≡ Some u 
 has_code true t u e = refl
 has_code false t u e = absurd (code_not_end u (sym e))
 
-has_none : (b : Bool) (t : ℕ) → (when b then Some t else None) ≡ None → b ≡ false
-has_none true t e = absurd (code_not_end t e)
-has_none false t e = refl
+if_some : (b : Bool) (t : ℕ) → is_some (when b then Some t else None) ≡ b
+if_some true t = refl
+if_some false t = refl
 
 -- ---- by the reader's place
 module _ (bytes : List ℕ) (at : ℕ) where
@@ -140,13 +140,9 @@ module _ (bytes : List ℕ) (at : ℕ) where
   pub found_below : (t : ℕ) → trit_there bytes at ≡ Some t → at - 12 < size_trits (head_sizes bytes)
   found_below t e = ltb-true (at - 12) (size_trits (head_sizes bytes)) (and_true (ltb (at - 12) (size_trits (head_sizes bytes))) _ (if_false (ltb at 12) _ (has t e))).0
 
-  pub after_found : (t : ℕ) → trit_there bytes at ≡ Some t → at + 1 ≡ place_after_trit bytes at
-  unfolding place_after_trit after_trit
-  after_found t e = rw (has t e)
-
-  pub after_none : trit_there bytes at ≡ None → at ≡ place_after_trit bytes at
-  unfolding place_after_trit trit_there
-  after_none e = rw (has_none (has_trit_at bytes at) _ e)
+  pub found_is : is_some (trit_there bytes at) ≡ has_trit_at bytes at
+  unfolding trit_there
+  found_is = if_some (has_trit_at bytes at) _
 
 -- ---- the word at a place, by what was found
 found_not_end : (t : ℕ) → Some t ≡ None → ⊥

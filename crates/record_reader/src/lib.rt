@@ -240,12 +240,14 @@ impl<'a> Reader<'a> {
     }
 
     // The place after that trit, or the same where there is none.
+    #[tactic(auto, unfolding(crate::specs::Reading::place_after_trit, rules::specs::Record::after_trit), using(crate::proofs::Places::found_is))]
     fn place_after_trit(self) -> usize
         ensures { result ≡ place_after_trit self.entry.bytes.now self.entry.at }
     {
-        match self.trit_there() {
-            Some(_) => self.at + 1,
-            None => self.at,
+        if self.trit_there().is_some() {
+            self.at + 1
+        } else {
+            self.at
         }
     }
 

@@ -1,6 +1,7 @@
 -- Facts of the rules.
 pub mod Starred
 pub mod Entries
+pub mod Done
 pub mod Traces
 pub mod Chain
 pub mod Decode

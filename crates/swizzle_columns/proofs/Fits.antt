@@ -1,7 +1,7 @@
 -- A port within the limits, as tests and as facts, and what its parts ask.
 use mathlib.Core.Path.{◌≡◌, refl, subst}
 use Prim.Native.Nat.{ℕ, zero, suc, ◌+◌, ◌*◌, ◌<◌, ◌≤◌}
-use native.Mathlib.Nat.{mul-le-mul, mul-zero, zero-mul, one-mul}
+use native.Mathlib.Nat.{mul-le-mul, mul-zero, zero-mul}
 use native.Mathlib.Omega.{arith}
 use mathlib.Core.Bool.{true, false}
 use mathlib.Core.List.{List}
@@ -87,9 +87,6 @@ module _ (p : WidePort) (len size : ℕ) (f : PortFits p len size) where
 
   pub unit_pos : 0 < p.unit
   unit_pos = pos_right p.mems p.unit (pos_right p.rows (p.mems * p.unit) whole_pos)
-
-  pub unit_max : p.unit ≤ max_columns
-  unit_max = omega (arith, bounded 1 p.unit p.mems p.unit mems_pos (omega arith), one-mul p.unit, f.columns_max)
 
   pub size_low : size ≤ 4611686018427387903
   size_low = omega (arith, f.size_is, bounded p.rows (p.mems * p.unit) 16 32768 f.rows_max f.columns_max)

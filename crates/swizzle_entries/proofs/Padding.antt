@@ -1,15 +1,10 @@
 -- Laws of the padding to a multiple of each granularity.
-use mathlib.Core.Path.{◌≡◌, refl, sym, ap, ◌∙◌}
-use Prim.Native.Nat.{ℕ, zero, suc, ◌+◌, ◌-◌, ◌%◌, ◌≤◌}
-use native.Mathlib.Nat.{mod-zero}
+use mathlib.Core.Path.{◌≡◌, refl, ap, ◌∙◌}
+use Prim.Native.Nat.{ℕ, zero, suc, ◌+◌, ◌-◌, ◌≤◌}
 use native.Mathlib.Omega.{arith}
 use mathlib.Core.Bool.{true, false}
 use mathlib.Core.List.{List}
-use lib.Dec.{eqb}
 use Rattle.rules.specs.Geometry.{aligned, padding, padded}
-
-pub rem_zero : (g n : ℕ) → g ≡ 0 → eqb n 0 ≡ eqb (n % g) 0
-rem_zero g n e = ap (λ (k : ℕ). eqb k 0) (sym (ap (λ (k : ℕ). n % k) e ∙ mod-zero n))
 
 hit : (k n : ℕ) (gs : List ℕ) → aligned gs n ≡ true → padding k gs n ≡ 0
 unfolding padding

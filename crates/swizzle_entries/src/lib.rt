@@ -51,16 +51,7 @@ fn masks_same(mask: &[u32], width: u32, bit: u32, count: u32) -> bool
 fn is_aligned(gs: &[u32], n: usize) -> bool
     ensures { result ≡ aligned gs.now n }
 {
-    gs.iter().all(|g| divides(*g as usize, n))
-}
-
-fn divides(g: usize, n: usize) -> bool
-    ensures { result ≡ eqb (n % g) 0 }
-{
-    if g == 0 {
-        return n == 0;
-    }
-    n % g == 0
+    gs.iter().all(|g| n.is_multiple_of(*g as usize))
 }
 
 // How many None bring n entries to a multiple of each granularity; one past the row's limit is enough to refuse.
@@ -107,14 +98,12 @@ impl Writes<'_> {
     {
         let mut found = 0;
         let mut at = 0;
-        let end = self.ports.len().min(self.granularities.len());
-        // Not over a `zip`: there the invariant has no index of a place.
-        for (i, port) in self.ports[..end].iter().enumerate() {
+        for (port, granularity) in self.ports.iter().zip(self.granularities) {
             let size = net_memory::write_size(*port);
             let nets = lists::part(self.nets, at, size);
             let write = WritePort { port: *port, nets };
             let same = port_same(write, self.width, bit);
-            found = keep(out, found, same, self.granularities[i]);
+            found = keep(out, found, same, *granularity);
             at += size;
         }
         found
@@ -130,17 +119,6 @@ impl Writes<'_> {
         let count = self.changing(&mut kept, bit);
         padding_of(lists::part(&kept, 0, count), n)
     }
-}
-
-// Stores `count` times None and then a bit, and says how many entries there are then.
-fn put_bit(out: &mut [u32], n: usize, count: usize, bit: u32) -> usize
-    requires { (n ≤ 0x1000000000000) × (count ≤ 257) }
-    ensures value { result ≡ n + count + 1 }
-    ensures out_after { out.new ≡ sets out.old n (replicate count None ++ (bit ∷ [])) }
-{
-    lists::fill(out, n, count, rules::NO_BIT);
-    lists::put(out, n + count, bit);
-    n + count + 1
 }
 
 // Stores the entries, and says how many they are.
@@ -159,7 +137,9 @@ fn put_entries(out: &mut [u32], given: Given<'_>, gs: &[u32]) -> usize
             granularities: gs,
         };
         let count = writes.bit_padding(bit, n);
-        n = put_bit(out, n, count, bit);
+        lists::fill(out, n, count, rules::NO_BIT);
+        lists::put(out, n + count, bit);
+        n += count + 1;
     }
     let last = padding_of(gs, n);
     lists::fill(out, n, last, rules::NO_BIT);
@@ -177,10 +157,8 @@ fn granularity_bad(g: u32) -> bool
 fn granularities_bad(given: Given<'_>, gs: &[u32]) -> bool
     ensures { result ≡ bad_granularities (mem_of given.entry) gs.now }
 {
-    if gs.len() != net_memory::ports_used(given.memory.write_count) {
-        return true;
-    }
-    gs.iter().any(|g| granularity_bad(*g))
+    gs.len() != net_memory::ports_used(given.memory.write_count)
+        || gs.iter().any(|g| granularity_bad(*g))
 }
 
 // By what the call is refused with a room of this length.

@@ -1,7 +1,7 @@
 -- The words and nets of a swizzle of rows that passes.
-use mathlib.Core.Path.{◌≡◌, refl, sym, ap, ◌∙◌}
+use mathlib.Core.Path.{◌≡◌, sym, ap, ◌∙◌}
 use mathlib.Core.Logic.{◌≢◌}
-use Prim.Native.Nat.{ℕ, ◌+◌, ◌-◌, ◌*◌, ◌^◌, ◌≤◌, ◌<◌}
+use Prim.Native.Nat.{ℕ, ◌+◌, ◌*◌, ◌^◌}
 use native.Mathlib.Omega.{arith}
 use mathlib.Core.List.{List, [], ◌∷◌}
 use lib.ListN.{length, take, drop, length-take, length-drop}
@@ -10,12 +10,12 @@ use Rattle.rules.specs.Value.{Value}
 use Rattle.rules.specs.Cell.{ReadPort, Mem, Given, Plan, read_wide_log2, output_len}
 use Rattle.rules.specs.Log.{LogState}
 use Rattle.rules.specs.Geometry.{Layout, layout_of}
-use Rattle.rules.specs.Swizzle.{Split, split_addr, swizzle_rows}
+use Rattle.rules.specs.Swizzle.{split_addr, swizzle_rows}
 use Rattle.rules.specs.Refusals.{room_refusal, log_refusal, swizzle_number}
 use Rattle.swizzle_laws.proofs.ReadCounts.{Readable}
 use Rattle.swizzle_laws.proofs.ReadsCounts.{reads_count_of, Readables, counted_reads}
 use Rattle.swizzle_laws.proofs.WritesCounts.{writes_count_of, rows_refusal_lem}
-use Rattle.swizzle_facts.specs.Passed.{LayoutPassed, PortPassed, SplitPassed, ReadPassed, EachPair}
+use Rattle.swizzle_facts.specs.Passed.{LayoutPassed, ReadPassed, EachPair}
 use Rattle.swizzle_facts.proofs.Layouts.{layout_passed}
 use Rattle.swizzle_facts.proofs.Splits.{split_passed}
 use Rattle.swizzle_facts.proofs.Ports.{reads_passed, output_len_lem}

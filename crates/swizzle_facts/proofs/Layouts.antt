@@ -2,25 +2,23 @@
 use mathlib.Core.Path.{◌≡◌, refl, sym, ap, ◌∙◌, subst}
 use mathlib.Core.Logic.{◌≢◌, ⊎_elim}
 use Prim.Native.Nat.{ℕ, zero, suc, ◌+◌, ◌-◌, ◌*◌, ◌/◌, ◌%◌, ◌^◌, ◌≤◌, ◌<◌}
-use native.Mathlib.Nat.{mul_assoc, mul_comm, one-mul, zero-mul, mul-zero, le_trans, mul-le-mul, mul-le-mul_left, mul-le-mul_right, pow-le-pow_right, lt-div-mul-add, eq-zero-or-pos, div-add-mod', div-mul-le_self}
+use native.Mathlib.Nat.{mul_assoc, mul_comm, one-mul, zero-mul, le_trans, mul-le-mul, mul-le-mul_right, pow-le-pow_right, lt-div-mul-add, eq-zero-or-pos, div-add-mod'}
 use native.Mathlib.Omega.{arith}
 use lib.Pow.{pow_pos}
-use mathlib.Core.Bool.{Bool, true, false, not, ◌&&◌}
-use mathlib.Core.List.{List, [], ◌∷◌}
+use mathlib.Core.Bool.{Bool, true, false, not}
 use lib.ListN.{length, get_or}
 use lib.Dec.{eqb, ltb}
-use borrow.Author.Tests.{eq-eqb, ne_eqb, eqb-true, ltb-false, not-false}
+use borrow.Author.Tests.{ne_eqb, eqb-true, ltb-false, not-false}
 use Rattle.lists.specs.Choice.{when◌then◌else◌}
-use Rattle.lists.specs.Distinct.{place_in}
 use Rattle.lists.proofs.Choice.{or_false, and_false, not_is_true, if_false}
 use Rattle.lists.proofs.Parts.{get_d_any}
 use Rattle.rules.specs.Limits.{None, addr_bits, max_mask, max_columns, max_image}
 use Rattle.rules.specs.Numbers.{ceil_div, softs, top_bits}
 use Rattle.rules.specs.Value.{Value}
-use Rattle.rules.specs.Cell.{Mem, Given, Plan}
+use Rattle.rules.specs.Cell.{Given, Plan}
 use Rattle.rules.specs.Geometry.{Layout, layout_of, soft_bits, soft, row_len_of, full_depth_of, full_chunks, part_depth_of, all_chunks, all_mems, columns}
 use Rattle.rules.specs.Image.{trits, image_size}
-use Rattle.rules.specs.Conditions.{times, bad_entries, indivisible, result_too_large, image_too_large, bad_layout}
+use Rattle.rules.specs.Conditions.{indivisible, result_too_large, image_too_large, bad_layout}
 use Rattle.rules.specs.Refusals.{swizzle_number}
 use Rattle.rules.proofs.Accepts.{layout_good}
 use Rattle.rules.proofs.GoodLayouts.{Good, good, good_small, named}

@@ -1,9 +1,9 @@
 -- Every port of a swizzle that no number 1 to 10 refuses, by its index and in its list.
 use mathlib.Core.Path.{◌≡◌, refl, sym, ap, ◌∙◌}
-use Prim.Native.Nat.{ℕ, zero, suc, ◌+◌, ◌-◌, ◌*◌, ◌^◌, ◌≤◌, ◌<◌}
+use Prim.Native.Nat.{ℕ, suc, ◌+◌, ◌-◌, ◌*◌, ◌^◌, ◌≤◌, ◌<◌}
 use native.Mathlib.Nat.{zero-add, mul_comm}
 use native.Mathlib.Omega.{arith}
-use mathlib.Core.Bool.{Bool, true, false, not, ◌||◌}
+use mathlib.Core.Bool.{false, not, ◌||◌}
 use mathlib.Core.List.{List, [], ◌∷◌}
 use lib.ListN.{length, get_or}
 use lib.Dec.{eqb, ltb}
@@ -13,14 +13,14 @@ use Rattle.lists.proofs.Choice.{or_false, else_zero, if_zero}
 use Rattle.lists.proofs.All.{any_at}
 use Rattle.lists.proofs.Pairs.{pairs_size, pairs_at}
 use Rattle.lists.proofs.UpFrom.{length_up, up_at}
-use Rattle.rules.specs.Limits.{addr_bits, max_ports, max_wide, max_depth, max_width, max_bits, max_row, max_unit, max_hard, max_mask}
+use Rattle.rules.specs.Limits.{addr_bits, max_ports, max_wide, max_depth, max_width, max_bits, max_row, max_unit, max_hard}
 use Rattle.rules.specs.Numbers.{softs}
 use Rattle.rules.specs.Value.{Value, Pos}
-use Rattle.rules.specs.Cell.{WritePort, ReadFlipFlop, ReadPort, Mem, Given, Plan, wide_log2, write_wide_log2, read_wide_log2, read_at_of, output_len, held}
+use Rattle.rules.specs.Cell.{WritePort, ReadPort, Mem, Given, Plan, wide_log2, write_wide_log2, read_wide_log2, read_at_of, output_len, held}
 use Rattle.rules.specs.Geometry.{Layout, layout_of}
-use Rattle.rules.specs.Conditions.{too_large, plan_too_large, bad_data_len, bad_addr_len, unequal, bad_write_shape, bad_read_shape, bad_flip_flop_shape, bad_trit_lens, bad_shape, bad_output_len, bad_wide, bad_writes, bad_reads, all_reads}
-use Rattle.rules.specs.Refusals.{swizzle_number, swizzle_plan_number, driving_number, whole_plan, plan_number, wide_number, image_number}
-use Rattle.rules.proofs.Accepts.{Passed, passed}
+use Rattle.rules.specs.Conditions.{too_large, plan_too_large, bad_data_len, bad_addr_len, unequal, bad_write_shape, bad_read_shape, bad_flip_flop_shape, bad_shape, bad_output_len, bad_wide, bad_writes, bad_reads, all_reads}
+use Rattle.rules.specs.Refusals.{swizzle_number, swizzle_plan_number, driving_number, whole_plan, plan_number, wide_number}
+use Rattle.rules.proofs.Accepts.{passed}
 use Rattle.swizzle_facts.specs.Passed.{PortPassed, WritePassed, ReadPassed, EachPair}
 
 -- ---- from an index to the list
@@ -216,17 +216,6 @@ module _ (next : ℕ) (g : Given) (output : Value) (p : Plan) (e : swizzle_numbe
     read_passed =
         port_by_lem r.data_len (read_wide_log2 m r) rn r.addr read_log_lem read_shape.0 read_shape.1 read_wide
         (ltb-false max_wide rn (any_at (ltb max_wide) p.read_wide_of wide_logs.1 i 0 (omega (arith, reads_long))))
-
-    -- the trits of its flip-flop, and its relations
-    pub flip_passed : (f : ReadFlipFlop) → any (bad_flip_flop_shape m r.data_len) (f ∷ []) ≡ false
-        → (length f.clear_value ≡ r.data_len) × (length f.reset_value ≡ r.data_len) × (length f.init_value ≡ r.data_len) × (length f.relations ≡ length m.writes)
-    unfolding bad_flip_flop_shape bad_trit_lens
-    flip_passed f z =
-        let a = (or_false (bad_flip_flop_shape m r.data_len f) false z).0 in
-        let b = or_false (bad_trit_lens r.data_len f.clear_value f.reset_value f.init_value) _ a in
-        let c = or_false (not (eqb (length f.clear_value) r.data_len)) _ b.0 in
-        let d = or_false (not (eqb (length f.reset_value) r.data_len)) _ c.1 in
-        (eqb-true _ _ (not-false _ c.0), eqb-true _ _ (not-false _ d.0), eqb-true _ _ (not-false _ d.1), eqb-true _ _ (not-false _ b.1))
 
   -- ---- in their lists
   abbrev no_write_of : WritePort

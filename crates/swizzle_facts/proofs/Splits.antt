@@ -1,23 +1,22 @@
 -- The split of a port that passes: how long its addresses are, and how many pieces there are.
-use mathlib.Core.Path.{◌≡◌, refl, sym, ap, ◌∙◌, subst}
-use Prim.Native.Nat.{ℕ, zero, suc, ◌+◌, ◌-◌, ◌*◌, ◌/◌, ◌%◌, ◌^◌, ◌≤◌, ◌<◌}
-use native.Mathlib.Nat.{le_trans, mul-le-mul, pow-le-pow_right, mul_comm}
+use mathlib.Core.Path.{◌≡◌, refl, sym, subst}
+use Prim.Native.Nat.{ℕ, suc, ◌+◌, ◌-◌, ◌*◌, ◌/◌, ◌%◌, ◌^◌, ◌≤◌, ◌<◌}
+use native.Mathlib.Nat.{le_trans, mul-le-mul, pow-le-pow_right}
 use native.Mathlib.Omega.{arith}
 use lib.Pow.{pow_pos}
 use mathlib.Core.Bool.{Bool, true, false}
-use mathlib.Core.List.{List, [], ◌∷◌, ◌++◌}
+use mathlib.Core.List.{List, [], ◌∷◌}
 use lib.ListN.{length, replicate, length-append, length-replicate}
 use lib.Dec.{eqb, ltb}
 use borrow.Author.Tests.{ltb-true, le-leb}
 use Rattle.lists.specs.Choice.{when◌then◌else◌}
 use Rattle.rules.specs.Limits.{addr_bits, max_columns}
-use Rattle.rules.specs.Numbers.{softs, top_bits, bits_for}
+use Rattle.rules.specs.Numbers.{softs, bits_for}
 use Rattle.rules.specs.Value.{Value, zext}
 use Rattle.rules.specs.Geometry.{Layout, row_len_of, soft, all_chunks, columns}
 use Rattle.rules.specs.Swizzle.{Role, Soft, Wide, Row, High, role_of, is_row, wide_after, rows_after, roles, row_nets, mux_nets, count_doubles, Split, split_by, split_addr}
 use Rattle.rules.proofs.Walks.{tops_le}
 use Rattle.swizzle_laws.proofs.ReadCounts.{split_enough}
-use Rattle.swizzle_laws.proofs.Places.{Splittable}
 use Rattle.swizzle_split.specs.Steps.{Fits, can_split}
 use Rattle.swizzle_split.proofs.Splitting.{pieces_low}
 use Rattle.swizzle_facts.specs.Passed.{LayoutPassed, PortPassed, SplitPassed}
@@ -104,9 +103,6 @@ module _ (q : Layout) (old new : ℕ) (addr : Value) (size : ℕ) (l : LayoutPas
   split_can =
       rw (le-leb old 4 p.old_max, le-leb new 4 p.new_max, le-leb new q.hard p.new_hard, le-leb q.hard 32 split_fits.hard_max, le-leb (old - softs old q.soft_mask) new p.enough)
       (rw (le-leb (old + length addr) addr_bits p.short, le-leb (all_chunks q * 2 ^ soft q) max_columns l.chunks_max))
-
-  pub splittable : Splittable q old new addr
-  splittable = record { enough = p.enough; short = p.short; unit = l.small.unit_pos }
 
   pieces_are : s.pieces ≡ all_chunks q * 2 ^ count_doubles rs
   unfolding split_addr split_by

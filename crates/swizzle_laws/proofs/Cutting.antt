@@ -1,7 +1,7 @@
 -- Laws of cutting a list into values of one length.
 use mathlib.Core.Path.{◌≡◌, refl, sym, ap, ◌∙◌}
 use Prim.Native.Nat.{ℕ, zero, suc, ◌+◌, ◌*◌, ◌≤◌}
-use native.Mathlib.Nat.{zero-mul, suc-mul, zero-add}
+use native.Mathlib.Nat.{zero-mul, suc-mul}
 use native.Mathlib.Omega.{arith}
 use mathlib.Core.List.{List, [], ◌∷◌, ◌++◌, append_assoc}
 use lib.ListN.{length, take, drop, length-append, length-drop}
@@ -37,14 +37,6 @@ cut-joined w (v ∷ vs) r s =
 pub cut_two : (w n : ℕ) (l : Value) → cut w (suc (suc n)) l ≡ take w l ∷ take w (drop w l) ∷ cut w n (drop (w + w) l)
 unfolding cut
 cut_two w n l = rw (drop-drop w w l)
-
-pub cut_one : (w : ℕ) (l : Value) → cut w 1 l ≡ take w l ∷ []
-unfolding cut
-cut_one w l = refl
-
-pub cut_none : (w : ℕ) (l : Value) → cut w 0 l ≡ []
-unfolding cut
-cut_none w l = refl
 
 pub joined_cons : (v : Value) (vs : List Value) → joined (v ∷ vs) ≡ v ++ joined vs
 unfolding joined

@@ -1,6 +1,6 @@
 -- A piece loaded row by row is the piece of the rules.
 use mathlib.Core.Path.{◌≡◌, refl, sym, ap, ◌∙◌}
-use Prim.Native.Nat.{ℕ, zero, suc, ◌+◌, ◌-◌, ◌*◌, ◌^◌, ◌≤◌, ◌<◌}
+use Prim.Native.Nat.{ℕ, zero, suc, ◌+◌, ◌*◌, ◌^◌, ◌≤◌, ◌<◌}
 use native.Mathlib.Nat.{add_assoc, add-zero, zero-add, add-suc, suc-add, suc-mul, mul-le-mul_right}
 use native.Mathlib.Omega.{arith}
 use mathlib.Core.Bool.{Bool, true, false}
@@ -10,19 +10,15 @@ use lib.Seq.{sets, set-set, set_comm}
 use lib.Dec.{eqb}
 use borrow.Author.Tests.{eqb-false, ne_eqb}
 use Rattle.lists.specs.Choice.{when◌then◌else◌}
-use Rattle.lists.specs.Lists.{all, part, up_from, concat_map}
+use Rattle.lists.specs.Lists.{part, up_from, concat_map}
 use Rattle.lists.proofs.UpFrom.{length_up}
 use Rattle.rules.specs.Limits.{None, X}
-use Rattle.rules.specs.Value.{Value, x_nets}
+use Rattle.rules.specs.Value.{x_nets}
 use Rattle.rules.specs.Geometry.{Layout, row_len_of}
 use Rattle.rules.specs.Swizzle.{Split, restore, sources, old_rows, load_piece, piece_start}
 use Rattle.swizzle_laws.specs.Loads.{placed, restore_from, load_rows}
 
 -- ---- one after the other
-restore_cons : (e a : ℕ) (es v acc : List ℕ) → restore (e ∷ es) (a ∷ v) acc ≡ restore es v (when eqb e None then acc else set acc e a)
-unfolding restore
-restore_cons e a es v acc = refl
-
 restore_append : (es fs v w acc : List ℕ) → length es ≡ length v → restore (es ++ fs) (v ++ w) acc ≡ restore fs w (restore es v acc)
 unfolding restore
 restore_append [] fs [] w acc h = refl

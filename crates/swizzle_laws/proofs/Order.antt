@@ -9,7 +9,7 @@ use lib.Arith.{digits_lt, digits_div, digits_mod}
 use lib.Dec.{eqb}
 use borrow.Author.Tests.{eqb-true, eqb-false}
 use lib.ListN.{length, take, drop, get_or, set, replicate, length-append, length-replicate, get_or-replicate, length-set, get_or-append}
-use lib.Seq.{sets, length-sets, take_at, drop-append-add, get_or-append-add, get_or-take, get_or-drop, get_or-set_same, get_or-set_other, ext_get_or, length-take-le}
+use lib.Seq.{sets, take_at, drop-append-add, get_or-append-add, get_or-take, get_or-drop, get_or-set_same, get_or-set_other, ext_get_or, length-take-le}
 use Rattle.lists.specs.Lists.{part, up_from, concat_map}
 use Rattle.lists.proofs.Parts.{length_part}
 use Rattle.lists.proofs.Choice.{cases_le}

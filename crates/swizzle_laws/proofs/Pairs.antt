@@ -1,18 +1,18 @@
 -- Pieces paired by one bit: half as many, rounded up, of the same length; their words and nets.
 use mathlib.Core.Path.{◌≡◌, refl, sym, ap, ◌∙◌}
-use Prim.Native.Nat.{ℕ, zero, suc, ◌+◌, ◌-◌, ◌*◌, ◌/◌, ◌≤◌, ◌<◌}
-use native.Mathlib.Nat.{zero-mul, suc-mul, add-zero}
+use Prim.Native.Nat.{ℕ, suc, ◌+◌, ◌-◌, ◌*◌, ◌/◌}
+use native.Mathlib.Nat.{zero-mul, suc-mul}
 use native.Mathlib.Omega.{arith}
-use mathlib.Core.List.{List, [], ◌∷◌, ◌++◌}
+use mathlib.Core.List.{List, [], ◌∷◌}
 use lib.ListN.{length}
-use Rattle.lists.specs.Lists.{up_from}
 use Rattle.lists.proofs.UpFrom.{length_up}
 use Rattle.rules.specs.Value.{Value, Pos}
-use Rattle.rules.specs.Log.{Trace, ◌>>=◌, done, added, add_mux_of}
+use Rattle.rules.specs.Log.{Trace, ◌>>=◌, done, add_mux_of}
 use Rattle.rules.specs.Beside.Chain.{Chains}
 use Rattle.rules.specs.Swizzle.{pair_up}
+use Rattle.rules.proofs.Done.{done_value}
 use Rattle.rules.proofs.Traces.{bind_value, bind_words, bind_next}
-use Rattle.rules.proofs.Entries.{value_mux, next_mux, words_mux}
+use Rattle.rules.proofs.Entries.{value_mux}
 use Rattle.rules.proofs.Chain.{chains_done, chains_bind, chains_mux}
 use Rattle.rules.proofs.Counted.{Counted, counted_done, counted_mux, counted_same}
 use Rattle.swizzle_laws.specs.Cuts.{Sized}
@@ -23,10 +23,6 @@ chains_pair_up bit [] = chains_done []
 chains_pair_up bit (a ∷ []) = chains_done (a ∷ [])
 chains_pair_up bit (a ∷ b ∷ l) =
     chains_bind _ _ (chains_mux (Pos bit) b a) (λ v. chains_bind _ _ (chains_pair_up bit l) (λ vs. chains_done (v ∷ vs)))
-
-done_value : {A : Type 0} (a : A) (n : ℕ) → (done a n).value ≡ a
-unfolding done
-done_value a n = refl
 
 -- ---- the pairs of two pieces and more
 module _ (bit : ℕ) (a b : Value) (l : List Value) where

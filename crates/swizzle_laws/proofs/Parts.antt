@@ -1,12 +1,12 @@
 -- A memory's part of a wide port is one slice of the columns in the order of the memories.
-use mathlib.Core.Path.{◌≡◌, refl, sym, ap, ◌∙◌}
-use Prim.Native.Nat.{ℕ, ◌+◌, ◌-◌, ◌*◌, ◌^◌, ◌<◌}
-use mathlib.Core.List.{List, [], ◌∷◌}
+use mathlib.Core.Path.{◌≡◌, refl, sym, ◌∙◌}
+use Prim.Native.Nat.{ℕ, ◌*◌, ◌^◌, ◌<◌}
+use mathlib.Core.List.{List}
 use lib.ListN.{length}
-use Rattle.lists.specs.Lists.{part, up_from, concat_map}
+use Rattle.lists.specs.Lists.{part}
 use Rattle.rules.specs.Geometry.{Layout, all_mems, columns}
 use Rattle.rules.specs.Swizzle.{Split, new_rows, mem_part}
-use Rattle.swizzle_laws.specs.Order.{gather, by_memory, ordered}
+use Rattle.swizzle_laws.specs.Order.{gather, ordered}
 use Rattle.swizzle_laws.proofs.Order.{length_by_memory, part_by_memory}
 
 module _ (q : Layout) (s : Split) where

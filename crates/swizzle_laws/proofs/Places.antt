@@ -1,7 +1,7 @@
 -- Each row of each piece stands within the columns of the new rows.
 use mathlib.Core.Path.{◌≡◌, refl, sym, ap, ◌∙◌, subst}
 use Prim.Native.Nat.{ℕ, zero, suc, ◌+◌, ◌-◌, ◌*◌, ◌/◌, ◌%◌, ◌^◌, ◌≤◌, ◌<◌}
-use native.Mathlib.Nat.{zero-add, suc-add, mul_assoc, mul_comm, mul_left_comm, one-mul, mul-one, mul-add, suc-mul, pow-succ', le_trans, mul-le-mul, mul-le-mul_right, mul-le-mul_left, div-div-eq-div-mul, pow-le-pow_right, lt-div-mul-add}
+use native.Mathlib.Nat.{zero-add, suc-add, mul_assoc, mul_comm, suc-mul, pow-succ', le_trans, mul-le-mul_right, mul-le-mul_left, div-div-eq-div-mul, pow-le-pow_right, lt-div-mul-add}
 use native.Mathlib.Omega.{arith}
 use mathlib.Core.List.{List, [], ◌∷◌, ◌++◌, append_assoc}
 use lib.ListN.{length, replicate, length-append, length-replicate}
@@ -14,7 +14,7 @@ use lib.Pow.{pow-add}
 use Rattle.rules.specs.Limits.{addr_bits}
 use Rattle.rules.specs.Numbers.{softs, ceil_div, bits_for}
 use Rattle.rules.specs.Value.{Value}
-use Rattle.rules.specs.Geometry.{Layout, Spot, walk, soft_bits, soft, row_len_of, all_chunks, all_mems, columns}
+use Rattle.rules.specs.Geometry.{Layout, walk, soft_bits, soft, row_len_of, all_chunks, all_mems, columns}
 use Rattle.rules.specs.Swizzle.{Role, High, is_row, Split, roles, low_roles, mux_roles, spot_by, count_doubles, split_by, split_addr, piece_start}
 use Rattle.rules.proofs.Walks.{softs_le}
 use Rattle.swizzle_laws.proofs.Within.{softs_of, soft-roles, Inside, mux_within, low_within}

@@ -16,14 +16,13 @@ use Rattle.rules.specs.Limits.{None, addr_bits}
 use Rattle.rules.specs.Numbers.{top_bits, bits_for}
 use Rattle.rules.specs.Logic.{undef}
 use Rattle.rules.specs.Value.{Value, x_nets, zext}
-use Rattle.rules.specs.Cell.{ReadFlipFlop, ReadPort, FlipFlop, new_flip_flop, with_enable}
+use Rattle.rules.specs.Cell.{ReadFlipFlop, ReadPort, new_flip_flop, with_enable}
 use Rattle.rules.specs.Log.{Trace, ◌>>=◌, ◌>>◌, done, add_void_of, add_dff_of, replace_value_of}
 use Rattle.rules.specs.Beside.Chain.{Chains}
 use Rattle.rules.specs.Geometry.{Layout, columns}
 use Rattle.rules.specs.Swizzle.{Split, Role, WideRead, wide_flip_flop, split_by, restore, sources, load_piece, mux_tree, add_voids, clocked_addr, swizzle_read}
-use Rattle.rules.specs.Beside.Counts.{Count, plus, times_count, mux_count_of, dff_count, void_count, replace_count, nothing, clocked_count, read_count_of}
-use Rattle.rules.proofs.Traces.{bind_value}
-use Rattle.rules.proofs.Entries.{value_void, next_void, value_dff}
+use Rattle.rules.specs.Beside.Counts.{plus, times_count, mux_count_of, dff_count, void_count, replace_count, nothing, clocked_count, read_count_of}
+use Rattle.rules.proofs.Entries.{value_dff}
 use Rattle.rules.proofs.Chain.{chains_done, chains_bind, chains_then, chains_void, chains_dff, chains_replace}
 use Rattle.rules.proofs.Counted.{Counted, counted_done, counted_void, counted_dff, counted_replace, counted_same}
 use Rattle.swizzle_laws.specs.Cuts.{Sized}

@@ -1,14 +1,12 @@
 -- The words and nets of all read ports of a swizzle.
-use mathlib.Core.Path.{◌≡◌}
 use Prim.Native.Nat.{ℕ}
 use mathlib.Core.List.{List, [], ◌∷◌, map}
 use lib.ListN.{take, drop}
 use Rattle.lists.specs.Lists.{pairs}
 use Rattle.rules.specs.Value.{Value}
 use Rattle.rules.specs.Cell.{ReadPort, Mem, read_wide_log2}
-use Rattle.rules.specs.Log.{Trace, ◌>>=◌, done}
 use Rattle.rules.specs.Geometry.{Layout}
-use Rattle.rules.specs.Swizzle.{Split, split_addr, WideRead, swizzle_read, swizzle_reads}
+use Rattle.rules.specs.Swizzle.{Split, split_addr, swizzle_read, swizzle_reads}
 use Rattle.rules.specs.Beside.Counts.{Count, plus, nothing, sum_counts, read_count_of}
 use Rattle.rules.proofs.Counted.{Counted, counted_done, counted_same}
 use Rattle.swizzle_laws.proofs.ReadCounts.{Readable, counted_read}

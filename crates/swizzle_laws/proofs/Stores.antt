@@ -1,23 +1,16 @@
 -- The rules' stores of pieces are the same stores in the order of the memories.
 use mathlib.Core.Path.{◌≡◌, refl, sym, ap, ◌∙◌}
-use Prim.Native.Nat.{ℕ, ◌+◌, ◌-◌, ◌*◌, ◌^◌}
+use Prim.Native.Nat.{ℕ, ◌*◌, ◌^◌}
 use mathlib.Core.List.{List, [], ◌∷◌, ◌++◌, map}
 use lib.ListN.{length, take, drop, replicate, length-replicate}
 use lib.Seq.{sets, length-sets}
-use Rattle.lists.specs.Lists.{up_from}
-use Rattle.rules.specs.Limits.{X}
 use Rattle.rules.specs.Value.{Value}
-use Rattle.rules.specs.Cell.{WritePort}
-use Rattle.rules.specs.Log.{Made, Trace, ◌>>=◌, done}
+use Rattle.rules.specs.Log.{Made, ◌>>=◌, done}
 use Rattle.rules.specs.Geometry.{Layout, row_len_of, all_mems, columns}
-use Rattle.rules.specs.Swizzle.{Split, piece_start, old_rows, store_rows, store_piece, store_each, blank, sources, arrange, repeating, piece_mask, mask_pieces, WideWrite, swizzle_write}
-use Rattle.swizzle_laws.specs.Order.{by_memory, ordered}
+use Rattle.rules.specs.Swizzle.{Split, piece_start, old_rows, store_rows, store_piece, store_each, blank, piece_mask, mask_pieces}
+use Rattle.swizzle_laws.specs.Order.{ordered}
 use Rattle.swizzle_laws.specs.Stores.{spill_fit, spill_at, spill_each, piece_by, spill_masks, starts_of}
 use Rattle.swizzle_laws.proofs.Order.{by_memory_fit, by_memory-blank}
-
-pub piece_by_lem : (s : Split) (mask : Value) (x : ℕ) → piece_mask s mask x ≡ piece_by s.mux_addr mask x
-unfolding piece_mask piece_by
-piece_by_lem s mask x = refl
 
 module _ (q : Layout) (s : Split) where
   abbrev M : ℕ

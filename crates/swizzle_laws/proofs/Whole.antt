@@ -2,18 +2,16 @@
 -- nets, which follow from the first.
 use mathlib.Core.Path.{◌≡◌, refl, sym, ap, ◌∙◌}
 use Prim.Native.Nat.{ℕ, zero, suc, ◌+◌, ◌*◌, ◌^◌}
-use native.Mathlib.Nat.{zero-add, add-zero, suc-add, add-suc, zero-mul, suc-mul, add_comm, mul_comm}
-use mathlib.Core.List.{List, [], ◌∷◌, ◌++◌}
+use native.Mathlib.Nat.{zero-add, add-zero, suc-add, add-suc, zero-mul, suc-mul, add_comm}
+use mathlib.Core.List.{List, ◌∷◌, ◌++◌}
 use lib.ListN.{length, replicate}
 use Rattle.lists.specs.Lists.{up_from}
 use Rattle.rules.specs.Limits.{X, trit_x}
 use Rattle.rules.specs.Logic.{Const}
-use Rattle.rules.specs.Value.{Value}
 use Rattle.rules.specs.Cell.{WritePort}
-use Rattle.rules.specs.Log.{Trace, ◌>>=◌, done, add_void_of, request}
+use Rattle.rules.specs.Log.{◌>>=◌, done, add_void_of, request}
 use Rattle.rules.specs.Geometry.{Layout, row_len_of, all_mems, columns}
-use Rattle.rules.specs.Swizzle.{Split, sources, arrange, repeating, blank, store_each, mask_pieces, swizzle_write, const_columns, add_voids}
-use Rattle.rules.proofs.Traces.{bind_value}
+use Rattle.rules.specs.Swizzle.{Split, sources, arrange, repeating, blank, swizzle_write, const_columns, add_voids}
 use Rattle.swizzle_laws.specs.Order.{ordered}
 use Rattle.swizzle_laws.specs.Stores.{starts_of, spill_each}
 use Rattle.swizzle_laws.proofs.Stores.{blank-whole, order_blank, order_each, each_whole, masks_whole}

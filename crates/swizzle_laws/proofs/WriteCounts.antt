@@ -15,16 +15,15 @@ use Rattle.lists.proofs.DistinctMap.{Each, each_of, kept_map}
 use Rattle.rules.specs.Limits.{X}
 use Rattle.rules.specs.Value.{Value, Control, Pos, from_uint}
 use Rattle.rules.specs.Cell.{WritePort}
-use Rattle.rules.specs.Log.{Trace, ◌>>=◌, done, LogState, add_eq_of, add_mux_of}
+use Rattle.rules.specs.Log.{Trace, ◌>>=◌, done, add_eq_of, add_mux_of}
 use Rattle.rules.specs.Merge.{Key2, same2, spread, add_dedup_mux_of}
 use Rattle.rules.specs.Ports.{is_empty}
 use Rattle.rules.specs.Geometry.{Layout}
 use Rattle.rules.specs.Swizzle.{Split, sources, repeating, blank, store_piece, piece_mask, mask_pieces, swizzle_write}
-use Rattle.rules.specs.Refusals.{room_refusal, log_refusal}
 use Rattle.rules.specs.Beside.Counts.{Count, plus, nothing, times_count, mux_count_of, eq_count, mask_nets, write_count_of}
 use Rattle.rules.proofs.Traces.{bind_words, bind_next}
 use Rattle.rules.proofs.Chain.{chains_bind}
-use Rattle.rules.proofs.Counted.{Counted, counted_refusal, counted_done, counted_same, counted_mux, counted_eq}
+use Rattle.rules.proofs.Counted.{Counted, counted_done, counted_same, counted_mux, counted_eq}
 
 -- one trace and then the trace of its value, which gives as much whatever the value is
 pub counted_bind : {A B : Type 0} (t : Trace A) (f : A → Trace B) (w v k j : ℕ) → Counted t w k → ((a : A) → Counted (f a) v j) → Counted (t >>= f) (w + v) (k + j)
@@ -125,7 +124,3 @@ module _ (q : Layout) (s : Split) (p : WritePort) where
         nets = λ n. c.nets n ∙ ap (λ (m : ℕ). n + m * (each s mask).nets) e;
         chain = c.chain;
       }
-
-  -- 20 and 21 before anything is written
-  pub write_refusal : (room : ℕ) (st : LogState) → log_refusal room st (swizzle_write q s p) ≡ room_refusal room st (write_count_of q s p).words (write_count_of q s p).nets
-  write_refusal room st = counted_refusal (swizzle_write q s p) _ _ counted_write room st

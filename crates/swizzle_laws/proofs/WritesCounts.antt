@@ -1,18 +1,16 @@
 -- The words and nets of all write ports of a swizzle, and of a swizzle of rows from those of its reads.
-use mathlib.Core.Path.{◌≡◌, refl, sym, ap, ◌∙◌}
+use mathlib.Core.Path.{◌≡◌}
 use Prim.Native.Nat.{ℕ, ◌+◌}
-use native.Mathlib.Nat.{add-zero}
 use mathlib.Core.List.{List, [], ◌∷◌, map}
 use Rattle.lists.specs.Lists.{pairs, up_from}
 use Rattle.rules.specs.Value.{Value}
-use Rattle.rules.specs.Cell.{WritePort, Mem, Plan, write_wide_log2, read_wide_log2}
-use Rattle.rules.specs.Log.{Trace, ◌>>=◌, done, LogState}
-use Rattle.rules.specs.Ports.{Driving}
+use Rattle.rules.specs.Cell.{WritePort, Mem, Plan, write_wide_log2}
+use Rattle.rules.specs.Log.{LogState}
 use Rattle.rules.specs.Geometry.{Layout, layout_of, all_mems}
 use Rattle.rules.specs.Image.{layout}
-use Rattle.rules.specs.Swizzle.{Split, split_addr, swizzle_write, WideWrite, swizzle_writes, WideRead, swizzle_reads, result_mem, swizzle_rows}
+use Rattle.rules.specs.Swizzle.{split_addr, swizzle_write, swizzle_writes, swizzle_reads, result_mem, swizzle_rows}
 use Rattle.rules.specs.Refusals.{room_refusal, log_refusal}
-use Rattle.rules.specs.Beside.Counts.{Count, plus, nothing, sum_counts, write_count_of, read_count_of, swizzle_count}
+use Rattle.rules.specs.Beside.Counts.{Count, plus, nothing, sum_counts, write_count_of}
 use Rattle.rules.proofs.Counted.{Counted, counted_refusal, counted_done, counted_same}
 use Rattle.swizzle_laws.proofs.WriteCounts.{counted_bind, counted_write}
 

@@ -1,6 +1,6 @@
 -- Pieces of a wide port stored memory after memory, on plain numbers: M memories of U columns, R rows, L entries to a row, and where each piece
 -- starts.
-use Rattle.std.specs.Prelude.{ℕ, ◌+◌, ◌-◌, ◌*◌, ◌^◌, min, List, [], ◌∷◌, map, length, take, drop, replicate}
+use Rattle.std.specs.Prelude.{ℕ, ◌+◌, ◌-◌, ◌*◌, min, List, [], ◌∷◌, map, length, take, drop, replicate}
 use Rattle.lists.specs.Choice.{when◌then◌else◌}
 use Rattle.rules.specs.Value.{Value, from_uint, Pos}
 use Rattle.rules.specs.Log.{Trace, ◌>>=◌, done, add_eq_of}

@@ -1,7 +1,7 @@
 -- The loops that load pieces, in tail form: what is left gives the whole.
 use mathlib.Core.Path.{◌≡◌, refl, sym, ap, ◌∙◌}
 use Prim.Native.Nat.{ℕ, suc, ◌+◌, ◌-◌, ◌*◌, ◌<◌, ◌≤◌, min}
-use native.Mathlib.Nat.{mul-suc, suc-mul, mul-le-mul_right, mul-le-mul_left, mul-le-mul}
+use native.Mathlib.Nat.{mul-suc, suc-mul, mul-le-mul_right, mul-le-mul_left}
 use native.Mathlib.Numerals.{add-one}
 use native.Mathlib.Omega.{arith}
 use mathlib.Core.List.{List, [], ◌∷◌}
@@ -104,10 +104,6 @@ piece_fits n len x at f e h = record {
 
 pub piece_place : (size x at : ℕ) → at ≡ x * size → at + size ≡ (x + 1) * size
 piece_place size x at e = omega (arith, ap (λ (n : ℕ). n * size) (add-one x), suc-mul x size)
-
--- products of 32-bit numbers
-pub product_fits : (a b : ℕ) → a ≤ 4294967295 → b ≤ 4294967295 → a * b ≤ 18446744065119617025
-product_fits a b h g = omega (arith, mul-le-mul {n₁ = a} {m₁ = b} {n₂ = 4294967295} {m₂ = 4294967295} h g)
 
 -- ---- the first net of a row, from what the walk gives
 -- ---- whether the scratch holds the pieces

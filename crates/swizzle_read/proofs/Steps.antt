@@ -81,10 +81,6 @@ module _ (mux room : Value) (l : Lent) where
     abbrev dff : FlipFlop
     dff = addr_flip_flop port mux
 
-    length_dff : length dff.bits ≡ length mux
-    unfolding with_enable new_flip_flop
-    length_dff = refl
-
     clocked_is : addr_by (Some port) mux ≡ add_dff_of dff
     unfolding addr_by
     clocked_is = refl

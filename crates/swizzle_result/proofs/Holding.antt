@@ -4,20 +4,17 @@ use Prim.Native.Nat.{ℕ, ◌*◌, ◌^◌}
 use mathlib.Core.Option.{Option, none, some}
 use mathlib.Core.List.{List}
 use lib.ListN.{length}
-use Rattle.lists.specs.Lists.{part, up_from}
 use Rattle.rules.specs.Cell as rules
-use Rattle.rules.specs.Value.{Value}
-use Rattle.rules.specs.Log.{◌>>=◌, ◌>>◌, done}
+use Rattle.rules.specs.Log.{◌>>=◌, done}
 use Rattle.rules.specs.Geometry.{Layout, columns}
-use Rattle.rules.specs.Swizzle.{Split, WideWrite, swizzle_write, WideRead, wide_flip_flop, add_voids, swizzle_read}
+use Rattle.rules.specs.Swizzle.{Split, swizzle_write, wide_flip_flop}
 use Rattle.net_value.specs.View.{control_of}
 use Rattle.net_flip_flop.specs.View.{controls_of}
 use Rattle.net_memory.specs.FlipFlop.{MemoryReadFlipFlop}
 use Rattle.std.specs.Prelude.{None, Some}
-use Rattle.swizzle_laws.proofs.Whole.{bits_whole, mask_whole, const_whole, voids_up}
+use Rattle.swizzle_laws.proofs.Whole.{bits_whole, mask_whole, const_whole}
 use Rattle.swizzle_result.specs.declared.WideWritePort.{WideWritePort}
-use Rattle.swizzle_result.specs.declared.WideReadPort.{WideReadPort}
-use Rattle.swizzle_result.specs.Held.{HeldWrite, HeldClock, HeldFlipFlop, HeldRead}
+use Rattle.swizzle_result.specs.Held.{HeldWrite, HeldFlipFlop}
 
 -- ---- a write port
 module _ (q : Layout) (s : Split) (p : rules.WritePort) (n : ℕ) where
@@ -68,25 +65,3 @@ holding_clock q s (Some f) relations (some x) h = record {
   reset_whole = const_whole q s x.reset_value;
   init_whole = const_whole q s x.init_value;
 }
-
-module _ (q : Layout) (s : Split) (p : rules.ReadPort) (output : Value) (n : ℕ) where
-  read_value : (swizzle_read q s p output n).value ≡ record { split = s; flip_flop = wide_flip_flop q s p.flip_flop; output = (add_voids (2 ^ s.new) (columns q) n).value }
-  unfolding swizzle_read ◌>>=◌ ◌>>◌ done
-  read_value = refl
-
-  -- its first output net is the next free net before it
-  pub holding_read : (w : WideReadPort) → w.addr_len ≡ length s.addr → w.wide ≡ s.new → w.first ≡ n
-      → SameFlipFlop w.flip_flop (part 0 w.relations_len w.relations) p.flip_flop → HeldRead q
-  holding_read w a e f c = record {
-    struct = w;
-    port = record { split = s; flip_flop = wide_flip_flop q s p.flip_flop; output = (add_voids (2 ^ s.new) (columns q) n).value };
-    addr_len = a;
-    wide_is = e;
-    output_is = voids_up (2 ^ s.new) (columns q) n ∙ ap (λ (k : ℕ). up_from k (2 ^ s.new * columns q)) (sym f);
-    clocked = holding_clock q s w.flip_flop _ p.flip_flop c;
-  }
-
-  pub holding_value : (w : WideReadPort) (a : w.addr_len ≡ length s.addr) (e : w.wide ≡ s.new) (f : w.first ≡ n)
-      (c : SameFlipFlop w.flip_flop (part 0 w.relations_len w.relations) p.flip_flop) → (holding_read w a e f c).port ≡ (swizzle_read q s p output n).value
-  unfolding holding_read
-  holding_value w a e f c = sym read_value

@@ -1,31 +1,27 @@
 -- The memories that a struct and its arrays hold are those of the rules.
 use mathlib.Core.Path.{◌≡◌, refl, sym, ap, ◌∙◌}
-use Prim.Native.Nat.{ℕ, zero, suc, ◌+◌, ◌-◌, ◌*◌, ◌^◌, ◌<◌, ◌≤◌, min}
-use native.Mathlib.Nat.{zero-add, add-zero, suc-add, add-suc, add-mul, mul-le-mul_right, mul_left_comm, add_assoc}
+use Prim.Native.Nat.{ℕ, zero, suc, ◌+◌, ◌-◌, ◌*◌, ◌^◌, ◌<◌, ◌≤◌}
+use native.Mathlib.Nat.{add-zero, suc-add, add-suc, add-mul, mul-le-mul_right, add_assoc}
 use native.Mathlib.Omega.{arith}
 use mathlib.Core.Option.{Option, none, some}
 use mathlib.Core.List.{List, [], ◌∷◌, ◌++◌, map, append-nil}
-use lib.ListN.{length, take, drop, length-append, length-map, length-drop}
+use lib.ListN.{length, take, drop, length-append, length-drop}
 use lib.Seq.{take_at, drop_at, drop-append-add, drop-append-le, take-append-le, take-length}
 use Rattle.lists.specs.Lists.{sum_by, part, up_from, concat_map}
 use Rattle.lists.specs.Views.{views}
 use Rattle.lists.proofs.Concat.{views_concat}
 use Rattle.rules.specs.Cell as rules
-use Rattle.rules.specs.Ports.{Driving}
-use Rattle.rules.specs.Geometry.{Layout, all_mems, full_mems, full_depth_of, part_depth_of, columns}
+use Rattle.rules.specs.Geometry.{Layout, all_mems, columns}
 use Rattle.rules.specs.Image.{depth_at, rows_before, mem_start, image_of}
-use Rattle.rules.specs.Swizzle.{Split, new_rows, mem_part, WideWrite, write_part, WideRead, flip_flop_part, read_part, mem_depth, result_mem}
-use Rattle.net_value.specs.View.{control_of}
-use Rattle.net_flip_flop.specs.View.{controls_of}
+use Rattle.rules.specs.Swizzle.{Split, new_rows, mem_part, write_part, WideRead, flip_flop_part, read_part, mem_depth, result_mem}
 use Rattle.net_memory.specs.FlipFlop.{MemoryReadFlipFlop}
 use Rattle.std.specs.Prelude.{None, Some}
 use Rattle.swizzle_laws.specs.Order.{ordered}
 use Rattle.swizzle_laws.proofs.Parts.{mem_part_lem, length_ordered}
-use Rattle.swizzle_result.specs.declared.WideWritePort.{WideWritePort}
 use Rattle.swizzle_result.specs.declared.WideReadPort.{WideReadPort}
 use Rattle.swizzle_result.specs.declared.WideMemory.{WideMemory}
-use Rattle.swizzle_result.specs.View.{own, whole, write_ports_of, read_ports_of, write_size, addr_size, trits_if, trit_size, no_trits, write_by, flip_flop_by, read_by, output_by, reads_start, start_by, result_of, results_of}
-use Rattle.swizzle_result.specs.Held.{Sized, Columns, HeldWrite, write_nets, HeldClock, HeldFlipFlop, HeldRead, clock_trits, read_trits, read_nets, Holds}
+use Rattle.swizzle_result.specs.View.{own, whole, write_ports_of, read_ports_of, write_size, addr_size, trits_if, trit_size, no_trits, write_by, flip_flop_by, read_by, output_by, reads_start, result_of, results_of}
+use Rattle.swizzle_result.specs.Held.{Sized, Columns, HeldWrite, write_nets, HeldFlipFlop, HeldRead, clock_trits, read_trits, read_nets, Holds}
 
 -- ---- parts of lists that are joined
 part-after : (a x : List ℕ) (n k m : ℕ) → n ≡ length a → part (n + k) m (a ++ x) ≡ part k m x

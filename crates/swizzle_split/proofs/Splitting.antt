@@ -125,19 +125,18 @@ module _ (q : Layout) (old new : ℕ) (addr : Value) (f : Fits q old new (length
 
   module _ (t : Taking) (hw hw1 hw2 mux mux1 mux2 : Value) (took : Took (start_by mask q.hard old new) t addr hw hw1 mux mux1) (chunks power pieces : ℕ)
       (ec : chunks ≡ all_chunks q) (ep : power ≡ 2 ^ t.doubled) (en : pieces ≡ chunks * power) where
-    pub pieces_are : pieces ≡ (split_addr q old new addr).pieces
-    unfolding split_addr split_by
-    pieces_are = en ∙ (λ i. ec i * (ep ∙ ap (λ (k : ℕ). 2 ^ k) took.doubled_is) i)
+    counted : chunks * power ≡ all_chunks q * 2 ^ count_doubles rs
+    counted = λ i. ec i * (ep ∙ ap (λ (k : ℕ). 2 ^ k) took.doubled_is) i
 
     pub pieces_fit_lem : chunks * power ≤ 524288
-    pieces_fit_lem = subst (λ (n : ℕ). n ≤ 524288) (sym (λ i. ec i * (ep ∙ ap (λ (k : ℕ). 2 ^ k) took.doubled_is) i)) pieces_low
+    pieces_fit_lem = subst (λ (n : ℕ). n ≤ 524288) (sym counted) pieces_low
 
     pub split_is : (useful hl ml m : ℕ) → useful ≡ bits_for pieces → hl ≡ t.hw + (q.hard - new - t.hw) → hw2 ≡ sets hw1 t.hw (replicate (q.hard - new - t.hw) 0)
         → ml ≡ t.mux + (useful - t.mux) → mux2 ≡ sets mux1 t.mux (replicate (useful - t.mux) 0) → m ≡ 4294967295 - t.row_mask
         → Splits q old new addr hw hw2 mux mux2 (record { old = old; new = new; hw_len = hl; mux_len = ml; pieces = pieces; mask = m })
     unfolding split_addr split_by
     split_is useful hl ml m eu eh fh em fm ek =
-        let u : useful ≡ bits_for (all_chunks q * 2 ^ count_doubles rs) = eu ∙ ap bits_for (en ∙ (λ i. ec i * (ep ∙ ap (λ (k : ℕ). 2 ^ k) took.doubled_is) i)) in
+        let u : useful ≡ bits_for (all_chunks q * 2 ^ count_doubles rs) = eu ∙ ap bits_for (en ∙ counted) in
         record {
           old_is = refl;
           new_is = refl;
@@ -145,7 +144,7 @@ module _ (q : Layout) (old new : ℕ) (addr : Value) (f : Fits q old new (length
           hw_len = eh ∙ zext_length (row_nets rs addr) t.hw (q.hard - new) took.hw_count;
           mux_is = zext_stored mux mux1 mux2 (mux_nets rs addr) t.mux useful took.mux_is took.mux_count fm ∙ ap (λ (k : ℕ). sets mux 0 (zext (mux_nets rs addr) k)) u;
           mux_len = em ∙ zext_length (mux_nets rs addr) t.mux useful took.mux_count ∙ ap (λ (k : ℕ). length (zext (mux_nets rs addr) k)) u;
-          pieces_are = en ∙ (λ i. ec i * (ep ∙ ap (λ (k : ℕ). 2 ^ k) took.doubled_is) i);
+          pieces_are = en ∙ counted;
           mask_is = ek ∙ ap (λ (k : ℕ). 4294967295 - k) took.mask_is;
         }
 

@@ -24,7 +24,7 @@ pub fn rows_of(wide: u32) -> u32
 }
 
 // The split of a port with an old and a new wide log: the lengths of the result's address and of the mux address, the pieces, and the bits of a
-// piece's number that are chunk bits.
+// piece's number that are chunk bits. Without a heap the two addresses stand in lent rooms; a plan's sizes are counted from their lengths alone.
 #[derive(Clone, Copy, Default)]
 pub struct Split {
     pub old: u32,
@@ -59,25 +59,7 @@ struct Low {
 }
 
 impl Taking {
-    // Where the walk over an address starts.
-    fn from(p: Params, old: u32, new: u32) -> Taking
-        requires { (old ≤ addr_bits) × (old - softs old p.soft_mask ≤ new) × (new ≤ p.hard) }
-        ensures { result ≡ start_by p.soft_mask p.hard old new }
-    {
-        let low = low_bits(old, p.soft_mask);
-        Taking {
-            mask: low.mask,
-            wide: new - (old - low.softs),
-            rows: p.hard - new,
-            hw: 0,
-            mux: 0,
-            doubled: 0,
-            weight: low.weight,
-            row_mask: low.row_mask,
-        }
-    }
-
-    // A bit of an address by its role.
+    // A bit of an address by its role. The two rooms are lent apart: a struct of both would have to keep their names in each promise.
     #[tactic(auto, unfolding(rules::specs::Swizzle::role_of))]
     fn take(self, net: u32, hw: &mut [u32], mux: &mut [u32]) -> Taking
         requires { Roomy self }
@@ -187,38 +169,66 @@ fn bits_for(n: u32) -> u32
     image_geometry::top_bits(n.saturating_sub(1))
 }
 
-// The split of an address; its two parts go to the front of the lent rooms.
-fn split_in(p: Params, old: u32, new: u32, addr: &[u32], hw: &mut [u32], mux: &mut [u32]) -> Split
-    requires { (es : List ℕ) → Fits (layout_by p es) old new (length addr.now) }
-    ensures { (es : List ℕ) → Splits (layout_by p es) old new addr.now hw.old hw.new mux.old mux.new result }
-{
-    let t = Taking::from(p, old, new).take_all(addr, hw, mux);
-    let pieces = (all_chunks(p) * lists::two_to(t.doubled)) as u32;
-    let hw_len = pad(hw, t.hw, p.hard - new);
-    let useful = bits_for(pieces);
-    let mux_len = pad(mux, t.mux, useful);
-    Split {
-        old,
-        new,
-        hw_len,
-        mux_len,
-        pieces,
-        mask: (4294967295 - t.row_mask) as u32,
-    }
+// What splits a port's address: the numbers of a layout, and the port's old and new wide logs.
+#[derive(Clone, Copy)]
+struct Splitter {
+    p: Params,
+    old: u32,
+    new: u32,
 }
 
-// Whether an address of this length can be split: the limits of a plan that is accepted.
-#[tactic(auto, using(crate::proofs::Limits::chunk_room), unfolding(crate::specs::Steps::can_split))]
-fn can_split(p: Params, old: u32, new: u32, len: usize) -> bool
-    ensures { (es : List ℕ) → result ≡ can_split (layout_by p es) old new len }
-{
-    old <= rules::MAX_WIDE
-        && new <= rules::MAX_WIDE
-        && new <= p.hard
-        && p.hard <= rules::ADDR_BITS
-        && old - low_bits(old, p.soft_mask).softs <= new
-        && len <= (rules::ADDR_BITS - old) as usize
-        && all_chunks(p) * parts(p) <= rules::MAX_COLUMNS
+impl Splitter {
+    // Where the walk over an address starts.
+    fn start(self) -> Taking
+        requires { (self.old ≤ addr_bits) × (self.old - softs self.old self.p.soft_mask ≤ self.new) × (self.new ≤ self.p.hard) }
+        ensures { result ≡ start_by self.p.soft_mask self.p.hard self.old self.new }
+    {
+        let low = low_bits(self.old, self.p.soft_mask);
+        Taking {
+            mask: low.mask,
+            wide: self.new - (self.old - low.softs),
+            rows: self.p.hard - self.new,
+            hw: 0,
+            mux: 0,
+            doubled: 0,
+            weight: low.weight,
+            row_mask: low.row_mask,
+        }
+    }
+
+    // The split of an address; its two parts go to the front of the lent rooms.
+    fn split(self, addr: &[u32], hw: &mut [u32], mux: &mut [u32]) -> Split
+        requires { (es : List ℕ) → Fits (layout_by self.p es) self.old self.new (length addr.now) }
+        ensures { (es : List ℕ) → Splits (layout_by self.p es) self.old self.new addr.now hw.old hw.new mux.old mux.new result }
+    {
+        let t = self.start().take_all(addr, hw, mux);
+        let pieces = (all_chunks(self.p) * lists::two_to(t.doubled)) as u32;
+        let hw_len = pad(hw, t.hw, self.p.hard - self.new);
+        let useful = bits_for(pieces);
+        let mux_len = pad(mux, t.mux, useful);
+        Split {
+            old: self.old,
+            new: self.new,
+            hw_len,
+            mux_len,
+            pieces,
+            mask: (4294967295 - t.row_mask) as u32,
+        }
+    }
+
+    // Whether an address of this length can be split: the limits of a plan that is accepted.
+    #[tactic(auto, using(crate::proofs::Limits::chunk_room), unfolding(crate::specs::Steps::can_split))]
+    fn can_split(self, len: usize) -> bool
+        ensures { (es : List ℕ) → result ≡ can_split (layout_by self.p es) self.old self.new len }
+    {
+        self.old <= rules::MAX_WIDE
+            && self.new <= rules::MAX_WIDE
+            && self.new <= self.p.hard
+            && self.p.hard <= rules::ADDR_BITS
+            && self.old - low_bits(self.old, self.p.soft_mask).softs <= self.new
+            && len <= (rules::ADDR_BITS - self.old) as usize
+            && all_chunks(self.p) * parts(self.p) <= rules::MAX_COLUMNS
+    }
 }
 
 // The split of an address; its two parts go to the front of the lent rooms, whose rest is kept.
@@ -232,8 +242,9 @@ pub fn split_addr(
 ) -> Option<Split>
     ensures { (es : List ℕ) → Answers (layout_by p es) old new addr.now hw.old hw.new mux.old mux.new result }
 {
-    if !can_split(p, old, new, addr.len()) {
+    let splitter = Splitter { p, old, new };
+    if !splitter.can_split(addr.len()) {
         return None;
     }
-    Some(split_in(p, old, new, addr, hw, mux))
+    Some(splitter.split(addr, hw, mux))
 }

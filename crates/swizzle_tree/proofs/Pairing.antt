@@ -6,7 +6,7 @@ use native.Mathlib.Omega.{arith}
 use mathlib.Core.Bool.{Bool, true, false}
 use mathlib.Core.List.{List, [], ◌∷◌, append-nil}
 use lib.ListN.{length, take, drop, length-drop}
-use lib.Seq.{sets, length-sets, drop-drop}
+use lib.Seq.{sets, drop-drop}
 use Rattle.lists.specs.Lists.{part, up_from}
 use Rattle.lists.proofs.Store.{sets_append, drop_sets}
 use Rattle.lists.proofs.Parts.{same_back, length_part}
@@ -14,6 +14,7 @@ use Rattle.lists.proofs.UpFrom.{length_up}
 use Rattle.rules.specs.Value.{Value, Pos}
 use Rattle.rules.specs.Log.{Trace, done, add_mux_of}
 use Rattle.rules.specs.Swizzle.{pair_up}
+use Rattle.rules.proofs.Done.{done_value}
 use Rattle.rules.proofs.Chain.{chains_mux}
 use Rattle.rules.proofs.Entries.{value_mux, next_mux}
 use Rattle.log_entries.specs.Emission.{Lent, is_over, run}
@@ -40,11 +41,6 @@ pub results_past : (over : Bool) (out : List ℕ) (to n : ℕ) (v : Value) → t
 unfolding results
 results_past true out to n v h = refl
 results_past false out to n v h = drop_sets n v out to h
-
-pub results_length : (over : Bool) (out : List ℕ) (to : ℕ) (v : Value) → length (results over out to v) ≡ length out
-unfolding results
-results_length true out to v = refl
-results_length false out to v = length-sets out to v
 
 -- ---- a mux of two pieces as the code leaves it: its nets run from the state's next free net on
 module _ (bit w : ℕ) (a b : Value) (l l1 : Lent) (ea : length a ≡ w) (eb : length b ≡ w) (e : l1 ≡ run (add_mux_of (Pos bit) b a) l) (o : is_over l1.state ≡ false) where
@@ -167,10 +163,6 @@ few_done bit [] h = refl
 few_done bit (a ∷ []) h = refl
 few_done bit (a ∷ b ∷ l) h = absurd (omega arith)
 
-value_done : (l : List Value) (n : ℕ) → (done l n).value ≡ l
-unfolding done
-value_done l n = refl
-
 module _ (bit w count : ℕ) (p₀ p p' : Value) (l₀ l : Lent) (left from to : ℕ) (g : Going bit w count p₀ p l₀ l left from to) (h : left ≤ 1)
     (sized : length p ≡ length p₀) (fits : count * w ≤ length p₀)
     (e : p' ≡ sets p to (joined (cut w left (drop from p)))) where
@@ -193,7 +185,7 @@ module _ (bit w count : ℕ) (p₀ p p' : Value) (l₀ l : Lent) (left from to :
   paired = record {
     log = sym same ∙ g.whole;
     value = λ o.
-        e' ∙ ap (λ (x : List Value). sets p to (joined x)) (sym (value_done (cut w left (drop from p₀)) l.state.next))
+        e' ∙ ap (λ (x : List Value). sets p to (joined x)) (sym (done_value (cut w left (drop from p₀)) l.state.next))
         ∙ ap (λ (t : Trace (List Value)). sets p to (joined (t l.state.next).value)) (sym few)
         ∙ g.value (ap (λ (x : Lent). is_over x.state) same ∙ o);
     kept = ap (drop (count * w)) e' ∙ drop_sets (count * w) (joined (cut w left (drop from p₀))) p to ends ∙ same_back from (count * w) p₀ p (omega (arith, g.place)) g.unread;

@@ -11,6 +11,7 @@ use lib.ListN.{length, take, drop, get_or, length-drop}
 use lib.Seq.{sets, sets-eq, take_all}
 use Rattle.lists.proofs.Parts.{same_back}
 use Rattle.rules.specs.Value.{Value}
+use Rattle.rules.proofs.Done.{done_value}
 use Rattle.rules.specs.Log.{Trace, done}
 use Rattle.rules.specs.Swizzle.{mux_tree}
 use Rattle.log_entries.specs.Emission.{Lent, is_over, run}
@@ -33,15 +34,11 @@ unfolding cut
 first_cut w zero p h = absurd (omega arith)
 first_cut w (suc n) p h = refl
 
-value_done : (v : Value) (n : ℕ) → (done v n).value ≡ v
-unfolding done
-value_done v n = refl
-
 pub treed_end : (w count : ℕ) (p : Value) (l : Lent) → 0 < count → Treed [] w count p p l l
 treed_end w count p l h = record {
   log = sym (ap (λ (t : Trace Value). run t l) (tree_end (cut w count p)) ∙ run-done _ l);
   value = λ o.
-      sym (ap (λ (t : Trace Value). (t l.state.next).value) (tree_end (cut w count p)) ∙ value_done _ _ ∙ first_cut w count p h);
+      sym (ap (λ (t : Trace Value). (t l.state.next).value) (tree_end (cut w count p)) ∙ done_value _ _ ∙ first_cut w count p h);
   kept = refl;
 }
 
@@ -130,7 +127,7 @@ module _ (bits : Value) (w count : ℕ) (p : Value) where
       let f = of_not e in
       record {
         log = sym (ap (λ (t : Trace Value). run t l) f ∙ run-done _ l);
-        value = λ o. none (tree_of bits w count p l.state.next).value (ap (λ (t : Trace Value). (t l.state.next).value) f ∙ value_done [] l.state.next);
+        value = λ o. none (tree_of bits w count p l.state.next).value (ap (λ (t : Trace Value). (t l.state.next).value) f ∙ done_value [] l.state.next);
         kept = refl;
       }
     where

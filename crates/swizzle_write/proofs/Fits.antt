@@ -10,6 +10,7 @@ use borrow.Author.Tests.{le-leb, leb-true}
 use Rattle.lists.proofs.Choice.{and_true}
 use Rattle.lists.specs.Lists.{up_from}
 use Rattle.rules.specs.Limits.{X, max_merge}
+use Rattle.rules.proofs.Done.{done_value}
 use Rattle.rules.specs.Log.{Trace, done}
 use Rattle.rules.specs.Swizzle.{repeating}
 use Rattle.swizzle_laws.specs.Stores.{spill_masks}
@@ -34,10 +35,6 @@ module _ (p : WidePort) (len short size : ℕ) where
       rw (t.0, t.1, le-leb short mux_room w.few)
 
 -- ---- done or not
-done_value : (v : List ℕ) (n : ℕ) → (done v n).value ≡ v
-unfolding done
-done_value v n = refl
-
 module _ (p : WidePort) (mux es v room : List ℕ) where
   pub masks_not : can_write p (length es) (length mux) (length room) ≡ false → masks_of p mux es v room ≡ done room
   unfolding masks_of

@@ -8,6 +8,7 @@ use Rattle.lists.specs.Lists.{up_from}
 use Rattle.lists.proofs.UpFrom.{count_step, count_end}
 use Rattle.rules.specs.Value.{Value}
 use Rattle.rules.specs.Log.{Trace, ◌>>=◌, done}
+use Rattle.rules.proofs.Done.{done_value}
 use Rattle.rules.proofs.Traces.{bind_value}
 use Rattle.log_entries.specs.Emission.{Lent, is_over, run}
 use Rattle.log_entries.proofs.Emission.{run-done, run_then, run_next, run-held}
@@ -16,10 +17,6 @@ use Rattle.swizzle_columns.specs.declared.WidePort.{WidePort}
 use Rattle.merge_keys.specs.declared.Kept.{Kept}
 use Rattle.swizzle_write.specs.Jobs.{Job}
 use Rattle.swizzle_write.proofs.Pieces.{chains_piece}
-
-done_value : (v : List ℕ) (n : ℕ) → (done v n).value ≡ v
-unfolding done
-done_value v n = refl
 
 module _ (M R U L : ℕ) (starts : ℕ → List ℕ) (mux mask : List ℕ) where
   masks_cons : (x : ℕ) (xs l : List ℕ) → spill_masks M R U L starts mux mask (x ∷ xs) l ≡ (piece_by mux mask x >>= λ k. spill_masks M R U L starts mux mask xs (spill_at M R U L (starts x) k l))

@@ -15,6 +15,7 @@ use Rattle.rules.specs.Value.{Value, from_uint, Pos}
 use Rattle.rules.specs.Log.{Trace, ◌>>=◌, done, add_eq_of, add_mux_of}
 use Rattle.rules.specs.Merge.{Key2, same2, spread, add_dedup_mux_of}
 use Rattle.rules.specs.Ports.{is_empty}
+use Rattle.rules.proofs.Done.{done_value}
 use Rattle.rules.proofs.Traces.{bind_value}
 use Rattle.rules.specs.Beside.Chain.{Chains}
 use Rattle.rules.proofs.Chain.{chains_eq, chains_done, chains_if, chains_bind, chains_dedup_mux}
@@ -49,10 +50,6 @@ piece_is mux mask x = refl
 eq_value : (a b : Value) (n : ℕ) → (add_eq_of a b n).value ≡ n
 unfolding add_eq_of
 eq_value a b n = refl
-
-done_value : (v : Value) (n : ℕ) → (done v n).value ≡ v
-unfolding done
-done_value v n = refl
 
 module _ (mux mask number : Value) (x : ℕ) (l l1 : Lent) (en : number ≡ from_uint (length mux) x) (e : l1 ≡ run (add_eq_of mux number) l) where
   abbrev first : Trace ℕ

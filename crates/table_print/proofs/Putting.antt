@@ -51,13 +51,6 @@ bits_end rows out from next zero h = refl
 bits_end rows out from next (suc left) h = absurd (omega arith)
 
 -- ---- a row with its line break
-pub row_put : (rows out out1 out2 : List ℕ) (at from width end : ℕ) → out1 ≡ sets out at (bits_text rows from width []) → end ≡ at + width → out2 ≡ set out1 end 10
-    → out2 ≡ sets out at (bits_text rows from width (10 ∷ []))
-row_put rows out out1 out2 at from width end e f g =
-    g ∙ ap (λ (l : List ℕ). set l end 10) e
-    ∙ sets_at out at end (bits_text rows from width []) (10 ∷ []) (f ∙ ap (λ (n : ℕ). at + n) (sym (length_bits rows from width)))
-    ∙ ap (sets out at) (bits_append rows from width [] (10 ∷ []))
-
 pub length_row : (rows : List ℕ) (from k : ℕ) → length (bits_text rows from k (10 ∷ [])) ≡ k + 1
 unfolding bits_text
 length_row rows from zero = refl

@@ -4,8 +4,10 @@
 ghost use Rattle.std.specs.Prelude.{◌≡◌, [], ◌∷◌, ◌+◌, ◌*◌, ◌≤◌, length, get_or};
 ghost use Rattle.std.proofs.lemmas.List.Edits.{sets};
 ghost use Rattle.rules.specs.Limits.{trit_x, max_depth};
+ghost use Rattle.record_listing.specs.Put.{Added};
 ghost use Rattle.table_print.specs.Rows.{char_of, bits_text, rows_from, rows_shown};
 
+use record_listing::text::Text;
 use table_text::scan::Size;
 
 // The character of a trit.
@@ -27,27 +29,23 @@ fn trit_at(rows: &[u8], at: usize) -> u8
     rows.get(at).copied().unwrap_or(rules::TRIT_X)
 }
 
-// Stores the trits of a row from `from` on, the last first; the place after them.
-fn put_bits(out: &mut [u8], at: usize, rows: &[u8], from: usize, size: Size) -> usize
-    requires { (at ≤ 1000000000) × (from ≤ 1000000000) }
-    ensures { (out.new ≡ sets out.old at (bits_text rows.now from size.width [])) × (result ≡ at + size.width) }
+// Stores the trits of a row from `from` on, the last first.
+fn put_bits(text: &mut Text<'_>, rows: &[u8], from: usize, size: Size)
+    requires { (text.old.at ≤ 1000000000) × (from ≤ 1000000000) }
+    ensures { Added text.old (bits_text rows.now from size.width []) text.new }
 {
-    let mut next = at;
     for left in (0..size.width).rev() {
-        lists::put(out, next, char_of(trit_at(rows, from + left as usize)));
-        next += 1;
+        text.put_byte(char_of(trit_at(rows, from + left as usize)));
     }
-    next
 }
 
 // Stores one row and its line break.
-fn put_row(out: &mut [u8], at: usize, rows: &[u8], from: usize, size: Size) -> usize
-    requires { (at ≤ 1000000000) × (from ≤ 1000000000) }
-    ensures { (out.new ≡ sets out.old at (bits_text rows.now from size.width (10 ∷ []))) × (result ≡ at + (size.width + 1)) }
+fn put_row(text: &mut Text<'_>, rows: &[u8], from: usize, size: Size)
+    requires { (text.old.at ≤ 1000000000) × (from ≤ 1000000000) }
+    ensures { Added text.old (bits_text rows.now from size.width (10 ∷ [])) text.new }
 {
-    let end = put_bits(out, at, rows, from, size);
-    lists::put(out, end, 10);
-    end + 1
+    put_bits(text, rows, from, size);
+    text.put_byte(b'\n');
 }
 
 // Stores the text of all rows; its length.
@@ -55,23 +53,20 @@ fn put_all(out: &mut [u8], size: Size, rows: &[u8]) -> usize
     requires { size.depth ≤ max_depth }
     ensures { (out.new ≡ sets out.old 0 (rows_from size.width rows.now 0 size.depth [])) × (result ≡ size.depth * (size.width + 1)) }
 {
-    let mut next: usize = 0;
+    let mut text = Text { out, at: 0 };
     let mut from: usize = 0;
     for row in 0..size.depth {
-        next = put_row(out, next, rows, from, size);
+        put_row(&mut text, rows, from, size);
         from += size.width as usize;
     }
-    next
+    text.at
 }
 
 // Stores the text of the rows of a table, as far as the room goes; its length.
 pub fn put_rows(out: &mut [u8], depth: u32, width: u32, rows: &[u8]) -> usize
     ensures { (out.new ≡ sets out.old 0 (rows_shown depth width rows.now)) × (result ≡ length (rows_shown depth width rows.now)) }
 {
-    if rules::MAX_DEPTH < depth {
-        return 0;
-    }
-    if rules::MAX_WIDTH < width {
+    if rules::MAX_DEPTH < depth || rules::MAX_WIDTH < width {
         return 0;
     }
     put_all(out, Size { depth, width }, rows)

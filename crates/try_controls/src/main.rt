@@ -101,7 +101,7 @@ fn call_pos(
     }
     let st = LogState { used: 3, next };
     let made = log_requests::into_pos(&mut log[..room], st, c)?;
-    Ok((made.net, made.state))
+    Ok((made.value, made.state))
 }
 
 // The log expected.
@@ -244,7 +244,7 @@ fn call_remap(log: &mut [u32], c: Remap) -> Result<(Controls, LogState), Refusal
     };
     let controls = controls_of(c.reset, c.enable, c.over);
     let made = log_requests::remap_reset_over_enable(&mut log[..room], st, controls)?;
-    Ok((made.controls, made.state))
+    Ok((made.value, made.state))
 }
 
 // The log expected.

@@ -27,7 +27,7 @@ unfolding into_pos_call into_pos_refusal
 returns c =
     let v = c.args in
     let k = control_of v.c in
-    let p = c.emit_into_pos-net in
+    let p = c.emit_into_pos-value in
     let n = run_name (into_pos_of k) _ _ p.ensures.log_after in
     let e = request_accepted (p.result.0 ∷ []) (into_pos_of k) (5 * nots_of k) (nots_of k) (control_number v.st.next k) (λ z. counted_into_pos k) v.log.now (state_of v.st) p.new.log.words.now p.new.log.state c.in_ok-into_pos_refusal.ensures (λ z. p.ensures.net_value) (unnamed (into_pos_of k) 0 _ _ p.ensures.log_after) in
     search rules

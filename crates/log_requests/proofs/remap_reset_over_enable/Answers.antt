@@ -41,7 +41,7 @@ returns c =
     let s = state_of v.st in
     let d = c.emit_remap in
     let n = dry_called (remap_reset_over_enable_of k) (length v.log.now) s _ (chains_remap k) (remap_below k s) d.new.log.words.now _ (state_of d.new.log.state) _ c.dry_start.ensures (unnamed (remap_reset_over_enable_of k) 0 _ _ d.ensures.log_after) c.in_ok-dry_refusal.ensures in
-    let p = c.emit_remap-controls in
+    let p = c.emit_remap-value in
     let m = run_name (remap_reset_over_enable_of k) _ _ p.ensures.log_after in
     let e = dry_accepted (controls_of p.result) (remap_reset_over_enable_of k) (chains_remap k) (remap_number v.st.next k) c.in_ok-remap_input_refusal.ensures v.log.now s p.new.log.words.now p.new.log.state n p.ensures.controls_value (unnamed (remap_reset_over_enable_of k) 0 _ _ p.ensures.log_after) in
     search rules

@@ -4,6 +4,7 @@ use mathlib.Core.Path.{refl, sym}
 use lib.ListN.{length}
 use Rattle.std.proofs.lemmas.Result.{err_from_is_err_and}
 use Rattle.log_entries.specs.View.{state_of}
+use Rattle.net_memory.proofs.Sized.{write_ports_8}
 use Rattle.port_emulate.proofs.Bounds.{fits_all, nets_there}
 use Rattle.port_emulate.proofs.Number.{refused_input, all_x_is, refused_log}
 use Rattle.port_emulate.proofs.Call.{call_refused, call_done, all_new, log_name, done_unnamed}
@@ -19,6 +20,9 @@ returns-in_err-input_refusal c =
     let e = err_from_is_err_and c.from_residual.result c.from_residual.ensures.1 in
     rw (e.1, e.2) (record { log_after = call_refused m x y v.log.now v.st _ n; emulated = refl })
 
+pub invariant_of-emulation : goal.invariant_of-emulation
+invariant_of-emulation c = record { eight = write_ports_8 c.args.m _ c.well_formed.1.1.1.0 }
+
 pub dry_refusal-requires : goal.dry_refusal-requires
 dry_refusal-requires c =
     let v = c.args in
@@ -31,7 +35,7 @@ returns-in_err-dry_refusal c =
     let x = v.nets.now in
     let y = v.trits.now in
     let b = all_x_is m x y c.init_size.result c.part.result.now c.is_undef-all_x.result c.init_size.ensures.0 c.part.ensures.part c.is_undef-all_x.ensures in
-    let n = refused_log m x y (length v.log.now) (state_of v.st) _ (sym c.in_ok-input_refusal.ensures) (c.in_err-dry_refusal.ensures (sym c.in_ok-input_refusal.ensures) b) in
+    let n = refused_log m x y (length v.log.now) (state_of v.st) _ (sym c.in_ok-input_refusal.ensures) (c.in_err-dry_refusal.ensures y (sym c.in_ok-input_refusal.ensures) b) in
     let e = err_from_is_err_and c.from_residual-in_err-dry_refusal.result c.from_residual-in_err-dry_refusal.ensures.1 in
     rw (e.1, e.2) (record { log_after = call_refused m x y v.log.now v.st _ n; emulated = refl })
 
@@ -48,7 +52,7 @@ returns c =
     let y = v.trits.now in
     let log = v.log.now in
     let b = all_x_is m x y c.init_size.result c.part.result.now c.is_undef-all_x.result c.init_size.ensures.0 c.part.ensures.part c.is_undef-all_x.ensures in
-    let z = c.in_ok-dry_refusal.ensures (sym c.in_ok-input_refusal.ensures) b in
+    let z = c.in_ok-dry_refusal.ensures y (sym c.in_ok-input_refusal.ensures) b in
     let n = refused_log m x y (length log) (state_of v.st) 0 (sym c.in_ok-input_refusal.ensures) z in
     let d = c.delay_ports in
     let t = c.turn_clocks-turned in

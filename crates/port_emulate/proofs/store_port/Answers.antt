@@ -9,9 +9,9 @@ use Rattle.port_emulate.proofs.store_port.Goals as goal
 pub returns : goal.returns
 returns c =
     let v = c.args in
-    let a = v.delay.now.addr in
-    let d = v.delay.now.bits in
-    let k = v.delay.now.mask in
+    let a = v.room.now.addr in
+    let d = v.room.now.bits in
+    let k = v.room.now.mask in
     let la : length a ≡ 4096 = omega arith in
     let ld : length d ≡ 4096 = omega arith in
     let lk : length k ≡ 4096 = omega arith in

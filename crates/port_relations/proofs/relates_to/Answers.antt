@@ -10,4 +10,4 @@ use Rattle.port_relations.proofs.relates_to.Goals as goal
 pub returns : goal.returns
 returns c =
     let v = c.args in
-    λ nets trits. c.any_relates.ensures ∙ (λ i. any (port_relates (code_of v.relation) v.j) (take (c.ports_used-count.ensures.0 i) v.m.read_ports)) ∙ relates_are v.m nets trits (code_of v.relation) v.j
+    λ nets trits. c.any_relates.ensures ∙ (λ i. any (port_relates (code_of v.relation) v.j) (take (c.ports_used-count.ensures.0 i) v.m.now.read_ports)) ∙ relates_are v.m.now nets trits (code_of v.relation) v.j

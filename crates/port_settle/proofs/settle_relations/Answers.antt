@@ -7,7 +7,7 @@ use Rattle.port_settle.proofs.settle_relations.Goals as goal
 
 pub returns : goal.returns
 returns c =
-    let m = c.args.m in
+    let m = c.args.m.now in
     let v = c.args.from in
     let is = reads_before (take c.ports_used.result m.read_ports) in
     let e = c.change_first.ensures (λ j. settled_by is) (λ j p r q. search (rules, tests)) in

@@ -8,6 +8,7 @@ use native.Mathlib.Omega.{arith}
 use mathlib.Core.Path.{ap}
 use mathlib.Core.Bool.{not}
 use Rattle.record_codec.proofs.check_write.Goals as goal
+use Rattle.record_codec.proofs.check_write.Goals.{then-image-count-via-then-image-count, then-image-count-via-else-image-count+then-room-record_bytes}
 
 pub returns-then-not-trits_good : goal.returns-then-not-trits_good
 returns-then-not-trits_good c =
@@ -21,14 +22,12 @@ pub returns-then-image-count : goal.returns-then-image-count
 returns-then-image-count c =
     let z = view_sizes c.args.sizes in
     let s = sym c.is_bad.ensures ∙ c.if-is_bad.false in
-    write_short _ z _ (bad_trits_lem _ false _ _ c.image_of.ensures c.trits_good.ensures (ap not c.if-not-trits_good.false)) s (omega (arith, all-trits z c.trits_within-count.result s c.trits_within-count.ensures))
-
-pub returns-then-room-record_bytes : goal.returns-then-room-record_bytes
-returns-then-room-record_bytes c =
-    let z = view_sizes c.args.sizes in
-    let s = sym c.is_bad.ensures ∙ c.if-is_bad.false in
+    let t = bad_trits_lem _ false _ _ c.image_of.ensures c.trits_good.ensures (ap not c.if-not-trits_good.false) in
     let n = all-trits z c.trits_within-count.result s c.trits_within-count.ensures in
-    write_full _ z _ (bad_trits_lem _ false _ _ c.image_of.ensures c.trits_good.ensures (ap not c.if-not-trits_good.false)) s (omega arith) (omega (arith, c.record_bytes.ensures s))
+    elim c.then-image-count.branch [
+      | then-image-count-via-then-image-count w ↦ write_short _ z _ t s (omega (arith, n, w.if-image-count.true))
+      | then-image-count-via-else-image-count+then-room-record_bytes w ↦ write_full _ z _ t s (omega (arith, n, w.if-image-count.false)) (omega (arith, w.record_bytes.ensures s, w.if-room-record_bytes.true))
+    ]
 
 pub returns : goal.returns
 returns c =

@@ -1,6 +1,6 @@
 -- `record_listing::put_memories` meets its contract.
 use Rattle.record_listing.specs.Summary.{view_summary}
-use Rattle.record_listing.proofs.Puts.{put_as}
+use Rattle.record_listing.proofs.Puts.{added_as}
 use Rattle.record_listing.proofs.Memories.{few, at_first, starts, next_max, next_start, rest_end, rest_all, line_stored, line_place}
 use Rattle.rules.specs.Record.{size_mems}
 use mathlib.Core.Path.{refl, sym, ap, ◌∙◌}
@@ -19,9 +19,9 @@ summary_in-y-requires c =
     let l = c.loop-i in
     starts c.args.bytes.now c.args.s c.requires.0 l.i l.from (omega (arith, c.requires.1)) l.invariant.2
 
-pub put_memory-next-requires : goal.put_memory-next-requires
-put_memory-next-requires c =
-    omega (arith, c.requires.1, c.requires.2, few c.args.bytes.now c.args.s c.requires.0)
+pub put_memory-requires : goal.put_memory-requires
+put_memory-requires c =
+    omega (arith, c.loop-i.invariant.1, c.requires.1, c.requires.2, few c.args.bytes.now c.args.s c.requires.0)
 
 pub overflow_mul-from : goal.overflow_mul-from
 overflow_mul-from c =
@@ -39,17 +39,15 @@ loop-i-preserved c =
     let bs = c.args.bytes.now in
     let v = view_summary c.summary_in-y.result in
     let e = c.summary_in-y.ensures in
-    let w = c.put_memory-next.ensures.0 in
+    let w = c.put_memory.ensures.0 in
+    let x = c.put_memory.new.text in
     let h : l.i < c.args.count = omega arith in (
-      c.put_memory-next.auto.out ∙ l.invariant.0,
-      omega (arith, c.put_memory-next.ensures.1),
+      w.name ∙ l.invariant.0,
+      omega (arith, l.invariant.1, c.put_memory.ensures.1),
       next_start bs c.args.s c.requires.0 l.i l.from (omega (arith, c.requires.1)) l.invariant.2 v e,
-      line_stored bs c.args.count l.out c.put_memory-next.new.out l.next c.put_memory-next.result l.i v h e w ∙ l.invariant.3,
-      line_place bs c.args.count l.out c.put_memory-next.new.out l.next c.put_memory-next.result l.i v h e w ∙ l.invariant.4,
+      line_stored bs c.args.count l.text.out.now x.out.now l.text.at x.at l.i v h e w.put ∙ l.invariant.3,
+      line_place bs c.args.count l.text.out.now x.out.now l.text.at x.at l.i v h e w.put ∙ l.invariant.4,
     )
-
-pub shape_of-out : goal.shape_of-out
-shape_of-out c = c.loop-i.invariant.0
 
 pub returns : goal.returns
 returns c =
@@ -58,4 +56,4 @@ returns c =
     let n = c.args.count in
     let z = rest_end bs n l.i (omega arith) in
     let a = rest_all bs n (c.requires.1 ∙ ap size_mems c.requires.0.sizes) in
-    (put_as _ a (record { stored = sym (ap (sets l.out l.next) z) ∙ l.invariant.3; place = omega (arith, l.invariant.4, ap length z) }), omega arith)
+    (added_as _ a (record { put = record { stored = sym (ap (sets l.text.out.now l.text.at) z) ∙ l.invariant.3; place = omega (arith, l.invariant.4, ap length z) }; name = l.invariant.0 }), omega (arith, l.invariant.1))

@@ -9,4 +9,9 @@ use lib.Seq.{sets}
 use Rattle.record_listing.proofs.put_memories.Given as goal
 
 abbrev pub invariant-loop-i : goal.invariant-loop-i
-invariant-loop-i l = (length l.out ≡ length l.initial.out) × (l.next ≤ l.at + 50 * l.i) × (l.from ≡ size_start (view_sizes l.s) l.i) × (sets l.out l.next (rest l.bytes l.count l.i) ≡ sets l.initial.out l.at (rest l.bytes l.count 0)) × (l.next + length (rest l.bytes l.count l.i) ≡ l.at + length (rest l.bytes l.count 0))
+invariant-loop-i l =
+    let before = l.initial.text in
+    let text = l.text in
+    (text.out.ghost_name ≡ before.out.ghost_name) × (text.at ≤ before.at + 50 * l.i) × (l.from ≡ size_start (view_sizes l.s) l.i)
+    × (sets text.out.now text.at (rest l.bytes l.count l.i) ≡ sets before.out.now before.at (rest l.bytes l.count 0))
+    × (text.at + length (rest l.bytes l.count l.i) ≡ before.at + length (rest l.bytes l.count 0))

@@ -1,5 +1,5 @@
 -- `swizzle_entries::granularities_bad` meets its contract.
-use Rattle.std.proofs.Common.{Bool, not, ◌||◌, ap, sym, ◌∙◌, rules, tests}
+use Rattle.std.proofs.Common.{Bool, length, not, ◌||◌, ap, sym, ◌∙◌, rules, tests}
 use Rattle.std.proofs.lemmas.Iterator.{YieldsList-from_slice}
 use Rattle.std.proofs.lemmas.Iterator.Search.{any_from_yields_List}
 use borrow.Author.Tests.{eq-eqb, ne_eqb}
@@ -13,10 +13,11 @@ returns-then-gs-ports_used c =
     let v = c.args in
     let nets = v.given.nets.now in
     let trits = v.given.trits.now in
-    sym (ap (λ (t : Bool). not t || any out_of_limits v.gs.now) (ne_eqb _ _ c.if-gs-ports_used.true)) ∙ granularities_by v.given.memory nets trits v.gs.now _ (writes_length v.given.memory _ c.well_formed.0.1.1.0 nets ∙ sym c.ports_used.ensures.0)
+    let q = ne_eqb (length v.gs.now) c.ports_used.result c.if-gs-ports_used.true in
+    ap not q ∙ sym (ap (λ (t : Bool). not t || any out_of_limits v.gs.now) q) ∙ granularities_by v.given.memory nets trits v.gs.now _ (writes_length v.given.memory _ c.well_formed.0.1.1.0 nets ∙ sym c.ports_used.ensures.0)
 
-pub returns : goal.returns
-returns c =
+pub returns-else-gs-ports_used : goal.returns-else-gs-ports_used
+returns-else-gs-ports_used c =
     let v = c.args in
     let nets = v.given.nets.now in
     let trits = v.given.trits.now in

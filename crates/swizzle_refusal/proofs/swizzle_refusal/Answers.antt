@@ -21,9 +21,9 @@ returns-then-given-ne0 c =
 pub returns-then-ports_short : goal.returns-then-ports_short
 returns-then-ports_short c =
     let v = c.args in
-    joined_short (rooms_of v.r) v.r.log (state_of v.r.state) v.asked.given.memory v.asked.given.nets.now v.asked.given.trits.now v.asked.output.now v.asked.plan.swizzle v.asked.plan.entries.now v.asked.plan.writes.now v.asked.plan.reads.now _ c.in_ok-rows_refusal.ensures refl c.if-given-eq0.false c.if-given-ne0.false (sym c.ports_short.ensures ∙ c.if-ports_short.true)
+    joined_short (rooms_of v.r) v.r.log (state_of v.r.state) v.asked.given.memory v.asked.given.nets.now v.asked.given.trits.now v.asked.output.now v.asked.plan.swizzle v.asked.plan.entries.now v.asked.plan.writes.now v.asked.plan.reads.now _ c.in_ok-rows_refusal.ensures refl c.if-given-eq0.false c.if-given-ne0.false (sym (c.ports_short.ensures v.asked.given.trits.now) ∙ c.if-ports_short.true)
 
 pub returns : goal.returns
 returns c =
     let v = c.args in
-    joined_empty (rooms_of v.r) v.r.log (state_of v.r.state) v.asked.given.memory v.asked.given.nets.now v.asked.given.trits.now v.asked.output.now v.asked.plan.swizzle v.asked.plan.entries.now v.asked.plan.writes.now v.asked.plan.reads.now _ c.in_ok-rows_refusal.ensures refl c.if-given-eq0.false c.if-given-ne0.false _ (sym c.ports_short.ensures ∙ c.if-ports_short.false) c.empty_refusal.ensures
+    joined_empty (rooms_of v.r) v.r.log (state_of v.r.state) v.asked.given.memory v.asked.given.nets.now v.asked.given.trits.now v.asked.output.now v.asked.plan.swizzle v.asked.plan.entries.now v.asked.plan.writes.now v.asked.plan.reads.now _ c.in_ok-rows_refusal.ensures refl c.if-given-eq0.false c.if-given-ne0.false _ (sym (c.ports_short.ensures v.asked.given.trits.now) ∙ c.if-ports_short.false) c.empty_refusal.ensures

@@ -1,12 +1,14 @@
 -- `table_print::put_row` meets its contract.
-use Rattle.table_print.proofs.Putting.{row_put}
+use Rattle.record_listing.proofs.Puts.{added_then, added_as}
+use Rattle.table_print.proofs.Back.{bits_append}
+use Rattle.table_print.proofs.Putting.{length_bits}
 use native.Mathlib.Omega.{arith}
+use mathlib.Core.List.{[], ◌∷◌}
 use Rattle.table_print.proofs.put_row.Goals as goal
-
-pub overflow_add-result : goal.overflow_add-result
-overflow_add-result c = omega (arith, c.put_bits-end.ensures.1, c.requires, c.args.size.within)
 
 pub returns : goal.returns
 returns c =
     let a = c.args in
-    (row_put a.rows.now a.out.now _ _ a.at a.from a.size.width c.put_bits-end.result c.put_bits-end.ensures.0 c.put_bits-end.ensures.1 c.put.ensures, omega (arith, c.put_bits-end.ensures.1))
+    let p = c.put_bits.ensures in
+    added_as _ (bits_append a.rows.now a.from a.size.width [] (10 ∷ []))
+    (added_then p (c.put_byte.ensures (omega (arith, p.put.place, length_bits a.rows.now a.from a.size.width, c.requires, a.size.within))))

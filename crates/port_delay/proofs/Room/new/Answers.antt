@@ -10,5 +10,5 @@ use Rattle.port_delay.proofs.Room.new.Goals as goal
 pub returns : goal.returns
 unfolding zero_room
 returns c =
-    ap {B = Room} (λ (k : Keys). record { addr = zeros; bits = zeros; mask = zeros; starts = zeros; column = zeros; keys = k; trits = c.new-2.result }) c.new.ensures
-    ∙ ap {B = Room} (λ (t : Trits). record { addr = zeros; bits = zeros; mask = zeros; starts = zeros; column = zeros; keys = zero_keys; trits = t }) c.new-2.ensures
+    ap {B = Room} (λ (k : Keys). record { addr = zeros; bits = zeros; mask = zeros; starts = zeros; keys = k; trits = c.new-2.result }) c.new.ensures
+    ∙ ap {B = Room} (λ (t : Trits). record { addr = zeros; bits = zeros; mask = zeros; starts = zeros; keys = zero_keys; trits = t }) c.new-2.ensures

@@ -1,45 +1,43 @@
 -- `swizzle_entries::writes::Writes::changing` meets its contract.
-use Rattle.std.proofs.Common.{◌≡◌, ◌<◌, [], length, get_or, arith, refl, sym, ap, ◌∙◌}
-use lib.ListN.{length-take}
-use lib.Seq.{get_or-take}
+use Rattle.std.proofs.Common.{◌≡◌, ◌+◌, ℕ, List, [], length, arith, sym, ap, ◌∙◌}
+use mathlib.Core.Logic.{⊎_elim}
 use Rattle.std.proofs.lemmas.List.Edits.{sets}
 use Rattle.lists.specs.Lists.{part}
-use Rattle.lists.proofs.Sum.{sum_take_more}
-use Rattle.lists.proofs.Views.{length_views}
 use Rattle.rules.specs.Cell.{Mem}
-use Rattle.net_memory.specs.View.{write_size, no_trits, write_by, no_write_port}
-use Rattle.swizzle_entries.specs.Calls.{unchanged, writes_in}
-use Rattle.swizzle_entries.proofs.Changes.{rest, rest_end, turn_length, turn_store, port_unchanged}
+use Rattle.net_memory.specs.View.{write_size, write_by}
+use Rattle.swizzle_entries.specs.Calls.{unchanged}
+use Rattle.swizzle_entries.proofs.Changes.{left, left_none, left_over, turn_length, turn_store}
 use Rattle.swizzle_entries.proofs.writes.Writes.changing.Goals as goal
 
-pub loop-i-preserved : goal.loop-i-preserved
-loop-i-preserved c =
-    let v = c.args.self in
+pub loop-port-preserved : goal.loop-port-preserved
+loop-port-preserved c =
     let b = c.args.bit in
-    let gs = v.granularities.now in
-    let l = c.loop-i in
-    let n = length_views write_size no_trits write_by v.ports.now v.nets.now [] in
-    let k = length-take c.min-end.result v.ports.now in
-    let t : l.i < c.min-end.result = omega (arith, k, c.loop-i-test.true) in
-    let i : l.i < length v.ports.now = omega (arith, t, c.min-end.ensures) in
-    let g : l.i < length gs = omega (arith, t, c.min-end.ensures) in
-    let x = c.part-nets.ensures.part ∙ (λ k. part (l.invariant.sum k) (c.write_size-size.ensures.0 k) v.nets.now) in
-    let u : (m : Mem) → m.width ≡ v.width → c.port_same-same.result ≡ unchanged m b (get_or (writes_in v) l.i _) = λ m w. port_unchanged m v.ports.now v.nets.now b l.i _ _ _ (get_or-take c.min-end.result v.ports.now l.i no_write_port t) x (c.port_same-same.ensures m w) in
+    let nets = c.args.self.nets.now in
+    let l = c.loop-port in
+    let p = c.in-Some.port.now in
+    let g = c.in-Some.granularity.now in
+    let s = c.in-Some.ensures.steps in
+    let z = c.write_size-size.ensures.0 in
+    let a : l.at + c.write_size-size.result ≡ l.at + write_size p = ap (λ (k : ℕ). l.at + k) z in
+    let x : c.part-nets.result.now ≡ part l.at (write_size p) nets = c.part-nets.ensures.part ∙ ap (λ (k : ℕ). part l.at k nets) z in
+    let u : (m : Mem) → m.width ≡ c.args.self.width → c.port_same-same.result ≡ unchanged m b (write_by p (part l.at (write_size p) nets) []) = λ m w. c.port_same-same.ensures m w ∙ ap (λ (n : List ℕ). unchanged m b (write_by p n [])) x in
+    let ps = l.port-iterator.a.rest.now in
+    let ps' = c.next.new.self.a.rest.now in
+    let gs = l.port-iterator.b.rest.now in
+    let gs' = c.next.new.self.b.rest.now in
     record {
-      sum = omega (arith, i, ap write_size (get_or-take c.min-end.result v.ports.now l.i no_write_port t), sum_take_more write_size no_write_port refl v.ports.now l.i);
-      most = omega arith;
-      few = omega arith;
-      count = λ m w. turn_length m b (writes_in v) gs l.i l.found _ _ (omega (arith, n)) g (u m w) c.keep-found.ensures.value.0 _ (l.invariant.count m w);
-      stored = λ m w. turn_store m b (writes_in v) gs l.i l.found _ _ (omega (arith, n)) g (u m w) c.keep-found.ensures.value.0 _ _ _ c.keep-found.ensures.out_after (l.invariant.stored m w);
+      most = omega (arith, ap length s.0, l.invariant.most);
+      few = omega (arith, ap length s.0, l.invariant.few);
+      count = λ m w. turn_length m b nets p ps ps' l.at (l.at + c.write_size-size.result) g gs gs' l.found _ _ s.0 s.1 a (u m w) c.keep-found.ensures.value.0 _ (l.invariant.count m w);
+      stored = λ m w. turn_store m b nets p ps ps' l.at (l.at + c.write_size-size.result) g gs gs' l.found _ _ s.0 s.1 a (u m w) c.keep-found.ensures.value.0 _ _ _ c.keep-found.ensures.out_after (l.invariant.stored m w);
     }
 
 pub returns : goal.returns
 returns c =
-    let v = c.args.self in
     let b = c.args.bit in
-    let gs = v.granularities.now in
-    let l = c.loop-i in
-    let n = length_views write_size no_trits write_by v.ports.now v.nets.now [] in
-    let k = length-take c.min-end.result v.ports.now in
-    let e : (m : Mem) → rest m b (writes_in v) gs l.i ≡ [] = λ m. rest_end m b (writes_in v) gs l.i (omega (arith, n, k, c.min-end.ensures, c.loop-i-test.false)) in
-    record { value = λ m w. omega (arith, l.invariant.count m w, ap length (e m)); out_after = λ m w. sym (ap (sets _ l.found) (e m)) ∙ l.invariant.stored m w }
+    let nets = c.args.self.nets.now in
+    let l = c.loop-port in
+    let ps = l.port-iterator.a.rest.now in
+    let gs = l.port-iterator.b.rest.now in
+    let e : (m : Mem) → left m b nets ps l.at gs ≡ [] = λ m. ⊎_elim (λ h. left_none m b nets ps l.at gs h.1.0) (λ h. left_over m b nets ps l.at gs h.1.0) c.in-None.ensures.steps in
+    record { value = λ m w. omega (arith, l.invariant.count m w, ap length (e m)); out_after = λ m w. sym (ap (sets l.out l.found) (e m)) ∙ l.invariant.stored m w }

@@ -1,0 +1,2 @@
+-- Laws of requests on a lent state.
+pub mod Made
