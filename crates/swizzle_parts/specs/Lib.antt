@@ -1,2 +1,3 @@
 -- A memory of those that a swizzle gives.
 pub mod Parts
+pub mod Known

@@ -10,7 +10,6 @@ use Rattle.std.specs.Prelude.{None}
 use Rattle.swizzle_result.specs.declared.WideWritePort.{WideWritePort}
 use Rattle.swizzle_result.specs.declared.WideReadPort.{WideReadPort}
 use Rattle.swizzle_result.specs.declared.WideMemory.{WideMemory}
-use Rattle.swizzle_parts.specs.declared.Part.{Part}
 use Rattle.swizzle_parts.specs.declared.Bits.{Bits}
 use Rattle.swizzle_parts.specs.declared.Bits.TheVariants.{Data, Mask}
 use Rattle.swizzle_parts.specs.declared.Kind.{Kind}
@@ -26,9 +25,6 @@ no_read_of = record { addr_len = 0; wide = 0; first = 0; relations_len = 0; rela
 
 abbrev pub no_memory : Driving
 no_memory = record { memory = record { depth = 0; width = 0; init = []; writes = []; reads = [] }; output = [] }
-
-abbrev pub no_part : Part
-no_part = record { start = 0; size = 0 }
 
 abbrev pub write_port : WideMemory → ℕ → WideWritePort
 write_port g j = get_or g.write_ports j no_write_of

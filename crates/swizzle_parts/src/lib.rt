@@ -8,16 +8,17 @@ ghost use Rattle.lists.specs.Lists.{all, part};
 ghost use Rattle.rules.specs.Limits.{max_ports, max_wide, max_columns, max_nets};
 ghost use Rattle.rules.specs.Cell.{write_at, read_at_of, output_slice};
 ghost use Rattle.swizzle_result.specs.View.{own, whole, write_ports_of, read_ports_of, write_size, trit_size, start_by, output_by};
-ghost use Rattle.swizzle_parts.specs.Parts.{small_write, small_read, is_small, is_there, There, has_port, memory_at, read_port, write_start, read_start, trit_start, clear_at, reset_at, init_at, no_part, bits_before, bits_at, kind_before, kind_at};
+ghost use Rattle.swizzle_parts.specs.Known.{WithPort};
+ghost use Rattle.swizzle_parts.specs.Parts.{small_write, small_read, is_small, is_there, There, memory_at, read_port, write_start, read_start, trit_start, clear_at, reset_at, init_at, bits_before, bits_at, kind_before, kind_at};
 
 mod memories;
 
 use memories::Memories;
 use swizzle_result::{WideMemory, WideReadPort, WideWritePort};
 
-// A part of a lent array; 0, 0 where there is none.
+// A part of a lent array; 0, 0 where there is none. It is C's own; `port_outputs::OutputSlice`, which C has with a number, is not.
 #[repr(C)]
-#[derive(Clone, Copy)]
+#[derive(Clone, Copy, Default)]
 pub struct Part {
     pub start: usize,
     pub size: usize,
@@ -72,15 +73,18 @@ fn is_there(g: WideMemory, n: usize) -> bool
     is_small(g) && n < g.mems as usize
 }
 
-// Whether there is a memory n with a port i, of so many.
-#[tactic(auto, unfolding(crate::specs::Parts::has_port))]
-fn has_port(g: WideMemory, n: usize, i: usize, count: u32) -> bool
-    ensures { result ≡ has_port g n i count }
-{
-    is_there(g, n) && i < net_memory::ports_used(count)
-}
-
 impl Memories {
+    // The struct, where there is a memory n with a port i, of so many.
+    #[tactic(auto, using(crate::proofs::Found::there_is), unfolding(crate::specs::Parts::has_port))]
+    fn with_port(g: WideMemory, n: usize, i: usize, count: u32) -> Option<Memories>
+        ensures { WithPort g n i count result }
+    {
+        if !is_there(g, n) || net_memory::ports_used(count) <= i {
+            return None;
+        }
+        Some(Memories { g })
+    }
+
     // A memory's bits of a port with this wide log. No struct for a wide log that is low: it would hold one number.
     fn own(self, wide: u32) -> usize
         requires { wide ≤ max_wide }
@@ -171,10 +175,7 @@ impl Bits {
     fn before(self) -> usize
         ensures { (result ≡ bits_before self) × (result ≤ 1) }
     {
-        match self {
-            Bits::Data => 0,
-            Bits::Mask => 1,
-        }
+        self as usize
     }
 }
 
@@ -182,11 +183,7 @@ impl Kind {
     fn before(self) -> usize
         ensures { (result ≡ kind_before self) × (result ≤ 2) }
     {
-        match self {
-            Kind::Clear => 0,
-            Kind::Reset => 1,
-            Kind::Init => 2,
-        }
+        self as usize
     }
 }
 
@@ -205,22 +202,15 @@ pub fn depth_of(g: WideMemory, n: usize) -> u32
 
 // ---- where the parts stand
 
-fn no_part() -> Part
-    ensures { result ≡ no_part }
-{
-    Part { start: 0, size: 0 }
-}
-
 // The address of write port j in the nets, which all memories share.
 #[tactic(auto, using(crate::proofs::Found::write_known))]
 pub fn write_addr_part(g: WideMemory, n: usize, j: usize) -> Part
     ensures { (nets trits image : List ℕ) → part result.start result.size nets ≡ (write_at (memory_at g nets trits image n).memory j).addr }
 {
-    if !has_port(g, n, j, g.write_count) {
-        return no_part();
-    }
+    let Some(m) = Memories::with_port(g, n, j, g.write_count) else {
+        return Part::default();
+    };
     let p = g.write_ports[j];
-    let m = Memories { g };
     Part {
         start: m.write_start(j),
         size: p.addr_len as usize,
@@ -232,11 +222,10 @@ pub fn write_addr_part(g: WideMemory, n: usize, j: usize) -> Part
 fn columns_part(g: WideMemory, n: usize, j: usize, bits: Bits) -> Part
     ensures { (nets trits image : List ℕ) → part result.start result.size nets ≡ bits_at bits (write_at (memory_at g nets trits image n).memory j) }
 {
-    if !has_port(g, n, j, g.write_count) {
-        return no_part();
-    }
+    let Some(m) = Memories::with_port(g, n, j, g.write_count) else {
+        return Part::default();
+    };
     let p = g.write_ports[j];
-    let m = Memories { g };
     let size = m.own(p.wide);
     let before = bits.before();
     let inside = p.addr_len as usize + before * m.whole(p.wide) + n * size;
@@ -265,11 +254,10 @@ pub fn write_mask_part(g: WideMemory, n: usize, j: usize) -> Part
 pub fn read_addr_part(g: WideMemory, n: usize, i: usize) -> Part
     ensures { (nets trits image : List ℕ) → part result.start result.size nets ≡ (read_at_of (memory_at g nets trits image n).memory i).addr }
 {
-    if !has_port(g, n, i, g.read_count) {
-        return no_part();
-    }
+    let Some(m) = Memories::with_port(g, n, i, g.read_count) else {
+        return Part::default();
+    };
     let p = g.read_ports[i];
-    let m = Memories { g };
     Part {
         start: m.read_start(i),
         size: p.addr_len as usize,
@@ -281,14 +269,13 @@ pub fn read_addr_part(g: WideMemory, n: usize, i: usize) -> Part
 fn trits_part(g: WideMemory, n: usize, i: usize, kind: Kind) -> Part
     ensures { (nets trits image : List ℕ) → part result.start result.size trits ≡ kind_at kind (memory_at g nets trits image n).memory i }
 {
-    if !has_port(g, n, i, g.read_count) {
-        return no_part();
-    }
+    let Some(m) = Memories::with_port(g, n, i, g.read_count) else {
+        return Part::default();
+    };
     let p = g.read_ports[i];
     if p.flip_flop.is_none() {
-        return no_part();
+        return Part::default();
     }
-    let m = Memories { g };
     let size = m.own(p.wide);
     let before = kind.before();
     let inside = before * m.whole(p.wide) + n * size;
@@ -324,7 +311,7 @@ pub fn image_part(g: WideMemory, n: usize) -> Part
     ensures { (nets trits image : List ℕ) → part result.start result.size image ≡ (memory_at g nets trits image n).memory.init }
 {
     if !is_there(g, n) {
-        return no_part();
+        return Part::default();
     }
     let m = Memories { g };
     let start = m.image_start(n);
@@ -378,11 +365,10 @@ fn net_of(g: WideMemory, p: WideReadPort, n: usize, bit: usize) -> u32
 pub fn output_of(g: WideMemory, n: usize, i: usize, bit: usize) -> u32
     ensures { (nets trits image : List ℕ) → result ≡ get_or (output_slice (memory_at g nets trits image n).memory i (memory_at g nets trits image n).output) bit 0 }
 {
-    if !has_port(g, n, i, g.read_count) {
+    let Some(m) = Memories::with_port(g, n, i, g.read_count) else {
         return 0;
-    }
+    };
     let p = g.read_ports[i];
-    let m = Memories { g };
     if m.own(p.wide) <= bit {
         return 0;
     }

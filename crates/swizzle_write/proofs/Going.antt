@@ -13,8 +13,7 @@ use Rattle.rules.proofs.Traces.{bind_value}
 use Rattle.log_entries.specs.Emission.{Lent, is_over, run}
 use Rattle.log_entries.proofs.Emission.{run-done, run_then, run_next, run-held}
 use Rattle.swizzle_laws.specs.Stores.{spill_at, piece_by, spill_masks}
-use Rattle.swizzle_columns.specs.declared.WidePort.{WidePort}
-use Rattle.merge_keys.specs.declared.Kept.{Kept}
+use Rattle.swizzle_write.specs.declared.Masked.{Masked}
 use Rattle.swizzle_write.specs.Jobs.{Job}
 use Rattle.swizzle_write.proofs.Pieces.{chains_piece}
 
@@ -90,6 +89,5 @@ module _ (M R U L : ℕ) (starts : ℕ → List ℕ) (mux mask : List ℕ) where
           ∙ g.value (ap (λ (y : Lent). is_over y.state) nothing ∙ o)
 
 -- arrays of the same lengths
-pub job_same : (p : WidePort) (len : ℕ) (mux mask : List ℕ) (k : Kept) {nl pl tl nl' pl' tl' : ℕ} → nl' ≡ nl → pl' ≡ pl → tl' ≡ tl
-    → Job p len mux mask k nl pl tl → Job p len mux mask k nl' pl' tl'
-job_same p len mux mask k a b c j = rw (a, b, c) j
+pub job_same : (m : Masked) {pl tl pl' tl' : ℕ} → pl' ≡ pl → tl' ≡ tl → Job m pl tl → Job m pl' tl'
+job_same m b c j = rw (b, c) j

@@ -2,7 +2,7 @@
 // memory after memory.
 #![tactic(auto)]
 
-ghost use Rattle.std.specs.Prelude.{◌≡◌, false, ◌<◌, length};
+ghost use Rattle.std.specs.Prelude.{◌≡◌, false, ◌<◌, ◌≤◌, length};
 ghost use Rattle.std.proofs.lemmas.List.Edits.{sets};
 ghost use Rattle.rules.specs.Value.{from_uint};
 ghost use Rattle.log_entries.specs.Emission.{is_over, run};
@@ -10,9 +10,9 @@ ghost use Rattle.log_entries.specs.View.{state_of, lent_of};
 ghost use Rattle.merge_keys.specs.Keys.{MergeOf};
 ghost use Rattle.swizzle_laws.specs.Stores.{spill_at, piece_by};
 ghost use Rattle.swizzle_columns.specs.Wide.{port_starts};
-ghost use Rattle.swizzle_write.specs.Jobs.{with_zeros, Job, Rooms, Row};
+ghost use Rattle.swizzle_write.specs.Jobs.{with_zeros, Job};
 ghost use Rattle.swizzle_write.specs.View.{masks_by};
-ghost use Rattle.swizzle_write.specs.Wide.{can_write, Writes, port_masks, masks_of};
+ghost use Rattle.swizzle_write.specs.Wide.{mux_room, can_write, Writes, port_masks, masks_of};
 
 use log_entries::Log;
 use merge_keys::columns::Columns;
@@ -24,13 +24,14 @@ use swizzle_columns::WidePort;
 // The nets of a mux address that a port has room for.
 const MUX_ROOM: usize = 64;
 
-// A port with the nets of its mux address, a row of its mask, and so many entries to a row of the layout.
+// A port with the nets of its mux address, a row of its mask and what a merge of the row with zeros keeps, and so many entries to a row of the layout.
 #[derive(Clone, Copy)]
-struct Masked<'a> {
+struct Masked<'a, 'k> {
     port: WidePort,
     per_row: usize,
     mux: &'a [u32],
     row: &'a [u32],
+    kept: Kept<'k>,
 }
 
 // The low bits of a number as constant nets.
@@ -44,103 +45,46 @@ fn number_bits(out: &mut [u32], x: usize)
     }
 }
 
-impl Masked<'_> {
+impl Masked<'_, '_> {
     // Piece x: the comparison of the mux address with its number and, unless that is empty, the mux of the kept mask nets. Its mask goes to `piece`.
-    fn emit_piece(
-        self,
-        log: &mut Log,
-        kept: Kept<'_>,
-        number: &mut [u32],
-        piece: &mut [u32],
-        x: usize,
-    )
-        requires { MergeOf (with_zeros self.row.now) kept × (length number.old ≡ length self.mux.now) }
+    fn emit_piece(self, log: &mut Log, piece: &mut [u32], x: usize)
+        requires { MergeOf (with_zeros self.row.now) self.kept × (length self.mux.now ≤ mux_room) }
         ensures log_after { lent_of log.new ≡ run (piece_by self.entry.mux.now self.entry.row.now x) (lent_of log.old) }
         ensures piece_after { is_over (state_of log.new.state) ≡ false → piece.new ≡ sets piece.old 0 (piece_by self.entry.mux.now self.entry.row.now x log.old.state.next).value }
     {
+        let mut bits = [0; MUX_ROOM];
+        let number = &mut bits[..self.mux.len()];
         number_bits(number, x);
         let select = ControlNet::Pos(Net(log.state.next));
         log.emit_eq(self.mux, number);
-        if self.mux.len() == 0 {
+        if self.mux.is_empty() {
             lists::copy(piece, 0, self.row);
             return;
         }
-        emit::emit_kept_mux(log, piece, 0, select, kept);
+        emit::emit_kept_mux(log, piece, 0, select, self.kept);
     }
 
     // Piece x, emitted and stored.
-    fn write_piece(
-        self,
-        log: &mut Log,
-        kept: Kept<'_>,
-        number: &mut [u32],
-        piece: &mut [u32],
-        to: &mut [u32],
-        x: usize,
-    )
-        requires job { Job self.port self.per_row self.mux.now self.row.now kept (length number.old) (length piece.old) (length to.old) }
+    fn write_piece(self, log: &mut Log, piece: &mut [u32], to: &mut [u32], x: usize)
+        requires job { Job self (length piece.old) (length to.old) }
         requires x_lt_pieces { x < self.port.pieces }
         ensures log_after { lent_of log.new ≡ run (piece_by self.entry.mux.now self.entry.row.now x) (lent_of log.old) }
         ensures piece_after { is_over (state_of log.new.state) ≡ false → piece.new ≡ (piece_by self.entry.mux.now self.entry.row.now x log.old.state.next).value }
         ensures to_after { to.new ≡ spill_at self.entry.port.mems self.entry.port.rows self.entry.port.unit self.entry.per_row (port_starts self.entry.port self.entry.per_row x) piece.new to.old }
     {
-        self.emit_piece(log, kept, number, piece, x);
+        self.emit_piece(log, piece, x);
         swizzle_columns::store_nets(to, self.port, self.per_row, piece, x);
     }
 
     // The pieces in turn.
-    fn write_pieces(
-        self,
-        log: &mut Log,
-        kept: Kept<'_>,
-        number: &mut [u32],
-        piece: &mut [u32],
-        to: &mut [u32],
-    )
-        requires { Job self.port self.per_row self.mux.now self.row.now kept (length number.old) (length piece.old) (length to.old) }
+    fn write_pieces(self, log: &mut Log, piece: &mut [u32], to: &mut [u32])
+        requires { Job self (length piece.old) (length to.old) }
         ensures log_after { lent_of log.new ≡ run (masks_by self.entry to.old) (lent_of log.old) }
         ensures to_after { is_over (state_of log.new.state) ≡ false → to.new ≡ (masks_by self.entry to.old log.old.state.next).value }
     {
         for x in 0..self.port.pieces as usize {
-            self.write_piece(log, kept, number, piece, to, x);
+            self.write_piece(log, piece, to, x);
         }
-    }
-
-    // The same from the row alone: its nets are merged once, in lent scratch.
-    fn write_merged(
-        self,
-        log: &mut Log,
-        zeros: &[u32],
-        keys: &mut Keys,
-        number: &mut [u32],
-        piece: &mut [u32],
-        to: &mut [u32],
-    )
-        requires { Rooms self.port self.per_row self.mux.now self.row.now zeros.now (length number.old) (length piece.old) (length to.old) }
-        ensures log_after { lent_of log.new ≡ run (masks_by self.entry to.old) (lent_of log.old) }
-        ensures to_after { is_over (state_of log.new.state) ≡ false → to.new ≡ (masks_by self.entry to.old log.old.state.next).value }
-    {
-        let given = Columns {
-            x: self.row,
-            y: zeros,
-        };
-        let kept = keys.merge(given);
-        self.write_pieces(log, kept, number, piece, to);
-    }
-
-    // The same with scratch of its own.
-    fn write(self, log: &mut Log, to: &mut [u32])
-        requires { Row self.port self.per_row (length self.mux.now) (length self.row.now) (length to.old) }
-        ensures log_after { lent_of log.new ≡ run (masks_by self.entry to.old) (lent_of log.old) }
-        ensures to_after { is_over (state_of log.new.state) ≡ false → to.new ≡ (masks_by self.entry to.old log.old.state.next).value }
-    {
-        let zeros = [0; rules::MAX_MERGE];
-        let mut keys = Keys::new();
-        let mut number = [0; MUX_ROOM];
-        let mut piece = [0; rules::MAX_MERGE];
-        let n = self.row.len();
-        let number = &mut number[..self.mux.len()];
-        self.write_merged(log, &zeros[..n], &mut keys, number, &mut piece[..n], to);
     }
 }
 
@@ -152,7 +96,7 @@ fn can_write(p: WidePort, len: usize, short: usize, size: usize) -> bool
     swizzle_columns::sizes_fit(p, size) && swizzle_columns::rows_fit(p, len) && short <= MUX_ROOM
 }
 
-// The masks of a port within the limits: its row, a blank room, then the pieces.
+// The masks of a port within the limits: its row, whose nets are merged once, a blank room, then the pieces.
 fn masks_in(
     log: &mut Log,
     to: &mut [u32],
@@ -168,15 +112,25 @@ fn masks_in(
     let len = entries.len();
     let n = port.olds as usize * len;
     let mut row = [0; rules::MAX_MERGE];
+    let zeros = [0; rules::MAX_MERGE];
+    let mut keys = Keys::new();
+    let mut piece = [0; rules::MAX_MERGE];
     swizzle_columns::mask_row(&mut row, port, entries, mask);
     lists::fill(to, 0, to.len(), 0);
+    let row = &row[..n];
+    let given = Columns {
+        x: row,
+        y: &zeros[..n],
+    };
+    let kept = keys.merge(given);
     let masked = Masked {
         port,
         per_row: len,
         mux,
-        row: &row[..n],
+        row,
+        kept,
     };
-    masked.write(log, to);
+    masked.write_pieces(log, &mut piece[..n], to);
 }
 
 // The masks of a write port: logs its comparisons and merging muxes, and stores its mask in the order of the memories. Nothing is done where the

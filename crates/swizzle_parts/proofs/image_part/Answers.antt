@@ -15,7 +15,7 @@ use Rattle.swizzle_parts.proofs.image_part.Goals as goal
 pub returns-then-not-is_there : goal.returns-then-not-is_there
 returns-then-not-is_there c =
     let v = c.args in
-    λ nets trits image. (λ x. part (c.no_part.ensures x).start (c.no_part.ensures x).size image) ∙ sym (ap (λ (d : Driving). d.memory.init) (gone v.g v.n nets trits image (sym c.is_there.ensures ∙ not-true _ (ap not c.if-not-is_there.true))))
+    λ nets trits image. (λ x. part (c.default.ensures.0 x) (c.default.ensures.1 x) image) ∙ sym (ap (λ (d : Driving). d.memory.init) (gone v.g v.n nets trits image (sym c.is_there.ensures ∙ not-true _ (ap not c.if-not-is_there.true))))
 
 pub invariant_of-m : goal.invariant_of-m
 invariant_of-m c = record { small = (there_is c.args.g c.args.n (sym c.is_there.ensures ∙ not-false _ (ap not c.if-not-is_there.false))).small }

@@ -9,7 +9,7 @@ use Rattle.swizzle_write.proofs.Pieces.{piece_length}
 use Rattle.swizzle_write.proofs.Masked.write_piece.Goals as goal
 
 pub emit_piece-requires : goal.emit_piece-requires
-emit_piece-requires c = (c.requires.job.kept, c.requires.job.number_len)
+emit_piece-requires c = (c.requires.job.kept, c.requires.job.short)
 
 pub returns : goal.returns
 returns c =

@@ -12,10 +12,9 @@ loop-x-init c =
 pub write_piece-requires : goal.write_piece-requires
 write_piece-requires c =
     let m = c.args.self in
-    let k = c.args.kept in
     let h = c.loop-x.auto in
     record {
-      job = job_same m.port m.per_row m.mux.now m.row.now k h.number h.piece h.to c.requires;
+      job = job_same m h.piece h.to c.requires;
       x_lt_pieces = c.loop-x-test.true;
     }
 
