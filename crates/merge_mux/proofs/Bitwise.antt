@@ -9,7 +9,6 @@ use lib.Seq.{sets, length-take-le, drop-drop, drop-cons}
 use Rattle.lists.proofs.Choice.{cases_le}
 use Rattle.lists.specs.Lists.{part, pairs}
 use Rattle.lists.specs.Distinct.{places}
-use Rattle.lists.proofs.Stores.{take_stored}
 use Rattle.lists.proofs.Store.{sets_append}
 use Rattle.lists.proofs.Parts.{length_part}
 use Rattle.lists.proofs.Pairs.{pairs_size}
