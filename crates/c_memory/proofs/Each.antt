@@ -2,17 +2,14 @@
 use mathlib.Core.Path.{◌≡◌, refl, sym, ap, subst, ◌∙◌}
 use Prim.Native.Nat.{ℕ, ◌<◌}
 use mathlib.Core.List.{List, [], ◌∷◌, map}
-use lib.ListN.{get_or, replicate}
+use lib.ListN.{length, length-map, get_or, replicate}
 use Rattle.std.specs.Array.{AllOfLen}
-use Rattle.std.specs.List.{AllZip}
-use Rattle.std.proofs.lemmas.List.{ext_get_or, length-replicate, get_or-replicate}
+use Rattle.std.proofs.lemmas.List.{ext_get_or, length-replicate, get_or-replicate, get_or-map}
 
--- an array whose elements are the images of another's, place by place
-pub by_each : {A B : Type 0} (f : A → B) (R : A → B → Type 0) → ((x : A) (y : B) → R x y → y ≡ f x) → (xs : List A) (ys : List B) → AllZip R xs ys → ys ≡ map f xs
-by_each f R is [] [] e = refl
-by_each f R is [] (y ∷ ys) e = absurd e
-by_each f R is (x ∷ xs) [] e = absurd e
-by_each f R is (x ∷ xs) (y ∷ ys) e = λ i. is x y e.0 i ∷ by_each f R is xs ys e.1 i
+-- an image that is known place by place
+pub by_place : {A B : Type 0} (f : A → B) (d : A) (xs : List A) (ys : List B) (n : ℕ) → length xs ≡ n → length ys ≡ n → ((i : ℕ) → i < n → get_or ys i (f d) ≡ f (get_or xs i d)) → ys ≡ map f xs
+by_place f d xs ys n hx hy h =
+    ext_get_or (f d) ys (map f xs) (hy ∙ sym hx ∙ sym (length-map xs f)) (λ i l. h i (subst (λ m. i < m) hy l) ∙ sym (get_or-map f xs i d (f d) (subst (λ m. i < m) (hy ∙ sym hx) l)))
 
 -- a function after another that it undoes
 pub undone : {A B : Type 0} (f : A → B) (g : B → A) → ((b : B) → f (g b) ≡ b) → (l : List B) → map f (map g l) ≡ l

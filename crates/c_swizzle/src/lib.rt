@@ -19,10 +19,12 @@ ghost use Rattle.c_swizzle.specs.Calls.{swizzled_struct, given_swizzled, patches
 
 use c_memory::Memory;
 use c_net::Control;
+use image_patches::Calls;
 use image_state::Laid;
 use log_entries::LogState;
 use record_sizes::Sizes;
 use rules::Refusal;
+use swizzle_counts::Swizzle;
 use swizzle_plan::{MemorySwizzle, Plan};
 
 pub mod parts;
@@ -117,7 +119,7 @@ fn refused_struct(st: LogState, refusal: Refusal) -> Swizzled
     Swizzled {
         number: refusal.number(),
         state: st,
-        memory: swizzle_rows::no_memories().into(),
+        memory: swizzle_result::WideMemory::NONE.into(),
         nets_used: 0,
         trits_used: 0,
         laid: Laid::unset(),
@@ -173,16 +175,17 @@ pub fn tablegoose_swizzle<'a>(
     ensures swizzles { Swizzles (given_memory m) nets.now trits.now output.now s entries.now writes.now reads.now st log.old image.old nets_to.old trits_to.old scratch.old (given_swizzled result) log.new image.new nets_to.new trits_to.new scratch.new }
     ensures value { result ≡ swizzled_struct (given_swizzled result) }
 {
-    let given = c_memory::given_by(m, nets, trits);
-    let plan = Plan {
-        swizzle: s,
-        entries,
-        writes,
-        reads,
+    let asked = Swizzle {
+        given: c_memory::given_by(m, nets, trits),
+        output,
+        plan: Plan {
+            swizzle: s,
+            entries,
+            writes,
+            reads,
+        },
     };
-    let answer = swizzle_call::swizzle(
-        log, st, image, nets_to, trits_to, scratch, given, output, plan,
-    );
+    let answer = swizzle_call::swizzle(log, st, image, nets_to, trits_to, scratch, asked);
     swizzled_struct(st, answer)
 }
 
@@ -210,15 +213,22 @@ pub fn tablegoose_swizzle_and_patch<'a>(
     ensures kept { Kept st log.old image.old nets_to.old trits_to.old scratch.old (given_patches result) log.new image.new nets_to.new trits_to.new scratch.new }
     ensures value { result ≡ patches_struct (given_patches result) }
 {
-    let given = c_memory::given_by(m, nets, trits);
-    let plan = Plan {
-        swizzle: s,
-        entries,
-        writes,
-        reads,
+    let asked = Swizzle {
+        given: c_memory::given_by(m, nets, trits),
+        output,
+        plan: Plan {
+            swizzle: s,
+            entries,
+            writes,
+            reads,
+        },
+    };
+    let list = Calls {
+        words: calls,
+        trits: rows,
     };
     let answer = swizzle_patches::swizzle_and_patch(
-        log, st, image, nets_to, trits_to, scratch, numbers, given, output, plan, calls, rows,
+        log, st, image, nets_to, trits_to, scratch, numbers, asked, list,
     );
     patches_struct(st, answer)
 }

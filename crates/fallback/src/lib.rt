@@ -26,7 +26,7 @@ use net_memory::{Given, Memory};
 use port_transparency::Overlay;
 use rules::Refusal;
 use swizzle_call::Swizzled;
-use swizzle_counts::SwizzleRooms;
+use swizzle_counts::{Swizzle, SwizzleRooms};
 use swizzle_result::WideMemory;
 
 // What the unmappings are lent: room for the outputs after them, and an overlay.
@@ -50,19 +50,14 @@ fn split_rows(
     ensures { SplitDone (mem_of given.entry) outs.now (fallback_plan (mem_of given.entry)) st log.old tables.old (told st result) log.new tables.new image.new }
 {
     let lists = Lists::of(given.memory.width);
+    let asked = Swizzle {
+        given,
+        output: outs,
+        plan: lists.plan(given),
+    };
     let mut none = [0u8; 0];
     let mut pieces = [0u32; rules::BITS_ROOM];
-    swizzle_call::swizzle(
-        log,
-        st,
-        image,
-        tables,
-        &mut none,
-        &mut pieces,
-        given,
-        outs,
-        lists.plan(given),
-    )
+    swizzle_call::swizzle(log, st, image, tables, &mut none, &mut pieces, asked)
 }
 
 // The registers of the memories that a struct holds.
@@ -150,18 +145,17 @@ fn later_net(next: u32, made: usize) -> u32
 }
 
 // The refusal of the split of a memory by the plan of a fallback.
-fn plan_refusal(
-    r: SwizzleRooms,
-    room: usize,
-    st: LogState,
-    given: Given<'_>,
-    outs: &[u32],
-) -> Result<(), Refusal>
+fn plan_refusal(r: SwizzleRooms, given: Given<'_>, outs: &[u32]) -> Result<(), Refusal>
     requires { given.memory.width ≤ max_row }
-    ensures { number_of result ≡ swizzle_refusal (rooms_of r) room (state_of st) (view_given given.entry) outs.now (fallback_plan (mem_of given.entry)) }
+    ensures { number_of result ≡ swizzle_refusal (rooms_of r) r.log (state_of r.state) (view_given given.entry) outs.now (fallback_plan (mem_of given.entry)) }
 {
     let lists = Lists::of(given.memory.width);
-    swizzle_refusal::swizzle_refusal(r, room, st, given, outs, lists.plan(given))
+    let asked = Swizzle {
+        given,
+        output: outs,
+        plan: lists.plan(given),
+    };
+    swizzle_refusal::swizzle_refusal(r, asked)
 }
 
 // 20 and 21 of so many words and nets and the split's, which are counted by its refusal in what the others leave.
@@ -186,6 +180,8 @@ fn split_refusal(
         next: later_net(st.next, made),
     };
     let r = SwizzleRooms {
+        log: whole - words,
+        state: later,
         image: rules::BITS_ROOM,
         nets: tables,
         trits: 0,
@@ -195,7 +191,7 @@ fn split_refusal(
         memory: fallback_bare::bare_memory(given.memory),
         ..given
     };
-    plan_refusal(r, whole - words, later, bare, output)
+    plan_refusal(r, bare, output)
 }
 
 // 20 and 21 of the whole, by the state after the dry run.

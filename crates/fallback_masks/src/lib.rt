@@ -1,12 +1,11 @@
 // How many words and nets the rows of a fallback give, by the masks of its memory: known before anything is stored.
 #![tactic(auto)]
 
-ghost use Rattle.std.specs.Prelude.{◌≡◌, ℕ, ◌+◌, ◌*◌, ◌^◌, ◌<◌, ◌≤◌};
+ghost use Rattle.std.specs.Prelude.{◌≡◌, List, ℕ, ◌+◌, ◌*◌, ◌^◌, ◌<◌, ◌≤◌};
 ghost use Rattle.lists.specs.Lists.{sum_by};
 ghost use Rattle.rules.specs.Limits.{max_depth};
 ghost use Rattle.rules.specs.Fallback.{max_wide_log2};
-ghost use Rattle.net_memory.specs.View.{writes_of};
-ghost use Rattle.net_memory.specs.Given.{mem_of};
+ghost use Rattle.net_memory.specs.View.{memory_of, writes_of};
 ghost use Rattle.net_memory.specs.Ports.{write_of};
 ghost use Rattle.fallback_masks.specs.Sizes.{max_mask_nets, mask_runs, size_words, size_nets};
 ghost use Rattle.fallback_masks.specs.Steps.{starts_run, left_after_of, pieces_by, spread_runs, runs_by_of, port_most, words_by, nets_by, Inside};
@@ -151,7 +150,7 @@ fn nets_by(depth: usize, width: usize, writes: usize) -> usize
 
 // The rows that the widest port reaches.
 fn widest_rows(given: Given<'_>) -> usize
-    ensures { (result ≡ 2 ^ max_wide_log2 (mem_of given.entry)) × (0 < result) }
+    ensures { ((trits : List ℕ) → result ≡ 2 ^ max_wide_log2 (memory_of given.entry.memory given.entry.nets.now trits)) × (0 < result) }
 {
     let s = fallback_plan::fallback_swizzle(given);
     s.soft_addr_bits_mask as usize + 1
@@ -159,7 +158,7 @@ fn widest_rows(given: Given<'_>) -> usize
 
 // The words and nets of all rows of a fallback; none where a size is past the limits.
 pub fn rows_size(given: Given<'_>) -> RowsSize
-    ensures size { (result.words ≡ size_words (mem_of given.entry)) × (result.nets ≡ size_nets (mem_of given.entry)) }
+    ensures size { (trits : List ℕ) → (result.words ≡ size_words (memory_of given.entry.memory given.entry.nets.now trits)) × (result.nets ≡ size_nets (memory_of given.entry.memory given.entry.nets.now trits)) }
     ensures words_bound { (result.words < 4294967296) × (result.nets < 4294967296) }
 {
     let m = given.memory;

@@ -10,7 +10,7 @@ use Rattle.lists.specs.Lists.{up_from}
 use Rattle.lists.proofs.Parts.{get_d_any}
 use Rattle.rules.specs.Limits.{addr_bits, max_ports}
 use Rattle.rules.specs.Numbers.{largest}
-use Rattle.rules.specs.Cell.{ReadPort, WritePort, Mem, wide_log2, write_wide_log2, read_wide_log2, read_at_of}
+use Rattle.rules.specs.Cell.{ReadPort, WritePort, Mem, wide_log2, write_wide_log2, read_wide_log2, write_at, read_at_of}
 use Rattle.rules.specs.Fallback.{max_wide_log2, fallback_plan}
 use Rattle.rules.proofs.Walks.{tops_le}
 use Rattle.net_memory.specs.declared.Memory.{Memory}
@@ -18,6 +18,11 @@ use Rattle.net_memory.specs.View.{memory_of, writes_of, reads_of}
 use Rattle.swizzle_plan.specs.declared.MemorySwizzle.{MemorySwizzle}
 use Rattle.swizzle_plan.specs.Calls.{plan_of}
 use Rattle.swizzle_plan.specs.Numbers.{write_logs}
+
+-- the trits say nothing of a write port
+pub write_log_any : (m : Memory) (nets s t : List ℕ) (j : ℕ) → write_wide_log2 (memory_of m nets s) (write_at (memory_of m nets s) j) ≡ write_wide_log2 (memory_of m nets t) (write_at (memory_of m nets t) j)
+unfolding memory_of write_at write_wide_log2
+write_log_any m nets s t j = refl
 
 -- ---- the loop: what is left from i on gives the whole
 module _ (L : List ℕ) where

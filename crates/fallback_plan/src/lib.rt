@@ -38,7 +38,7 @@ fn largest_by<F: Fn(u32) -> u32>(count: u32, log: F) -> u32
 
 // The largest wide log of the write ports.
 fn largest_write(given: Given<'_>) -> u32
-    ensures { result ≡ largest (write_logs (mem_of given.entry)) }
+    ensures { (trits : List ℕ) → result ≡ largest (write_logs (memory_of given.entry.memory given.entry.nets.now trits)) }
 {
     let count = net_memory::ports_used(given.memory.write_count) as u32;
     largest_by(count, |port| swizzle_plan::logs::write_log(&given, port))
@@ -54,7 +54,7 @@ fn largest_read(m: Memory) -> u32
 
 // The plan; its entries are the bits in order, and every new wide log is 0.
 pub fn fallback_swizzle(given: Given<'_>) -> MemorySwizzle
-    ensures { plan_of result (up_from 0 given.entry.memory.width) (replicate (min max_ports given.entry.memory.write_count) 0) (replicate (min max_ports given.entry.memory.read_count) 0) ≡ fallback_plan (mem_of given.entry) }
+    ensures { (trits : List ℕ) → plan_of result (up_from 0 given.entry.memory.width) (replicate (min max_ports given.entry.memory.write_count) 0) (replicate (min max_ports given.entry.memory.read_count) 0) ≡ fallback_plan (memory_of given.entry.memory given.entry.nets.now trits) }
 {
     let widest = largest_write(given).max(largest_read(given.memory));
     let rows = lists::two_to(widest);

@@ -27,14 +27,16 @@ pub struct Row {
     pub keys: Keys,
 }
 
-// The void nets of a row of w bits, which become the first of `out`; any w.
-pub fn emit_start(log: &mut Log, out: &mut [u32; rules::MAX_MERGE], w: u32)
-    ensures { Gave (start_if w (take w out.old)) (lent_of log.old) (lent_of log.new) (take w out.new) }
+// The void nets of a row of w bits, which become the first of `out` and of the row; any w.
+pub fn emit_start(log: &mut Log, row: &mut Row, out: &mut [u32; rules::MAX_MERGE], w: u32)
+    ensures nets { Gave (start_if w (take w out.old)) (lent_of log.old) (lent_of log.new) (take w out.new) }
+    ensures row { w ≤ max_merge → take w row.new.nets ≡ take w out.new }
 {
     if rules::MAX_MERGE < w as usize {
         return;
     }
     port_transparency::void_into(log, out, w);
+    lists::copy(&mut row.nets, 0, &out[..w as usize]);
 }
 
 // A write port over the row.
@@ -106,8 +108,8 @@ pub fn const_row(row: &mut [u32], init: &[u8])
     ensures { row.new ≡ sets row.old 0 (of_const init.now) }
 {
     let n = row.len().min(init.len());
-    for i in 0..n {
-        row[i] = net_of_trit(init[i]);
+    for (i, trit) in init[..n].iter().enumerate() {
+        row[i] = net_of_trit(*trit);
     }
 }
 

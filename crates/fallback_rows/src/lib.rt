@@ -16,56 +16,21 @@ use log_entries::Log;
 use merge_keys::Keys;
 use swizzle_result::WideMemory;
 
-// The write ports of memory n over the row, in order.
-fn over_all(log: &mut Log, row: &mut Row, w: usize, g: WideMemory, nets: &[u32], n: usize)
-    ensures { (trits image : List ℕ) → Gave (writes_by w (memory_at g nets.now trits image n).memory (up_from 0 (min max_ports g.write_count)) (take w row.old.nets)) (lent_of log.old) (lent_of log.new) (take w row.new.nets) }
-{
-    let count = net_memory::ports_used(g.write_count);
-    for j in 0..count {
-        let mask = swizzle_parts::write_mask(g, nets, n, j);
-        let bits = swizzle_parts::write_data(g, nets, n, j);
-        fallback_row::emit_over(log, row, w, mask, bits);
-    }
+// Memories of depth 1 whose numbers are within the limits of a swizzle, with their nets and trits.
+#[derive(Clone, Copy)]
+struct Memories<'a> {
+    g: WideMemory,
+    nets: &'a [u32],
+    image: &'a [u8],
+    ghost narrow: { g.unit ≤ max_unit },
+    ghost few: { g.mems ≤ max_columns },
 }
 
-// The register of memory n: its nets are the first of `q`.
-fn register(
-    log: &mut Log,
-    row: &mut Row,
-    q: &mut [u32; rules::MAX_MERGE],
-    g: WideMemory,
-    nets: &[u32],
-    init: &[u8],
-    n: usize,
-)
-    requires { g.unit ≤ max_unit }
-    ensures { (trits image : List ℕ) → Gave (register_by g (memory_at g nets.now trits image n).memory init.now) (lent_of log.old) (lent_of log.new) (take g.unit q.new) }
-{
-    let w = g.unit as usize;
-    fallback_row::emit_start(log, q, g.unit);
-    lists::copy(&mut row.nets, 0, lists::part(q, 0, w));
-    over_all(log, row, w, g, nets, n);
-    fallback_row::emit_held(log, row, w, g.write_ports[0].clock, init, q);
-}
-
-// The nets of the row: its register's, or its trits where nothing writes.
-fn row_nets(
-    log: &mut Log,
-    row: &mut Row,
-    q: &mut [u32; rules::MAX_MERGE],
-    g: WideMemory,
-    nets: &[u32],
-    init: &[u8],
-    n: usize,
-)
-    requires { (g.unit ≤ max_unit) × (length init.now ≡ g.unit) }
-    ensures { (trits image : List ℕ) → Gave (row_by g (memory_at g nets.now trits image n).memory init.now) (lent_of log.old) (lent_of log.new) (take g.unit q.new) }
-{
-    if g.write_count == 0 {
-        fallback_row::const_row(q, init);
-        return;
-    }
-    register(log, row, q, g, nets, init, n);
+// Room for a row: its register's nets, and what the write ports leave of them.
+#[derive(Drop)]
+struct Room {
+    held: [u32; rules::MAX_MERGE],
+    row: Row,
 }
 
 // The outputs of a read port, from `before` nets after its first on, are the row.
@@ -86,59 +51,76 @@ fn drive_at(
     fallback_row::emit_drive(log, spare, first + before, w, q);
 }
 
-// Those of every read port.
-fn drive_all(
-    log: &mut Log,
-    spare: &mut [u32; rules::MAX_MERGE],
-    g: WideMemory,
-    n: u32,
-    q: &[u32; rules::MAX_MERGE],
-)
-    requires { (g.unit ≤ max_unit) × (n ≤ max_columns) }
-    ensures { lent_of log.new ≡ run (drives g n (take g.unit q.now) (up_from 0 (min max_ports g.read_count))) (lent_of log.old) }
-{
-    let count = net_memory::ports_used(g.read_count);
-    let before = n * g.unit;
-    for i in 0..count {
-        drive_at(log, spare, g.read_ports[i].first, before, g.unit, q);
+impl<'a> Memories<'a> {
+    // The write ports of memory n over the row, in order.
+    fn over_all(&self, log: &mut Log, row: &mut Row, n: usize)
+        ensures { (trits image : List ℕ) → Gave (writes_by self.now.g.unit (memory_at self.now.g self.now.nets.now trits image n).memory (up_from 0 (min max_ports self.now.g.write_count)) (take self.now.g.unit row.old.nets)) (lent_of log.old) (lent_of log.new) (take self.now.g.unit row.new.nets) }
+    {
+        let count = net_memory::ports_used(self.g.write_count);
+        let w = self.g.unit as usize;
+        for j in 0..count {
+            let mask = swizzle_parts::write_mask(self.g, self.nets, n, j);
+            let bits = swizzle_parts::write_data(self.g, self.nets, n, j);
+            fallback_row::emit_over(log, row, w, mask, bits);
+        }
     }
-}
 
-// Memory n: its row, and the outputs that it drives. Trits that are not those of one row give nothing.
-fn emit_row(
-    log: &mut Log,
-    row: &mut Row,
-    q: &mut [u32; rules::MAX_MERGE],
-    g: WideMemory,
-    nets: &[u32],
-    image: &[u8],
-    n: u32,
-)
-    requires { (g.unit ≤ max_unit) × (n ≤ max_columns) }
-    ensures { lent_of log.new ≡ run (row_if g nets.now image.now n) (lent_of log.old) }
-{
-    let init = swizzle_parts::image_of(g, image, n as usize);
-    if init.len() != g.unit as usize {
-        return;
+    // The register of memory n: its nets are the first that the room holds.
+    fn register(&self, log: &mut Log, room: &mut Room, init: &[u8], n: usize)
+        ensures { (trits image : List ℕ) → Gave (register_by self.now.g (memory_at self.now.g self.now.nets.now trits image n).memory init.now) (lent_of log.old) (lent_of log.new) (take self.now.g.unit room.new.held) }
+    {
+        let Room { held, row } = room;
+        let w = self.g.unit as usize;
+        fallback_row::emit_start(log, row, held, self.g.unit);
+        self.over_all(log, row, n);
+        fallback_row::emit_held(log, row, w, self.g.write_ports[0].clock, init, held);
     }
-    row_nets(log, row, q, g, nets, init, n as usize);
-    drive_all(log, &mut row.spare, g, n, q);
-}
 
-// One memory after the other.
-fn emit_each(
-    log: &mut Log,
-    row: &mut Row,
-    q: &mut [u32; rules::MAX_MERGE],
-    g: WideMemory,
-    nets: &[u32],
-    image: &[u8],
-)
-    requires { (g.unit ≤ max_unit) × (g.mems ≤ max_columns) }
-    ensures { lent_of log.new ≡ run (rows_of g nets.now image.now (up_from 0 g.mems)) (lent_of log.old) }
-{
-    for n in 0..g.mems {
-        emit_row(log, row, q, g, nets, image, n);
+    // The nets of the row: its register's, or its trits where nothing writes.
+    fn row_nets(&self, log: &mut Log, room: &mut Room, init: &[u8], n: usize)
+        requires { length init.now ≡ self.now.g.unit }
+        ensures { (trits image : List ℕ) → Gave (row_by self.now.g (memory_at self.now.g self.now.nets.now trits image n).memory init.now) (lent_of log.old) (lent_of log.new) (take self.now.g.unit room.new.held) }
+    {
+        if self.g.write_count == 0 {
+            fallback_row::const_row(&mut room.held, init);
+            return;
+        }
+        self.register(log, room, init, n);
+    }
+
+    // The outputs of every read port that memory n drives are the row.
+    fn drive_all(&self, log: &mut Log, room: &mut Room, n: u32)
+        requires { n ≤ max_columns }
+        ensures { lent_of log.new ≡ run (drives self.now.g n (take self.now.g.unit room.old.held) (up_from 0 (min max_ports self.now.g.read_count))) (lent_of log.old) }
+    {
+        let Room { held, row } = room;
+        let count = net_memory::ports_used(self.g.read_count);
+        let before = n * self.g.unit;
+        for port in &self.g.read_ports[..count] {
+            drive_at(log, &mut row.spare, port.first, before, self.g.unit, held);
+        }
+    }
+
+    // Memory n: its row, and the outputs that it drives. Trits that are not those of one row give nothing.
+    fn emit_row(&self, log: &mut Log, room: &mut Room, n: u32)
+        requires { n ≤ max_columns }
+        ensures { lent_of log.new ≡ run (row_if self.now.g self.now.nets.now self.now.image.now n) (lent_of log.old) }
+    {
+        let init = swizzle_parts::image_of(self.g, self.image, n as usize);
+        if init.len() != self.g.unit as usize {
+            return;
+        }
+        self.row_nets(log, room, init, n as usize);
+        self.drive_all(log, room, n);
+    }
+
+    // One memory after the other.
+    fn emit_each(&self, log: &mut Log, room: &mut Room)
+        ensures { lent_of log.new ≡ run (rows_of self.now.g self.now.nets.now self.now.image.now (up_from 0 self.now.g.mems)) (lent_of log.old) }
+    {
+        for n in 0..self.g.mems {
+            self.emit_row(log, room, n);
+        }
     }
 }
 
@@ -152,11 +134,14 @@ pub fn emit_lowered(log: &mut Log, g: WideMemory, nets: &[u32], image: &[u8])
     if rules::MAX_COLUMNS < g.mems as u64 {
         return;
     }
-    let mut row = Row {
-        nets: [0; rules::MAX_MERGE],
-        spare: [0; rules::MAX_MERGE],
-        keys: Keys::new(),
+    let mut room = Room {
+        held: [0; rules::MAX_MERGE],
+        row: Row {
+            nets: [0; rules::MAX_MERGE],
+            spare: [0; rules::MAX_MERGE],
+            keys: Keys::new(),
+        },
     };
-    let mut q = [0; rules::MAX_MERGE];
-    emit_each(log, &mut row, &mut q, g, nets, image);
+    let memories = Memories { g, nets, image };
+    memories.emit_each(log, &mut room);
 }

@@ -37,9 +37,6 @@ pub unknown_is : (n s : ℕ) → n ≤ s → take n (replicate s X) ≡ x_nets n
 unfolding x_nets
 unknown_is n s h = part_replicate 0 n s X (omega arith)
 
-pub unknown_long : (n s : ℕ) → n ≤ s → n ≡ length (take n (replicate s X))
-unknown_long n s h = sym (length-take-le n (replicate s X) (omega (arith, length-replicate s X)))
-
 -- ---- in sequence
 pub chains_empty : (m : Mem) (output : Value) → Chains (emptied_if m output)
 unfolding emptied_if emptied

@@ -1,5 +1,5 @@
 // memory/src/lib.rs, unmap_read_dff without its numbers: the port reads at once, the write ports that it is transparent to are laid over what it
-// reads, and the flip-flop stands behind.
+// reads, and the flip-flop stands behind. Where a port has a mask beside its data, that is laid over too.
 #![tactic(auto)]
 
 ghost use Rattle.std.specs.Prelude.{◌≡◌, false, List, ℕ, ◌+◌, ◌≤◌, take};
@@ -8,7 +8,6 @@ ghost use Rattle.rules.specs.Cell.{write_at, write_wide_log2};
 ghost use Rattle.log_entries.specs.Emission.{is_over, run};
 ghost use Rattle.log_entries.specs.View.{state_of, lent_of};
 ghost use Rattle.net_memory.specs.View.{memory_of};
-ghost use Rattle.net_memory.specs.Given.{mem_of};
 ghost use Rattle.port_transparency.specs.Gave.{Gave};
 ghost use Rattle.port_transparency.specs.Pairs.{writing, write_of, read_of, data_and};
 ghost use Rattle.port_overlay.specs.Laid.{laid_by, laid_as, laid_from, behind, with_bits, unmapped, unmapped_if};
@@ -18,10 +17,19 @@ use net_flip_flop::FlipFlop;
 use net_memory::{Given, Memory, MemoryPortRelation};
 use port_transparency::{NoMask, Over, Overlay, Reading, Writing};
 
+// A clocked read port in parts: what it reads, its relations to the write ports, and its flip-flop as a cell of its own, whose bits are the port's
+// outputs.
+#[derive(Clone, Copy)]
+pub struct Parts<'a> {
+    pub reading: Reading<'a>,
+    pub relations: &'a [u8],
+    pub flip_flop: FlipFlop<'a>,
+}
+
 // Write port j, as a transparency reads it.
 pub fn writing<'a>(given: Given<'a>, j: usize) -> Writing<'a>
-    ensures k_value { result.k ≡ write_wide_log2 (mem_of given.entry) (write_at (mem_of given.entry) j) }
-    ensures port { write_of result ≡ writing (write_at (mem_of given.entry) j).addr (write_at (mem_of given.entry) j).bits (write_at (mem_of given.entry) j).mask }
+    ensures k_value { (trits : List ℕ) → result.k ≡ write_wide_log2 (memory_of given.entry.memory given.entry.nets.now trits) (write_at (memory_of given.entry.memory given.entry.nets.now trits) j) }
+    ensures port { (trits : List ℕ) → write_of result ≡ writing (write_at (memory_of given.entry.memory given.entry.nets.now trits) j).addr (write_at (memory_of given.entry.memory given.entry.nets.now trits) j).bits (write_at (memory_of given.entry.memory given.entry.nets.now trits) j).mask }
 {
     let w = given.write_port(j);
     let bits = w.bits();
@@ -42,7 +50,7 @@ pub fn emit_pair<'a, O: Over>(
     j: usize,
     r: Reading<'a>,
 )
-    ensures { Gave (laid_by (mem_of given.entry) r.entry.k (read_of r.entry) j (data_and (take r.entry.count overlay.old.under) (O.mask over.old r.entry.count))) (lent_of log.old) (lent_of log.new) (data_and (take r.entry.count overlay.new.under) (O.mask over.new r.entry.count)) }
+    ensures { (trits : List ℕ) → Gave (laid_by (memory_of given.entry.memory given.entry.nets.now trits) r.entry.k (read_of r.entry) j (data_and (take r.entry.count overlay.old.under) (O.mask over.old r.entry.count))) (lent_of log.old) (lent_of log.new) (data_and (take r.entry.count overlay.new.under) (O.mask over.new r.entry.count)) }
 {
     overlay.emit_transparency(log, over, writing(given, j), r);
 }
@@ -57,7 +65,7 @@ fn emit_related<'a, O: Over>(
     j: usize,
     r: Reading<'a>,
 )
-    ensures { Gave (laid_as (mem_of given.entry) r.entry.k (read_of r.entry) x j (data_and (take r.entry.count overlay.old.under) (O.mask over.old r.entry.count))) (lent_of log.old) (lent_of log.new) (data_and (take r.entry.count overlay.new.under) (O.mask over.new r.entry.count)) }
+    ensures { (trits : List ℕ) → Gave (laid_as (memory_of given.entry.memory given.entry.nets.now trits) r.entry.k (read_of r.entry) x j (data_and (take r.entry.count overlay.old.under) (O.mask over.old r.entry.count))) (lent_of log.old) (lent_of log.new) (data_and (take r.entry.count overlay.new.under) (O.mask over.new r.entry.count)) }
 {
     if x != u8::from(MemoryPortRelation::Transparent) {
         return;
@@ -74,7 +82,7 @@ pub fn emit_pairs<'a, O: Over>(
     rels: &[u8],
     r: Reading<'a>,
 )
-    ensures { Gave (laid_from (mem_of given.entry) r.entry.k (read_of r.entry) 0 rels.now (data_and (take r.entry.count overlay.old.under) (O.mask over.old r.entry.count))) (lent_of log.old) (lent_of log.new) (data_and (take r.entry.count overlay.new.under) (O.mask over.new r.entry.count)) }
+    ensures { (trits : List ℕ) → Gave (laid_from (memory_of given.entry.memory given.entry.nets.now trits) r.entry.k (read_of r.entry) 0 rels.now (data_and (take r.entry.count overlay.old.under) (O.mask over.old r.entry.count))) (lent_of log.old) (lent_of log.new) (data_and (take r.entry.count overlay.new.under) (O.mask over.new r.entry.count)) }
 {
     for (j, x) in rels.iter().enumerate() {
         emit_related(log, overlay, over, given, *x, j, r);
@@ -94,23 +102,21 @@ fn emit_behind(log: &mut Log, overlay: &mut Overlay, f: FlipFlop, n: usize)
     log.emit_replace(f.bits, &overlay.bits[..n]);
 }
 
-// A port with its relations and its flip-flop, which has the port's outputs as its bits. Gives the net after the void nets.
-fn emit_unmapped<'a>(
-    log: &mut Log,
-    overlay: &mut Overlay,
-    given: Given<'a>,
-    rels: &[u8],
-    r: Reading<'a>,
-    f: FlipFlop,
-) -> u32
-    requires { r.count ≤ max_merge }
-    ensures by_index { lent_of log.new ≡ run (unmapped (mem_of given.entry) r.entry.k (read_of r.entry) r.entry.count rels.now (with_bits f.entry) f.entry.bits.now) (lent_of log.old) }
-    ensures last_value { is_over (state_of log.new.state) ≡ false → result ≡ log.old.state.next + r.entry.count }
+// A clocked port unmapped. Gives the net after the void nets.
+fn emit_unmapped<'a>(log: &mut Log, overlay: &mut Overlay, given: Given<'a>, port: Parts<'a>) -> u32
+    requires { port.reading.count ≤ max_merge }
+    ensures by_index { (trits : List ℕ) → lent_of log.new ≡ run (unmapped (memory_of given.entry.memory given.entry.nets.now trits) port.entry.reading.k (read_of port.entry.reading) port.entry.reading.count port.entry.relations.now (with_bits port.entry.flip_flop) port.entry.flip_flop.bits.now) (lent_of log.old) }
+    ensures last_value { is_over (state_of log.new.state) ≡ false → result ≡ log.old.state.next + port.entry.reading.count }
 {
+    let Parts {
+        reading: r,
+        relations,
+        flip_flop,
+    } = port;
     port_transparency::void_into(log, &mut overlay.under, r.count as u32);
     let last = log.state.next;
-    emit_pairs(log, overlay, &mut NoMask, given, rels, r);
-    emit_behind(log, overlay, f, r.count);
+    emit_pairs(log, overlay, &mut NoMask, given, relations, r);
+    emit_behind(log, overlay, flip_flop, r.count);
     last
 }
 
@@ -119,15 +125,13 @@ pub fn emit_unmap<'a>(
     log: &mut Log,
     overlay: &mut Overlay,
     given: Given<'a>,
-    rels: &[u8],
-    r: Reading<'a>,
-    f: FlipFlop,
+    port: Parts<'a>,
 ) -> u32
-    ensures by_index { lent_of log.new ≡ run (unmapped_if (mem_of given.entry) r.entry.k (read_of r.entry) r.entry.count rels.now (with_bits f.entry) f.entry.bits.now) (lent_of log.old) }
-    ensures last_value { r.entry.count ≤ max_merge → is_over (state_of log.new.state) ≡ false → result ≡ log.old.state.next + r.entry.count }
+    ensures by_index { (trits : List ℕ) → lent_of log.new ≡ run (unmapped_if (memory_of given.entry.memory given.entry.nets.now trits) port.entry.reading.k (read_of port.entry.reading) port.entry.reading.count port.entry.relations.now (with_bits port.entry.flip_flop) port.entry.flip_flop.bits.now) (lent_of log.old) }
+    ensures last_value { port.entry.reading.count ≤ max_merge → is_over (state_of log.new.state) ≡ false → result ≡ log.old.state.next + port.entry.reading.count }
 {
-    if rules::MAX_MERGE < r.count {
+    if rules::MAX_MERGE < port.reading.count {
         return log.state.next;
     }
-    emit_unmapped(log, overlay, given, rels, r, f)
+    emit_unmapped(log, overlay, given, port)
 }

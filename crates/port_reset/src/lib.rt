@@ -24,17 +24,10 @@ ghost use Rattle.port_reset.specs.Call.{Acted, ResetStruct};
 use log_entries::{Log, LogState};
 use net_flip_flop::Controls;
 use net_memory::{Given, Memory};
-use port_reset_emit::{Mask, ResetNets};
-use port_transparency::Overlay;
+use port_overlay::Parts;
+use port_reset_emit::{ResetNets, Room};
 use port_unmap::Driven;
 use rules::Refusal;
-
-// Room for an unmapping: what is laid over the port's nets, and the mask. The dry run and the run for good share it.
-#[derive(Drop)]
-struct Room {
-    overlay: Overlay,
-    mask: Mask,
-}
 
 // 14, where Transparent relations are to go.
 fn wanted_short(given: Given<'_>, i: usize, incl: bool) -> bool
@@ -82,10 +75,12 @@ fn emit_port(
     ensures output_value { is_over (state_of log.new.state) ≡ false → with_output (mem_of given.entry) i (up_from result.first (result.last - result.first)) output.now ≡ (unmap_reset (mem_of given.entry) i incl output.now (own_flip_flop given.entry.memory given.entry.trits.now i c) log.old.state.next).value.output }
 {
     let own = given.read_port(i);
-    let (r, f) = port_unmap::parts_of(given, i, own, c, output);
-    let rels = port_unreset::wanted_relations(own.relations(), incl);
-    let Room { overlay, mask } = room;
-    port_reset_emit::emit_reset(log, overlay, mask, given, rels, r, f)
+    let parts = port_unmap::parts_of(given, i, &own, c, output);
+    let port = Parts {
+        relations: port_unreset::wanted_relations(parts.relations, incl),
+        ..parts
+    };
+    port_reset_emit::emit_reset(log, room, given, port)
 }
 
 // 20 and 21 of it, by a run without a log.
@@ -127,10 +122,7 @@ fn unmap_clocked(
     ensures log_after { driven_of m result nets.now trits.new output.new log.new ≡ driven (log_refusal (length log.old) (state_of st) (unmap_reset (memory_of m nets.now trits.old) i incl output.old (own_flip_flop m trits.old i c))) log.old (state_of st) (driving m nets.now trits.old output.old) (unmap_reset (memory_of m nets.now trits.old) i incl output.old (own_flip_flop m trits.old i c)) }
     ensures acted { Acted m i c incl result trits.old trits.new }
 {
-    let mut room = Room {
-        overlay: Overlay::new(),
-        mask: Mask::new(),
-    };
+    let mut room = Room::new();
     let given = Given {
         memory: m,
         nets,

@@ -39,9 +39,6 @@ use Rattle.port_reset_emit.specs.Behind.{start_trit, mask_behind, choice, reset_
 pub first_filled : (u w : List ℕ) (n t : ℕ) → w ≡ sets u 0 (replicate n t) → n ≤ length u → take n w ≡ replicate n t
 first_filled u w n t e h = take_stored u w (replicate n t) n e (sym (length-replicate n t)) h
 
-pub filled_length : (u w : List ℕ) (n t : ℕ) → w ≡ sets u 0 (replicate n t) → n ≤ length u → n ≡ length (take n w)
-filled_length u w n t e h = sym (ap length (first_filled u w n t e h) ∙ length-replicate n t)
-
 start_is : (b : Bool) (n : ℕ) → replicate n (start_trit b) ≡ (when b then ones n else undef n)
 unfolding undef ones
 start_is true n = refl

@@ -8,18 +8,19 @@ ghost use Rattle.rules.specs.Limits.{max_merge, X};
 ghost use Rattle.rules.specs.Merge.{add_dedup_dff_of};
 ghost use Rattle.net_flip_flop.specs.View.{controls_of};
 ghost use Rattle.log_entries.specs.View.{lent_of};
-ghost use Rattle.net_memory.specs.Given.{mem_of};
+ghost use Rattle.net_memory.specs.View.{memory_of};
 ghost use Rattle.port_transparency.specs.Gave.{Gave};
 ghost use Rattle.port_transparency.specs.Pairs.{read_of};
 ghost use Rattle.port_overlay.specs.Laid.{with_bits};
 ghost use Rattle.port_reset_emit.specs.Behind.{start_trit, mask_behind, mask_of, choice, reset_behind, reset_laid, reset_if};
-ghost use Rattle.port_reset_emit.specs.Room.{zero_mask};
+ghost use Rattle.port_reset_emit.specs.Room.{zero_mask, zero_room};
 
 use log_entries::Log;
 use merge_dff::Trits;
 use net_flip_flop::{Controls, FlipFlop};
 use net_memory::Given;
-use port_transparency::{Overlay, Reading};
+use port_overlay::Parts;
+use port_transparency::Overlay;
 
 // Room for the mask of an unmapping: the mask, and the trits of its flip-flop.
 #[derive(Drop)]
@@ -44,6 +45,25 @@ impl Mask {
     }
 }
 
+// Room for an unmapping: what is laid over the port's nets, and the mask. A dry run and a run for good share it.
+#[derive(Drop)]
+pub struct Room {
+    pub overlay: Overlay,
+    pub mask: Mask,
+}
+
+impl Room {
+    // A room of zeros.
+    pub fn new() -> Room
+        ensures { result ≡ zero_room }
+    {
+        Room {
+            overlay: Overlay::new(),
+            mask: Mask::new(),
+        }
+    }
+}
+
 // The void nets of an unmapping: from `first` on, `last` is the net after them.
 #[derive(Clone, Copy)]
 pub struct ResetNets {
@@ -59,7 +79,7 @@ fn start_trit(initial: bool) -> u8
 }
 
 // Here and below `n ≤ max_merge` stands in each contract: a type that knew it would be taken apart for its number in each function, and be made by a
-// test that `emit_reset` has already.
+// test that `emit_reset` has already. Overlay and mask go apart: of a room within a room the proof of `emit_behind` did not find the lengths.
 // The merging flip-flop of the mask of n nets, whose results are the first nets of the overlay's mask.
 fn emit_mask(
     log: &mut Log,
@@ -143,42 +163,39 @@ fn start_over(overlay: &mut Overlay, mask: &mut Mask, n: usize)
     lists::fill(&mut mask.over, 0, n, 0);
 }
 
-// A port with these relations and its flip-flop, which has the port's outputs as its bits.
+// A clocked port, the data and the mask of the write ports laid over none.
 fn emit_laid<'a>(
     log: &mut Log,
-    overlay: &mut Overlay,
-    mask: &mut Mask,
+    room: &mut Room,
     given: Given<'a>,
-    rels: &[u8],
-    r: Reading<'a>,
-    f: FlipFlop,
+    port: Parts<'a>,
 ) -> ResetNets
-    requires { r.count ≤ max_merge }
-    ensures { Gave (reset_laid (mem_of given.entry) r.entry.k (read_of r.entry) r.entry.count rels.now (with_bits f.entry) (mask_of f.entry r.entry.count) f.entry.bits.now) (lent_of log.old) (lent_of log.new) (up_from result.first (result.last - result.first)) }
+    requires { port.reading.count ≤ max_merge }
+    ensures { (trits : List ℕ) → Gave (reset_laid (memory_of given.entry.memory given.entry.nets.now trits) port.entry.reading.k (read_of port.entry.reading) port.entry.reading.count port.entry.relations.now (with_bits port.entry.flip_flop) (mask_of port.entry.flip_flop port.entry.reading.count) port.entry.flip_flop.bits.now) (lent_of log.old) (lent_of log.new) (up_from result.first (result.last - result.first)) }
 {
-    start_over(overlay, mask, r.count);
-    port_overlay::emit_pairs(log, overlay, &mut mask.over, given, rels, r);
-    emit_behind(log, overlay, mask, f, r.count)
+    let Room { overlay, mask } = room;
+    let n = port.reading.count;
+    start_over(overlay, mask, n);
+    let over = &mut mask.over;
+    port_overlay::emit_pairs(log, overlay, over, given, port.relations, port.reading);
+    emit_behind(log, overlay, mask, port.flip_flop, n)
 }
 
 // The same of any port: one of more nets than a merge takes, which no memory has, gives nothing.
 pub fn emit_reset<'a>(
     log: &mut Log,
-    overlay: &mut Overlay,
-    mask: &mut Mask,
+    room: &mut Room,
     given: Given<'a>,
-    rels: &[u8],
-    r: Reading<'a>,
-    f: FlipFlop,
+    port: Parts<'a>,
 ) -> ResetNets
-    ensures { Gave (reset_if (mem_of given.entry) r.entry.k (read_of r.entry) r.entry.count rels.now (with_bits f.entry) (mask_of f.entry r.entry.count) f.entry.bits.now) (lent_of log.old) (lent_of log.new) (up_from result.first (result.last - result.first)) }
+    ensures { (trits : List ℕ) → Gave (reset_if (memory_of given.entry.memory given.entry.nets.now trits) port.entry.reading.k (read_of port.entry.reading) port.entry.reading.count port.entry.relations.now (with_bits port.entry.flip_flop) (mask_of port.entry.flip_flop port.entry.reading.count) port.entry.flip_flop.bits.now) (lent_of log.old) (lent_of log.new) (up_from result.first (result.last - result.first)) }
 {
-    if rules::MAX_MERGE < r.count {
+    if rules::MAX_MERGE < port.reading.count {
         let next = log.state.next;
         return ResetNets {
             first: next,
             last: next,
         };
     }
-    emit_laid(log, overlay, mask, given, rels, r, f)
+    emit_laid(log, room, given, port)
 }

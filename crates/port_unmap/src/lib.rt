@@ -2,7 +2,7 @@
 #![tactic(auto)]
 
 ghost use Rattle.std.specs.Prelude.{◌≡◌, false, List, ℕ, ◌+◌, ◌<◌, ◌≤◌, min, length, ◌&&◌};
-ghost use Rattle.lists.specs.Lists.{any};
+ghost use Rattle.lists.specs.Lists.{any, part};
 ghost use Rattle.rules.specs.Limits.{max_ports, max_merge};
 ghost use Rattle.rules.specs.Cell as rules;
 ghost use Rattle.rules.specs.Cell.{read_at_of, read_wide_log2, output_slice, is_transparent, transparent_from};
@@ -24,6 +24,7 @@ ghost use Rattle.port_unmap.specs.Call.{unclocking, driving, rooms_of, driven_of
 use log_entries::{Log, LogState};
 use net_flip_flop::{Controls, FlipFlop};
 use net_memory::{Given, Memory, MemoryPortRelation, ReadPort};
+use port_overlay::Parts;
 use port_transparency::{Overlay, Reading};
 use rules::Refusal;
 
@@ -47,20 +48,20 @@ pub fn reading<'a>(width: u32, own: ReadPort<'a>) -> Reading<'a>
     }
 }
 
-// What an unmapping reads of read port i: its data as they are read, and its flip-flop as a cell of its own, whose bits are the port's outputs.
+// Read port i in parts, with these controls.
 #[tactic(auto, using(crate::proofs::Emitted::wide_from, crate::proofs::Emitted::slice_from))]
 pub fn parts_of<'a>(
     given: Given<'_>,
     i: usize,
-    own: ReadPort<'a>,
+    own: &'a ReadPort<'a>,
     c: Controls,
     output: &'a [u32],
-) -> (Reading<'a>, FlipFlop<'a>)
-    ensures reading { read_of own.entry ≡ read_at_of (mem_of given.entry) i → (result.0.k ≡ read_wide_log2 (mem_of given.entry) (read_at_of (mem_of given.entry) i)) × (result.0.addr.now ≡ (read_at_of (mem_of given.entry) i).addr) × (result.0.count ≡ (read_at_of (mem_of given.entry) i).data_len) × (result.1.bits.now ≡ output_slice (mem_of given.entry) i output.now) }
-    ensures flip_flop { FlipFlopOf result.1 (clocked_by c own.entry.port own.entry.trits.now) }
-    ensures related { length own.entry.port.relations ≡ max_ports }
+) -> Parts<'a>
+    ensures reading { read_of own.now ≡ read_at_of (mem_of given.entry) i → (result.reading.k ≡ read_wide_log2 (mem_of given.entry) (read_at_of (mem_of given.entry) i)) × (result.reading.addr.now ≡ (read_at_of (mem_of given.entry) i).addr) × (result.reading.count ≡ (read_at_of (mem_of given.entry) i).data_len) × (result.flip_flop.bits.now ≡ output_slice (mem_of given.entry) i output.now) }
+    ensures flip_flop { FlipFlopOf result.flip_flop (clocked_by c own.now.port own.now.trits.now) }
+    ensures relations { result.relations.now ≡ part 0 own.now.port.relations_len own.now.port.relations }
 {
-    let reading = reading(given.memory.width, own);
+    let reading = reading(given.memory.width, *own);
     let start = net_memory::output_start(&given.memory, i);
     let flip_flop = FlipFlop {
         controls: c,
@@ -69,7 +70,11 @@ pub fn parts_of<'a>(
         reset: own.reset(),
         init: own.init(),
     };
-    (reading, flip_flop)
+    Parts {
+        reading,
+        relations: own.relations(),
+        flip_flop,
+    }
 }
 
 // A clocked read port to unmap: its memory, its number there, and its controls.
@@ -87,8 +92,8 @@ impl<'a> Clocked<'a> {
         ensures last_value { (read_at_of (mem_of self.now.given) self.now.i).data_len ≤ max_merge → is_over (state_of log.new.state) ≡ false → result ≡ log.old.state.next + (read_at_of (mem_of self.now.given) self.now.i).data_len }
     {
         let own = self.given.read_port(self.i);
-        let (r, f) = parts_of(self.given, self.i, own, self.controls, output);
-        port_overlay::emit_unmap(log, overlay, self.given, own.relations(), r, f)
+        let port = parts_of(self.given, self.i, &own, self.controls, output);
+        port_overlay::emit_unmap(log, overlay, self.given, port)
     }
 
     // 20 and 21 of it, by a run without a log.

@@ -6,9 +6,8 @@ use native.Mathlib.Omega.{arith}
 use mathlib.Core.Bool.{Bool, false}
 use mathlib.Core.Option.{some}
 use mathlib.Core.List.{List}
-use lib.ListN.{length, replicate, length-replicate, replicate-append-replicate, get_or-eq_default}
-use lib.Seq.{sets, take-take, get_or-take, set_out, length-sets}
-use Rattle.lists.proofs.Stores.{sets_then}
+use lib.ListN.{length, replicate, length-replicate, get_or-eq_default}
+use lib.Seq.{sets, take-take, get_or-take, length-sets}
 use borrow.Author.Tests.{eqb-true, not-false}
 use Rattle.lists.specs.Lists.{sum_by, part}
 use Rattle.lists.proofs.Choice.{or_false}
@@ -138,23 +137,5 @@ pub blank_length : (m : Memory) (i : ℕ) (trits : List ℕ) → length (blanked
 blank_length m i trits = omega (arith, length-sets trits (trit_start m i) (replicate (trit_size (read_port m i)) trit_x))
 
 -- ---- where there is no such port
-pub struct_past : (m : Memory) (i : ℕ) (c : Controls) (incl : Bool) → length m.read_ports ≤ i → m ≡ unreset m i c incl
-struct_past m i c incl h =
-    ap (λ (ps : List MemoryReadPort). record { depth = m.depth; width = m.width; init_len = m.init_len; write_count = m.write_count; read_count = m.read_count; write_ports = m.write_ports; read_ports = ps })
-    (sym (set_out m.read_ports i (unreset_port (read_port m i) c incl) h))
-
 pub trits_past : (m : Memory) (i : ℕ) (trits : List ℕ) → length m.read_ports ≤ i → trits ≡ blanked m i trits
 trits_past m i trits h = sym (ap (λ (p : MemoryReadPort). sets trits (trit_start m i) (replicate (trit_size p) trit_x)) (get_or-eq_default m.read_ports no_read_port h))
-
--- ---- the three parts, one after the other
-pub three_blank : (m : Memory) (i : ℕ) (p : MemoryReadPort) (t t1 t2 t3 : List ℕ) (s a b c : ℕ) → p ≡ read_port m i → s ≡ trit_start m i → a ≡ p.clear_len → b ≡ p.reset_len → c ≡ p.init_len
-    → t1 ≡ sets t s (replicate a trit_x) → t2 ≡ sets t1 (s + a) (replicate b trit_x) → t3 ≡ sets t2 (s + a + b) (replicate c trit_x) → t3 ≡ blanked m i t
-three_blank m i p t t1 t2 t3 s a b c ep es ea eb ec e1 e2 e3 =
-    let x = sets_then t t1 t2 s (s + a) (replicate a trit_x) (replicate b trit_x) e1 e2 (ap (λ (k : ℕ). s + k) (sym (length-replicate a trit_x))) in
-    let y = x ∙ ap (sets t s) (replicate-append-replicate a b trit_x) in
-    let z = sets_then t t2 t3 s (s + a + b) (replicate (a + b) trit_x) (replicate c trit_x) y e3 (sums s a b (length-replicate (a + b) trit_x)) in
-    let n : a + b + c ≡ trit_size (read_port m i) = (λ k. ea k + eb k + ec k) ∙ ap trit_size ep in
-    z ∙ ap (sets t s) (replicate-append-replicate (a + b) c trit_x) ∙ (λ k. sets t (es k) (replicate (n k) trit_x))
-  where
-    sums : (s a b : ℕ) {k : ℕ} → k ≡ a + b → s + a + b ≡ s + k
-    sums s a b e = omega arith

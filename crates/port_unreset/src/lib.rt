@@ -104,12 +104,6 @@ pub fn blank(trits: &mut [u8], m: Memory, i: usize)
     if rules::MAX_PORTS <= i {
         return;
     }
-    let p = m.read_ports[i];
-    let start = net_memory::trit_start(&m, i);
-    let clear = p.clear_len as usize;
-    let reset = p.reset_len as usize;
-    let init = p.init_len as usize;
-    lists::fill(trits, start, clear, rules::TRIT_X);
-    lists::fill(trits, start + clear, reset, rules::TRIT_X);
-    lists::fill(trits, start + clear + reset, init, rules::TRIT_X);
+    let size = net_memory::trit_size(m.read_ports[i]);
+    lists::fill(trits, net_memory::trit_start(&m, i), size, rules::TRIT_X);
 }

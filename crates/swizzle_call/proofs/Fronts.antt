@@ -22,7 +22,7 @@ use Rattle.rules.specs.Refusals.{log_refusal, image_refusal, results_refusal, sw
 use Rattle.rules.proofs.Demand.{length_layout}
 use Rattle.rules.proofs.Traces.{start_same}
 use Rattle.log_entries.specs.declared.LogState.{LogState}
-use Rattle.log_entries.specs.View.{state_of, lent}
+use Rattle.log_entries.specs.View.{state_of}
 use Rattle.log_entries.proofs.Rooms.{Fits, room_fits}
 use Rattle.net_memory.specs.declared.Memory.{Memory}
 use Rattle.net_memory.specs.View.{memory_of}
@@ -30,6 +30,7 @@ use Rattle.net_memory.specs.Given.{given_of}
 use Rattle.swizzle_result.specs.View.{results_of}
 use Rattle.swizzle_reads.specs.Going.{Going}
 use Rattle.swizzle_call.specs.Acted.{Acted}
+use Rattle.swizzle_call.specs.Made.{made_of, none_yet_of}
 use Rattle.swizzle_call.proofs.Logs.{log_0}
 
 take_front : (xs ys : List ℕ) → take (length xs) (xs ++ ys) ≡ xs
@@ -71,7 +72,8 @@ module _ (r : rules.SwizzleRooms) (room : ℕ) (st : LogState) (m : Memory) (net
   enough : (length (shared_nets M R) ≤ r.nets) × (length (shared_trits M R) ≤ r.trits)
   enough = results_enough r M R (ap (λ (k : ℕ). results_refusal r M (swizzle M output p k).value) (sym start_is) ∙ room_0)
 
-  pub results_read : (log to kinds image image' : List ℕ) (g : Going) → length to ≡ r.nets → length kinds ≡ r.trits → Acted M (layout_of M p) (swizzle M output p) (lent st log) to kinds g
+  pub results_read : (log to kinds image image' : List ℕ) (g : Going) → length to ≡ r.nets → length kinds ≡ r.trits
+      → Acted M (layout_of M p) (swizzle M output p) (made_of (none_yet_of st) log to kinds) g
       → image' ≡ laid_out (layout_of M p) M.init image
       → results_of g.memory (take g.nets_at_of g.nets) (take g.trits_at_of g.trits) (take (image_size (layout_of M p)) image') ≡ R
   results_read log to kinds image image' g en ek a e =

@@ -11,7 +11,7 @@ use Rattle.rules.specs.Swizzle.{swizzle_writes, swizzle_reads, swizzle, shared_n
 use Rattle.rules.specs.Refusals.{swizzle_refusal}
 use Rattle.log_entries.specs.declared.LogState.{LogState}
 use Rattle.log_entries.specs.View.{state_of}
-use Rattle.log_entries.specs.Emission.{Lent, run}
+use Rattle.log_entries.specs.Emission.{run}
 use Rattle.net_memory.specs.declared.Memory.{Memory}
 use Rattle.net_memory.specs.Given.{given_of}
 use Rattle.swizzle_plan.specs.declared.MemorySwizzle.{MemorySwizzle}
@@ -34,14 +34,16 @@ pub record NoneYet (r : Reads) : Type 0 where
   pub trits_start : r.trits_at ≡ 0
   pub memory_is : r.memory ≡ no_memories
 
--- the log, the rooms and how much of them is used, and the memories that the struct and the rooms hold
-pub record Acted (m : Mem) (q : Layout) (t : Trace (List Driving)) (l : Lent) (to kinds : List ℕ) (g : Going) : Type 0 where
-  pub log_is : g.lent ≡ run t l
-  pub nets_are : g.nets ≡ sets to 0 (shared_nets m (t l.state.next).value)
-  pub trits_are : g.trits ≡ sets kinds 0 (shared_trits m (t l.state.next).value)
-  pub nets_end : g.nets_at_of ≡ length (shared_nets m (t l.state.next).value)
-  pub trits_end : g.trits_at_of ≡ length (shared_trits m (t l.state.next).value)
-  pub results_are : results_of g.memory (shared_nets m (t l.state.next).value) (shared_trits m (t l.state.next).value) (layout q m.init) ≡ (t l.state.next).value
+-- the log, the rooms and how much of them is used, and the memories that the struct and the rooms hold; the rooms are the same lent ones
+pub record Acted (m : Mem) (q : Layout) (t : Trace (List Driving)) (before after : Going) : Type 0 where
+  pub log_is : after.lent ≡ run t before.lent
+  pub nets_are : after.nets ≡ sets before.nets 0 (shared_nets m (t before.lent.state.next).value)
+  pub nets_name_is : after.nets_name ≡ before.nets_name
+  pub trits_are : after.trits ≡ sets before.trits 0 (shared_trits m (t before.lent.state.next).value)
+  pub trits_name_is : after.trits_name ≡ before.trits_name
+  pub nets_end : after.nets_at_of ≡ length (shared_nets m (t before.lent.state.next).value)
+  pub trits_end : after.trits_at_of ≡ length (shared_trits m (t before.lent.state.next).value)
+  pub results_are : results_of after.memory (shared_nets m (t before.lent.state.next).value) (shared_trits m (t before.lent.state.next).value) (layout q m.init) ≡ (t before.lent.state.next).value
 
 -- the ports of the rules, from this next free net on, that a struct stands for: with the arrays it holds them
 pub record PortsHeld (m : Mem) (output : Value) (p : Plan) (n : ℕ) (g : WideMemory) : Type 0 where

@@ -11,7 +11,7 @@ use Rattle.rules.specs.Record.{sizes_of}
 use Rattle.rules.specs.Answers.{Refused, Accepted}
 use Rattle.rules.specs.Refusals.{swizzle_refusal}
 use Rattle.log_entries.specs.declared.LogState.{LogState}
-use Rattle.log_entries.specs.View.{state_of, lent}
+use Rattle.log_entries.specs.View.{state_of}
 use Rattle.net_memory.specs.declared.Memory.{Memory}
 use Rattle.net_memory.specs.View.{memory_of}
 use Rattle.net_memory.specs.Given.{given_of}
@@ -33,7 +33,7 @@ pub record Unchanged (st : LogState) (log image to kinds scratch : List ℕ) (x 
 
 -- accepted, for this memory and plan
 pub record Changed (m : Mem) (output : List ℕ) (p : Plan) (st : LogState) (log image to kinds scratch : List ℕ) (x : Told) (log' image' to' kinds' scratch' : List ℕ) : Type 0 where
-  pub acted : Acted m (layout_of m p) (swizzle m output p) (lent st log) to kinds (made_of x.made log' to' kinds')
+  pub acted : Acted m (layout_of m p) (swizzle m output p) (made_of (none_yet_of st) log to kinds) (made_of x.made log' to' kinds')
   pub log_is : log' ≡ log_after log (state_of st) (swizzle m output p st.next)
   pub state_is : state_of x.made.state ≡ state_after (state_of st) (swizzle m output p st.next)
   pub image_is : image' ≡ laid_out (layout_of m p) m.init image

@@ -3,6 +3,7 @@ use mathlib.Core.Path.{◌≡◌, refl, sym, ap, ◌∙◌}
 use Prim.Native.Nat.{ℕ, ◌*◌, ◌≤◌}
 use native.Mathlib.Nat.{mul-le-mul}
 use native.Mathlib.Omega.{arith}
+use mathlib.Core.Bool.{true}
 use mathlib.Core.List.{List, []}
 use lib.ListN.{length, take, replicate, length-map, length-replicate}
 use lib.Seq.{sets, length-sets, take_all}
@@ -22,15 +23,19 @@ use Rattle.merge_keys.specs.Keys.{MergeOf}
 use Rattle.swizzle_laws.proofs.WriteCounts.{length_zero_kept}
 use Rattle.swizzle_columns.specs.declared.WidePort.{WidePort}
 use Rattle.swizzle_columns.specs.Rows.{all_sources}
-use Rattle.swizzle_columns.specs.Wide.{mask_row}
+use Rattle.swizzle_columns.specs.Wide.{rows_fit, mask_row}
 use Rattle.swizzle_columns.proofs.Rows.{length_repeating}
 use Rattle.swizzle_columns.proofs.Ports.{length_sources, mask_row_lem}
-use Rattle.swizzle_columns.proofs.Fits.{mask_can, rows_are}
+use Rattle.swizzle_columns.proofs.Fits.{mask_can}
 use Rattle.swizzle_counts.specs.Needs.{kept_nets, MaskFits}
+
+rows_low : (w : WidePort) (len : ℕ) → w.olds ≤ 16 → w.width ≤ max_width → len ≤ max_row → w.pieces ≤ max_nets → rows_fit w len ≡ true
+unfolding rows_fit
+rows_low w len h g k l = rw (le-leb len max_row k, le-leb w.olds 16 h, le-leb w.width max_width g, le-leb w.pieces max_nets l)
 
 pub mask_fits : (w : WidePort) (len n : ℕ) → w.olds ≤ 16 → w.width ≤ max_width → len ≤ max_row → w.pieces ≤ max_nets → n ≡ w.olds * len → MaskFits w len n
 mask_fits w len n h g k l e = record {
-  fits = sym (rows_are w len k h g) ∙ le-leb w.pieces max_nets l;
+  fits = rows_low w len h g k l;
   count = e;
   few = omega (arith, e, mul-le-mul {n₁ = w.olds} {m₁ = len} {n₂ = 16} {m₂ = 256} h k);
 }

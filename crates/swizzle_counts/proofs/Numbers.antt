@@ -16,64 +16,19 @@ use Rattle.image_geometry.specs.declared.Params.{Params}
 use Rattle.image_geometry.specs.View.{layout_by}
 use Rattle.swizzle_split.specs.declared.Split as machine
 use Rattle.std.specs.Prelude.{Option, None, Some}
-use Rattle.std.specs.Option.{is_some, unwrap_or}
+use Rattle.std.specs.Option.{is_some, UnwrapsOrElse}
 use Rattle.net_memory.specs.FlipFlop.{MemoryReadFlipFlop}
 use Rattle.swizzle_split.specs.Steps.{can_split, Answers}
 use Rattle.swizzle_counts.specs.declared.Needs.{Needs}
 use Rattle.swizzle_counts.specs.Needs.{no_needs, plus_needs, all_needs, Most, port_most, split_of, Lengths, PortFits, Ranges, is_clocked, read_from, read_needs, reads_needs, mux_words, mux_nets, write_from, write_needs, writes_needs}
 
-pub product_max : (a b : ℕ) → a ≤ 1048576 → b ≤ 32768 → a * b ≤ 34359738368
-product_max a b h g = mul-le-mul {n₁ = a} {m₁ = b} {n₂ = 1048576} {m₂ = 32768} h g
-
-pub clocked_is : (f : MemoryReadFlipFlop) → is_some f ≡ is_clocked f
-clocked_is None = refl
-clocked_is (Some c) = refl
-
 -- ---- the answer of the split: there is one where the limits are kept
 pub split_or : (q : Layout) (old new : ℕ) (addr hw₀ hw mux₀ mux : Value) (o : Option machine.Split) → Answers q old new addr hw₀ hw mux₀ mux o
-    → (d r : machine.Split) → r ≡ unwrap_or o d → can_split q old new (length addr) ≡ true → Lengths (split_addr q old new addr) r
+    → (d : machine.Split → Type 0) (r : machine.Split) → UnwrapsOrElse o d r → can_split q old new (length addr) ≡ true → Lengths (split_addr q old new addr) r
 split_or q old new addr hw₀ hw mux₀ mux None a d r e f =
     let g = a.cannot in
     let z : ◌≡◌ {A = ℕ} 0 1 = cc in absurd (omega arith)
 split_or q old new addr hw₀ hw mux₀ mux (Some s) a d r e f = rw e (record { hw_len = a.splits.hw_len; mux_len = a.splits.mux_len; pieces_are = a.splits.pieces_are })
-
--- ---- a read port
-module _ (n n' m m' hw hw' rows columns len wide muxes made scratch : ℕ) (b : Bool) (en : n ≡ n') (ew : wide ≡ rows * columns) (ex : muxes ≡ (n - 1) * (5 + 2 * len)) (ed : made ≡ (n - 1) * len)
-    (es : scratch ≡ n * len) (eh : hw ≡ hw') where
-  pub read_off : b ≡ false → record { words = rows * 4 + (muxes + (4 + 2 * len)); nets = wide + made; room = hw; trits = 0; scratch = scratch } ≡ read_from n' m' hw' rows columns len b
-  read_off e =
-      (λ i. record { words = rows * 4 + ((ex ∙ ap (λ (k : ℕ). (k - 1) * (5 + 2 * len)) en) i + (4 + 2 * len)); nets = ew i + (ed ∙ ap (λ (k : ℕ). (k - 1) * len) en) i; room = eh i; trits = 0; scratch = (es ∙ ap (λ (k : ℕ). k * len) en) i })
-      ∙ ap (read_from n' m' hw' rows columns len) (sym e)
-
-  pub read_on_lem : m ≡ m' → b ≡ true
-      → record { words = rows * 4 + (13 + 4 * m + (muxes + (4 + 2 * len))); nets = wide + (m + made); room = hw; trits = 3 * wide; scratch = scratch } ≡ read_from n' m' hw' rows columns len b
-  read_on_lem em e =
-      (λ i. record { words = rows * 4 + (13 + 4 * em i + ((ex ∙ ap (λ (k : ℕ). (k - 1) * (5 + 2 * len)) en) i + (4 + 2 * len))); nets = ew i + (em i + (ed ∙ ap (λ (k : ℕ). (k - 1) * len) en) i); room = eh i; trits = 3 * ew i; scratch = (es ∙ ap (λ (k : ℕ). k * len) en) i })
-      ∙ ap (read_from n' m' hw' rows columns len) (sym e)
-
--- ---- the split of a port, and what its numbers are
-module _ (p : Params) (columns old new : ℕ) (addr : Value) (f : PortFits p columns old new addr) (s : machine.Split) (l : Lengths (split_of p old new addr) s) where
-  pub ranges : (rows len : ℕ) → rows ≤ 16 → len ≤ 4096 → Ranges s.pieces s.mux_len s.hw_len rows columns len
-  ranges rows len h g = record {
-    pieces_some = omega (arith, l.pieces_are, f.pieces_some);
-    pieces_max = omega (arith, l.pieces_are, f.pieces_max);
-    mux_max = omega (arith, l.mux_len, f.mux_max);
-    addr_max = omega (arith, l.hw_len, f.addr_max);
-    rows_max = h;
-    columns_max = f.columns_max;
-    len_max = g;
-  }
-
-  pub read_is : (r : Needs) (rows rows' len len' : ℕ) (b b' : Bool) → r ≡ read_from s.pieces s.mux_len s.hw_len rows columns len b → rows ≡ rows' → len ≡ len' → b ≡ b'
-      → r ≡ read_from (split_of p old new addr).pieces (length (split_of p old new addr).mux_addr) (length (split_of p old new addr).addr) rows' columns len' b'
-  read_is r rows rows' len len' b b' e er el eb = e ∙ (λ i. read_from (l.pieces_are i) (l.mux_len i) (l.hw_len i) (er i) columns (el i) (eb i))
-
--- the same split by equal numbers
-pub lengths_at : (p : Params) (columns old old' new : ℕ) (addr addr' : Value) (s : machine.Split) → old ≡ old' → addr ≡ addr' → PortFits p columns old' new addr'
-    → (can_split (layout_by p []) old new (length addr) ≡ true → Lengths (split_of p old new addr) s) → Lengths (split_of p old' new addr') s
-lengths_at p columns old old' new addr addr' s e1 e2 f h =
-    subst (λ (a : Value). can_split (layout_by p []) old' new (length a) ≡ true → Lengths (split_of p old' new a) s) e2
-    (subst (λ (o : ℕ). can_split (layout_by p []) o new (length addr) ≡ true → Lengths (split_of p o new addr) s) e1 h) f.can
 
 -- ---- sums
 plus_assoc : (a b c : Needs) → plus_needs (plus_needs a b) c ≡ plus_needs a (plus_needs b c)
@@ -150,23 +105,6 @@ pub reads_are : (r : Needs) (m : Memory) (nets : List ℕ) (p : Params) (columns
     → r ≡ all_needs (map (λ i. read_needs m nets p columns (get_or reads i 0) i) (up_from 0 (length reads))) → r ≡ reads_needs m nets p columns reads
 unfolding reads_needs
 reads_are r m nets p columns reads e = e
-
--- ---- a write port
-pub write_is : (n n' m m' hw hw' rows columns kept wide mw words mn nets : ℕ) → n ≡ n' → m ≡ m' → hw ≡ hw' → wide ≡ rows * columns → mw ≡ mux_words m kept
-    → words ≡ n * (4 + 2 * m + mw) → mn ≡ mux_nets m kept → nets ≡ n * (1 + mn)
-    → record { words = words; nets = nets; room = hw + 2 * wide; trits = 0; scratch = 0 } ≡ write_from n' m' hw' rows columns kept
-write_is n n' m m' hw hw' rows columns kept wide mw words mn nets en em eh ew emw ewords emn enets = λ i. record {
-  words = (ewords ∙ ap (λ (k : ℕ). n * (4 + 2 * m + k)) emw ∙ (λ j. en j * (4 + 2 * em j + mux_words (em j) kept))) i;
-  nets = (enets ∙ ap (λ (k : ℕ). n * (1 + k)) emn ∙ (λ j. en j * (1 + mux_nets (em j) kept))) i;
-  room = eh i + 2 * ew i;
-  trits = 0;
-  scratch = 0;
-}
-
-module _ (p : Params) (columns old new : ℕ) (addr : Value) (f : PortFits p columns old new addr) (s : machine.Split) (l : Lengths (split_of p old new addr) s) where
-  pub write_needs_are : (r : Needs) (rows rows' kept kept' : ℕ) → r ≡ write_from s.pieces s.mux_len s.hw_len rows columns kept → rows ≡ rows' → kept ≡ kept'
-      → r ≡ write_from (split_of p old new addr).pieces (length (split_of p old new addr).mux_addr) (length (split_of p old new addr).addr) rows' columns kept'
-  write_needs_are r rows rows' kept kept' e er ek = e ∙ (λ i. write_from (l.pieces_are i) (l.mux_len i) (l.hw_len i) (er i) columns (ek i))
 
 pub writes_are : (r : Needs) (m : Memory) (nets : List ℕ) (p : Params) (columns : ℕ) (es writes : List ℕ)
     → r ≡ all_needs (map (λ i. write_needs m nets p columns es (get_or writes i 0) i) (up_from 0 (length writes))) → r ≡ writes_needs m nets p columns es writes

@@ -70,11 +70,11 @@ module _ (p p' : Params) (es : List ℕ) (o : Result Shape Refusal) (e : measure
   measured_image z f = ap (λ (x : sizes.Shape). x.image_size) (measured_is z f)
 
 module _ (m : Memory) (nets : List ℕ) (p p' : Params) (c c' : ℕ) (ep : p ≡ p') (ec : c ≡ c') where
-  pub writes_move : (es ws : List ℕ) → WritesFit m nets p' c' es ws → WritesFit m nets p c es ws
-  writes_move es ws f = subst (λ (x : Params). WritesFit m nets x c es ws) (sym ep) (subst (λ (k : ℕ). WritesFit m nets p' k es ws) (sym ec) f)
+  pub writes_move : (es es' : List ℕ) → es ≡ es' → (ws : List ℕ) → WritesFit m nets p' c' es' ws → WritesFit m nets p c es ws
+  writes_move es es' ee ws f = subst (λ (t : Type 0). t) (λ i. WritesFit m nets (sym ep i) (sym ec i) (sym ee i) ws) f
 
   pub reads_move : (rs : List ℕ) → ReadsFit m nets p' c' rs → ReadsFit m nets p c rs
-  reads_move rs f = subst (λ (x : Params). ReadsFit m nets x c rs) (sym ep) (subst (λ (k : ℕ). ReadsFit m nets p' k rs) (sym ec) f)
+  reads_move rs f = subst (λ (t : Type 0). t) (λ i. ReadsFit m nets (sym ep i) (sym ec i) rs) f
 
 -- sizes within the limits
 pub row_len : (p : Params) (es : List ℕ) → bad_layout_sizes p.depth p.width (length es) p.unit p.hard ≡ false → layout_too_large (layout_by p es) ≡ false

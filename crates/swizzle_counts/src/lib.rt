@@ -2,18 +2,21 @@
 // closed form.
 #![tactic(auto)]
 
-ghost use Rattle.std.specs.Prelude.{◌≡◌, true, [], eqb, ◌*◌, ◌≤◌, length};
+ghost use Rattle.std.specs.Prelude.{◌≡◌, ℕ, true, [], eqb, ◌*◌, ◌<◌, ◌≤◌, length, map, get_or};
+ghost use Rattle.lists.specs.Lists.{up_from};
 ghost use Rattle.lists.specs.Choice.{when◌then◌else◌};
 ghost use Rattle.rules.specs.Limits.{max_ports, max_width, max_row, max_merge};
 ghost use Rattle.image_geometry.specs.View.{layout_by};
 ghost use Rattle.swizzle_split.specs.Steps.{can_split};
-ghost use Rattle.swizzle_counts.specs.Needs.{plus_needs, Most, port_most, split_of, Lengths, Ranges, read_from, read_needs, ReadFits, ReadsFit, reads_needs, write_from, kept_nets, MaskFits, write_needs, WriteFits, WritesFit, writes_needs};
+ghost use Rattle.swizzle_counts.specs.Needs.{plus_needs, all_needs, Most, port_most, split_of, Lengths, Ranges, read_from, read_needs, ReadFits, ReadsFit, reads_needs, write_from, kept_nets, MaskFits, write_needs, WriteFits, WritesFit, writes_needs};
 
-use image_geometry::Params;
+use image_geometry::{Layout, Params};
+use log_entries::LogState;
 use merge_keys::Keys;
 use merge_keys::columns::Columns;
 use net_memory::Given;
 use swizzle_columns::WidePort;
+use swizzle_plan::Plan;
 use swizzle_split::Split;
 
 pub mod refusal;
@@ -28,19 +31,30 @@ pub struct Needs {
     pub scratch: usize,
 }
 
-// What a swizzle is lent: room for the image, for the nets and the trits of the resulting memories, and scratch.
+// A swizzle that is asked for: of a memory with the outputs that it drives, by a plan.
+#[derive(Clone, Copy)]
+pub struct Swizzle<'a> {
+    pub given: Given<'a>,
+    pub output: &'a [u32],
+    pub plan: Plan<'a>,
+}
+
+// What a swizzle is lent: a log of so many words with its state, room for the image, for the nets and the trits of the resulting memories, and scratch.
 #[derive(Clone, Copy)]
 pub struct SwizzleRooms {
+    pub log: usize,
+    pub state: LogState,
     pub image: usize,
     pub nets: usize,
     pub trits: usize,
     pub scratch: usize,
 }
 
-// A layout's numbers, and the columns of a row.
+// A memory with a layout, and the columns of a row.
 #[derive(Clone, Copy)]
-struct Sized {
-    params: Params,
+struct Sized<'a> {
+    given: Given<'a>,
+    layout: Layout<'a>,
     columns: usize,
 }
 
@@ -66,7 +80,7 @@ fn split_of(p: Params, old: u32, new: u32, addr: &[u32]) -> Split
 {
     let mut hw = [0u32; 1];
     let mut mux = [0u32; 1];
-    swizzle_split::split_addr(&mut hw, &mut mux, p, old, new, addr).unwrap_or(Split::default())
+    swizzle_split::split_addr(&mut hw, &mut mux, p, old, new, addr).unwrap_or_default()
 }
 
 // A product of two of a port's numbers.
@@ -107,29 +121,17 @@ fn read_by(s: Split, rows: usize, columns: usize, len: usize, clocked: bool) -> 
     }
 }
 
-// Read port i with its new wide log.
-#[tactic(auto, using(swizzle_split::proofs::Rows::rows_are))]
-fn read_needs(given: Given<'_>, q: Sized, new: u32, i: usize) -> Needs
-    requires { ReadFits given.memory given.nets.now q.params q.columns new i }
-    ensures { (result ≡ read_needs given.entry.memory given.entry.nets.now q.params q.columns new i) × Most port_most result }
-{
-    let r = given.read_port(i);
-    let len = r.port.data_len as usize;
-    let old = net_memory::wide::wide_log(given.memory.width, len);
-    // (Its nets are its address.)
-    let s = split_of(q.params, old, new, r.nets);
-    let rows = swizzle_split::rows_of(new) as usize;
-    read_by(s, rows, q.columns, len, r.port.flip_flop.is_some())
-}
-
-// All read ports.
-fn reads_needs(given: Given<'_>, q: Sized, reads: &[u32]) -> Needs
-    requires { ReadsFit given.memory given.nets.now q.params q.columns reads.now }
-    ensures { (result ≡ reads_needs given.entry.memory given.entry.nets.now q.params q.columns reads.now) × Most (max_ports * port_most) result }
+// What the ports of these new wide logs ask for together, where `needs` says it of each.
+fn needs_of<F: Fn(usize, u32) -> Needs>(wides: &[u32], needs: F) -> Needs
+    requires few { length wides.now ≤ max_ports }
+    requires callable { (i : ℕ) → i < length wides.now → F.pre needs i (get_or wides.now i 0) }
+    requires small { (i new : ℕ) (r : Needs) → F.post needs i new r → Most port_most r }
+    ensures sum { (f : ℕ → ℕ → Needs) → ((i new : ℕ) (r : Needs) → F.post needs i new r → r ≡ f i new) → result ≡ all_needs (map (λ i. f i (get_or wides.now i 0)) (up_from 0 (length wides.now))) }
+    ensures most { Most (max_ports * port_most) result }
 {
     let mut total = Needs::default();
-    for (i, new) in reads.iter().enumerate() {
-        total = total.plus(read_needs(given, q, *new, i));
+    for (i, new) in wides.iter().enumerate() {
+        total = total.plus(needs(i, *new));
     }
     total
 }
@@ -197,29 +199,50 @@ fn write_by(s: Split, rows: usize, columns: usize, kept: usize) -> Needs
     }
 }
 
-// Write port i with its new wide log.
-#[tactic(auto, using(swizzle_split::proofs::Rows::rows_are))]
-fn write_needs(given: Given<'_>, q: Sized, entries: &[u32], new: u32, i: usize) -> Needs
-    requires { WriteFits given.memory given.nets.now q.params q.columns entries.now new i }
-    ensures { (result ≡ write_needs given.entry.memory given.entry.nets.now q.params q.columns entries.now new i) × Most port_most result }
-{
-    let w = given.write_port(i);
-    let width = given.memory.width;
-    let old = net_memory::wide::wide_log(width, w.bits().len());
-    let s = split_of(q.params, old, new, w.addr());
-    let olds = swizzle_split::rows_of(old);
-    let kept = port_mask_count(width, olds, entries, w.mask());
-    write_by(s, swizzle_split::rows_of(new) as usize, q.columns, kept)
-}
-
-// All write ports.
-fn writes_needs(given: Given<'_>, q: Sized, entries: &[u32], writes: &[u32]) -> Needs
-    requires { WritesFit given.memory given.nets.now q.params q.columns entries.now writes.now }
-    ensures { (result ≡ writes_needs given.entry.memory given.entry.nets.now q.params q.columns entries.now writes.now) × Most (max_ports * port_most) result }
-{
-    let mut total = Needs::default();
-    for (i, new) in writes.iter().enumerate() {
-        total = total.plus(write_needs(given, q, entries, *new, i));
+impl Sized<'_> {
+    // Read port i with its new wide log.
+    #[tactic(auto, using(swizzle_split::proofs::Rows::rows_are))]
+    fn read_needs(&self, i: usize, new: u32) -> Needs
+        requires { ReadFits self.now.given.memory self.now.given.nets.now self.now.layout.params self.now.columns new i }
+        ensures { (result ≡ read_needs self.now.given.memory self.now.given.nets.now self.now.layout.params self.now.columns new i) × Most port_most result }
+    {
+        let r = self.given.read_port(i);
+        let len = r.port.data_len as usize;
+        let old = net_memory::wide::wide_log(self.given.memory.width, len);
+        // (Its nets are its address.)
+        let s = split_of(self.layout.params, old, new, r.nets);
+        let rows = swizzle_split::rows_of(new) as usize;
+        read_by(s, rows, self.columns, len, r.port.flip_flop.is_some())
     }
-    total
+
+    // All read ports.
+    fn reads_needs(&self, reads: &[u32]) -> Needs
+        requires { ReadsFit self.now.given.memory self.now.given.nets.now self.now.layout.params self.now.columns reads.now }
+        ensures { (result ≡ reads_needs self.now.given.memory self.now.given.nets.now self.now.layout.params self.now.columns reads.now) × Most (max_ports * port_most) result }
+    {
+        needs_of(reads, |i, new| self.read_needs(i, new))
+    }
+
+    // Write port i with its new wide log.
+    #[tactic(auto, using(swizzle_split::proofs::Rows::rows_are))]
+    fn write_needs(&self, i: usize, new: u32) -> Needs
+        requires { WriteFits self.now.given.memory self.now.given.nets.now self.now.layout.params self.now.columns self.now.layout.entries.now new i }
+        ensures { (result ≡ write_needs self.now.given.memory self.now.given.nets.now self.now.layout.params self.now.columns self.now.layout.entries.now new i) × Most port_most result }
+    {
+        let w = self.given.write_port(i);
+        let width = self.given.memory.width;
+        let old = net_memory::wide::wide_log(width, w.bits().len());
+        let s = split_of(self.layout.params, old, new, w.addr());
+        let olds = swizzle_split::rows_of(old);
+        let kept = port_mask_count(width, olds, self.layout.entries, w.mask());
+        write_by(s, swizzle_split::rows_of(new) as usize, self.columns, kept)
+    }
+
+    // All write ports.
+    fn writes_needs(&self, writes: &[u32]) -> Needs
+        requires { WritesFit self.now.given.memory self.now.given.nets.now self.now.layout.params self.now.columns self.now.layout.entries.now writes.now }
+        ensures { (result ≡ writes_needs self.now.given.memory self.now.given.nets.now self.now.layout.params self.now.columns self.now.layout.entries.now writes.now) × Most (max_ports * port_most) result }
+    {
+        needs_of(writes, |i, new| self.write_needs(i, new))
+    }
 }

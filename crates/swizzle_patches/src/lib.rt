@@ -9,10 +9,9 @@ ghost use Rattle.swizzle_patches.specs.Joined.{Joined, Kept, told_patches};
 
 use image_patches::Calls;
 use log_entries::LogState;
-use net_memory::Given;
 use rules::Refusal;
 use swizzle_call::Swizzled;
-use swizzle_plan::Plan;
+use swizzle_counts::Swizzle;
 
 // What an accepted swizzle gives, and by what the list of calls is refused: 20 where the room for their numbers is short.
 #[derive(Clone, Copy)]
@@ -23,7 +22,7 @@ pub struct SwizzledPatches {
 
 // A swizzle and the calls of a list on its image; the number of each call goes into `numbers`. Where the swizzle is refused no call is made. A call takes
 // its log and the log's state apart, as C hands them.
-pub fn swizzle_and_patch<'a>(
+pub fn swizzle_and_patch(
     log: &mut [u32],
     st: LogState,
     image: &mut [u8],
@@ -31,23 +30,14 @@ pub fn swizzle_and_patch<'a>(
     trits_to: &mut [u8],
     scratch: &mut [u32],
     numbers: &mut [u32],
-    given: Given<'_>,
-    output: &[u32],
-    plan: Plan<'a>,
-    calls: &[u32],
-    rows: &[u8],
+    asked: Swizzle<'_>,
+    calls: Calls<'_>,
 ) -> Result<SwizzledPatches, Refusal>
-    ensures joined { Joined (record { image = image.entry.now; nets = nets_to.old; trits = trits_to.old; scratch = scratch.old }) log.old (state_of st) (view_given given.entry) output.now (view_plan plan.entry) numbers.old (calls_of calls.now rows.now) (told_patches st result) log.new image.exit.now nets_to.new trits_to.new scratch.new numbers.new }
+    ensures joined { Joined (record { image = image.entry.now; nets = nets_to.old; trits = trits_to.old; scratch = scratch.old }) log.old (state_of st) (view_given asked.entry.given) asked.entry.output.now (view_plan asked.entry.plan) numbers.old (calls_of calls.entry.words.now calls.entry.trits.now) (told_patches st result) log.new image.exit.now nets_to.new trits_to.new scratch.new numbers.new }
     ensures kept { Kept st log.old image.old nets_to.old trits_to.old scratch.old (told_patches st result) log.new image.new nets_to.new trits_to.new scratch.new }
 {
-    let swizzled = swizzle_call::swizzle(
-        log, st, image, nets_to, trits_to, scratch, given, output, plan,
-    )?;
+    let swizzled = swizzle_call::swizzle(log, st, image, nets_to, trits_to, scratch, asked)?;
     let laid = swizzled.laid;
-    let list = Calls {
-        words: calls,
-        trits: rows,
-    };
-    let patches = image_patches::patch_each(image, numbers, laid.layout(), list);
+    let patches = image_patches::patch_each(image, numbers, laid.layout(), calls);
     Ok(SwizzledPatches { swizzled, patches })
 }

@@ -4,7 +4,7 @@ use Prim.Native.Nat.{ℕ, ◌+◌, ◌*◌, ◌^◌, ◌<◌, ◌≤◌}
 use native.Mathlib.Omega.{arith}
 use mathlib.Core.Bool.{Bool, true, false, ◌&&◌}
 use mathlib.Core.List.{List}
-use lib.ListN.{length, take, drop}
+use lib.ListN.{length, take, drop, replicate, length-replicate}
 use lib.Dec.{leb, ltb}
 use borrow.Author.Tests.{ltb-true, leb-true}
 use Rattle.lists.specs.Lists.{part}
@@ -24,14 +24,14 @@ use Rattle.net_memory.specs.View.{read_by, flip_flop_by}
 use Rattle.image_geometry.specs.declared.Params.{Params}
 use Rattle.image_geometry.specs.View.{layout_by}
 use Rattle.swizzle_split.specs.declared.Split.{Split}
-use Rattle.swizzle_split.specs.Steps.{can_split, Gives, Refuses, Answers}
+use Rattle.swizzle_split.specs.Steps.{can_split, Gives, Answers}
 use Rattle.swizzle_split.proofs.Limits.{can_fits}
 use Rattle.swizzle_read.specs.Port.{scratch_of}
 use Rattle.swizzle_reads.specs.declared.Sizes.{Sizes}
 use Rattle.swizzle_reads.specs.Going.{Going, in_port, split_of, trits_if, port_done, pieces_fit, rooms_fit, port_fits, port_if, ScratchKept}
 use Rattle.swizzle_reads.specs.Able.{Measures, Same}
 use Rattle.swizzle_reads.specs.Raw.{numbers_of, size_by, piece_by, need_by, port_raw, raw_fits}
-use Rattle.swizzle_reads.proofs.Lengths.{addr_low, mux_low}
+use Rattle.swizzle_split.proofs.Lengths.{addr_low, mux_low}
 use Rattle.swizzle_reads.proofs.Ported.{size_is, piece_is, raw_done, raw_kept}
 
 -- what the test says
@@ -64,29 +64,6 @@ passes pieces w room next size nets nets_at_of addr trits trits_at_of kinds e =
 need_same : (f : MemoryReadFlipFlop) (r : MemoryReadPort) (y : List ℕ) (n : ℕ) → need_by f n ≡ trits_if (flip_flop_by f r y) n
 need_same flips.None r y n = refl
 need_same (flips.Some f) r y n = refl
-
--- the split as the code has it in its rooms
-pub same_by : (q : Layout) (old new : ℕ) (addr hw₀ hw mux₀ mux : Value) (s : Split) (h k : ℕ) → Gives q old new addr hw₀ hw mux₀ mux s → length hw₀ ≡ addr_bits → length mux₀ ≡ addr_bits
-    → h ≡ s.hw_len → k ≡ s.mux_len → Same q old new addr (take h hw) (take k mux) s
-same_by q old new addr hw₀ hw mux₀ mux s h k g lh lm eh ek =
-    let f = can_fits q old new (length addr) g.can in
-    let v = g.splits in
-    record {
-      fits = f;
-      old_is = v.old_is;
-      new_is = v.new_is;
-      hw_is = take_stored hw₀ hw _ h v.hw_is (eh ∙ v.hw_len) (omega (arith, eh, v.hw_len, lh, addr_low q old new addr f));
-      hw_len = v.hw_len;
-      mux_is = take_stored mux₀ mux _ k v.mux_is (ek ∙ v.mux_len) (omega (arith, ek, v.mux_len, lm, mux_low q old new addr f));
-      pieces_are = v.pieces_are;
-      mask_is = v.mask_is;
-    }
-
--- the lengths of its parts
-pub hw_room : (q : Layout) (old new : ℕ) (addr hw₀ hw mux₀ mux : Value) (s : Split) → Gives q old new addr hw₀ hw mux₀ mux s → (s.hw_len ≤ addr_bits) × (s.mux_len ≤ addr_bits)
-hw_room q old new addr hw₀ hw mux₀ mux s g =
-    let f = can_fits q old new (length addr) g.can in
-    (omega (arith, g.splits.hw_len, addr_low q old new addr f), omega (arith, g.splits.mux_len, mux_low q old new addr f))
 
 if_not : (q : Layout) (room i new : ℕ) (r : MemoryReadPort) (x y : List ℕ) (out : Value) (g : Going) → port_fits q (split_of q (read_by r x y) new) (read_by r x y) room g ≡ false
     → g ≡ port_if q room i (in_port r x y) new out g
@@ -186,24 +163,43 @@ module _ (p : Params) (es : List ℕ) (new : ℕ) (r : MemoryReadPort) (x y : Li
             same_back (s.pieces * piece_by p s) k scratch after (omega (arith, need))
             (f ∙ raw_kept p z es old new addr hw mux s me sa r x y out scratch g.lent facts.pos holds-all facts.below)
 
--- ---- what `split_addr` answers, by the port's own address and lengths
-module _ (p : Params) (es : List ℕ) (new : ℕ) (r : MemoryReadPort) (x : List ℕ) (o : flips.Option Split) (n old : ℕ) (addr hw₀ hw mux₀ mux : Value) (ea : addr ≡ part 0 r.addr_len x)
-    (eo : old ≡ wide_log2 p.width n) (en : n ≡ r.data_len) (a : Answers (layout_by p es) old new addr hw₀ hw mux₀ mux o) where
-  own : Answers (layout_by p es) (wide_log2 p.width r.data_len) new (part 0 r.addr_len x) hw₀ hw mux₀ mux o
-  own =
-      subst (λ (k : ℕ). Answers (layout_by p es) k new (part 0 r.addr_len x) hw₀ hw mux₀ mux o) (eo ∙ ap (wide_log2 p.width) en)
-      (subst (λ (v : Value). Answers (layout_by p es) old new v hw₀ hw mux₀ mux o) ea a)
+-- ---- what `split_addr` answers for a port, by its own address and lengths, from rooms of zeros
+abbrev zeros : List ℕ
+zeros = replicate addr_bits 0
 
-  pub gives_port : (s : Split) → o ≡ flips.Some s → Gives (layout_by p es) (wide_log2 p.width r.data_len) new (part 0 r.addr_len x) hw₀ hw mux₀ mux s
-  gives_port s e = subst (λ (k : flips.Option Split). Answers (layout_by p es) (wide_log2 p.width r.data_len) new (part 0 r.addr_len x) hw₀ hw mux₀ mux k) e own
+-- where it splits: the limits, and the two parts of the address
+pub record Cuts (p : Params) (es : List ℕ) (new : ℕ) (r : MemoryReadPort) (x : List ℕ) (hw mux : Value) (s : Split) : Type 0 where
+  pub can : can_split (layout_by p es) (wide_log2 p.width r.data_len) new (length (part 0 r.addr_len x)) ≡ true
+  pub old_low : s.old ≤ max_wide
+  pub new_low : s.new ≤ max_wide
+  pub same : Same (layout_by p es) (wide_log2 p.width r.data_len) new (part 0 r.addr_len x) hw mux s
 
-  refuses : o ≡ flips.None → Refuses (layout_by p es) (wide_log2 p.width r.data_len) new (part 0 r.addr_len x) hw₀ hw mux₀ mux
-  refuses e = subst (λ (k : flips.Option Split). Answers (layout_by p es) (wide_log2 p.width r.data_len) new (part 0 r.addr_len x) hw₀ hw mux₀ mux k) e own
+module _ (p : Params) (es : List ℕ) (new : ℕ) (r : MemoryReadPort) (x : List ℕ) (o : flips.Option Split) (old : ℕ) (addr hw mux : Value) (ea : addr ≡ part 0 r.addr_len x)
+    (eo : old ≡ wide_log2 p.width r.data_len) (a : Answers (layout_by p es) old new addr zeros hw zeros mux o) where
+  own : (o' : flips.Option Split) → o ≡ o' → Answers (layout_by p es) (wide_log2 p.width r.data_len) new (part 0 r.addr_len x) zeros hw zeros mux o'
+  own o' e = subst (λ (t : Type 0). t) (λ i. Answers (layout_by p es) (eo i) new (ea i) zeros hw zeros mux (e i)) a
 
   pub refused_port : o ≡ flips.None → can_split (layout_by p es) (wide_log2 p.width r.data_len) new (length (part 0 r.addr_len x)) ≡ false
-  refused_port e = (refuses e).cannot
+  refused_port e = (own flips.None e).cannot
 
-pub limits_by : (q : Layout) (old new : ℕ) (addr hw₀ hw mux₀ mux : Value) (s : Split) → Gives q old new addr hw₀ hw mux₀ mux s → (s.old ≤ max_wide) × (s.new ≤ max_wide)
-limits_by q old new addr hw₀ hw mux₀ mux s g =
-    let f = can_fits q old new (length addr) g.can in
-    (omega (arith, g.splits.old_is, f.old_max), omega (arith, g.splits.new_is, f.new_max))
+  pub cut_port : (s : Split) → o ≡ flips.Some s → (h m : Value) → h ≡ take s.hw_len hw → m ≡ take s.mux_len mux → Cuts p es new r x h m s
+  cut_port s e h m eh em =
+      let g : Gives (layout_by p es) (wide_log2 p.width r.data_len) new (part 0 r.addr_len x) zeros hw zeros mux s = own (flips.Some s) e in
+      let f = can_fits (layout_by p es) (wide_log2 p.width r.data_len) new (length (part 0 r.addr_len x)) g.can in
+      let v = g.splits in
+      let n : length zeros ≡ addr_bits = length-replicate {A = ℕ} addr_bits 0 in
+      record {
+        can = g.can;
+        old_low = omega (arith, v.old_is, f.old_max);
+        new_low = omega (arith, v.new_is, f.new_max);
+        same = record {
+          fits = f;
+          old_is = v.old_is;
+          new_is = v.new_is;
+          hw_is = eh ∙ take_stored zeros hw _ s.hw_len v.hw_is v.hw_len (omega (arith, v.hw_len, n, addr_low (layout_by p es) _ new _ f));
+          hw_len = v.hw_len;
+          mux_is = em ∙ take_stored zeros mux _ s.mux_len v.mux_is v.mux_len (omega (arith, v.mux_len, n, mux_low (layout_by p es) _ new _ f));
+          pieces_are = v.pieces_are;
+          mask_is = v.mask_is;
+        };
+      }

@@ -11,11 +11,11 @@ use Rattle.lists.specs.Lists.{part}
 use Rattle.lists.proofs.Views.{length_views}
 use Rattle.rules.specs.Limits.{max_ports}
 use Rattle.rules.specs.Value.{Value}
-use Rattle.rules.specs.Cell.{ReadPort, read_at_of}
 use Rattle.rules.specs.Geometry.{Layout}
 use Rattle.net_memory.specs.declared.Memory.{Memory}
+use Rattle.net_memory.specs.declared.MemoryReadPort.{MemoryReadPort}
 use Rattle.net_memory.specs.View.{no_read_port, addr_size, trit_size, read_ports_of, reads_start, read_port, read_nets, read_trits, memory_of}
-use Rattle.net_memory.proofs.Ports.{part_at, read_of_view, reads_at}
+use Rattle.net_memory.proofs.Ports.{part_at}
 use Rattle.swizzle_reads.specs.Going.{Going, InPort, in_port, in_ports, port_of, port_if, ports_from, need_of, most_need, ScratchKept, AllKept}
 
 abbrev no_in : InPort
@@ -29,10 +29,6 @@ port_in m nets trits i h =
 
 pub length_in : (m : Memory) (nets trits : List ℕ) → length (read_ports_of m) ≡ min max_ports m.read_count → length (in_ports m nets trits) ≡ min max_ports m.read_count
 length_in m nets trits e = length_views addr_size trit_size in_port (read_ports_of m) (drop (reads_start m) nets) (drop m.init_len trits) ∙ e
-
--- the data length of port i
-pub len_at : (m : Memory) (nets trits : List ℕ) (i : ℕ) → i < min max_ports m.read_count → (d : ℕ) → d ≡ (read_at_of (memory_of m nets trits) i).data_len → d ≡ (read_port m i).data_len
-len_at m nets trits i h d e = e ∙ ap (λ (r : ReadPort). r.data_len) (read_of_view m nets trits i ∙ reads_at m nets trits i h)
 
 from_cons : (q : Layout) (room i : ℕ) (x : InPort) (xs : List InPort) (ns : List ℕ) (output : Value) (g : Going)
     → ports_from q room i (x ∷ xs) ns output g ≡ ports_from q room (suc i) xs (drop 1 ns) (drop x.port.data_len output) (port_if q room i x (get_or ns 0 0) (take x.port.data_len output) g)
@@ -91,13 +87,12 @@ kept_turn q xs ns i x before now after h e a s k l =
     to a b f g = omega arith
 
 -- ---- port i by what the code reads of it
-module _ (q : Layout) (m : Memory) (nets trits wide : List ℕ) (i n : ℕ) (a b : List ℕ) (ea : a ≡ read_nets m nets i) (eb : b ≡ read_trits m trits i) (en : n ≡ get_or wide i 0) where
-  pub at_by : (room at k : ℕ) (output out : Value) (g g' : Going) → out ≡ part at k output → k ≡ (read_port m i).data_len → g' ≡ port_if q room i (in_port (read_port m i) a b) n out g
-      → g' ≡ port_if q room i (port_of m nets trits i) (get_or wide i 0) (part at (read_port m i).data_len output) g
-  at_by room at k output out g g' eo ek f =
-      f ∙ (λ j. port_if q room i (in_port (read_port m i) (ea j) (eb j)) (en j) ((eo ∙ ap (λ (l : ℕ). part at l output) ek) j) g)
+module _ (q : Layout) (m : Memory) (nets trits wide : List ℕ) (i n : ℕ) (r : MemoryReadPort) (a b : List ℕ) (er : r ≡ read_port m i) (ea : a ≡ read_nets m nets i) (eb : b ≡ read_trits m trits i)
+    (en : n ≡ get_or wide i 0) where
+  pub at_by : (room room' : ℕ) (out : Value) (g g' : Going) → room ≡ room' → g' ≡ port_if q room i (in_port r a b) n out g → g' ≡ port_if q room' i (port_of m nets trits i) (get_or wide i 0) out g
+  at_by room room' out g g' e f = f ∙ (λ j. port_if q (e j) i (in_port (er j) (ea j) (eb j)) (en j) out g)
 
-  pub at_kept : (before after : List ℕ) → ScratchKept q (in_port (read_port m i) a b) n before after → ScratchKept q (port_of m nets trits i) (get_or wide i 0) before after
+  pub at_kept : (before after : List ℕ) → ScratchKept q (in_port r a b) n before after → ScratchKept q (port_of m nets trits i) (get_or wide i 0) before after
   at_kept before after f k h =
-      let e : need_of q (in_port (read_port m i) a b) n ≡ need_of q (port_of m nets trits i) (get_or wide i 0) = (λ j. need_of q (in_port (read_port m i) (ea j) (eb j)) (en j)) in
+      let e : need_of q (in_port r a b) n ≡ need_of q (port_of m nets trits i) (get_or wide i 0) = (λ j. need_of q (in_port (er j) (ea j) (eb j)) (en j)) in
       f k (subst (λ (l : ℕ). l ≤ k) (sym e) h)

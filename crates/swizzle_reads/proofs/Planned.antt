@@ -43,6 +43,8 @@ pub record ReadsDone (M : rules.Mem) (q : Layout) (ns : List ℕ) (output : Valu
   pub log_is : g'.lent ≡ run (swizzle_reads M q M.reads ns output) g.lent
   pub nets_are : g'.nets ≡ sets g.nets g.nets_at_of (addrs_of M q M.reads ns)
   pub trits_are : g'.trits ≡ sets g.trits g.trits_at_of (trits_of M q M.reads ns)
+  pub nets_name_is : g'.nets_name ≡ g.nets_name
+  pub trits_name_is : g'.trits_name ≡ g.trits_name
   pub nets_end : g'.nets_at_of ≡ g.nets_at_of + length (addrs_of M q M.reads ns)
   pub trits_end : g'.trits_at_of ≡ g.trits_at_of + length (trits_of M q M.reads ns)
   pub memory_is : g'.memory ≡ with_read_ports g.memory 0 (map (λ (k : HeldRead q). k.struct) rs)
@@ -88,6 +90,8 @@ module _ (m : Memory) (nets trits : List ℕ) (q : Layout) (ns : List ℕ) (outp
           log_is = ap (λ (x : Going). x.lent) done_is ∙ ap (λ (ps : List rules.ReadPort). run (swizzle_reads M q ps ns output) g.lent) e;
           nets_are = ap (λ (x : Going). x.nets) done_is ∙ ap (λ (ps : List rules.ReadPort). sets g.nets g.nets_at_of (addrs_of M q ps ns)) e;
           trits_are = ap (λ (x : Going). x.trits) done_is ∙ ap (λ (ps : List rules.ReadPort). sets g.trits g.trits_at_of (trits_of M q ps ns)) e;
+          nets_name_is = ap (λ (x : Going). x.nets_name) done_is;
+          trits_name_is = ap (λ (x : Going). x.trits_name) done_is;
           nets_end = ap (λ (x : Going). x.nets_at_of) done_is ∙ ap (λ (ps : List rules.ReadPort). g.nets_at_of + length (addrs_of M q ps ns)) e;
           trits_end = ap (λ (x : Going). x.trits_at_of) done_is ∙ ap (λ (ps : List rules.ReadPort). g.trits_at_of + length (trits_of M q ps ns)) e;
           memory_is = ap (λ (x : Going). x.memory) done_is ∙ ap (with_read_ports g.memory 0) (sym (held_structs M q xs ns next each));
@@ -95,7 +99,3 @@ module _ (m : Memory) (nets trits : List ℕ) (q : Layout) (ns : List ℕ) (outp
           addrs_held = held_nets M q xs ns next each ∙ ap (λ (ps : List rules.ReadPort). addrs_of M q ps ns) e;
           kinds_held = held-trits M q xs ns next each ∙ ap (λ (ps : List rules.ReadPort). trits_of M q ps ns) e;
         }
-
--- the ports in use of the struct, where its count says as many
-pub ports_in_use : (g : WideMemory) (ps : List WideReadPort) → g.read_count ≡ length ps → length ps ≤ max_ports → length g.read_ports ≡ max_ports → result.read_ports_of (with_read_ports g 0 ps) ≡ ps
-ports_in_use g ps e h f = take_stored g.read_ports (sets g.read_ports 0 ps) ps (min max_ports g.read_count) refl (omega arith) (omega arith)

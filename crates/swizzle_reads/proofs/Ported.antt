@@ -34,7 +34,7 @@ use Rattle.swizzle_reads.specs.declared.Sizes.{Sizes}
 use Rattle.swizzle_reads.specs.Going.{Going, with_read_port, wide_of, in_port, port_done}
 use Rattle.swizzle_reads.specs.Able.{Measures, Same}
 use Rattle.swizzle_reads.specs.Raw.{numbers_of, wide_by_of, size_by, piece_by, read_by', trits_by, need_by, port_by, port_raw}
-use Rattle.swizzle_reads.proofs.Lengths.{mux_low, pieces_few, old_few, new_few}
+use Rattle.swizzle_split.proofs.Lengths.{mux_low, pieces_few, old_few, new_few}
 
 can_all : (n : Pieces) (mux : Value) (w : ℕ) (scratch : List ℕ) → length mux ≤ addr_bits → 0 < n.count → n.count * w ≤ length scratch → can_read n mux w scratch ≡ true
 unfolding can_read
@@ -183,7 +183,9 @@ module _ (p : Params) (z : Sizes) (es : List ℕ) (old new : ℕ) (addr hw mux :
       raw_done = λ k. record {
         lent = raw_log r x y out scratch g.lent pos holds below k;
         nets = sets g.nets g.nets_at_of (sa.hw_is k);
+        nets_name = g.nets_name;
         trits = trits_unfold r.flip_flop r y g.trits_at_of g.trits kinds k;
+        trits_name = g.trits_name;
         nets_at_of = g.nets_at_of + length (sa.hw_is k);
         trits_at_of = g.trits_at_of + need_is r.flip_flop r y k;
         memory = with_read_port g.memory i (port_is k);

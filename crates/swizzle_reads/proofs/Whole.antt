@@ -27,7 +27,8 @@ use Rattle.swizzle_result.specs.declared.WideReadPort.{WideReadPort}
 use Rattle.swizzle_result.specs.declared.WideMemory.{WideMemory}
 use Rattle.swizzle_reads.specs.Going.{Going, InPort, wide_of, port_trits, old_of, split_of, trits_if, port_done, pieces_fit, rooms_fit, port_fits, port_if, ports_from}
 use Rattle.swizzle_reads.specs.Planned.{addrs_of, trits_of, PortPlanned, LayoutPlanned, ReadPlanned}
-use Rattle.swizzle_reads.proofs.Lengths.{pieces_few, trits_length}
+use Rattle.swizzle_split.proofs.Lengths.{pieces_few}
+use Rattle.swizzle_reads.proofs.Lengths.{trits_length}
 use Rattle.swizzle_reads.proofs.Layouts.{rows_are}
 
 -- ---- a split of a planned port
@@ -156,7 +157,9 @@ abbrev pub all_done : Mem → Layout → ℕ → List InPort → List ℕ → Va
 all_done m q i xs ns output g = record {
   lent = run (swizzle_reads m q (ports_of xs) ns output) g.lent;
   nets = sets g.nets g.nets_at_of (addrs_of m q (ports_of xs) ns);
+  nets_name = g.nets_name;
   trits = sets g.trits g.trits_at_of (trits_of m q (ports_of xs) ns);
+  trits_name = g.trits_name;
   nets_at_of = g.nets_at_of + length (addrs_of m q (ports_of xs) ns);
   trits_at_of = g.trits_at_of + length (trits_of m q (ports_of xs) ns);
   memory = with_read_ports g.memory i (structs_of m q xs ns g.lent.state.next);
@@ -272,7 +275,9 @@ module _ (m : Mem) (q : Layout) (lp : LayoutPlanned m q) (room : ℕ) where
         λ k. record {
           lent = join_lent k;
           nets = sets_append t.addr a g.nets g.nets_at_of k;
+          nets_name = g.nets_name;
           trits = sets_append (port_trits q t p) b g.trits g.trits_at_of k;
+          trits_name = g.trits_name;
           nets_at_of = (add_assoc g.nets_at_of (length t.addr) (length a) ∙ ap (λ (c : ℕ). g.nets_at_of + c) (sym addrs_length)) k;
           trits_at_of = (add_assoc g.trits_at_of (length (port_trits q t p)) (length b) ∙ ap (λ (c : ℕ). g.trits_at_of + c) (sym kinds_length)) k;
           memory = join_structs k;
@@ -295,7 +300,9 @@ module _ (m : Mem) (q : Layout) (lp : LayoutPlanned m q) (room : ℕ) where
   done_nil ns output i g = λ k. record {
     lent = (sym (run-done [] g.lent) ∙ ap (λ (u : Trace (List WideRead)). run u g.lent) (sym (reads_nil ns output))) k;
     nets = g.nets;
+    nets_name = g.nets_name;
     trits = g.trits;
+    trits_name = g.trits_name;
     nets_at_of = sym (add-zero g.nets_at_of) k;
     trits_at_of = sym (add-zero g.trits_at_of) k;
     memory = g.memory;

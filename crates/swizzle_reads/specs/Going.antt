@@ -1,5 +1,6 @@
 -- What the read ports of a swizzle leave, one after the other: the log, the nets and trits in lent room, and the struct of the memories.
 use Rattle.std.specs.Prelude.{◌≡◌, ℕ, suc, ◌+◌, ◌*◌, ◌^◌, ◌≤◌, max, Bool, not, ◌&&◌, List, [], ◌∷◌, length, take, drop, get_or, set, eqb, leb, ltb}
+use Rattle.std.specs.Borrow.{GName}
 use Rattle.std.proofs.Math.Option.{Option, none, some}
 use Rattle.std.proofs.lemmas.List.Edits.{sets}
 use Rattle.lists.specs.Choice.{when◌then◌else◌}
@@ -24,22 +25,21 @@ use Rattle.swizzle_result.specs.declared.WideMemory.{WideMemory}
 use Rattle.swizzle_result.specs.Held.{clock_trits}
 use Rattle.swizzle_reads.specs.declared.Reads.{Reads}
 
--- the log, the nets' room with where the next address goes, the trits' room with where the next trits go, and the struct
+-- the log, the nets' room with where the next address goes, the trits' room with where the next trits go, and the struct; with the names by which the
+-- lenders know both rooms again
 pub record Going : Type 0 where
   pub lent : Lent
   pub nets : List ℕ
+  pub nets_name : GName
   pub trits : List ℕ
+  pub trits_name : GName
   pub nets_at_of : ℕ
   pub trits_at_of : ℕ
   pub memory : WideMemory
 
 -- what a log and the machine's rooms hold
 abbrev pub going_of : Log → Reads → Going
-going_of log g = record { lent = lent_of log; nets = g.nets.now; trits = g.trits.now; nets_at_of = g.nets_at; trits_at_of = g.trits_at; memory = g.memory }
-
--- the rooms are the same lent ones
-abbrev pub SameRooms : Reads → Reads → Type 0
-SameRooms before after = (after.nets.ghost_name ≡ before.nets.ghost_name) × (after.trits.ghost_name ≡ before.trits.ghost_name)
+going_of log g = record { lent = lent_of log; nets = g.nets.now; nets_name = g.nets.ghost_name; trits = g.trits.now; trits_name = g.trits.ghost_name; nets_at_of = g.nets_at; trits_at_of = g.trits_at; memory = g.memory }
 
 -- a struct with read port i exchanged
 abbrev pub with_read_port : WideMemory → ℕ → WideReadPort → WideMemory
@@ -95,7 +95,9 @@ abbrev pub port_done : Layout → swizzle.Split → ℕ → InPort → Value →
 port_done q s i x out g = record {
   lent = run (swizzle_read q s x.port out) g.lent;
   nets = sets g.nets g.nets_at_of s.addr;
+  nets_name = g.nets_name;
   trits = sets g.trits g.trits_at_of (port_trits q s x.port);
+  trits_name = g.trits_name;
   nets_at_of = g.nets_at_of + length s.addr;
   trits_at_of = g.trits_at_of + length (port_trits q s x.port);
   memory = with_read_port g.memory i (wide_of s x.struct g.lent.state.next);

@@ -61,7 +61,9 @@ unfoldable pub port_raw : Params → Sizes → Split → ℕ → MemoryReadPort 
 port_raw p z s i r y hw mux es out scratch g = record {
   lent = read_by' p z s r.flip_flop mux es out scratch g.lent;
   nets = sets g.nets g.nets_at_of hw;
+  nets_name = g.nets_name;
   trits = trits_by r.flip_flop p z s r y es g.trits_at_of g.trits;
+  trits_name = g.trits_name;
   nets_at_of = g.nets_at_of + length hw;
   trits_at_of = g.trits_at_of + need_by r.flip_flop (size_by z s);
   memory = with_read_port g.memory i (port_by s r g.lent.state.next);

@@ -7,7 +7,7 @@ ghost use Rattle.net_memory.specs.View.{read_port};
 ghost use Rattle.lists.specs.Lists.{part};
 ghost use Rattle.log_entries.specs.View.{lent_of};
 ghost use Rattle.image_geometry.specs.View.{layout_of};
-ghost use Rattle.swizzle_reads.specs.Going.{going_of, SameRooms, in_port, pieces_fit, rooms_fit, port_if, ports_from, in_ports, port_of, reads_if, ScratchKept, AllKept};
+ghost use Rattle.swizzle_reads.specs.Going.{going_of, in_port, pieces_fit, rooms_fit, port_if, ports_from, in_ports, reads_if, ScratchKept, AllKept};
 ghost use Rattle.swizzle_reads.specs.Raw.{need_by, port_by};
 ghost use Rattle.swizzle_reads.specs.Cuts.{piece_of, size_of, nets_of, logged, loaded, clocked, fits_in, all_of, Holding};
 
@@ -108,7 +108,7 @@ impl Cut<'_> {
     fn put_trits(self, to: &mut [u8], at: usize, r: ReadPort<'_>)
         ensures { to.new ≡ clocked self.entry r.entry.port r.entry.trits.now at to.old }
     {
-        if let None = r.port.flip_flop {
+        if r.port.flip_flop.is_none() {
             return;
         }
         let q = self.rows.layout;
@@ -125,7 +125,7 @@ impl Cut<'_> {
     fn trit_count(self, f: Option<Controls>) -> usize
         ensures { result ≡ need_by f (size_of self.entry) }
     {
-        if let None = f {
+        if f.is_none() {
             return 0;
         }
         3 * self.size() as usize
@@ -191,7 +191,6 @@ impl Reads<'_> {
         requires { Holding x port.read.port.flip_flop (length hw.now) self.old }
         ensures ports_after { going_of log.new self.new ≡ all_of x.entry port.entry.number port.entry.read.port port.entry.read.trits.now hw.now mux.now port.entry.output.now scratch.old (going_of log.old self.old) }
         ensures scratch_after { drop (nets_of x.entry) scratch.new ≡ drop (nets_of x.entry) (loaded x.entry mux.now scratch.old log.old.state.next) }
-        ensures same_rooms { SameRooms self.old self.new }
     {
         let r = port.read.port;
         let first = log.state.next;
@@ -207,7 +206,6 @@ impl Reads<'_> {
     fn read_port(&mut self, log: &mut Log, scratch: &mut [u32], rows: Rows<'_>, port: Port<'_>)
         ensures ports_after { going_of log.new self.new ≡ port_if (layout_of rows.entry.layout) (length scratch.old) port.entry.number (in_port port.entry.read.port port.entry.read.nets.now port.entry.read.trits.now) port.entry.wide port.entry.output.now (going_of log.old self.old) }
         ensures scratch_kept { ScratchKept (layout_of rows.entry.layout) (in_port port.entry.read.port port.entry.read.nets.now port.entry.read.trits.now) port.entry.wide scratch.old scratch.new }
-        ensures same_rooms { SameRooms self.old self.new }
     {
         let mut hw = [0u32; ROOM];
         let mut mux = [0u32; ROOM];
@@ -223,36 +221,9 @@ impl Reads<'_> {
         if !self.fits(x, r.flip_flop, scratch.len(), log.state.next) {
             return;
         }
-        let hw = &hw[..s.hw_len as usize];
-        let mux = &mux[..s.mux_len as usize];
+        let hw = lists::part(&hw, 0, s.hw_len as usize);
+        let mux = lists::part(&mux, 0, s.mux_len as usize);
         self.read_split(log, scratch, x, port, hw, mux);
-    }
-
-    // Read port i, whose outputs start at `at`.
-    fn port_at(
-        &mut self,
-        log: &mut Log,
-        scratch: &mut [u32],
-        i: usize,
-        at: usize,
-        rows: Rows<'_>,
-        given: Given<'_>,
-        wide: &[u32],
-        output: &[u32],
-    )
-        requires { i < min max_ports given.memory.read_count }
-        ensures ports_after { going_of log.new self.new ≡ port_if (layout_of rows.entry.layout) (length scratch.old) i (port_of given.entry.memory given.entry.nets.now given.entry.trits.now i) (get_or wide.now i 0) (part at (read_port given.entry.memory i).data_len output.now) (going_of log.old self.old) }
-        ensures scratch_kept { ScratchKept (layout_of rows.entry.layout) (port_of given.entry.memory given.entry.nets.now given.entry.trits.now i) (get_or wide.now i 0) scratch.old scratch.new }
-        ensures same_rooms { SameRooms self.old self.new }
-    {
-        let read = given.read_port(i);
-        let x = Port {
-            number: i,
-            read,
-            wide: wide.get(i).copied().unwrap_or(0),
-            output: lists::part(output, at, read.port.data_len as usize),
-        };
-        self.read_port(log, scratch, rows, x);
     }
 
     // Every read port, one after the other.
@@ -267,12 +238,19 @@ impl Reads<'_> {
     )
         ensures ports_after { going_of log.new self.new ≡ ports_from (layout_of rows.entry.layout) (length scratch.old) 0 (in_ports given.entry.memory given.entry.nets.now given.entry.trits.now) wide.now output.now (going_of log.old self.old) }
         ensures all_kept { AllKept (layout_of rows.entry.layout) (in_ports given.entry.memory given.entry.nets.now given.entry.trits.now) wide.now scratch.old scratch.new }
-        ensures same_rooms { SameRooms self.old self.new }
     {
         let mut at = 0;
         for i in 0..net_memory::ports_used(given.memory.read_count) {
-            self.port_at(log, scratch, i, at, rows, given, wide, output);
-            at += net_memory::read_data_len(&given.memory, i);
+            let read = given.read_port(i);
+            let len = read.port.data_len as usize;
+            let port = Port {
+                number: i,
+                read,
+                wide: wide.get(i).copied().unwrap_or(0),
+                output: lists::part(output, at, len),
+            };
+            self.read_port(log, scratch, rows, port);
+            at += len;
         }
     }
 
@@ -289,9 +267,8 @@ impl Reads<'_> {
     )
         ensures ports_after { going_of log.new self.new ≡ reads_if (layout_of q.entry) (length scratch.old) (in_ports given.entry.memory given.entry.nets.now given.entry.trits.now) wide.now output.now (going_of log.old self.old) }
         ensures all_kept { AllKept (layout_of q.entry) (in_ports given.entry.memory given.entry.nets.now given.entry.trits.now) wide.now scratch.old scratch.new }
-        ensures same_rooms { SameRooms self.old self.new }
     {
-        let Some(shape) = image_check::check_layout(q) else {
+        let Ok(shape) = image_check::check_layout(q) else {
             return;
         };
         if q.params.width == 0 {

@@ -25,17 +25,7 @@ use Rattle.swizzle_laws.proofs.Whole.{bits_whole, mask_whole}
 use Rattle.swizzle_writes.specs.Placed.{port_by}
 use Rattle.swizzle_writes.specs.Planned.{wide_nets, ports_by}
 use Rattle.swizzle_writes.proofs.Planned.{new_is}
-use Rattle.swizzle_writes.proofs.Whole.{clock_is}
-
--- ---- the next write port
-write_at_lem : (m : Mem) (j : ℕ) (w : WritePort) (ws : List WritePort) → drop j m.writes ≡ w ∷ ws → write_at m j ≡ w
-unfolding write_at
-write_at_lem m j w ws e =
-    let d : WritePort = record { addr = []; bits = []; mask = []; clock = Pos 0 } in
-    sym (get_or-drop j m.writes 0 d ∙ ap (λ (k : ℕ). get_or m.writes k d) (add-zero j)) ∙ ap (λ (l : List WritePort). get_or l 0 d) e
-
-write_rest : (m : Mem) (j : ℕ) (w : WritePort) (ws : List WritePort) → drop j m.writes ≡ w ∷ ws → drop (suc j) m.writes ≡ ws
-write_rest m j w ws e = sym (drop-drop 1 j m.writes ∙ ap (λ (k : ℕ). drop k m.writes) (add-one j)) ∙ ap (λ (l : List WritePort). drop 1 l) e
+use Rattle.swizzle_writes.proofs.Whole.{write_at_lem, write_rest, clock_is}
 
 -- no more ports than the struct says
 pub writes_most : (mem : Memory) (nets trits : List ℕ) → length (memory_of mem nets trits).writes ≤ min max_ports mem.write_count

@@ -42,7 +42,7 @@ use Rattle.swizzle_reads.specs.Planned.{addrs_of, ReadPlanned}
 use Rattle.swizzle_reads.proofs.Whole.{with_read_ports}
 use Rattle.swizzle_reads.proofs.Planned.{ReadsDone, held_reads, reads_planned}
 use Rattle.swizzle_ready.proofs.Planned.{number_0, layout_facts, write_pairs, read_pairs, nets_enough, write_planned, layout_planned, read_planned}
-use Rattle.swizzle_ready.proofs.Runs.{writes_next, writes_used, writes_held, reads_start_lem, rows_held, rows_split}
+use Rattle.swizzle_ready.proofs.Runs.{writes_next, writes_used, writes_held, reads_start_lem, rows_split}
 use Rattle.swizzle_ready.proofs.Shares as shares
 use Rattle.swizzle_ready.proofs.HeldWrites as held
 use Rattle.swizzle_ready.proofs.HeldWrites.{writes_most, held_writes}
@@ -50,7 +50,6 @@ use Rattle.swizzle_ready.proofs.HeldWrites.{writes_most, held_writes}
 -- what both halves leave, from this log and these rooms for nets and trits
 pub record RowsDone (m : Mem) (output : Value) (p : Plan) (l : Lent) (to kinds : List ℕ) (g : Going) : Type 0 where
   pub log_is : g.lent ≡ run (swizzle_rows m output p) l
-  pub not_over : is_over g.lent.state ≡ false
   pub nets_are : g.nets ≡ sets to 0 (shared_nets m (swizzle_rows m output p l.state.next).value)
   pub trits_are : g.trits ≡ sets kinds 0 (shared_trits m (swizzle_rows m output p l.state.next).value)
   pub nets_end : g.nets_at_of ≡ length (shared_nets m (swizzle_rows m output p l.state.next).value)
@@ -154,9 +153,9 @@ module _ (r : SwizzleRooms) (room : ℕ) (s : LogState) (mem : Memory) (nets tri
     reads_next = ap (λ (x : Lent). x.state.next) writes_ran ∙ reads_start_lem r room s g0 output p e w d log name
 
     -- the read ports go on from there
-    module _ (wide : WideMemory) (begun : Begun M q v.ports wide) where
+    module _ (wide : WideMemory) (begun : Begun M q v.ports wide) (nets_name trits_name : GName) where
       abbrev pub start : Going
-      start = record { lent = l1; nets = v.room; trits = kinds; nets_at_of = v.at; trits_at_of = 0; memory = wide }
+      start = record { lent = l1; nets = v.room; nets_name = nets_name; trits = kinds; trits_name = trits_name; nets_at_of = v.at; trits_at_of = 0; memory = wide }
 
       pub nets_in : v.at ≤ length v.room
       nets_in = omega (arith, at_is, room_size, nets_enough r room s g0 output p e w d)
@@ -229,6 +228,12 @@ module _ (r : SwizzleRooms) (room : ℕ) (s : LogState) (mem : Memory) (nets tri
         trits_are = shares.trits_shared M output p lf ew er s.next ∙ sym done.kinds_held;
       }
 
+      pub nets_name_is : after.nets_name ≡ nets_name
+      nets_name_is = done.nets_name_is
+
+      pub trits_name_is : after.trits_name ≡ trits_name
+      trits_name_is = done.trits_name_is
+
       pub memory-held : after.memory ≡ with_read_ports wide 0 structs
       memory-held = done.memory_is
 
@@ -258,7 +263,6 @@ module _ (r : SwizzleRooms) (room : ℕ) (s : LogState) (mem : Memory) (nets tri
       pub rows_done : RowsDone M output p l to kinds after
       rows_done = record {
         log_is = log-all;
-        not_over = ap (λ (x : Lent). is_over x.state) log-all ∙ rows_held r room s g0 output p e w d log name;
         nets_are = nets_all;
         trits_are = done.trits_are ∙ ap (sets kinds 0) (sym (shares.trits_shared M output p lf ew er s.next));
         nets_end = nets_last;

@@ -7,4 +7,3 @@ pub mod Shares
 pub mod HeldWrites
 pub mod Joined
 pub mod Scratch
-pub mod Fronts

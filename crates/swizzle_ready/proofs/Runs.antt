@@ -80,10 +80,6 @@ module _ (r : SwizzleRooms) (room : ℕ) (s : LogState) (g : Given) (output : Va
   fits : Fits room s ((writes_count_of m q m.writes p.write_wide).words + (reads_count_of m q m.reads p.read_wide_of).words) ((writes_count_of m q m.writes p.write_wide).nets + (reads_count_of m q m.reads p.read_wide_of).nets)
   fits = log_fits r room s g output p e w d
 
-  -- fresh nets start at the next free net
-  pub start_is : start_net s ≡ s.next
-  start_is = start_same s fits.low (omega (arith, fits.high))
-
   module _ (log : List ℕ) (name : GName) where
     abbrev l : Lent
     l = record { log = log; state = s; name = name }
@@ -110,11 +106,3 @@ module _ (r : SwizzleRooms) (room : ℕ) (s : LogState) (g : Given) (output : Va
     -- the read ports start where the trace of the rules has them start
     pub reads_start_lem : (run (swizzle_writes m q m.writes p.write_wide) l).state.next ≡ (swizzle_writes m q m.writes p.write_wide s.next).next
     reads_start_lem = writes_next ∙ sym (writes.nets s.next)
-
-    -- the whole
-    pub rows_held : is_over (run (swizzle_rows m output p) l).state ≡ false
-    rows_held =
-        ap (λ (x : Lent). is_over x.state) (run_named (swizzle_rows m output p) name (record { log = log; state = s; name = 0 }))
-        ∙ accepted_held (swizzle_rows m output p) room s log
-        (counted_rows m output p _ _ (counted_reads m q m.reads p.read_wide_of output (reads_readable s.next g output p (number_0 r room s g output p e w d) w d))).chain
-        (taken r room s g output p e w d).log

@@ -9,25 +9,16 @@ ghost use Rattle.net_memory.specs.Given.{view_given};
 ghost use Rattle.swizzle_plan.specs.Calls.{view_plan};
 ghost use Rattle.swizzle_counts.specs.Refusal.{rooms_of};
 
-use log_entries::LogState;
-use net_memory::Given;
 use rules::Refusal;
-use swizzle_counts::SwizzleRooms;
-use swizzle_plan::Plan;
+use swizzle_counts::{Swizzle, SwizzleRooms};
 
 // By what a swizzle is refused.
 #[tactic(auto, using(crate::proofs::Joined::joined_err))]
-pub fn swizzle_refusal(
-    r: SwizzleRooms,
-    room: usize,
-    st: LogState,
-    given: Given<'_>,
-    output: &[u32],
-    plan: Plan<'_>,
-) -> Result<(), Refusal>
-    ensures { number_of result ≡ swizzle_refusal (rooms_of r) room (state_of st) (view_given given.entry) output.now (view_plan plan.entry) }
+pub fn swizzle_refusal(r: SwizzleRooms, asked: Swizzle<'_>) -> Result<(), Refusal>
+    ensures { number_of result ≡ swizzle_refusal (rooms_of r) r.log (state_of r.state) (view_given asked.entry.given) asked.entry.output.now (view_plan asked.entry.plan) }
 {
-    swizzle_counts::refusal::rows_refusal(r, room, st, given, output, plan)?;
+    swizzle_counts::refusal::rows_refusal(r, asked)?;
+    let given = asked.given;
     if given.memory.width == 0 {
         return Ok(());
     }
@@ -37,5 +28,5 @@ pub fn swizzle_refusal(
     if port_unmap_all::ports_short(given) {
         return Err(Refusal::ShortAddress);
     }
-    port_empty::empty_refusal(room, st, given, output)
+    port_empty::empty_refusal(r.log, r.state, given, asked.output)
 }

@@ -2,7 +2,7 @@
 #![tactic(auto)]
 
 use net_flip_flop::Controls;
-use net_value::ControlNet;
+use net_value::{ControlNet, Net};
 
 // A write port of all memories: the length of the address that they share, the new wide log, and the clock.
 #[derive(Clone, Copy)]
@@ -10,6 +10,14 @@ pub struct WideWritePort {
     pub addr_len: u32,
     pub wide: u32,
     pub clock: ControlNet,
+}
+
+impl WideWritePort {
+    pub const NONE: WideWritePort = WideWritePort {
+        addr_len: 0,
+        wide: 0,
+        clock: ControlNet::Pos(Net(0)),
+    };
 }
 
 // A read port of all memories, with the first of its output nets; these stand row after row, column after column. Without a heap the relations, and
@@ -24,6 +32,17 @@ pub struct WideReadPort {
     pub flip_flop: Option<Controls>,
 }
 
+impl WideReadPort {
+    pub const NONE: WideReadPort = WideReadPort {
+        addr_len: 0,
+        wide: 0,
+        first: 0,
+        relations_len: 0,
+        relations: [0; rules::MAX_PORTS],
+        flip_flop: None,
+    };
+}
+
 // The memories: the full ones and all, the depth of a full one and of the others, and the columns of each.
 #[derive(Clone, Copy)]
 pub struct WideMemory {
@@ -36,4 +55,18 @@ pub struct WideMemory {
     pub read_count: u32,
     pub write_ports: [WideWritePort; rules::MAX_PORTS],
     pub read_ports: [WideReadPort; rules::MAX_PORTS],
+}
+
+impl WideMemory {
+    pub const NONE: WideMemory = WideMemory {
+        full: 0,
+        mems: 0,
+        full_depth: 0,
+        part_depth: 0,
+        unit: 0,
+        write_count: 0,
+        read_count: 0,
+        write_ports: [WideWritePort::NONE; rules::MAX_PORTS],
+        read_ports: [WideReadPort::NONE; rules::MAX_PORTS],
+    };
 }

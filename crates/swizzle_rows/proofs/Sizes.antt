@@ -51,29 +51,28 @@ module _ (q : Layout) (m : Memory) (nets trits ws rs : List ℕ) (output : Value
   pub narrow_ran : bad_layout q ≡ false → q.width ≡ 0 → RowsRan q m nets trits ws rs output scratch before before
   narrow_ran b w = none_ran (none_has q b (eq-eqb q.width 0 w))
 
-  pub rows_ran : (after : Going) → bad_layout q ≡ false → (q.width ≡ 0 → ⊥) → RowsBy q m nets trits ws rs output scratch before.lent before.nets before.trits after
+  pub rows_ran : (after : Going) → bad_layout q ≡ false → (q.width ≡ 0 → ⊥) → RowsBy q m nets trits ws rs output scratch before after
       → RowsRan q m nets trits ws rs output scratch before after
   rows_ran after b w r = record { by_rows = λ t. r; else_none = λ z. absurd (not_both (has_rows q) (good_has q b (ne_eqb q.width 0 w)) z) }
 
 -- ---- from the code's start to that of the layout
-abbrev pub going_with : Lent → Filled → List ℕ → WideMemory → Going
-going_with l f kinds mem = record { lent = l; nets = f.room; trits = kinds; nets_at_of = f.at; trits_at_of = 0; memory = mem }
+abbrev pub going_with : Going → Lent → Filled → WideMemory → Going
+going_with g l f mem = record { lent = l; nets = f.room; nets_name = g.nets_name; trits = g.trits; trits_name = g.trits_name; nets_at_of = f.at; trits_at_of = 0; memory = mem }
 
-module _ (q : Layout) (m : Memory) (s : Shape) (z : Measured q s) (l : Lent) (f : Filled) (kinds : List ℕ) where
-  pub start_is : (mem : WideMemory) → mem ≡ start_memory s.full_mems s.all_mems s.full_depth s.part_depth q.unit m.write_count m.read_count f.ports
-      → going_with l f kinds mem ≡ start_going q m l f kinds
+module _ (q : Layout) (m : Memory) (nets trits ws rs : List ℕ) (output : Value) (scratch : ℕ) (before after : Going) (s : Shape) (z : Measured q s) (mid : Lent) (f : Filled) where
+  start_is : (mem : WideMemory) → mem ≡ start_memory s.full_mems s.all_mems s.full_depth s.part_depth q.unit m.write_count m.read_count f.ports
+      → going_with before mid f mem ≡ start_going q m before mid f
   start_is mem e =
-      ap (going_with l f kinds)
+      ap (going_with before mid f)
       (e ∙ (λ i. start_memory (z.full_are i) (z.all_are i) (z.deep_is i) (z.part_is i) q.unit m.write_count m.read_count f.ports))
 
-module _ (q : Layout) (m : Memory) (nets trits ws rs : List ℕ) (output : Value) (scratch : ℕ) (l : Lent) (to kinds : List ℕ) (after : Going) (s : Shape) (z : Measured q s) (mid : Lent) (f : Filled) where
-  pub rows_by : Gave (placed_from (memory_of m nets trits) q s.all_mems m.write_ports 0 (take (min max_ports m.write_count) ws) (none_filled to)) l mid f → (mem : WideMemory)
+  pub rows_by : Gave (placed_from (memory_of m nets trits) q s.all_mems m.write_ports 0 (take (min max_ports m.write_count) ws) (none_filled before.nets)) before.lent mid f → (mem : WideMemory)
       → mem ≡ start_memory s.full_mems s.all_mems s.full_depth s.part_depth q.unit m.write_count m.read_count f.ports
-      → after ≡ reads_if q scratch (in_ports m nets trits) rs output (going_with mid f kinds mem)
-      → RowsBy q m nets trits ws rs output scratch l to kinds after
+      → after ≡ reads_if q scratch (in_ports m nets trits) rs output (going_with before mid f mem)
+      → RowsBy q m nets trits ws rs output scratch before after
   rows_by g mem em e = record {
     mid = mid;
     filled = f;
-    gave = subst (λ (k : ℕ). Gave (placed_from (memory_of m nets trits) q k m.write_ports 0 (take (min max_ports m.write_count) ws) (none_filled to)) l mid f) z.all_are g;
-    reads_are = e ∙ ap (reads_if q scratch (in_ports m nets trits) rs output) (start_is q m s z mid f kinds mem em);
+    gave = subst (λ (k : ℕ). Gave (placed_from (memory_of m nets trits) q k m.write_ports 0 (take (min max_ports m.write_count) ws) (none_filled before.nets)) before.lent mid f) z.all_are g;
+    reads_are = e ∙ ap (reads_if q scratch (in_ports m nets trits) rs output) (start_is mem em);
   }

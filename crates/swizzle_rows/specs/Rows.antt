@@ -44,25 +44,27 @@ pub record Measured (q : Layout) (s : Shape) : Type 0 where
   pub deep_is : s.full_depth ≡ full_depth_of q
   pub part_is : s.part_depth ≡ part_depth_of q
 
--- where the read ports start, after write ports that left this
-abbrev pub start_going : Layout → Memory → Lent → Filled → List ℕ → Going
-start_going q m l f trits = record {
+-- where the read ports start, in rooms that the write ports found like this and left like that
+abbrev pub start_going : Layout → Memory → Going → Lent → Filled → Going
+start_going q m g l f = record {
   lent = l;
   nets = f.room;
-  trits = trits;
+  nets_name = g.nets_name;
+  trits = g.trits;
+  trits_name = g.trits_name;
   nets_at_of = f.at;
   trits_at_of = 0;
   memory = start_memory (full_mems q) (all_mems q) (full_depth_of q) (part_depth_of q) q.unit m.write_count m.read_count f.ports;
 }
 
 -- write ports, then read ports
-pub record RowsBy (q : Layout) (m : Memory) (nets trits ws rs : List ℕ) (output : Value) (scratch : ℕ) (l : Lent) (to kinds : List ℕ) (after : Going) : Type 0 where
+pub record RowsBy (q : Layout) (m : Memory) (nets trits ws rs : List ℕ) (output : Value) (scratch : ℕ) (before after : Going) : Type 0 where
   pub mid : Lent
   pub filled : Filled
-  pub gave : Gave (placed_from (memory_of m nets trits) q (all_mems q) m.write_ports 0 (take (min max_ports m.write_count) ws) (none_filled to)) l mid filled
-  pub reads_are : after ≡ reads_if q scratch (in_ports m nets trits) rs output (start_going q m mid filled kinds)
+  pub gave : Gave (placed_from (memory_of m nets trits) q (all_mems q) m.write_ports 0 (take (min max_ports m.write_count) ws) (none_filled before.nets)) before.lent mid filled
+  pub reads_are : after ≡ reads_if q scratch (in_ports m nets trits) rs output (start_going q m before mid filled)
 
 -- of a layout that an accepted swizzle has; else nothing
 pub record RowsRan (q : Layout) (m : Memory) (nets trits ws rs : List ℕ) (output : Value) (scratch : ℕ) (before after : Going) : Type 0 where
-  pub by_rows : has_rows q ≡ true → RowsBy q m nets trits ws rs output scratch before.lent before.nets before.trits after
+  pub by_rows : has_rows q ≡ true → RowsBy q m nets trits ws rs output scratch before after
   pub else_none : has_rows q ≡ false → after ≡ before

@@ -3,18 +3,17 @@
 #![tactic(auto)]
 
 ghost use Rattle.std.specs.Prelude.{◌≡◌, length};
-ghost use Rattle.log_entries.specs.View.{lent_of};
 ghost use Rattle.image_geometry.specs.View.{layout_of};
 ghost use Rattle.image_state.specs.Counts.{Counted};
-ghost use Rattle.swizzle_reads.specs.Going.{going_of, SameRooms, in_ports, AllKept};
-ghost use Rattle.swizzle_rows.specs.Rows.{start_memory, no_memories, Measured, RowsBy, RowsRan};
+ghost use Rattle.swizzle_reads.specs.Going.{going_of, in_ports, AllKept};
+ghost use Rattle.swizzle_rows.specs.Rows.{start_memory, Measured, RowsBy, RowsRan};
 
 use image_geometry::{Layout, Shape};
 use log_entries::Log;
 use net_memory::Given;
-use net_value::{ControlNet, Net};
 use swizzle_reads::Reads;
-use swizzle_result::{WideMemory, WideReadPort, WideWritePort};
+use swizzle_result::{WideMemory, WideWritePort};
+use swizzle_writes::Memories;
 
 // The memories of these sizes with their write ports, before any read port.
 fn start_memory(
@@ -27,16 +26,6 @@ fn start_memory(
     requires { Counted s }
     ensures { result ≡ start_memory s.full_mems s.all_mems s.full_depth s.part_depth unit writes reads write_ports }
 {
-    let relations = [0u8; rules::MAX_PORTS];
-    let none = WideReadPort {
-        addr_len: 0,
-        wide: 0,
-        first: 0,
-        relations_len: 0,
-        relations,
-        flip_flop: None,
-    };
-    let read_ports = [none; rules::MAX_PORTS];
     WideMemory {
         full: s.full_mems as u32,
         mems: s.all_mems as u32,
@@ -46,21 +35,8 @@ fn start_memory(
         write_count: writes,
         read_count: reads,
         write_ports,
-        read_ports,
+        ..WideMemory::NONE
     }
-}
-
-// No memories.
-pub fn no_memories() -> WideMemory
-    ensures { result ≡ no_memories }
-{
-    let none = WideWritePort {
-        addr_len: 0,
-        wide: 0,
-        clock: ControlNet::Pos(Net(0)),
-    };
-    let write_ports = [none; rules::MAX_PORTS];
-    start_memory(Shape::default(), 0, 0, 0, write_ports)
 }
 
 // The ports of a layout with these sizes.
@@ -76,12 +52,14 @@ fn rows_by<'a>(
     output: &[u32],
 )
     requires { Counted s × Measured (layout_of q) s }
-    ensures rows_by { RowsBy (layout_of q.entry) given.entry.memory given.entry.nets.now given.entry.trits.now writes.now reads.now output.now (length scratch.old) (lent_of log.old) made.old.nets.now made.old.trits.now (going_of log.new made.new) }
+    ensures rows_by { RowsBy (layout_of q.entry) given.entry.memory given.entry.nets.now given.entry.trits.now writes.now reads.now output.now (length scratch.old) (going_of log.old made.old) (going_of log.new made.new) }
     ensures all_kept { AllKept (layout_of q.entry) (in_ports given.entry.memory given.entry.nets.now given.entry.trits.now) reads.now scratch.old scratch.new }
-    ensures same_rooms { SameRooms made.old made.new }
 {
-    let mems = s.all_mems as u32;
-    let w = swizzle_writes::swizzle_writes(log, made.nets, given, q, mems, writes);
+    let memories = Memories {
+        layout: q,
+        mems: s.all_mems as u32,
+    };
+    let w = swizzle_writes::swizzle_writes(log, made.nets, given, memories, writes);
     let ports = w.ports;
     let unit = q.params.unit;
     made.memory = start_memory(
@@ -110,9 +88,8 @@ pub fn emit_rows<'a>(
 )
     ensures rows_ran { RowsRan (layout_of q.entry) given.entry.memory given.entry.nets.now given.entry.trits.now writes.now reads.now output.now (length scratch.old) (going_of log.old made.old) (going_of log.new made.new) }
     ensures all_kept { AllKept (layout_of q.entry) (in_ports given.entry.memory given.entry.nets.now given.entry.trits.now) reads.now scratch.old scratch.new }
-    ensures same_rooms { SameRooms made.old made.new }
 {
-    let Some(s) = image_check::check_layout(q) else {
+    let Ok(s) = image_check::check_layout(q) else {
         return;
     };
     if q.params.width != 0 {

@@ -1,6 +1,5 @@
 -- Laws of the write ports.
 pub mod Rooms
-pub mod Short
 pub mod Steps
 pub mod Planned
 pub mod Whole

@@ -19,13 +19,15 @@ use Rattle.rules.specs.Log.{Trace, ◌>>=◌, done}
 use Rattle.rules.specs.Geometry.{Layout, row_len_of, all_mems, all_chunks, soft, columns}
 use Rattle.rules.specs.Swizzle.{Split, split_addr, split_by, swizzle_write}
 use Rattle.rules.proofs.Traces.{bind_value}
+use Rattle.rules.proofs.Done.{done_value}
 use Rattle.log_entries.specs.Emission.{Lent, run}
 use Rattle.log_entries.proofs.Emission.{run_same}
 use Rattle.swizzle_laws.specs.Order.{ordered}
 use Rattle.swizzle_laws.proofs.Places.{Splittable}
 use Rattle.swizzle_laws.proofs.Parts.{length_ordered}
 use Rattle.swizzle_laws.proofs.Whole.{bits_whole}
-use Rattle.swizzle_split.specs.Steps.{can_split}
+use Rattle.swizzle_split.specs.Steps.{can_split, Fits}
+use Rattle.swizzle_split.proofs.Limits.{can_fits}
 use Rattle.swizzle_split.proofs.Rows.{rows_most, rows_are}
 use Rattle.swizzle_columns.specs.declared.WidePort.{WidePort}
 use Rattle.swizzle_columns.specs.Wide.{PortFits, bits_of}
@@ -35,7 +37,7 @@ use Rattle.swizzle_write.specs.Wide.{masks_of}
 use Rattle.swizzle_write.proofs.Meaning.{write_run, write_mask_lem, write_bits}
 use Rattle.swizzle_writes.specs.Placed.{wide_by_of, size_of, nets_of, Placed, roomy, placed, placed_if}
 use Rattle.swizzle_writes.specs.Planned.{LayoutPlanned, PortPlanned}
-use Rattle.swizzle_writes.proofs.Short.{addr_short, mux_short}
+use Rattle.swizzle_split.proofs.Lengths.{addr_low, mux_low}
 use Rattle.swizzle_writes.proofs.Steps.{roomy_fits}
 
 pub columns_are : (q : Layout) → columns q ≡ all_mems q * q.unit
@@ -45,10 +47,6 @@ columns_are q = refl
 row_len : (q : Layout) → row_len_of q ≡ length q.entries
 unfolding row_len_of
 row_len q = refl
-
-pub done_value : {A : Type 0} (v : A) (n : ℕ) → (done v n).value ≡ v
-unfolding done
-done_value v n = refl
 
 pub new_is : (q : Layout) (old new : ℕ) (addr : Value) → (split_addr q old new addr).new ≡ new
 unfolding split_addr split_by
@@ -85,6 +83,9 @@ module _ (q : Layout) (old new : ℕ) (w : WritePort) (lp : LayoutPlanned q) (pp
         le-leb (old + length w.addr) addr_bits pp.short,
         le-leb (all_chunks q * 2 ^ soft q) max_columns lp.chunks_max,
       )
+
+  fits : Fits q old new (length w.addr)
+  fits = can_fits q old new (length w.addr) can_split_lem
 
   ok : Splittable q old new w.addr
   ok = record { enough = pp.enough; short = pp.short; unit = lp.unit_pos }
@@ -143,7 +144,7 @@ module _ (q : Layout) (old new : ℕ) (w : WritePort) (lp : LayoutPlanned q) (pp
     whole r = record { room = r; next = from + (size + size); addr_len_of = length s.addr }
 
     has_room : roomy p (length s.addr) at (length room) ≡ true
-    has_room = roomy_fits p (length s.addr) at (length room) (addr_short q old new w.addr can_split_lem) port_fits_lem.columns_max enough
+    has_room = roomy_fits p (length s.addr) at (length room) (omega (arith, addr_low q old new w.addr fits)) port_fits_lem.columns_max enough
 
     placed_is : placed_if q (all_mems q) old new w.addr w.bits w.mask at room ≡ (nets_of p s.mux_addr q.entries w.bits w.mask from size r0 >>= λ r. done (whole r))
     unfolding placed_if placed
@@ -172,12 +173,12 @@ module _ (q : Layout) (old new : ℕ) (w : WritePort) (lp : LayoutPlanned q) (pp
         ∙ run_same (nets_of p s.mux_addr q.entries w.bits w.mask from size r0) whole l
         ∙ ap (λ (t : Trace (List ℕ)). run t l) nets_is
         ∙ run_same (masks_of p s.mux_addr q.entries w.mask (part (from + size) size r1)) (λ k. sets r1 (from + size) k) l
-        ∙ write_run q old new w.addr ok p means w (part (from + size) size r1) fits1 (mux_short q old new w.addr can_split_lem) l
+        ∙ write_run q old new w.addr ok p means w (part (from + size) size r1) fits1 (omega (arith, mux_low q old new w.addr fits)) l
 
     stored : (n : ℕ) → sets r1 (from + size) (masks_of p s.mux_addr q.entries w.mask (part (from + size) size r1) n).value ≡ sets room at (nets_at_of n)
     stored n =
         let b = write_bits q old new w.addr ok p means w (part from size r0) fits0 n in
-        let k = write_mask_lem q old new w.addr ok p means w (part (from + size) size r1) fits1 (mux_short q old new w.addr can_split_lem) n in
+        let k = write_mask_lem q old new w.addr ok p means w (part (from + size) size r1) fits1 (omega (arith, mux_low q old new w.addr fits)) n in
         ap (λ (x : List ℕ). sets r1 (from + size) x) k
         ∙ ap (λ (x : List ℕ). sets (sets r0 from x) (from + size) (ordered q s (swizzle_write q s w n).value.port.mask)) b
         ∙ three room s.addr (ordered q s (swizzle_write q s w n).value.port.bits) (ordered q s (swizzle_write q s w n).value.port.mask) at size (bits_size n)

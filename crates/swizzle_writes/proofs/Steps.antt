@@ -15,7 +15,7 @@ use Rattle.rules.specs.Limits.{max_columns}
 use Rattle.rules.specs.Value.{Value}
 use Rattle.rules.specs.Cell.{WritePort, Mem, wide_log2, write_wide_log2, write_at}
 use Rattle.rules.specs.Geometry.{Layout}
-use Rattle.rules.specs.Log.{◌>>=◌, done}
+use Rattle.rules.specs.Log.{Trace, ◌>>=◌, done}
 use Rattle.rules.specs.Swizzle.{split_addr}
 use Rattle.rules.specs.Beside.Chain.{Chains}
 use Rattle.rules.proofs.Chain.{chains_bind, chains_done, chains_if}
@@ -23,9 +23,12 @@ use Rattle.log_entries.specs.Emission.{Lent}
 use Rattle.port_transparency.specs.Gave.{Gave}
 use Rattle.port_transparency.proofs.Gave.{gave_done, gave_bind, gave_same}
 use Rattle.net_memory.specs.declared.MemoryWritePort.{MemoryWritePort}
+use Rattle.net_memory.specs.declared.Memory.{Memory}
+use Rattle.net_memory.specs.View.{no_write_port, memory_of}
+use Rattle.net_memory.proofs.Ports.{write_of_view}
 use Rattle.swizzle_laws.specs.Stores.{spill_at, spill_masks, piece_by}
 use Rattle.swizzle_split.specs.declared.Split.{Split}
-use Rattle.std.specs.Prelude.{Option, None, Some}
+use Rattle.std.specs.Prelude.{Option, None, Some, set}
 use Rattle.swizzle_split.specs.Rows.{rows_of}
 use Rattle.swizzle_split.specs.Steps.{can_split, Answers, Gives, Splits}
 use Rattle.swizzle_columns.specs.declared.WidePort.{WidePort}
@@ -129,20 +132,23 @@ module _ (q : Layout) (mems old new : ℕ) (addr bits mask : Value) (at : ℕ) (
   unfolding placed_if
   port_gave l1 v p hw mux e ep eh em g = rw e (rw (ep, eh, em) at g)
 
--- ---- write port j of a memory
+-- ---- write port j of a memory: its nets are those that every list of trits has it with
 wide_is : (m : Mem) (w : WritePort) → wide_log2 m.width (length w.bits) ≡ write_wide_log2 m w
 unfolding write_wide_log2
 wide_is m w = refl
 
-pub at_gave : (m : Mem) (q : Layout) (mems j new at : ℕ) (room : List ℕ) (old width : ℕ) (addr bits mask : Value) (l l1 : Lent) (v : Placed)
-    → addr ≡ (write_at m j).addr → bits ≡ (write_at m j).bits → mask ≡ (write_at m j).mask → width ≡ m.width → old ≡ wide_log2 width (length bits)
-    → Gave (placed_if q mems old new addr bits mask at room) l l1 v → Gave (placed_at m q mems j new at room) l l1 v
+same_width : (m : Memory) (nets trits : List ℕ) → m.width ≡ (memory_of m nets trits).width
+unfolding memory_of
+same_width m nets trits = refl
+
+pub at_gave : (m : Memory) (nets own trits : List ℕ) (q : Layout) (mems j new at : ℕ) (room : List ℕ) (w : WritePort) (l l1 : Lent) (v : Placed) → w ≡ write_at (memory_of m nets own) j
+    → Gave (placed_if q mems (wide_log2 m.width (length w.bits)) new w.addr w.bits w.mask at room) l l1 v → Gave (placed_at (memory_of m nets trits) q mems j new at room) l l1 v
 unfolding placed_at
-at_gave m q mems j new at room old width addr bits mask l l1 v ea eb em ew ek g =
-    let k : old ≡ write_wide_log2 m (write_at m j) = ek ∙ (λ i. wide_log2 (ew i) (length (eb i))) ∙ wide_is m (write_at m j) in
-    let e : placed_if q mems old new addr bits mask at room ≡ placed_if q mems (write_wide_log2 m (write_at m j)) new (write_at m j).addr (write_at m j).bits (write_at m j).mask at room =
-    (λ i. placed_if q mems (k i) new (ea i) (eb i) (em i) at room) in
-    rw e at g
+at_gave m nets own trits q mems j new at room w l l1 v e g =
+    let M = memory_of m nets trits in
+    let same : w ≡ write_at M j = e ∙ write_of_view m nets own j ∙ sym (write_of_view m nets trits j) in
+    let k : wide_log2 m.width (length w.bits) ≡ write_wide_log2 M (write_at M j) = (λ i. wide_log2 (same_width m nets trits i) (length (same i).bits)) ∙ wide_is M (write_at M j) in
+    subst (λ (t : Trace Placed). Gave t l l1 v) (λ i. placed_if q mems (k i) new (same i).addr (same i).bits (same i).mask at room) g
 
 -- ---- the loop: what is left from port j on gives the whole
 module _ (m : Mem) (q : Layout) (mems : ℕ) (ps : List MemoryWritePort) (ns : List ℕ) where
@@ -185,15 +191,17 @@ pub wide_by : (q : Layout) (mems old new : ℕ) (addr hw₀ hw mux₀ mux : Valu
 wide_by q mems old new addr hw₀ hw mux₀ mux s p g e =
     e ∙ (λ i. record { mems = mems; unit = q.unit; rows = rows_of (g.new_is i); olds = rows_of (g.old_is i); width = q.width; chunks = g.mask_is i; pieces = g.pieces_are i })
 
--- a turn, with the new wide log by its place among all
-pub turn_by : (m : Mem) (q : Layout) (mems : ℕ) (ps : List MemoryWritePort) (k : ℕ) (wide : List ℕ) (f₀ : Filled) (l₀ : Lent) (j : ℕ) (f : Filled) (x : Placed) (l l1 : Lent)
-    → j < k → j < length wide → Going m q mems ps (take k wide) f₀ l₀ j f l → Gave (placed_at m q mems j (get_or wide j 0) f.at f.room) l l1 x
-    → Going m q mems ps (take k wide) f₀ l₀ (j + 1) (filled_by ps j (get_or wide j 0) f x) l1
-turn_by m q mems ps k wide f₀ l₀ j f x l l1 h g inv d =
-    let e : get_or (take k wide) j 0 ≡ get_or wide j 0 = rw get_or-take in
+-- a turn, with the new wide log by its place among all, and the port of the result by the memory's own
+pub turn_by : (m : Mem) (q : Layout) (mems : ℕ) (ps : List MemoryWritePort) (k : ℕ) (wide : List ℕ) (f₀ : Filled) (l₀ : Lent) (j n : ℕ) (own : MemoryWritePort) (f : Filled) (x : Placed) (l l1 : Lent)
+    → j < k → j < length wide → n ≡ get_or wide j 0 → own ≡ get_or ps j no_write_port → Going m q mems ps (take k wide) f₀ l₀ j f l → Gave (placed_at m q mems j n f.at f.room) l l1 x
+    → Going m q mems ps (take k wide) f₀ l₀ (j + 1) (record { room = x.room; at = x.next; ports = set f.ports j (record { addr_len = x.addr_len_of; wide = n; clock = own.clock }) }) l1
+turn_by m q mems ps k wide f₀ l₀ j n own f x l l1 h g en eo inv d =
+    let t : get_or (take k wide) j 0 ≡ get_or wide j 0 = rw get_or-take in
+    let e : get_or (take k wide) j 0 ≡ n = t ∙ sym en in
     let b : j < length (take k wide) = omega (arith, length-take k wide) in
-    subst (λ (n : ℕ). Going m q mems ps (take k wide) f₀ l₀ (j + 1) (filled_by ps j n f x) l1) e
-    (going_turn m q mems ps (take k wide) f₀ l₀ j f x l l1 b inv (subst (λ (n : ℕ). Gave (placed_at m q mems j n f.at f.room) l l1 x) (sym e) d))
+    subst (λ (p : MemoryWritePort). Going m q mems ps (take k wide) f₀ l₀ (j + 1) (record { room = x.room; at = x.next; ports = set f.ports j (record { addr_len = x.addr_len_of; wide = n; clock = p.clock }) }) l1) (sym eo)
+    (subst (λ (w : ℕ). Going m q mems ps (take k wide) f₀ l₀ (j + 1) (filled_by ps j w f x) l1) e
+    (going_turn m q mems ps (take k wide) f₀ l₀ j f x l l1 b inv (subst (λ (w : ℕ). Gave (placed_at m q mems j w f.at f.room) l l1 x) (sym e) d)))
 
 pub end_by : (m : Mem) (q : Layout) (mems : ℕ) (ps : List MemoryWritePort) (k : ℕ) (wide : List ℕ) (f₀ : Filled) (l₀ : Lent) (j : ℕ) (f : Filled) (l : Lent)
     → min k (length wide) ≤ j → Going m q mems ps (take k wide) f₀ l₀ j f l → Gave (placed_from m q mems ps 0 (take k wide) f₀) l₀ l f

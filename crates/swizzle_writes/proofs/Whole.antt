@@ -17,6 +17,7 @@ use Rattle.rules.specs.Log.{Trace, ◌>>=◌, done}
 use Rattle.rules.specs.Geometry.{Layout, all_mems, columns}
 use Rattle.rules.specs.Swizzle.{Split, split_addr, swizzle_write, swizzle_writes, WideWrite}
 use Rattle.rules.proofs.Traces.{bind_value}
+use Rattle.rules.proofs.Done.{done_value}
 use Rattle.log_entries.specs.Emission.{Lent, is_over, run}
 use Rattle.log_entries.proofs.Emission.{run-done, run_then, run_same, run_next, run-held}
 use Rattle.port_transparency.specs.Gave.{Gave}
@@ -34,17 +35,17 @@ use Rattle.swizzle_laws.proofs.WriteCounts.{counted_write}
 use Rattle.swizzle_writes.specs.Placed.{size_of, wide_by_of, Placed, placed_if, placed_at, Filled, port_by, filled_by, placed_from, none_filled}
 use Rattle.swizzle_writes.specs.Planned.{LayoutPlanned, PortPlanned, port_nets, total_nets, PortsPlanned, WritePlanned, wide_nets, ports_by, filled_with}
 use Rattle.swizzle_split.proofs.Rows.{rows_are}
-use Rattle.swizzle_writes.proofs.Planned.{new_is, columns_are, done_value, bits_size, planned_run, planned_value}
+use Rattle.swizzle_writes.proofs.Planned.{new_is, columns_are, bits_size, planned_run, planned_value}
 use Rattle.swizzle_writes.proofs.Steps.{chains_placed_at}
 
 -- ---- the next write port
-write_at_lem : (m : Mem) (j : ℕ) (w : WritePort) (ws : List WritePort) → drop j m.writes ≡ w ∷ ws → write_at m j ≡ w
+pub write_at_lem : (m : Mem) (j : ℕ) (w : WritePort) (ws : List WritePort) → drop j m.writes ≡ w ∷ ws → write_at m j ≡ w
 unfolding write_at
 write_at_lem m j w ws e =
     let d : WritePort = record { addr = []; bits = []; mask = []; clock = Pos 0 } in
     sym (get_or-drop j m.writes 0 d ∙ ap (λ (k : ℕ). get_or m.writes k d) (add-zero j)) ∙ ap (λ (l : List WritePort). get_or l 0 d) e
 
-write_rest : (m : Mem) (j : ℕ) (w : WritePort) (ws : List WritePort) → drop j m.writes ≡ w ∷ ws → drop (suc j) m.writes ≡ ws
+pub write_rest : (m : Mem) (j : ℕ) (w : WritePort) (ws : List WritePort) → drop j m.writes ≡ w ∷ ws → drop (suc j) m.writes ≡ ws
 write_rest m j w ws e = sym (drop-drop 1 j m.writes ∙ ap (λ (k : ℕ). drop k m.writes) (add-one j)) ∙ ap (λ (l : List WritePort). drop 1 l) e
 
 -- ---- one port of the rules
@@ -239,19 +240,3 @@ writes_planned m q ps ns room wp l l1 v given =
 -- a port of the result holds the port of the rules, with the clock of the memory's
 pub clock_is : (m : Memory) (nets trits : List ℕ) (j : ℕ) → j < min max_ports m.write_count → control_of (get_or m.write_ports j no_write_port).clock ≡ (write_at (memory_of m nets trits) j).clock
 clock_is m nets trits j h = sym (ap (λ (w : WritePort). w.clock) (write_of_view m nets trits j ∙ writes_at m nets j h))
-
-pub held_port : (m : Memory) (nets trits : List ℕ) (q : Layout) (j old new n : ℕ) → j < min max_ports m.write_count → HeldWrite q
-held_port m nets trits q j old new n h =
-    let w = write_at (memory_of m nets trits) j in
-    let s = split_addr q old new w.addr in
-    holding_write q s w n (port_by m.write_ports j new (length s.addr)) refl (sym (new_is q old new w.addr)) (clock_is m nets trits j h)
-
--- its nets are those that the room holds
-pub held_nets : (m : Memory) (nets trits : List ℕ) (q : Layout) (j old new n : ℕ) (h : j < min max_ports m.write_count)
-    → write_nets q (held_port m nets trits q j old new n h) ≡ wide_nets q (swizzle_write q (split_addr q old new (write_at (memory_of m nets trits) j).addr) (write_at (memory_of m nets trits) j) n).value
-unfolding held_port write_nets wide_nets
-held_nets m nets trits q j old new n h =
-    let w = write_at (memory_of m nets trits) j in
-    let s = split_addr q old new w.addr in
-    ap (λ (x : WideWrite). x.port.addr ++ (ordered q x.split x.port.bits ++ ordered q x.split x.port.mask))
-    (holding_port q s w n (port_by m.write_ports j new (length s.addr)) refl (sym (new_is q old new w.addr)) (clock_is m nets trits j h))

@@ -4,17 +4,17 @@
 
 ghost use Rattle.std.specs.Prelude.{◌≡◌, List, ℕ, ◌+◌, ◌<◌, ◌≤◌, min, length, take, replicate};
 ghost use Rattle.log_entries.specs.View.{lent_of};
-ghost use Rattle.net_memory.specs.Given.{mem_of};
+ghost use Rattle.net_memory.specs.View.{memory_of};
+ghost use Rattle.rules.specs.Cell.{wide_log2};
 ghost use Rattle.net_memory.specs.Ports.{write_of};
 ghost use Rattle.rules.specs.Limits.{max_ports};
 ghost use Rattle.image_geometry.specs.View.{layout_of};
 ghost use Rattle.port_transparency.specs.Gave.{Gave};
-ghost use Rattle.swizzle_writes.specs.Placed.{nets_of, roomy, placed, placed_if, placed_at, placed_from, none_filled};
+ghost use Rattle.swizzle_writes.specs.Placed.{nets_of, roomy, placed, placed_if, placed_from, none_filled};
 
 use image_geometry::Layout;
 use log_entries::Log;
 use net_memory::{Given, WritePort};
-use net_value::{ControlNet, Net};
 use swizzle_columns::WidePort;
 use swizzle_result::WideWritePort;
 
@@ -95,56 +95,49 @@ impl Port<'_> {
     }
 }
 
-// A port with an old and a new wide log from a place on: nothing where it cannot be split, or has no room.
-fn place_port(
-    log: &mut Log,
-    to: &mut [u32],
-    at: usize,
-    q: Layout<'_>,
-    mems: u32,
-    old: u32,
-    new: u32,
-    write: WritePort<'_>,
-) -> Placing
-    ensures { Gave (placed_if (layout_of q.entry) mems old new (write_of write.entry).addr (write_of write.entry).bits (write_of write.entry).mask at to.old) (lent_of log.old) (lent_of log.new) (record { room = to.new; next = result.next; addr_len_of = result.addr_len }) }
-{
-    let mut hw = [0u32; ADDR_ROOM];
-    let mut mux = [0u32; ADDR_ROOM];
-    let addr = write.addr();
-    let split = swizzle_split::split_addr(&mut hw, &mut mux, q.params, old, new, addr);
-    let Some(s) = split else {
-        return Placing {
-            next: at,
-            addr_len: 0,
-        };
-    };
-    let port = Port {
-        wide: WidePort::of(q.params, mems, s),
-        hw: lists::part(&hw, 0, s.hw_len as usize),
-        mux: lists::part(&mux, 0, s.mux_len as usize),
-        entries: q.entries,
-        bits: write.bits(),
-        mask: write.mask(),
-    };
-    port.place(log, to, at)
+// A layout, with how many memories it has.
+#[derive(Clone, Copy)]
+pub struct Memories<'a> {
+    pub layout: Layout<'a>,
+    pub mems: u32,
 }
 
-// Write port j of a memory.
-fn place_at(
-    log: &mut Log,
-    to: &mut [u32],
-    at: usize,
-    given: Given<'_>,
-    q: Layout<'_>,
-    mems: u32,
-    j: usize,
-    new: u32,
-) -> Placing
-    ensures { Gave (placed_at (mem_of given.entry) (layout_of q.entry) mems j new at to.old) (lent_of log.old) (lent_of log.new) (record { room = to.new; next = result.next; addr_len_of = result.addr_len }) }
-{
-    let write = given.write_port(j);
-    let old = net_memory::wide::wide_log(given.memory.width, write.bits().len());
-    place_port(log, to, at, q, mems, old, new, write)
+impl Memories<'_> {
+    // A port of a memory of this width, with its new wide log, from a place on: nothing where it cannot be split, or has no room.
+    fn place_port(
+        self,
+        log: &mut Log,
+        to: &mut [u32],
+        at: usize,
+        width: u32,
+        new: u32,
+        write: WritePort<'_>,
+    ) -> Placing
+        ensures { Gave (placed_if (layout_of self.entry.layout) self.entry.mems (wide_log2 width (length (write_of write.entry).bits)) new (write_of write.entry).addr (write_of write.entry).bits (write_of write.entry).mask at to.old) (lent_of log.old) (lent_of log.new) (record { room = to.new; next = result.next; addr_len_of = result.addr_len }) }
+    {
+        let mut hw = [0u32; ADDR_ROOM];
+        let mut mux = [0u32; ADDR_ROOM];
+        let p = self.layout.params;
+        let addr = write.addr();
+        let bits = write.bits();
+        let old = net_memory::wide::wide_log(width, bits.len());
+        let split = swizzle_split::split_addr(&mut hw, &mut mux, p, old, new, addr);
+        let Some(s) = split else {
+            return Placing {
+                next: at,
+                addr_len: 0,
+            };
+        };
+        let port = Port {
+            wide: WidePort::of(p, self.mems, s),
+            hw: lists::part(&hw, 0, s.hw_len as usize),
+            mux: lists::part(&mux, 0, s.mux_len as usize),
+            entries: self.layout.entries,
+            bits,
+            mask: write.mask(),
+        };
+        port.place(log, to, at)
+    }
 }
 
 // The write ports of a memory with these new wide logs, one after the other: the requests in the log, the nets from the front of `to` on, and the
@@ -153,28 +146,22 @@ pub fn swizzle_writes(
     log: &mut Log,
     to: &mut [u32],
     given: Given<'_>,
-    q: Layout<'_>,
-    mems: u32,
+    memories: Memories<'_>,
     wide: &[u32],
 ) -> Written
-    ensures { Gave (placed_from (mem_of given.entry) (layout_of q.entry) mems given.entry.memory.write_ports 0 (take (min max_ports given.entry.memory.write_count) wide.now) (none_filled to.old)) (lent_of log.old) (lent_of log.new) (record { room = to.new; at = result.used; ports = result.ports }) }
+    ensures { (trits : List ℕ) → Gave (placed_from (memory_of given.entry.memory given.entry.nets.now trits) (layout_of memories.entry.layout) memories.entry.mems given.entry.memory.write_ports 0 (take (min max_ports given.entry.memory.write_count) wide.now) (none_filled to.old)) (lent_of log.old) (lent_of log.new) (record { room = to.new; at = result.used; ports = result.ports }) }
 {
     let count = net_memory::ports_used(given.memory.write_count).min(wide.len());
-    let none = WideWritePort {
-        addr_len: 0,
-        wide: 0,
-        clock: ControlNet::Pos(Net(0)),
-    };
+    let width = given.memory.width;
     let mut used = 0;
-    let mut ports = [none; rules::MAX_PORTS];
-    for j in 0..count {
-        let p = place_at(log, to, used, given, q, mems, j, wide[j]);
-        let old = given.memory.write_ports[j];
-        let clock = old.clock;
+    let mut ports = [WideWritePort::NONE; rules::MAX_PORTS];
+    for (j, new) in wide[..count].iter().enumerate() {
+        let write = given.write_port(j);
+        let p = memories.place_port(log, to, used, width, *new, write);
         ports[j] = WideWritePort {
             addr_len: p.addr_len,
-            wide: wide[j],
-            clock,
+            wide: *new,
+            clock: write.port.clock,
         };
         used = p.next;
     }

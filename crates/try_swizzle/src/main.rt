@@ -7,6 +7,7 @@ use net_memory::{Given, Memory};
 use rules::Refusal;
 use std::{fmt, io};
 use swizzle_call::Swizzled;
+use swizzle_counts::Swizzle;
 use swizzle_plan::{MemorySwizzle, Plan};
 use try_kit::samples;
 
@@ -74,6 +75,11 @@ fn main(rt: HostRuntime) -> io::Result<()> {
         writes: &[0],
         reads: &[0],
     };
+    let asked = Swizzle {
+        given,
+        output: &[21, 22],
+        plan,
+    };
     let st = LogState { used: 0, next: 30 };
     let mut log = [0u32; 2000];
     let mut image = [9u8; 200];
@@ -87,9 +93,7 @@ fn main(rt: HostRuntime) -> io::Result<()> {
         &mut nets,
         &mut trits,
         &mut scratch,
-        given,
-        &[21, 22],
-        plan,
+        asked,
     );
     print_answer(&rt, answer, &log, &nets, &trits, &image)
 }

@@ -13,9 +13,9 @@ returns-then-is_over c =
 pub returns-then-given-eq0 : goal.returns-then-given-eq0
 returns-then-given-eq0 c =
     let v = c.args in
-    flat_number v.given.memory v.given.nets.now v.given.trits.now v.output.now v.st v.tables c.requires.0 (state_of v.dry) c.requires.1 v.room (sym c.is_over.ensures ∙ c.if-is_over.false) (state_of c.dry_start-start.result) c.dry_start-start.ensures c.saturating_sub-unmapped.result c.rows_size-rows.result.words c.rows_size-rows.result.nets _ _ c.saturating_sub-unmapped.ensures c.rows_size-rows.ensures.size.0 c.rows_size-rows.ensures.size.1 refl refl c.if-given-eq0.true (number_of c.room_refusal.result) c.room_refusal.ensures
+    flat_number v.given.memory v.given.nets.now v.given.trits.now v.output.now v.st v.tables c.requires.0 (state_of v.dry) c.requires.1 v.room (sym c.is_over.ensures ∙ c.if-is_over.false) (state_of c.dry_start-start.result) c.dry_start-start.ensures c.saturating_sub-unmapped.result c.rows_size-rows.result.words c.rows_size-rows.result.nets _ _ c.saturating_sub-unmapped.ensures (c.rows_size-rows.ensures.size v.given.trits.now).0 (c.rows_size-rows.ensures.size v.given.trits.now).1 refl refl c.if-given-eq0.true (number_of c.room_refusal.result) c.room_refusal.ensures
 
 pub returns : goal.returns
 returns c =
     let v = c.args in
-    wide_number_lem v.given.memory v.given.nets.now v.given.trits.now v.output.now v.st v.tables c.requires.0 (state_of v.dry) c.requires.1 v.room (sym c.is_over.ensures ∙ c.if-is_over.false) (state_of c.dry_start-start.result) c.dry_start-start.ensures c.saturating_sub-unmapped.result c.rows_size-rows.result.words c.rows_size-rows.result.nets _ _ c.saturating_sub-unmapped.ensures c.rows_size-rows.ensures.size.0 c.rows_size-rows.ensures.size.1 refl refl c.if-given-eq0.false (number_of c.split_refusal.result) c.split_refusal.ensures
+    wide_number_lem v.given.memory v.given.nets.now v.given.trits.now v.output.now v.st v.tables c.requires.0 (state_of v.dry) c.requires.1 v.room (sym c.is_over.ensures ∙ c.if-is_over.false) (state_of c.dry_start-start.result) c.dry_start-start.ensures c.saturating_sub-unmapped.result c.rows_size-rows.result.words c.rows_size-rows.result.nets _ _ c.saturating_sub-unmapped.ensures (c.rows_size-rows.ensures.size v.given.trits.now).0 (c.rows_size-rows.ensures.size v.given.trits.now).1 refl refl c.if-given-eq0.false (number_of c.split_refusal.result) c.split_refusal.ensures

@@ -4,4 +4,4 @@ use Rattle.fallback_masks.proofs.Numbers.{widest_is}
 use Rattle.fallback_masks.proofs.widest_rows.Goals as goal
 
 pub returns : goal.returns
-returns c = (widest_is _ _ c.fallback_swizzle-s.ensures, omega arith)
+returns c = (λ trits. widest_is _ _ (c.fallback_swizzle-s.ensures trits), omega arith)

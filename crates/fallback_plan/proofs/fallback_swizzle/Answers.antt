@@ -14,5 +14,6 @@ overflow_cast-result c = omega (arith, c.two_to-rows.ensures.most)
 pub returns : goal.returns
 returns c =
     let g = c.args.given in
-    let k = most_is g.memory g.nets.now g.trits.now _ _ _ c.largest_write.ensures (c.largest_read.ensures g.nets.now g.trits.now) c.max-widest.ensures in
-    plan_is g.memory g.nets.now g.trits.now _ _ c.two_to-rows.result k c.two_to-rows.ensures.value refl refl refl (writes_length g.memory _ c.well_formed.0.1.1.0 g.nets.now) (reads_length g.memory _ c.well_formed.0.1.1.0 g.nets.now g.trits.now)
+    λ trits.
+    let k = most_is g.memory g.nets.now trits _ _ _ (c.largest_write.ensures trits) (c.largest_read.ensures g.nets.now trits) c.max-widest.ensures in
+    plan_is g.memory g.nets.now trits _ _ c.two_to-rows.result k c.two_to-rows.ensures.value refl refl refl (writes_length g.memory _ c.well_formed.0.1.1.0 g.nets.now) (reads_length g.memory _ c.well_formed.0.1.1.0 g.nets.now trits)

@@ -13,9 +13,6 @@ returns-then-g-gt-MAX_COLUMNS c =
     let v = c.args in
     mems_past v.g v.nets.now v.image.now (lent_of v.log.now) c.if-g-gt-MAX_UNIT.false c.if-g-gt-MAX_COLUMNS.true
 
-pub emit_each-requires : goal.emit_each-requires
-emit_each-requires c = (c.if-g-gt-MAX_UNIT.false, c.if-g-gt-MAX_COLUMNS.false)
-
 pub returns : goal.returns
 returns c =
     let v = c.args in

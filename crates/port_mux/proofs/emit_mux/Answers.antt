@@ -19,7 +19,7 @@ returns-in-None c =
     let q = c.emit_pair in
     let r = c.reading-r.ensures (mem_of g) (read_at_of (mem_of g) v.i) (width_is g.memory g.nets.now g.trits.now) c.read_port.ensures.port in
     gave_plain g.memory g.nets.now g.trits.now v.i v.j (is_some v.o.mask) v.o.bits.now (given_mask v.o.mask) c.requires _ _ _ r.0.0 r.0.1 r.1 v.overlay.now.under c.copy.new.to q.new.overlay.under (lent_of v.log.now) (lent_of q.new.log)
-    c.copy.ensures (omega arith) v.over.now (none_is v.o.mask c.in-None.is) q.ensures
+    c.copy.ensures (omega arith) v.over.now (none_is v.o.mask c.in-None.is) (q.ensures g.trits.now)
 
 pub returns-in-Some : goal.returns-in-Some
 returns-in-Some c =
@@ -29,4 +29,4 @@ returns-in-Some c =
     let s = some_is v.o.mask c.in-Some.mask c.in-Some.is in
     let r = c.reading-r.ensures (mem_of g) (read_at_of (mem_of g) v.i) (width_is g.memory g.nets.now g.trits.now) c.read_port.ensures.port in
     gave_masked g.memory g.nets.now g.trits.now v.i v.j (is_some v.o.mask) v.o.bits.now (given_mask v.o.mask) c.requires _ _ _ r.0.0 r.0.1 r.1 v.overlay.now.under c.copy.new.to q.new.overlay.under (lent_of v.log.now) (lent_of q.new.log)
-    c.copy.ensures (omega arith) v.over.now c.copy-in-Some.new.to q.new.over s.0 (c.copy-in-Some.ensures ∙ ap (sets v.over.now 0) s.1) (omega arith) q.ensures
+    c.copy.ensures (omega arith) v.over.now c.copy-in-Some.new.to q.new.over s.0 (c.copy-in-Some.ensures ∙ ap (sets v.over.now 0) s.1) (omega arith) (q.ensures g.trits.now)

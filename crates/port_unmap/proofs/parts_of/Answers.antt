@@ -1,7 +1,6 @@
 -- `port_unmap::parts_of` meets its contract.
 use Rattle.rules.specs.Cell.{read_at_of}
 use Rattle.net_memory.specs.Given.{mem_of}
-use Rattle.net_memory.proofs.Sized.{relations_8}
 use Rattle.port_unmap.proofs.Emitted.{width_of, slice_from}
 use Rattle.port_unmap.proofs.parts_of.Goals as goal
 
@@ -12,6 +11,3 @@ returns-clause-reading c =
     λ e.
     let r = c.reading-reading.ensures (mem_of g) (read_at_of (mem_of g) v.i) (width_of g.memory g.nets.now g.trits.now) e in
     (r.0.0, r.0.1, r.1, slice_from (mem_of g) v.i _ _ v.output.now _ (c.output_start-start.ensures.by_index g.nets.now g.trits.now) r.1 c.part.ensures.part)
-
-pub returns-clause-related : goal.returns-clause-related
-returns-clause-related c = relations_8 c.args.own.port _ c.well_formed.1.1.0.1.1.0

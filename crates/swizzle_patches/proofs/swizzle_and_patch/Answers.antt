@@ -22,8 +22,8 @@ pub returns-clause-joined : goal.returns-clause-joined
 returns-clause-joined c =
     let v = c.args in
     let x = c.in_ok-swizzled.swizzled in
-    let called : patched_to (number_of c.patch_each-patches.result) c.patch_each-patches.new.numbers c.patch_each-patches.new.buffer ≡ patches_call v.numbers.now (laid_of x.laid) (calls_of v.calls.now v.rows.now) c.swizzle.new.image =
-    c.patch_each-patches.ensures ∙ ap (λ (l : images.Laid). patches_call v.numbers.now l (calls_of v.calls.now v.rows.now) c.swizzle.new.image) c.layout.ensures in
+    let called : patched_to (number_of c.patch_each-patches.result) c.patch_each-patches.new.numbers c.patch_each-patches.new.buffer ≡ patches_call v.numbers.now (laid_of x.laid) (calls_of v.calls.words.now v.calls.trits.now) c.swizzle.new.image =
+    c.patch_each-patches.ensures ∙ ap (λ (l : images.Laid). patches_call v.numbers.now l (calls_of v.calls.words.now v.calls.trits.now) c.swizzle.new.image) c.layout.ensures in
     record {
       left = c.swizzle.new.image;
       swizzled = c.in_ok-swizzled.ensures.scratch_after;

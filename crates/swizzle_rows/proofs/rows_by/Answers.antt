@@ -11,4 +11,4 @@ returns-clause-rows_by c =
     let v = c.args in
     let e = c.emit in
     let w = c.swizzle_writes-w in
-    rows_by (layout_of v.q) v.given.memory v.given.nets.now v.given.trits.now v.writes.now v.reads.now v.output.now (length v.scratch.now) (lent_of v.log.now) v.made.now.nets.now v.made.now.trits.now (going_of e.new.log e.new.self) v.s c.requires.1 (lent_of w.new.log) (record { room = w.new.to; at = w.result.used; ports = w.result.ports }) w.ensures _ c.start_memory-made.ensures e.ensures.ports_after
+    rows_by (layout_of v.q) v.given.memory v.given.nets.now v.given.trits.now v.writes.now v.reads.now v.output.now (length v.scratch.now) (going_of v.log.now v.made.now) (going_of e.new.log e.new.self) v.s c.requires.1 (lent_of w.new.log) (record { room = w.new.to; at = w.result.used; ports = w.result.ports }) (w.ensures v.given.trits.now) _ c.start_memory-made.ensures e.ensures.ports_after

@@ -13,4 +13,4 @@ returns c e h =
     let es = c.part.ensures.part ∙ ap (λ (l : spec.Lists). part 0 m.width l.entries) e ∙ entries_are m.width h in
     let ws = c.part-2.ensures.part ∙ (λ i. part 0 (c.ports_used.ensures.0 i) (e i).zeros) ∙ zeros_are _ (omega (arith, c.ports_used.ensures)) in
     let rs = c.part-3.ensures.part ∙ (λ i. part 0 (c.ports_used-2.ensures.0 i) (e i).zeros) ∙ zeros_are _ (omega (arith, c.ports_used-2.ensures)) in
-    (λ i. plan_of c.fallback_swizzle.result (es i) (ws i) (rs i)) ∙ c.fallback_swizzle.ensures
+    (λ i. plan_of c.fallback_swizzle.result (es i) (ws i) (rs i)) ∙ c.fallback_swizzle.ensures c.args.given.trits.now

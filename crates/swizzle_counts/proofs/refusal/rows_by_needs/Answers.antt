@@ -12,23 +12,23 @@ use Rattle.swizzle_counts.proofs.refusal.rows_by_needs.Goals as goal
 pub returns-in_err-z : goal.returns-in_err-z
 returns-in_err-z c =
     let v = c.args in
-    absurd (measured_not _ (params_by v.given.memory v.plan.swizzle) v.plan.entries.now _ (c.measure.ensures ∙ (λ i. shape_call (layout_by c.layout-layout.result.params (c.layout-layout.ensures.entries i)))) c.layout-layout.ensures.params _ c.in_err-z.was (row_len (params_by v.given.memory v.plan.swizzle) v.plan.entries.now c.requires.small))
+    absurd (measured_not _ (params_by v.asked.given.memory v.asked.plan.swizzle) v.asked.plan.entries.now _ (c.measure.ensures ∙ (λ i. shape_call (layout_by c.layout-layout.result.params (c.layout-layout.ensures.entries i)))) c.layout-layout.ensures.params _ c.in_err-z.was (row_len (params_by v.asked.given.memory v.asked.plan.swizzle) v.asked.plan.entries.now c.requires.small))
 
 pub writes_needs-w-requires : goal.writes_needs-w-requires
 writes_needs-w-requires c =
     let v = c.args in
-    writes_move v.given.memory v.given.nets.now _ (params_by v.given.memory v.plan.swizzle) _ _ c.layout-layout.ensures.params (measured_columns _ (params_by v.given.memory v.plan.swizzle) v.plan.entries.now _ (c.measure.ensures ∙ (λ i. shape_call (layout_by c.layout-layout.result.params (c.layout-layout.ensures.entries i)))) c.layout-layout.ensures.params _ c.in_ok-z.was) v.plan.entries.now v.plan.writes.now c.requires.writes
+    writes_move v.asked.given.memory v.asked.given.nets.now _ (params_by v.asked.given.memory v.asked.plan.swizzle) _ _ c.layout-layout.ensures.params (measured_columns _ (params_by v.asked.given.memory v.asked.plan.swizzle) v.asked.plan.entries.now _ (c.measure.ensures ∙ (λ i. shape_call (layout_by c.layout-layout.result.params (c.layout-layout.ensures.entries i)))) c.layout-layout.ensures.params _ c.in_ok-z.was) c.layout-layout.result.entries.now v.asked.plan.entries.now c.layout-layout.ensures.entries v.asked.plan.writes.now c.requires.writes
 
 pub reads_needs-d-requires : goal.reads_needs-d-requires
 reads_needs-d-requires c =
     let v = c.args in
-    reads_move v.given.memory v.given.nets.now _ (params_by v.given.memory v.plan.swizzle) _ _ c.layout-layout.ensures.params (measured_columns _ (params_by v.given.memory v.plan.swizzle) v.plan.entries.now _ (c.measure.ensures ∙ (λ i. shape_call (layout_by c.layout-layout.result.params (c.layout-layout.ensures.entries i)))) c.layout-layout.ensures.params _ c.in_ok-z.was) v.plan.reads.now c.requires.reads
+    reads_move v.asked.given.memory v.asked.given.nets.now _ (params_by v.asked.given.memory v.asked.plan.swizzle) _ _ c.layout-layout.ensures.params (measured_columns _ (params_by v.asked.given.memory v.asked.plan.swizzle) v.asked.plan.entries.now _ (c.measure.ensures ∙ (λ i. shape_call (layout_by c.layout-layout.result.params (c.layout-layout.ensures.entries i)))) c.layout-layout.ensures.params _ c.in_ok-z.was) v.asked.plan.reads.now c.requires.reads
 
 pub returns : goal.returns
 returns c =
     let v = c.args in
     let ep = c.layout-layout.ensures.params in
-    let ec = measured_columns _ (params_by v.given.memory v.plan.swizzle) v.plan.entries.now _ (c.measure.ensures ∙ (λ i. shape_call (layout_by c.layout-layout.result.params (c.layout-layout.ensures.entries i)))) c.layout-layout.ensures.params _ c.in_ok-z.was in
-    let ei = measured_image _ (params_by v.given.memory v.plan.swizzle) v.plan.entries.now _ (c.measure.ensures ∙ (λ i. shape_call (layout_by c.layout-layout.result.params (c.layout-layout.ensures.entries i)))) c.layout-layout.ensures.params _ c.in_ok-z.was in
-    let en = c.plus.ensures ∙ (λ i. plus_needs ((c.writes_needs-w.ensures.0 ∙ (λ j. writes_needs v.given.memory v.given.nets.now (ep j) (ec j) v.plan.entries.now v.plan.writes.now)) i) ((c.reads_needs-d.ensures.0 ∙ (λ j. reads_needs v.given.memory v.given.nets.now (ep j) (ec j) v.plan.reads.now)) i)) in
-    c.needs_refusal.ensures ∙ (λ i. needs_refusal (rooms_of v.r) v.room (state_of v.st) (en i) (ei i))
+    let ec = measured_columns _ (params_by v.asked.given.memory v.asked.plan.swizzle) v.asked.plan.entries.now _ (c.measure.ensures ∙ (λ i. shape_call (layout_by c.layout-layout.result.params (c.layout-layout.ensures.entries i)))) c.layout-layout.ensures.params _ c.in_ok-z.was in
+    let ei = measured_image _ (params_by v.asked.given.memory v.asked.plan.swizzle) v.asked.plan.entries.now _ (c.measure.ensures ∙ (λ i. shape_call (layout_by c.layout-layout.result.params (c.layout-layout.ensures.entries i)))) c.layout-layout.ensures.params _ c.in_ok-z.was in
+    let en = c.plus.ensures ∙ (λ i. plus_needs ((c.writes_needs-w.ensures.0 ∙ (λ j. writes_needs v.asked.given.memory v.asked.given.nets.now (ep j) (ec j) (c.layout-layout.ensures.entries j) v.asked.plan.writes.now)) i) ((c.reads_needs-d.ensures.0 ∙ (λ j. reads_needs v.asked.given.memory v.asked.given.nets.now (ep j) (ec j) v.asked.plan.reads.now)) i)) in
+    c.needs_refusal.ensures ∙ (λ i. needs_refusal (rooms_of v.r) v.r.log (state_of v.r.state) (en i) (ei i))

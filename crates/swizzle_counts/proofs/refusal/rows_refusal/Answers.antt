@@ -12,21 +12,19 @@ use Rattle.swizzle_counts.proofs.refusal.rows_refusal.Goals as goal
 pub returns-then-given-eq0 : goal.returns-then-given-eq0
 returns-then-given-eq0 c =
     let v = c.args in
-    by_flat (rooms_of v.r) v.room (state_of v.st) (given_of v.given.memory v.given.nets.now v.given.trits.now) v.output.now (plan_of v.plan.swizzle v.plan.entries.now v.plan.writes.now v.plan.reads.now) (sym c.in_ok-plan_refusal.ensures) (mem_width v.given.memory v.given.nets.now v.given.trits.now ∙ c.if-given-eq0.true) _ c.room_refusal.ensures
+    by_flat (rooms_of v.r) v.r.log (state_of v.r.state) (given_of v.asked.given.memory v.asked.given.nets.now v.asked.given.trits.now) v.asked.output.now (plan_of v.asked.plan.swizzle v.asked.plan.entries.now v.asked.plan.writes.now v.asked.plan.reads.now) (sym c.in_ok-plan_refusal.ensures) (mem_width v.asked.given.memory v.asked.given.nets.now v.asked.given.trits.now ∙ c.if-given-eq0.true) _ c.room_refusal.ensures
 
 pub returns-then-given-eq0-2 : goal.returns-then-given-eq0-2
 returns-then-given-eq0-2 c =
     let v = c.args in
-    by_empty (rooms_of v.r) v.room (state_of v.st) (given_of v.given.memory v.given.nets.now v.given.trits.now) v.output.now (plan_of v.plan.swizzle v.plan.entries.now v.plan.writes.now v.plan.reads.now) (sym c.in_ok-plan_refusal.ensures) (λ f. c.if-given-eq0.false (sym (mem_width v.given.memory v.given.nets.now v.given.trits.now) ∙ f)) (mem_depth_lem v.given.memory v.given.nets.now v.given.trits.now ∙ c.if-given-eq0-2.true)
+    by_empty (rooms_of v.r) v.r.log (state_of v.r.state) (given_of v.asked.given.memory v.asked.given.nets.now v.asked.given.trits.now) v.asked.output.now (plan_of v.asked.plan.swizzle v.asked.plan.entries.now v.asked.plan.writes.now v.asked.plan.reads.now) (sym c.in_ok-plan_refusal.ensures) (λ f. c.if-given-eq0.false (sym (mem_width v.asked.given.memory v.asked.given.nets.now v.asked.given.trits.now) ∙ f)) (mem_depth_lem v.asked.given.memory v.asked.given.nets.now v.asked.given.trits.now ∙ c.if-given-eq0-2.true)
 
 pub rows_by_needs-requires : goal.rows_by_needs-requires
 rows_by_needs-requires c =
-    let k = c in
-    let v = k.args in
-    rows_ready (rooms_of v.r) v.room (state_of v.st) v.given.memory v.given.nets.now v.given.trits.now v.plan.swizzle v.plan.entries.now v.plan.writes.now v.plan.reads.now v.output.now (sym c.in_ok-plan_refusal.ensures) c.if-given-eq0.false c.if-given-eq0-2.false (writes_length v.given.memory _ k.well_formed.1.1.1.0.1.1.0 v.given.nets.now) (reads_length v.given.memory _ k.well_formed.1.1.1.0.1.1.0 v.given.nets.now v.given.trits.now)
+    let v = c.args in
+    rows_ready (rooms_of v.r) v.r.log (state_of v.r.state) v.asked.given.memory v.asked.given.nets.now v.asked.given.trits.now v.asked.plan.swizzle v.asked.plan.entries.now v.asked.plan.writes.now v.asked.plan.reads.now v.asked.output.now (sym c.in_ok-plan_refusal.ensures) c.if-given-eq0.false c.if-given-eq0-2.false (writes_length v.asked.given.memory _ c.well_formed.1.0.1.1.0.1.1.0 v.asked.given.nets.now) (reads_length v.asked.given.memory _ c.well_formed.1.0.1.1.0.1.1.0 v.asked.given.nets.now v.asked.given.trits.now)
 
 pub returns : goal.returns
 returns c =
-    let k = c in
-    let v = k.args in
-    rows_refused (rooms_of v.r) v.room (state_of v.st) v.given.memory v.given.nets.now v.given.trits.now v.plan.swizzle v.plan.entries.now v.plan.writes.now v.plan.reads.now v.output.now (sym c.in_ok-plan_refusal.ensures) c.if-given-eq0.false c.if-given-eq0-2.false (writes_length v.given.memory _ k.well_formed.1.1.1.0.1.1.0 v.given.nets.now) (reads_length v.given.memory _ k.well_formed.1.1.1.0.1.1.0 v.given.nets.now v.given.trits.now) _ c.rows_by_needs.ensures
+    let v = c.args in
+    rows_refused (rooms_of v.r) v.r.log (state_of v.r.state) v.asked.given.memory v.asked.given.nets.now v.asked.given.trits.now v.asked.plan.swizzle v.asked.plan.entries.now v.asked.plan.writes.now v.asked.plan.reads.now v.asked.output.now (sym c.in_ok-plan_refusal.ensures) c.if-given-eq0.false c.if-given-eq0-2.false (writes_length v.asked.given.memory _ c.well_formed.1.0.1.1.0.1.1.0 v.asked.given.nets.now) (reads_length v.asked.given.memory _ c.well_formed.1.0.1.1.0.1.1.0 v.asked.given.nets.now v.asked.given.trits.now) _ c.rows_by_needs.ensures

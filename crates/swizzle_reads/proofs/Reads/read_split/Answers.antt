@@ -11,4 +11,4 @@ returns-clause-ports_after c =
     let v = c.args in
     let x = v.port in
     let q = v.x.rows.layout in
-    raw_by q.params v.x.rows.sizes v.x.split x.number x.read.port x.read.trits.now v.hw.now v.mux.now q.entries.now x.output.now v.scratch.now (going_of v.log.now v.self.now) _ _ refl c.emit_port.ensures.log_after c.copy.ensures c.put_trits.ensures refl (ap (λ (k : ℕ). v.self.now.trits_at + k) c.trit_count.ensures) (ap (λ (y : WideReadPort). with_read_port v.self.now.memory x.number y) c.port_of.ensures)
+    raw_by q.params v.x.rows.sizes v.x.split x.number x.read.port x.read.trits.now v.hw.now v.mux.now q.entries.now x.output.now v.scratch.now (going_of v.log.now v.self.now) _ _ refl c.emit_port.ensures.log_after c.copy.ensures c.put_trits.ensures refl (ap (λ (k : ℕ). v.self.now.trits_at + k) c.trit_count.ensures) (ap (λ (y : WideReadPort). with_read_port v.self.now.memory x.number y) c.port_of.ensures) refl refl

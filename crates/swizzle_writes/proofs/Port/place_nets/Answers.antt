@@ -9,33 +9,6 @@ use borrow.Rule.Slice.PartMut.{same_len_mid}
 use Rattle.swizzle_writes.proofs.Steps.{data_back, mask_back, nets_gave}
 use Rattle.swizzle_writes.proofs.Port.place_nets.Goals as goal
 
-pub overflow_add-mid : goal.overflow_add-mid
-overflow_add-mid c = omega (arith, c.requires)
-
-pub overflow_add-end : goal.overflow_add-end
-overflow_add-end c = omega (arith, c.requires)
-
-pub offset_bounds-to-from : goal.offset_bounds-to-from
-offset_bounds-to-from c = omega (arith, c.requires)
-
-pub slice_bounds-data_columns-count : goal.slice_bounds-data_columns-count
-slice_bounds-data_columns-count c = omega (arith, c.requires)
-
-pub slice_bounds-data_columns-start : goal.slice_bounds-data_columns-start
-slice_bounds-data_columns-start c = omega (arith, c.requires)
-
-pub slice_bounds-data_columns-end : goal.slice_bounds-data_columns-end
-slice_bounds-data_columns-end c = omega (arith, c.requires)
-
-pub offset_bounds-to-mid : goal.offset_bounds-to-mid
-offset_bounds-to-mid c = omega (arith, c.requires)
-
-pub slice_bounds-write_masks-count : goal.slice_bounds-write_masks-count
-slice_bounds-write_masks-count c = omega (arith, c.requires)
-
-pub slice_bounds-write_masks-start : goal.slice_bounds-write_masks-start
-slice_bounds-write_masks-start c = omega (arith, c.requires)
-
 pub slice_bounds-write_masks-end : goal.slice_bounds-write_masks-end
 slice_bounds-write_masks-end c =
     let v = c.args in
