@@ -13,11 +13,12 @@ import sys
 OPEN = {
     'crates/merge_mux/src/emit.rt emit_dedup_mux': ('keys',),
     'crates/merge_mux/src/emit.rt emit_bitwise_mux': ('keys',),
-    'crates/merge_dff/src/lib.rt emit_dedup_dff': ('keys', 'trits', 'column'),
+    'crates/merge_keys/src/lib.rt merge': ('self',),
+    'crates/merge_dff/src/lib.rt emit_dedup_dff': ('keys', 'trits'),
     'crates/port_overlay/src/lib.rt emit_unmap': ('overlay',),
-    'crates/port_unmap/src/lib.rt emit_port': ('overlay',),
+    'crates/port_unmap/src/lib.rt emit': ('overlay',),
     'crates/port_unmap_all/src/lib.rt emit_unmap_all': ('overlay',),
-    'crates/port_reset_emit/src/lib.rt emit_reset': ('overlay', 'mask'),
+    'crates/port_reset_emit/src/lib.rt emit_reset': ('room',),
     'crates/fallback_row/src/lib.rt emit_held': ('row',),
     'crates/fallback_row/src/lib.rt emit_drive': ('spare',),
 }
@@ -393,8 +394,9 @@ def text_faults(text, path='', left_open=None, holding=()):
             if x not in scratch:
                 what = 'its result' if x == 'result' else f'{x} after the call'
                 yield f'{path}:{line}: no clause of {name} says {what}'
+        head = text[start:text.find('{', start)]
         for x in scratch:
-            if x not in missing:
+            if x not in missing and re.search(rf'\b{x}\b', head):  # another function of that name may not take it
                 yield f'{path}:{line}: {name} says {x}, which scripts/contracts.py has as open: take it from the list'
 
 

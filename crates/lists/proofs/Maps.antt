@@ -4,9 +4,7 @@ use Prim.Native.Nat.{ℕ, ◌+◌, ◌<◌}
 use mathlib.Core.List.{List, map}
 use lib.ListN.{length, take, get_or, set, length-map, get_or-map}
 use lib.Seq.{sets, take-length}
-use Rattle.lists.specs.Lists.{pairs}
 use Rattle.lists.proofs.Store.{sets_more}
-use Rattle.lists.proofs.Pairs.{length_pairs, get_d_pairs}
 
 module _ {ℓ} {A B : Type ℓ} (f : A → B) (l : List A) (to₀ to : List B) (at i : ℕ) (e : to ≡ sets to₀ at (take i (map f l))) where
   pub map_turn : (d : A) (j : ℕ) → j ≡ at + i → i < length l → set to j (f (get_or l i d)) ≡ sets to₀ at (take (i + 1) (map f l))
@@ -18,14 +16,3 @@ module _ {ℓ} {A B : Type ℓ} (f : A → B) (l : List A) (to₀ to : List B) (
 
   pub map_done : i ≡ length l → to ≡ sets to₀ at (map f l)
   map_done h = e ∙ ap (λ (n : ℕ). sets to₀ at (take n (map f l))) (h ∙ sym (length-map l f)) ∙ ap (sets to₀ at) (take-length (map f l))
-
--- the same for two lists, element by element
-module _ {ℓ} {A B : Type ℓ} (f : A × A → B) (a b : List A) (same : length a ≡ length b) (to₀ to : List B) (at i : ℕ)
-    (e : to ≡ sets to₀ at (take i (map f (pairs a b)))) where
-  pub pairs_turn : (d : A) (j : ℕ) → j ≡ at + i → i < length a → set to j (f (get_or a i d, get_or b i d)) ≡ sets to₀ at (take (i + 1) (map f (pairs a b)))
-  pairs_turn d j q h =
-      ap (λ (p : A × A). set to j (f p)) (sym (get_d_pairs a b i d same))
-      ∙ map_turn f (pairs a b) to₀ to at i e (d, d) j q (rw (length_pairs a b same) h)
-
-  pub pairs-done : i ≡ length a → to ≡ sets to₀ at (map f (pairs a b))
-  pairs-done h = map_done f (pairs a b) to₀ to at i e (h ∙ sym (length_pairs a b same))
