@@ -18,6 +18,7 @@ use Rattle.log_requests.specs.Answers.{logged_of}
 use Rattle.net_memory.specs.declared.Memory.{Memory}
 use Rattle.net_memory.specs.View.{memory_of, read_port}
 use Rattle.port_mux.specs.declared.Asked.{Asked}
+use Rattle.port_mux.specs.declared.Pair.{Pair}
 
 -- data, and a mask where one is wanted
 abbrev pub overlay_of : Bool → Value → Value → Overlay
@@ -57,3 +58,7 @@ pub record Paired (m : Memory) (nets trits : List ℕ) (i j : ℕ) (masked : Boo
   pub enough : short_pair (memory_of m nets trits) (read_at_of (memory_of m nets trits) i) j ≡ false
   pub bits_like : length bits ≡ (read_port m i).data_len
   pub mask_like : masked ≡ true → length mask ≡ (read_port m i).data_len
+
+-- the same of the struct that holds them
+abbrev pub PairedIn : Pair → Type 0
+PairedIn p = Paired p.given.memory p.given.nets.now p.given.trits.now p.i p.j (is_some p.asked.mask) p.asked.bits.now (given_mask p.asked.mask)

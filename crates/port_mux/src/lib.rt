@@ -15,7 +15,7 @@ ghost use Rattle.rules.specs.Answers.{transparency_mux_call};
 ghost use Rattle.log_entries.specs.View.{state_of, lent_of};
 ghost use Rattle.net_memory.specs.Given.{view_given, mem_of};
 ghost use Rattle.port_transparency.specs.Gave.{Gave};
-ghost use Rattle.port_mux.specs.Call.{overlay_of, given_mask, asked_of, wanted_of, overlaid_of, Paired};
+ghost use Rattle.port_mux.specs.Call.{overlay_of, asked_of, wanted_of, overlaid_of, PairedIn};
 
 use log_entries::{Log, LogState};
 use net_check::Breaks;
@@ -48,17 +48,6 @@ fn overlay_long(o: Asked<'_>) -> bool
     o.any(|value| rules::MAX_MERGE < value.len())
 }
 
-// A value is not as long as the data of read port i.
-fn overlay_unlike(given: Given<'_>, o: Asked<'_>, i: usize) -> bool
-    ensures { result ≡ bad_overlay_lens (mem_of given.entry) i (asked_of o.entry) }
-{
-    if net_memory::ports_used(given.memory.read_count) <= i {
-        return false;
-    }
-    let n = given.read_port(i).port.data_len as usize;
-    o.any(|value| value.len() != n)
-}
-
 // A value has a net that is none.
 #[tactic(auto, unfolding(rules::specs::Conditions::bad_value))]
 fn overlay_bad(next: u32, o: Asked<'_>) -> bool
@@ -67,35 +56,92 @@ fn overlay_bad(next: u32, o: Asked<'_>) -> bool
     o.any(|value| !net_value::value_good(next, value))
 }
 
-// 14 and 15 of a pair of ports.
-fn pair_refusal(given: Given<'_>, i: usize, j: usize) -> Result<(), Refusal>
-    ensures { number_of result ≡ pair_ports_number (mem_of given.entry) i j }
-{
-    if net_memory::ports_used(given.memory.read_count) <= i {
-        return Err(Refusal::OutOfRange);
-    }
-    if net_memory::ports_used(given.memory.write_count) <= j {
-        return Err(Refusal::OutOfRange);
-    }
-    let r = port_unmap::reading(given.memory.width, given.read_port(i));
-    if port_unmap::pair_short(given, r, j) {
-        return Err(Refusal::ShortAddress);
-    }
-    Ok(())
+// A call's read and write port, and what the one's data is laid over.
+#[derive(Clone, Copy)]
+struct Pair<'a> {
+    given: Given<'a>,
+    i: usize,
+    j: usize,
+    asked: Asked<'a>,
 }
 
-// 1 to 4, 14 and 15.
-#[tactic(auto, using(crate::proofs::Numbers::num_first, crate::proofs::Numbers::num_rest))]
-fn mux_refusal(given: Given<'_>, i: usize, j: usize, o: Asked<'_>, next: u32) -> Result<(), Refusal>
-    ensures { number_of result ≡ transparency_mux_number next (view_given given.entry) i j (asked_of o.entry) }
-{
-    let beside = Breaks {
-        large: overlay_long(o),
-        shape: overlay_unlike(given, o, i),
-        value: overlay_bad(next, o),
-    };
-    net_check::call_refusal(given, next, beside)?;
-    pair_refusal(given, i, j)
+impl<'a> Pair<'a> {
+    // A value is not as long as the data of the read port.
+    fn unlike(self) -> bool
+        ensures { result ≡ bad_overlay_lens (mem_of self.entry.given) self.entry.i (asked_of self.entry.asked) }
+    {
+        if net_memory::ports_used(self.given.memory.read_count) <= self.i {
+            return false;
+        }
+        let n = self.given.read_port(self.i).port.data_len as usize;
+        self.asked.any(|value| value.len() != n)
+    }
+
+    // 14 and 15 of the pair of ports.
+    fn ports_refusal(self) -> Result<(), Refusal>
+        ensures { number_of result ≡ pair_ports_number (mem_of self.entry.given) self.entry.i self.entry.j }
+    {
+        if net_memory::ports_used(self.given.memory.read_count) <= self.i {
+            return Err(Refusal::OutOfRange);
+        }
+        if net_memory::ports_used(self.given.memory.write_count) <= self.j {
+            return Err(Refusal::OutOfRange);
+        }
+        let r = port_unmap::reading(self.given.memory.width, self.given.read_port(self.i));
+        if port_unmap::pair_short(self.given, r, self.j) {
+            return Err(Refusal::ShortAddress);
+        }
+        Ok(())
+    }
+
+    // 1 to 4, 14 and 15.
+    #[tactic(auto, using(crate::proofs::Numbers::num_first, crate::proofs::Numbers::num_rest))]
+    fn refusal(self, next: u32) -> Result<(), Refusal>
+        ensures { number_of result ≡ transparency_mux_number next (view_given self.entry.given) self.entry.i self.entry.j (asked_of self.entry.asked) }
+    {
+        let beside = Breaks {
+            large: overlay_long(self.asked),
+            shape: self.unlike(),
+            value: overlay_bad(next, self.asked),
+        };
+        net_check::call_refusal(self.given, next, beside)?;
+        self.ports_refusal()
+    }
+
+    // The pair's entries; data and mask after stand under the overlay and in `over`. The same function runs dry on an empty log.
+    fn emit(self, log: &mut Log, overlay: &mut Overlay, over: &mut [u32; rules::MAX_MERGE])
+        requires { PairedIn self }
+        ensures { Gave (transparency_mux (mem_of self.entry.given) self.entry.i self.entry.j (asked_of self.entry.asked)) (lent_of log.old) (lent_of log.new) (overlay_of (is_some self.entry.asked.mask) (take (length self.entry.asked.bits.now) overlay.new.under) (take (length self.entry.asked.bits.now) over.new)) }
+    {
+        let r = port_unmap::reading(self.given.memory.width, self.given.read_port(self.i));
+        lists::copy(&mut overlay.under, 0, self.asked.bits);
+        match self.asked.mask {
+            None => port_overlay::emit_pair(log, overlay, &mut NoMask, self.given, self.j, r),
+            Some(mask) => {
+                lists::copy(over, 0, mask);
+                port_overlay::emit_pair(log, overlay, over, self.given, self.j, r)
+            }
+        }
+    }
+
+    // 20 and 21 of it, by a run without a log.
+    fn dry_refusal(
+        self,
+        room: usize,
+        st: LogState,
+        overlay: &mut Overlay,
+        over: &mut [u32; rules::MAX_MERGE],
+    ) -> Result<(), Refusal>
+        requires { PairedIn self }
+        ensures { number_of result ≡ log_refusal room (state_of st) (transparency_mux (mem_of self.entry.given) self.entry.i self.entry.j (asked_of self.entry.asked)) }
+    {
+        let mut dry = Log {
+            words: &mut [],
+            state: st.dry_start(),
+        };
+        self.emit(&mut dry, overlay, over);
+        st.dry_refusal(room, dry.state)
+    }
 }
 
 // 20 where the data or the mask after do not fit the rooms for them.
@@ -109,52 +155,6 @@ fn room_refusal(data_room: usize, mask_room: usize, o: Asked<'_>) -> Result<(), 
         return Err(Refusal::NoRoom);
     }
     Ok(())
-}
-
-// The pair's entries; data and mask after stand under the overlay and in `over`. The same function runs dry on an empty log.
-fn emit_mux<'a>(
-    log: &mut Log,
-    overlay: &mut Overlay,
-    over: &mut [u32; rules::MAX_MERGE],
-    given: Given<'a>,
-    i: usize,
-    j: usize,
-    o: Asked<'a>,
-)
-    requires { Paired given.memory given.nets.now given.trits.now i j (is_some o.mask) o.bits.now (given_mask o.mask) }
-    ensures { Gave (transparency_mux (mem_of given.entry) i j (asked_of o.entry)) (lent_of log.old) (lent_of log.new) (overlay_of (is_some o.entry.mask) (take (length o.entry.bits.now) overlay.new.under) (take (length o.entry.bits.now) over.new)) }
-{
-    let r = port_unmap::reading(given.memory.width, given.read_port(i));
-    lists::copy(&mut overlay.under, 0, o.bits);
-    match o.mask {
-        None => port_overlay::emit_pair(log, overlay, &mut NoMask, given, j, r),
-        Some(mask) => {
-            lists::copy(over, 0, mask);
-            port_overlay::emit_pair(log, overlay, over, given, j, r)
-        }
-    }
-}
-
-// 20 and 21 of it, by a run without a log.
-fn dry_refusal(
-    room: usize,
-    st: LogState,
-    overlay: &mut Overlay,
-    over: &mut [u32; rules::MAX_MERGE],
-    given: Given<'_>,
-    i: usize,
-    j: usize,
-    o: Asked<'_>,
-) -> Result<(), Refusal>
-    requires { Paired given.memory given.nets.now given.trits.now i j (is_some o.mask) o.bits.now (given_mask o.mask) }
-    ensures { number_of result ≡ log_refusal room (state_of st) (transparency_mux (mem_of given.entry) i j (asked_of o.entry)) }
-{
-    let mut dry = Log {
-        words: &mut [],
-        state: st.dry_start(),
-    };
-    emit_mux(&mut dry, overlay, over, given, i, j, o);
-    st.dry_refusal(room, dry.state)
 }
 
 // The mask after, where one is wanted, into lent room.
@@ -181,25 +181,22 @@ pub fn transparency_mux(
 ) -> Result<LogState, Refusal>
     ensures { overlaid_of (is_some asked.entry.mask) (length asked.entry.bits.now) result log.new bits_to.new mask_to.new ≡ transparency_mux_call bits_to.old mask_to.old log.old (state_of st) (view_given given.entry) read write (asked_of asked.entry) }
 {
-    mux_refusal(given, read, write, asked, st.next)?;
+    let pair = Pair {
+        given,
+        i: read,
+        j: write,
+        asked,
+    };
+    pair.refusal(st.next)?;
     room_refusal(bits_to.len(), mask_to.len(), asked)?;
     let mut overlay = Overlay::new();
     let mut over = [0u32; rules::MAX_MERGE];
-    dry_refusal(
-        log.len(),
-        st,
-        &mut overlay,
-        &mut over,
-        given,
-        read,
-        write,
-        asked,
-    )?;
+    pair.dry_refusal(log.len(), st, &mut overlay, &mut over)?;
     let mut log = Log {
         words: log,
         state: st,
     };
-    emit_mux(&mut log, &mut overlay, &mut over, given, read, write, asked);
+    pair.emit(&mut log, &mut overlay, &mut over);
     lists::copy(bits_to, 0, lists::part(&overlay.under, 0, asked.bits.len()));
     store_mask(mask_to, &over, asked);
     Ok(log.state)

@@ -20,18 +20,18 @@ use Rattle.port_mux.proofs.Passed.{passed, bits_fit, mask_fit, len_is, data_few}
 use Rattle.port_mux.proofs.Act.{input_refused, room_refused, log_last, overlaid_refused, overlaid-done}
 use Rattle.port_mux.proofs.transparency_mux.Goals as goal
 
-pub returns-in_err-mux_refusal : goal.returns-in_err-mux_refusal
-returns-in_err-mux_refusal c =
+pub returns-in_err-refusal : goal.returns-in_err-refusal
+returns-in_err-refusal c =
     let v = c.args in
     let o = v.asked in
     let e = err_from_is_err_and c.from_residual.result c.from_residual.ensures.1 in
-    rw (e.1, e.2) (input_refused (is_some o.mask) v.given.memory v.given.nets.now v.given.trits.now v.read v.write o.bits.now (given_mask o.mask) v.bits_to.now v.mask_to.now v.log.now v.st (length o.bits.now) _ c.in_err-mux_refusal.ensures)
+    rw (e.1, e.2) (input_refused (is_some o.mask) v.given.memory v.given.nets.now v.given.trits.now v.read v.write o.bits.now (given_mask o.mask) v.bits_to.now v.mask_to.now v.log.now v.st (length o.bits.now) _ c.in_err-refusal.ensures)
 
 pub returns-in_err-room_refusal : goal.returns-in_err-room_refusal
 returns-in_err-room_refusal c =
     let v = c.args in
     let o = v.asked in
-    let z = sym c.in_ok-mux_refusal.ensures in
+    let z = sym c.in_ok-refusal.ensures in
     let g = passed v.st.next v.given.memory v.given.nets.now v.given.trits.now v.read v.write (is_some o.mask) o.bits.now (given_mask o.mask) z (reads_length v.given.memory _ c.well_formed.1.1.1.1.0.1.1.0 v.given.nets.now v.given.trits.now) in
     let d = len_is v.given.memory v.given.nets.now v.given.trits.now v.read v.write (is_some o.mask) o.bits.now (given_mask o.mask) g in
     let r = c.in_err-room_refusal.ensures ∙ ap (λ (n : ℕ). overlay_refusal (record { bits = length v.bits_to.now; mask = length v.mask_to.now }) n (asked_of o)) d in
@@ -42,13 +42,13 @@ pub dry_refusal-requires : goal.dry_refusal-requires
 dry_refusal-requires c =
     let v = c.args in
     let o = v.asked in
-    passed v.st.next v.given.memory v.given.nets.now v.given.trits.now v.read v.write (is_some o.mask) o.bits.now (given_mask o.mask) (sym c.in_ok-mux_refusal.ensures) (reads_length v.given.memory _ c.well_formed.1.1.1.1.0.1.1.0 v.given.nets.now v.given.trits.now)
+    passed v.st.next v.given.memory v.given.nets.now v.given.trits.now v.read v.write (is_some o.mask) o.bits.now (given_mask o.mask) (sym c.in_ok-refusal.ensures) (reads_length v.given.memory _ c.well_formed.1.1.1.1.0.1.1.0 v.given.nets.now v.given.trits.now)
 
 pub returns-in_err-dry_refusal : goal.returns-in_err-dry_refusal
 returns-in_err-dry_refusal c =
     let v = c.args in
     let o = v.asked in
-    let z = sym c.in_ok-mux_refusal.ensures in
+    let z = sym c.in_ok-refusal.ensures in
     let g = passed v.st.next v.given.memory v.given.nets.now v.given.trits.now v.read v.write (is_some o.mask) o.bits.now (given_mask o.mask) z (reads_length v.given.memory _ c.well_formed.1.1.1.1.0.1.1.0 v.given.nets.now v.given.trits.now) in
     let d = len_is v.given.memory v.given.nets.now v.given.trits.now v.read v.write (is_some o.mask) o.bits.now (given_mask o.mask) g in
     let r = c.in_ok-room_refusal.ensures ∙ ap (λ (n : ℕ). overlay_refusal (record { bits = length v.bits_to.now; mask = length v.mask_to.now }) n (asked_of o)) d in
@@ -57,19 +57,19 @@ returns-in_err-dry_refusal c =
     rw (e.1, e.2) (log_last (is_some o.mask) v.given.memory v.given.nets.now v.given.trits.now v.read v.write o.bits.now (given_mask o.mask) v.bits_to.now v.mask_to.now v.log.now v.st z _ (sym r)
     (overlaid_refused (is_some o.mask) (length o.bits.now) (log_refusal (length v.log.now) (state_of v.st) t) _ v.bits_to.now v.mask_to.now v.log.now (state_of v.st) t c.in_err-dry_refusal.ensures))
 
-pub emit_mux-requires : goal.emit_mux-requires
-emit_mux-requires c =
+pub emit-requires : goal.emit-requires
+emit-requires c =
     let v = c.args in
     let o = v.asked in
-    passed v.st.next v.given.memory v.given.nets.now v.given.trits.now v.read v.write (is_some o.mask) o.bits.now (given_mask o.mask) (sym c.in_ok-mux_refusal.ensures) (reads_length v.given.memory _ c.well_formed.1.1.1.1.0.1.1.0 v.given.nets.now v.given.trits.now)
+    passed v.st.next v.given.memory v.given.nets.now v.given.trits.now v.read v.write (is_some o.mask) o.bits.now (given_mask o.mask) (sym c.in_ok-refusal.ensures) (reads_length v.given.memory _ c.well_formed.1.1.1.1.0.1.1.0 v.given.nets.now v.given.trits.now)
 
 pub returns : goal.returns
 returns c =
     let v = c.args in
     let o = v.asked in
-    let u = c.emit_mux in
+    let u = c.emit in
     let n = length o.bits.now in
-    let z = sym c.in_ok-mux_refusal.ensures in
+    let z = sym c.in_ok-refusal.ensures in
     let g = passed v.st.next v.given.memory v.given.nets.now v.given.trits.now v.read v.write (is_some o.mask) o.bits.now (given_mask o.mask) z (reads_length v.given.memory _ c.well_formed.1.1.1.1.0.1.1.0 v.given.nets.now v.given.trits.now) in
     let d = len_is v.given.memory v.given.nets.now v.given.trits.now v.read v.write (is_some o.mask) o.bits.now (given_mask o.mask) g in
     let f = data_few v.given.memory v.given.nets.now v.given.trits.now v.read v.write (is_some o.mask) o.bits.now (given_mask o.mask) g in
