@@ -15,6 +15,7 @@ use Rattle.rules.specs.Refusals.{room_refusal, log_refusal, lower_fallback_numbe
 use Rattle.rules.specs.Beside.Chain.{Chained, Chains}
 use Rattle.rules.proofs.Chain.{chained_append}
 use Rattle.rules.proofs.Counted.{Counted, counted_done}
+use Rattle.rules.proofs.Done.{done_value}
 use Rattle.rules.proofs.Traces.{bind_words, bind_next, log_refusal_at}
 use Rattle.net_memory.specs.declared.Memory.{Memory}
 use Rattle.net_memory.specs.View.{memory_of}
@@ -37,10 +38,6 @@ use Rattle.fallback.specs.Split.{split_lowered}
 pub none_lower : lower_rows [] ≡ done tt
 unfolding lower_rows
 none_lower = refl
-
-done_value : (n : ℕ) → (done {A = List Driving} [] n).value ≡ []
-unfolding done
-done_value n = refl
 
 module _ (next : ℕ) (m : Memory) (nets trits output : List ℕ) (z : lower_fallback_number next (given_of m nets trits) output ≡ 0) where
   abbrev M : Mem
@@ -70,7 +67,7 @@ module _ (next : ℕ) (m : Memory) (nets trits output : List ℕ) (z : lower_fal
   pub flat_rest : M.width ≡ 0 → (outs : Value) → length outs ≡ output_len M → Counted (split_lowered B outs) 0 0
   flat_rest w outs e =
       subst (λ (u : Trace Unit). Counted u 0 0) (sym (flat_is outs w))
-      (counted_bind (done []) lower_rows 0 0 0 0 (counted_done []) (λ n. subst (λ (ds : List Driving). Counted (lower_rows ds) 0 0) (sym (done_value n)) (subst (λ (u : Trace Unit). Counted u 0 0) (sym none_lower) (counted_done tt))) chains_lower)
+      (counted_bind (done []) lower_rows 0 0 0 0 (counted_done []) (λ n. subst (λ (ds : List Driving). Counted (lower_rows ds) 0 0) (sym (done_value [] n)) (subst (λ (u : Trace Unit). Counted u 0 0) (sym none_lower) (counted_done tt))) chains_lower)
 
   abbrev rest : Driving → Trace Unit
   rest x = swizzle x.memory x.output (fallback_plan x.memory) >>= lower_rows

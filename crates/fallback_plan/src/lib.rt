@@ -41,7 +41,7 @@ fn largest_write(given: Given<'_>) -> u32
     ensures { (trits : List ℕ) → result ≡ largest (write_logs (memory_of given.entry.memory given.entry.nets.now trits)) }
 {
     let count = net_memory::ports_used(given.memory.write_count) as u32;
-    largest_by(count, |port| swizzle_plan::logs::write_log(given, port))
+    largest_by(count, |port| swizzle_plan::logs::write_log(&given, port))
 }
 
 // The largest wide log of the read ports.
@@ -49,7 +49,7 @@ fn largest_read(m: Memory) -> u32
     ensures { (nets trits : List ℕ) → result ≡ largest (map (read_wide_log2 (memory_of m nets trits)) (memory_of m nets trits).reads) }
 {
     let count = net_memory::ports_used(m.read_count) as u32;
-    largest_by(count, |port| swizzle_plan::logs::read_log(m, port))
+    largest_by(count, |port| swizzle_plan::logs::read_log(&m, port))
 }
 
 // The plan; its entries are the bits in order, and every new wide log is 0.

@@ -44,17 +44,14 @@ fn total_of(input: &mut impl Read, n: usize) -> io::Result<usize>
     Ok(n + left)
 }
 
-fn record_room() -> [u8; rules::MAX_RECORD] {
-    [0u8; rules::MAX_RECORD]
-}
-
-fn text_room() -> [u8; record_listing::MAX_TEXT] {
-    [0u8; record_listing::MAX_TEXT]
+// A function gives the rooms: a check with arrays of this size in it runs out of stack.
+fn room<const N: usize>() -> [u8; N] {
+    [0u8; N]
 }
 
 fn main(rt: HostRuntime) -> io::Result<()> {
-    let mut bytes = record_room();
-    let mut out = text_room();
+    let mut bytes = room::<{ rules::MAX_RECORD }>();
+    let mut out = room::<{ record_listing::MAX_TEXT }>();
     let mut input = rt.stdin();
     let n = input_front::read_full(&mut input, &mut bytes)?;
     let total = total_of(&mut input, n)?;

@@ -20,3 +20,4 @@ pub mod Flat
 pub mod Runs
 pub mod Mids
 pub mod Powers
+pub mod Zips

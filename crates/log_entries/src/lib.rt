@@ -38,10 +38,8 @@ impl LogState {
             return Err(Refusal::NoRoom);
         }
         let next = self.next;
-        if next < rules::FIRST_CELL || rules::MAX_NETS < next {
-            return Err(Refusal::NetsFull);
-        }
-        if ((rules::MAX_NETS - next) as usize) < nets {
+        let full = rules::MAX_NETS < next || ((rules::MAX_NETS - next) as usize) < nets;
+        if next < rules::FIRST_CELL || full {
             return Err(Refusal::NetsFull);
         }
         Ok(())
@@ -83,7 +81,7 @@ impl LogState {
     {
         LogState {
             used: 0,
-            next: self.next.max(rules::FIRST_CELL).min(rules::MAX_NETS),
+            next: self.next.clamp(rules::FIRST_CELL, rules::MAX_NETS),
         }
     }
 

@@ -205,10 +205,8 @@ pub fn mux_input_refusal(next: u32, select: ControlNet, a: &[u32], b: &[u32]) ->
     if a.len() != b.len() {
         return Err(Refusal::BadShape);
     }
-    if !net_value::select_good(next, select) {
-        return Err(Refusal::BadValue);
-    }
-    if !net_value::value_good(next, a) || !net_value::value_good(next, b) {
+    let good = net_value::value_good(next, a) && net_value::value_good(next, b);
+    if !net_value::select_good(next, select) || !good {
         return Err(Refusal::BadValue);
     }
     Ok(())

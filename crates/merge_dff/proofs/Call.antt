@@ -5,7 +5,7 @@ use native.Mathlib.Omega.{arith}
 use mathlib.Core.List.{List, []}
 use lib.Dec.{ltb}
 use lib.ListN.{length, length-map, length-take}
-use borrow.Author.Tests.{lt-ltb, le-ltb, ltb-false}
+use borrow.Author.Tests.{ltb-false}
 use Rattle.lists.specs.Choice.{◌or_else◌}
 use Rattle.lists.specs.Lists.{pairs}
 use Rattle.lists.specs.Distinct.{kept}
@@ -25,16 +25,8 @@ use Rattle.merge_mux.proofs.Limited.{limited-all}
 
 -- ---- the numbers
 module _ (next : ℕ) (f : FlipFlop) where
-  pub number_1 : max_merge < length f.bits → 1 ≡ merge_dff_number next f
-  unfolding merge_dff_number long_value
-  number_1 h = rw (lt-ltb max_merge (length f.bits) h)
-
-  pub number_rest : length f.bits ≤ max_merge → dff_number next f ≡ merge_dff_number next f
-  unfolding merge_dff_number long_value
-  number_rest h = rw (le-ltb max_merge (length f.bits) h)
-
   -- no number: no more bits than a merge takes
-  pub number_few : merge_dff_number next f ≡ 0 → length f.bits ≤ max_merge
+  number_few : merge_dff_number next f ≡ 0 → length f.bits ≤ max_merge
   unfolding merge_dff_number long_value
   number_few e = ltb-false max_merge (length f.bits) (refused_not (ltb max_merge (length f.bits)) 1 (dff_number next f) (omega arith) e).0
 

@@ -9,7 +9,6 @@ use lib.Seq.{sets, length-take-le, drop-drop, drop-cons}
 use Rattle.lists.proofs.Choice.{cases_le}
 use Rattle.lists.specs.Lists.{part, pairs}
 use Rattle.lists.specs.Distinct.{places}
-use Rattle.lists.proofs.Stores.{take_stored}
 use Rattle.lists.proofs.Store.{sets_append}
 use Rattle.lists.proofs.Parts.{length_part}
 use Rattle.lists.proofs.Pairs.{pairs_size}
@@ -18,6 +17,7 @@ use Rattle.rules.specs.Limits.{max_merge, X}
 use Rattle.rules.specs.Value.{Value, Control, Pos}
 use Rattle.rules.specs.Log.{Trace, ◌>>=◌, done}
 use Rattle.rules.specs.Merge.{same2, add_dedup_mux_of, runs, mux_runs, add_bitwise_mux_of}
+use Rattle.rules.proofs.Done.{done_value}
 use Rattle.rules.proofs.Traces.{bind_value}
 use Rattle.rules.proofs.Chain.{chains_dedup_mux}
 use Rattle.log_entries.specs.Emission.{Lent, is_over, run}
@@ -31,13 +31,9 @@ use Rattle.merge_mux.proofs.RunLaws.{runs_from_lem, run_within}
 unfoldable pub left : ℕ → Value → Value → Value → Trace Value
 left i s a b = mux_runs (runs (drop i s)) (drop i s) (drop i a) (drop i b)
 
-pub left_whole : (s a b : Value) → left 0 s a b ≡ add_bitwise_mux_of s a b
+left_whole : (s a b : Value) → left 0 s a b ≡ add_bitwise_mux_of s a b
 unfolding left add_bitwise_mux_of
 left_whole s a b = refl
-
-done_value : (v : Value) (n : ℕ) → (done v n).value ≡ v
-unfolding done
-done_value v n = refl
 
 -- nothing is left
 left_none : (i : ℕ) (s a b : Value) → length s ≤ i → left i s a b ≡ done []
@@ -176,14 +172,6 @@ module _ (s a b : Value) (n : ℕ) (w : Within s a b n) where
       let y = length-take-le n a w.in_a in
       let z = length-take-le n b w.in_b in
       record { first = y ∙ sym x; second = z ∙ sym x; few = rw x w.few }
-
-  -- what the loop stored in scratch is the value
-  pub cut_value : (nets nets' : List ℕ) (k : ℕ) → max_merge ≤ length nets → nets' ≡ sets nets 0 (add_bitwise_mux_of (take n s) (take n a) (take n b) k).value
-      → take n nets' ≡ (add_bitwise_mux_of (take n s) (take n a) (take n b) k).value
-  cut_value nets nets' k h e =
-      take_stored nets nets' _ n e
-      (sym (bitwise_length (take n s) (take n a) (take n b) cut_bits.first cut_bits.second k ∙ length-take-le n s w.in_s))
-      (omega (arith, w.few))
 
   pub cut_is : n ≡ bits_taken s a b → add_bitwise_mux_of (take n s) (take n a) (take n b) ≡ bitwise_of s a b
   unfolding bitwise_of

@@ -3,20 +3,17 @@ use mathlib.Core.Path.{subst, ◌≡◌, refl, sym, ap, ◌∙◌}
 use Prim.Native.Nat.{ℕ, suc, ◌+◌, ◌<◌, ◌≤◌}
 use native.Mathlib.Numerals.{add-one}
 use native.Mathlib.Omega.{arith}
-use mathlib.Core.Bool.{Bool, true, false, not, cond}
+use mathlib.Core.Bool.{Bool, true, false, not}
 use mathlib.Core.List.{List, [], ◌∷◌}
 use lib.ListN.{length, drop, get_or, length-drop}
 use lib.Seq.{drop-cons, drop-drop}
-use lib.Dec.{eqb, ltb}
-use borrow.Author.Tests.{eqb-true, eqb-false, eq-eqb, ne_eqb, ltb-false}
-use Rattle.std.specs.Prelude.{None, Some}
-use Rattle.std.specs.List.{position, position_or_len}
+use lib.Dec.{eqb}
+use borrow.Author.Tests.{eqb-true, eqb-false, eq-eqb, ne_eqb}
+use Rattle.std.specs.List.{position}
 use Rattle.std.specs.Option.{unwrap_or}
-use Rattle.std.proofs.lemmas.List.Recursion.{is_position_or_len}
-use Rattle.std.proofs.lemmas.List.Sums.{prefix_len-le-length}
-use Rattle.lists.specs.Choice.{when◌then◌else◌}
 use Rattle.lists.specs.Distinct.{place_in}
 use Rattle.lists.proofs.Distinct.{place_miss, place_le}
+use Rattle.lists.proofs.Zips.{found_place}
 use Rattle.rules.specs.Merge.{longer, runs}
 use Rattle.merge_mux.specs.Runs.{run_at}
 
@@ -66,33 +63,19 @@ module _ (s : List ℕ) (i : ℕ) (h : i < length s) where
   cut : drop i s ≡ get_or s i 0 ∷ drop (i + 1) s
   cut = drop-cons s i 0 h ∙ ap (λ (n : ℕ). get_or s i 0 ∷ drop n s) (sym (add-one i))
 
-  pub run_from : i + run_at (drop i s) ≡ i + 1 + place_in differs (get_or s i 0) (drop (i + 1) s)
+  run_from : i + run_at (drop i s) ≡ i + 1 + place_in differs (get_or s i 0) (drop (i + 1) s)
   run_from = ap (λ (l : List ℕ). i + run_at l) cut ∙ ap (λ (n : ℕ). i + n) (run_length (get_or s i 0) (drop (i + 1) s)) ∙ omega arith
 
   pub runs_from_lem : runs (drop i s) ≡ run_at (drop i s) ∷ runs (drop (i + run_at (drop i s)) s)
   runs_from_lem = runs_of (drop i s) _ _ cut ∙ ap (λ (l : List ℕ). run_at (drop i s) ∷ runs l) (drop-drop (run_at (drop i s)) i s)
 
 -- the end of a run that is looked for with `position`
-other_at : (x : ℕ) (l : List ℕ) → place_in differs x l ≡ position_or_len (λ y. not (eqb y x)) l
-other_at x l = is_position_or_len (place_in differs x) (λ y. not (eqb y x)) refl (λ y m. by (not (eqb y x)) (place_in differs x m)) l
-  where
-    by : (t : Bool) (n : ℕ) → (when t then 0 else suc n) ≡ cond t 0 (1 + n)
-    by true n = refl
-    by false n = omega arith
-
-unwrapped : (n k : ℕ) → n ≤ k → unwrap_or (cond (ltb n k) (Some n) None) k ≡ n
-unwrapped n k h = on (ltb n k) refl
-  where
-    on : (t : Bool) → ltb n k ≡ t → unwrap_or (cond t (Some n) None) k ≡ n
-    on true e = refl
-    on false e = omega (arith, h, ltb-false n k e)
-
 pub run_ends : (s : List ℕ) (i : ℕ) → i < length s → run_at (drop i s) ≡ unwrap_or (position (λ y. not (eqb y (get_or s i 0))) (drop i s)) (length (drop i s))
 run_ends s i h =
     let x = get_or s i 0 in
     let e : i + place_in differs x (drop i s) ≡ i + 1 + place_in differs x (drop (i + 1) s) = place_miss differs x s i 0 h (let q = eq-eqb x x refl in rw q) in
     let r : run_at (drop i s) ≡ place_in differs x (drop i s) = omega (arith, run_from s i h, e) in
-    r ∙ other_at x (drop i s) ∙ sym (unwrapped _ (length (drop i s)) (prefix_len-le-length _ (drop i s)))
+    r ∙ sym (found_place differs x (drop i s))
 
 -- a run has an element at least, and ends where the list does at most
 pub run_within : (s : List ℕ) (i : ℕ) → i < length s → (0 < run_at (drop i s)) × (i + run_at (drop i s) ≤ length s)

@@ -4,7 +4,6 @@
 
 use std::io;
 use table_read::Fault;
-use table_readback::Refused;
 use table_text::reason::Reason;
 
 // A header line of up to 4,096 bytes, the longest record and the longest table, and a byte more. An input that fills it may be longer, and is refused.
@@ -13,29 +12,20 @@ const ROOM: usize = 1085453;
 // The longest answer: 13 bytes and two rows for each row that differs, and a last line. A header line of up to 4,096 bytes and the rows are shorter.
 const TEXT: usize = 524288;
 
-fn input_room() -> [u8; ROOM] {
-    [0u8; ROOM]
-}
-
-fn text_room() -> [u8; TEXT] {
-    [0u8; TEXT]
-}
-
-fn write_refused(rt: &impl Eprint, refused: Refused) -> io::Result<()> {
-    rt.eprint(refused)?;
-    rt.eprint("\n")
+// A function gives the rooms: a check with arrays of this size in it runs out of stack.
+fn room<const N: usize>() -> [u8; N] {
+    [0u8; N]
 }
 
 fn main(rt: HostRuntime) -> io::Result<()> {
-    let mut text = input_room();
-    let mut out = text_room();
+    let mut text = room::<ROOM>();
+    let mut out = room::<TEXT>();
     let n = input_front::read_full(&mut rt.stdin(), &mut text)?;
     if n == ROOM {
-        let reason = Reason::TextTooLong;
-        return write_refused(&rt, Refused::Text(Fault { line: 1, reason }));
+        return rt.eprintln(Fault::in_header(Reason::TextTooLong));
     }
     match table_readback::read_back(&mut out, &text[..n]) {
         Ok(size) => rt.write_all(lists::part(&out, 0, size)),
-        Err(refused) => write_refused(&rt, refused),
+        Err(refused) => rt.eprintln(refused),
     }
 }

@@ -9,6 +9,7 @@ use Rattle.rules.specs.Value.{Value}
 use Rattle.rules.specs.Geometry.{Layout, walk, row_len_of, all_mems, columns}
 use Rattle.rules.specs.Swizzle.{Split, spot_by, split_addr, split_by, piece_start, const_columns}
 use Rattle.swizzle_laws.specs.Order.{ordered}
+use Rattle.swizzle_laws.proofs.Loading.{row_length}
 use Rattle.swizzle_laws.proofs.Places.{Splittable, row_bits, piece_walk}
 use Rattle.swizzle_columns.specs.declared.WidePort.{WidePort}
 use Rattle.swizzle_columns.specs.Rows.{start_of}
@@ -16,6 +17,7 @@ use Rattle.swizzle_columns.specs.Matches.{Laid}
 use Rattle.swizzle_columns.specs.Wide.{PortFits, grid_of, port_trits, trits_of}
 use Rattle.swizzle_columns.proofs.Fits.{grid_good, fits_tested, columns_can}
 use Rattle.swizzle_columns.proofs.Trits.{laid_trits}
+use Rattle.swizzle_columns.proofs.Walks.{start_is}
 
 -- what a port's numbers are
 pub record Means (q : Layout) (old new : ℕ) (addr : Value) (ok : Splittable q old new addr) (p : WidePort) : Type 0 where
@@ -28,14 +30,6 @@ pub record Means (q : Layout) (old new : ℕ) (addr : Value) (ok : Splittable q 
   pub pieces_are : p.pieces ≡ (split_addr q old new addr).pieces
   pub few : 2 ^ old * (split_addr q old new addr).pieces ≤ 2 ^ addr_bits
   pub fewer : (split_addr q old new addr).pieces ≤ 2 ^ addr_bits
-
-pub row_length : (q : Layout) → length q.entries ≡ row_len_of q
-unfolding row_len_of
-row_length q = refl
-
-start_unfolds : (chunks C L n : ℕ) → start_of chunks C L n ≡ (walk addr_bits chunks addr_bits n).row * C + (walk addr_bits chunks addr_bits n).chunk * L
-unfolding start_of
-start_unfolds chunks C L n = refl
 
 module _ (q : Layout) (old new : ℕ) (addr : Value) (ok : Splittable q old new addr) (p : WidePort) (m : Means q old new addr ok p) where
   abbrev s : Split
@@ -63,8 +57,8 @@ module _ (q : Layout) (old new : ℕ) (addr : Value) (ok : Splittable q old new 
       (λ i. walk addr_bits (m.chunks_are i) addr_bits (j + m.olds_are i * x))
       ∙ sym (piece_walk q old new addr ok x j m.few m.fewer (omega (arith, m.pieces_are)) (omega (arith, m.olds_are)))
       ∙ ap (λ (k : ℕ). spot_by s.piece_roles (j + 2 ^ k * x)) (sym old_is) in
-      start_unfolds p.chunks (p.mems * p.unit) (length q.entries) (j + p.olds * x)
-      ∙ (λ i. (e i).row * columns_are i + (e i).chunk * row_length q i) ∙ sym (piece_start_lem x j)
+      start_is p.chunks (p.mems * p.unit) (length q.entries) (j + p.olds * x)
+      ∙ (λ i. (e i).row * columns_are i + (e i).chunk * sym (row_length q) i) ∙ sym (piece_start_lem x j)
 
   -- ---- trits of a clocked read port
   laid : Laid (grid_of p (length q.entries)) (p.mems * p.unit) p.pieces p.olds p.chunks p.width q.entries q s
@@ -72,7 +66,7 @@ module _ (q : Layout) (old new : ℕ) (addr : Value) (ok : Splittable q old new 
     mems_are = m.mems_are;
     rows_are = m.rows_are ∙ ap (λ (k : ℕ). 2 ^ k) (sym new_is);
     unit_is = m.unit_is;
-    len_is = row_length q;
+    len_is = sym (row_length q);
     columns_are = columns_are;
     pieces_are = m.pieces_are;
     olds_are = m.olds_are ∙ ap (λ (k : ℕ). 2 ^ k) (sym old_is);

@@ -17,7 +17,7 @@ use Rattle.swizzle_columns.specs.Rows.{start_of, starts_by}
 use Rattle.swizzle_columns.specs.Jobs.{Narrow}
 
 -- ---- the start of one piece
-start_is : (chunks C L n : ℕ) → start_of chunks C L n ≡ (walk addr_bits chunks addr_bits n).row * C + (walk addr_bits chunks addr_bits n).chunk * L
+pub start_is : (chunks C L n : ℕ) → start_of chunks C L n ≡ (walk addr_bits chunks addr_bits n).row * C + (walk addr_bits chunks addr_bits n).chunk * L
 unfolding start_of
 start_is chunks C L n = refl
 

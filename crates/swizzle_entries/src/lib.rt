@@ -122,11 +122,11 @@ impl Writes<'_> {
 }
 
 // Stores the entries, and says how many they are.
-fn put_entries(out: &mut [u32], given: Given<'_>, gs: &[u32]) -> usize
-    ensures value { result ≡ length (make_data_swizzle (mem_of given.entry) gs.now) }
-    ensures out_after { out.new ≡ sets out.old 0 (make_data_swizzle (mem_of given.entry) gs.now) }
+fn put_entries(out: &mut [u32], given: &Given<'_>, gs: &[u32]) -> usize
+    ensures value { result ≡ length (make_data_swizzle (mem_of given.now) gs.now) }
+    ensures out_after { out.new ≡ sets out.old 0 (make_data_swizzle (mem_of given.now) gs.now) }
 {
-    let m = given.memory;
+    let m = &given.memory;
     let ports = &m.write_ports[..net_memory::ports_used(m.write_count)];
     let mut n = 0;
     for bit in 0..m.width {
@@ -170,7 +170,7 @@ fn entries_refusal(given: Given<'_>, gs: &[u32], room: usize) -> Result<(), Refu
     if granularities_bad(given, gs) {
         return Err(Refusal::BadGranularity);
     }
-    let count = put_entries(&mut [], given, gs);
+    let count = put_entries(&mut [], &given, gs);
     if rules::MAX_ROW < count {
         return Err(Refusal::RowTooLong);
     }
@@ -190,5 +190,5 @@ pub fn make_data_swizzle(
     ensures { listed_of result out.new ≡ make_data_swizzle_call out.old (view_given given.entry) granularities.now }
 {
     entries_refusal(given, granularities, out.len())?;
-    Ok(put_entries(out, given, granularities))
+    Ok(put_entries(out, &given, granularities))
 }

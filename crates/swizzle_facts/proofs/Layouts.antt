@@ -1,7 +1,7 @@
 -- The layout of a swizzle that no number 1 to 10 refuses, of a memory whose width and depth are not 0.
 use mathlib.Core.Path.{◌≡◌, refl, sym, ap, ◌∙◌, subst}
 use mathlib.Core.Logic.{◌≢◌, ⊎_elim}
-use Prim.Native.Nat.{ℕ, zero, suc, ◌+◌, ◌-◌, ◌*◌, ◌/◌, ◌%◌, ◌^◌, ◌≤◌, ◌<◌}
+use Prim.Native.Nat.{ℕ, zero, suc, ◌+◌, ◌*◌, ◌/◌, ◌%◌, ◌^◌, ◌≤◌, ◌<◌}
 use native.Mathlib.Nat.{mul_assoc, mul_comm, one-mul, zero-mul, le_trans, mul-le-mul, mul-le-mul_right, pow-le-pow_right, lt-div-mul-add, eq-zero-or-pos, div-add-mod'}
 use native.Mathlib.Omega.{arith}
 use lib.Pow.{pow_pos}
@@ -25,6 +25,7 @@ use Rattle.rules.proofs.GoodLayouts.{Good, good, good_small, named}
 use Rattle.rules.proofs.Named.{once, name_in}
 use Rattle.rules.proofs.Walks.{tops_pos}
 use Rattle.swizzle_facts.specs.Passed.{LayoutPassed}
+use Rattle.swizzle_laws.proofs.Places.{ceil_holds}
 
 -- ---- soft bits, and the bits up to the top one
 softs_none : (n : ℕ) → softs n 0 ≡ 0
@@ -68,18 +69,11 @@ some_chunks true p f e h = h (eqb-true p 0 e)
 some_chunks false p f e h = omega arith
 
 -- ---- rounded up to the unit
-ceil_holds : (n u : ℕ) → 0 < u → n ≤ ceil_div n u * u
-unfolding ceil_div
-ceil_holds n u h = bound n u (lt-div-mul-add {a = n + (u - 1)} {b = u} h) h
-  where
-    bound : (n u : ℕ) → n + (u - 1) < (n + (u - 1)) / u * u + u → 0 < u → n ≤ (n + (u - 1)) / u * u
-    bound n u g k = omega arith
-
 factor_some : (a b : ℕ) → 0 < a * b → 0 < a
 factor_some zero b h = absurd (omega (arith, zero-mul b))
 factor_some (suc a) b h = omega arith
 
-product_some : (a b : ℕ) → 0 < a → 0 < b → 0 < a * b
+pub product_some : (a b : ℕ) → 0 < a → 0 < b → 0 < a * b
 product_some a b h g = omega (arith, mul-le-mul {n₁ = 1} {m₁ = 1} {n₂ = a} {m₂ = b} h g)
 
 module _ (q : Layout) (e : bad_layout q ≡ false) (w : q.width ≢ 0) (d : q.depth ≢ 0) where

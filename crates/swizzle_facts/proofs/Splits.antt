@@ -20,6 +20,8 @@ use Rattle.swizzle_laws.proofs.ReadCounts.{split_enough}
 use Rattle.swizzle_split.specs.Steps.{Fits, can_split}
 use Rattle.swizzle_split.proofs.Splitting.{pieces_low}
 use Rattle.swizzle_facts.specs.Passed.{LayoutPassed, PortPassed, SplitPassed}
+use Rattle.swizzle_facts.proofs.Layouts.{product_some}
+use Rattle.swizzle_laws.proofs.Within.{roles_cons}
 
 -- ---- the result's address has no more bits than there are rows for
 row_role : (mask wide rows : ℕ) → role_of mask wide rows ≡ Row → 0 < rows
@@ -42,11 +44,6 @@ row_step High mask wide rows a more rs e h = h
 row_none : (mask wide rows : ℕ) → length (row_nets (roles mask wide rows []) []) ≤ rows
 unfolding roles row_nets
 row_none mask wide rows = omega arith
-
-roles_cons : (mask wide rows a : ℕ) (more : Value)
-    → roles mask wide rows (a ∷ more) ≡ role_of mask wide rows ∷ roles (mask / 2) (wide_after (role_of mask wide rows) wide) (rows_after (role_of mask wide rows) rows) more
-unfolding roles
-roles_cons mask wide rows a more = refl
 
 rows_le : (addr : Value) (mask wide rows : ℕ) → length (row_nets (roles mask wide rows addr) addr) ≤ rows
 rows_le [] mask wide rows = row_none mask wide rows
@@ -72,9 +69,6 @@ length_zext v n = omega (arith, length-append v (replicate (n - length v) 0), le
 bits_max : (n : ℕ) → bits_for n ≤ addr_bits
 unfolding bits_for
 bits_max n = tops_le addr_bits (n - 1)
-
-product_some : (a b : ℕ) → 0 < a → 0 < b → 0 < a * b
-product_some a b h g = omega (arith, mul-le-mul {n₁ = 1} {m₁ = 1} {n₂ = a} {m₂ = b} h g)
 
 wide_power : (k : ℕ) → k ≤ 4 → 2 ^ k ≤ 16
 wide_power k h = pow-le-pow_right {n = 2} (omega arith) {i = k} {j = 4} h

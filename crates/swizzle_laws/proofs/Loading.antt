@@ -104,7 +104,7 @@ length_from at f [] acc = refl
 length_from at f (e ∷ es) acc = length_from at (suc f) es (placed at e f acc) ∙ length_placed (eqb e None) at e f acc
 
 -- ---- rows
-row_length : (q : Layout) → row_len_of q ≡ length q.entries
+pub row_length : (q : Layout) → row_len_of q ≡ length q.entries
 unfolding row_len_of
 row_length q = refl
 

@@ -12,6 +12,7 @@ use Rattle.rules.specs.Geometry.{Spot, under, to_chunk, hard_left, walk}
 use Rattle.rules.specs.Swizzle.{Role, High, is_chunk, spot_by}
 use Rattle.rules.proofs.Walks.{walk_le}
 use Rattle.swizzle_laws.specs.Masks.{rows_mask}
+use Rattle.swizzle_laws.proofs.Within.{spot_cons, halves}
 
 -- ---- the mask of roles in sequence
 pub rows_append : (a b : List Role) → rows_mask (a ++ b) ≡ rows_mask a + 2 ^ length a * rows_mask b
@@ -82,19 +83,12 @@ low_bit p q b m e h g = omega arith
 high_bits : (p q b m : ℕ) → q ≡ 2 * p → b ≤ 1 → m < p → (q - 1 - (b + 2 * m)) / 2 ≡ p - 1 - m
 high_bits p q b m e h g = omega arith
 
-half : (x p q : ℕ) → q ≡ 2 * p → x < q → x / 2 < p
-half x p q e h = omega arith
-
 low_mask : (b m p q : ℕ) → q ≡ 2 * p → b + 2 * m < q → m < p
 low_mask b m p q e h = omega arith
 
 rows_cons : (r : Role) (rs : List Role) → rows_mask (r ∷ rs) ≡ flag (not (is_chunk r)) + 2 * rows_mask rs
 unfolding rows_mask
 rows_cons r rs = refl
-
-spot_cons : (r : Role) (rs : List Role) (x : ℕ) → spot_by (r ∷ rs) x ≡ under (is_chunk r) (x % 2) (spot_by rs (x / 2))
-unfolding spot_by
-spot_cons r rs x = refl
 
 bit_step : (c : Bool) (n hard x mask m : ℕ) (p : Spot) → suc n ≤ hard → mask ≡ 2 ^ suc n - 1 - (flag (not c) + 2 * m) → m < 2 ^ n
     → p ≡ walk n (2 ^ n - 1 - m) (hard_left c hard) (x / 2) → under c (x % 2) p ≡ walk (suc n) mask hard x
@@ -118,4 +112,4 @@ spot_walk (r ∷ rs) (suc n) hard x h g l m =
     let k : rows_mask rs < 2 ^ n = low_mask (flag (not (is_chunk r))) (rows_mask rs) (2 ^ n) (2 ^ suc n) (pow-succ' 2 n) (rw (← rows_cons r rs) m) in
     spot_cons r rs x
     ∙ bit_step (is_chunk r) n hard x (2 ^ suc n - 1 - rows_mask (r ∷ rs)) (rows_mask rs) (spot_by rs (x / 2)) l (ap (λ (y : ℕ). 2 ^ suc n - 1 - y) (rows_cons r rs)) k
-    (spot_walk rs n (hard_left (is_chunk r) hard) (x / 2) (half x (2 ^ length rs) _ (pow-succ' 2 (length rs)) h) (half x (2 ^ n) _ (pow-succ' 2 n) g) (hard_le (is_chunk r) n hard l) k)
+    (spot_walk rs n (hard_left (is_chunk r) hard) (x / 2) (halves x (2 ^ length rs) _ (pow-succ' 2 (length rs)) h) (halves x (2 ^ n) _ (pow-succ' 2 n) g) (hard_le (is_chunk r) n hard l) k)

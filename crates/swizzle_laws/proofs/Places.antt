@@ -42,7 +42,7 @@ softs_mono a c m h =
     omega (arith, ap (λ (n : ℕ). softs n m) e ∙ softs_add a (c - a) m)
 
 -- ---- columns hold every chunk
-ceil_holds : (n u : ℕ) → 0 < u → n ≤ ceil_div n u * u
+pub ceil_holds : (n u : ℕ) → 0 < u → n ≤ ceil_div n u * u
 unfolding ceil_div
 ceil_holds n u h = bound n u (lt-div-mul-add {a = n + (u - 1)} {b = u} h) h
   where
@@ -135,7 +135,7 @@ module _ (q : Layout) (old new : ℕ) (addr : Value) (ok : Splittable q old new 
       ends a b l c n f g = omega arith
 
 -- ---- the spot of a piece by a mask of its number's bits
-length_low : (k m : ℕ) → length (low_roles k m) ≡ k
+pub length_low : (k m : ℕ) → length (low_roles k m) ≡ k
 unfolding low_roles
 length_low zero m = refl
 length_low (suc k) m = ap suc (length_low k (m / 2))
@@ -149,7 +149,7 @@ length_mux (r ∷ rs) = on (is_row r) (length_mux rs)
     on true h = omega arith
     on false h = omega arith
 
-length_roles : (addr : Value) (m w r : ℕ) → length (roles m w r addr) ≡ length addr
+pub length_roles : (addr : Value) (m w r : ℕ) → length (roles m w r addr) ≡ length addr
 unfolding roles
 length_roles [] m w r = refl
 length_roles (a ∷ more) m w r = ap suc (length_roles more _ _ _)

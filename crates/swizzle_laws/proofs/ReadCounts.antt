@@ -28,6 +28,7 @@ use Rattle.rules.proofs.Counted.{Counted, counted_done, counted_void, counted_df
 use Rattle.swizzle_laws.specs.Cuts.{Sized}
 use Rattle.swizzle_laws.proofs.Pairs.{counted_bind, counted_as}
 use Rattle.swizzle_laws.proofs.Tree.{chains_tree, length_tree, counted_tree}
+use Rattle.swizzle_laws.proofs.Within.{halves}
 
 -- ---- voids
 pub chains_voids : (n w : ℕ) → Chains (add_voids n w)
@@ -93,9 +94,6 @@ sized_map w f h [] = tt
 sized_map w f h (x ∷ l) = (h x, sized_map w f h l)
 
 -- ---- bits enough for n pieces
-halved : (m p r : ℕ) → r ≡ 2 * p → m < r → m / 2 < p
-halved m p r q g = omega arith
-
 doubled : (m p r : ℕ) → r ≡ 2 * p → m / 2 < p → m < r
 doubled m p r q g = omega arith
 
@@ -106,7 +104,7 @@ top_step false m t e h = doubled m (2 ^ t) _ (pow-succ' 2 t) h
 top_enough : (k m : ℕ) → m < 2 ^ k → m < 2 ^ top_bits k m
 unfolding top_bits
 top_enough zero m h = h
-top_enough (suc k) m h = top_step (eqb m 0) m (top_bits k (m / 2)) refl (top_enough k (m / 2) (halved m (2 ^ k) _ (pow-succ' 2 k) h))
+top_enough (suc k) m h = top_step (eqb m 0) m (top_bits k (m / 2)) refl (top_enough k (m / 2) (halves m (2 ^ k) _ (pow-succ' 2 k) h))
 
 pub bits_enough : (n : ℕ) → n ≤ 2 ^ addr_bits → n ≤ 2 ^ bits_for n
 unfolding bits_for

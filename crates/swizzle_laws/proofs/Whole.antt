@@ -9,12 +9,13 @@ use Rattle.lists.specs.Lists.{up_from}
 use Rattle.rules.specs.Limits.{X, trit_x}
 use Rattle.rules.specs.Logic.{Const}
 use Rattle.rules.specs.Cell.{WritePort}
-use Rattle.rules.specs.Log.{◌>>=◌, done, add_void_of, request}
+use Rattle.rules.specs.Log.{◌>>=◌, done, add_void_of}
 use Rattle.rules.specs.Geometry.{Layout, row_len_of, all_mems, columns}
 use Rattle.rules.specs.Swizzle.{Split, sources, arrange, repeating, blank, swizzle_write, const_columns, add_voids}
 use Rattle.swizzle_laws.specs.Order.{ordered}
 use Rattle.swizzle_laws.specs.Stores.{starts_of, spill_each}
 use Rattle.swizzle_laws.proofs.Stores.{blank-whole, order_blank, order_each, each_whole, masks_whole}
+use Rattle.rules.proofs.Entries.{value_void, next_void}
 
 module _ (q : Layout) (s : Split) where
   -- all columns
@@ -48,19 +49,11 @@ module _ (q : Layout) (s : Split) where
       ∙ ap (spill_each (all_mems q) (2 ^ s.new) q.unit (row_len_of q) (starts_of q s) (up_from 0 s.pieces) (arrange trit_x (sources q s) t)) (order_blank q s trit_x)
 
 -- ---- the output nets
-up_joined : (a n m : ℕ) → up_from a n ++ up_from (a + n) m ≡ up_from a (n + m)
+pub up_joined : (a n m : ℕ) → up_from a n ++ up_from (a + n) m ≡ up_from a (n + m)
 up_joined a zero m = λ i. up_from (add-zero a i) (sym (zero-add m) i)
 up_joined a (suc n) m =
     ap (λ (r : List ℕ). a ∷ r) (ap (λ (k : ℕ). up_from (suc a) n ++ up_from k m) (add-suc a n ∙ sym (suc-add a n)) ∙ up_joined (suc a) n m)
     ∙ ap (up_from a) (sym (suc-add n m))
-
-void_value : (w n : ℕ) → (add_void_of w n).value ≡ up_from n w
-unfolding add_void_of request
-void_value w n = refl
-
-void_next : (w n : ℕ) → (add_void_of w n).next ≡ n + w
-unfolding add_void_of request
-void_next w n = refl
 
 voids_value : (k w n : ℕ) → (add_voids (suc k) w n).value ≡ (add_void_of w n).value ++ (add_voids k w (add_void_of w n).next).value
 unfolding add_voids ◌>>=◌ done
@@ -72,7 +65,7 @@ unfolding add_voids done
 voids_up zero w n = ap (up_from n) (sym (zero-mul w))
 voids_up (suc k) w n =
     voids_value k w n
-    ∙ (λ i. void_value w n i ++ (add_voids k w (void_next w n i)).value)
+    ∙ (λ i. value_void w n i ++ (add_voids k w (next_void w n i)).value)
     ∙ ap (λ (l : List ℕ). up_from n w ++ l) (voids_up k w (n + w))
     ∙ up_joined n w (k * w)
     ∙ ap (up_from n) (add_comm w (k * w) ∙ sym (suc-mul k w))

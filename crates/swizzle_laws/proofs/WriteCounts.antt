@@ -1,6 +1,6 @@
 -- The words and nets that a write port of a swizzle adds, in closed form.
 use mathlib.Core.Path.{◌≡◌, refl, sym, ap, ◌∙◌}
-use Prim.Native.Nat.{ℕ, zero, suc, ◌+◌, ◌*◌, ◌/◌}
+use Prim.Native.Nat.{ℕ, ◌+◌, ◌*◌}
 use native.Mathlib.Nat.{add_assoc, suc-mul, zero-mul}
 use native.Mathlib.Omega.{arith}
 use mathlib.Core.Bool.{Bool, true, false, ◌&&◌}
@@ -24,6 +24,7 @@ use Rattle.rules.specs.Beside.Counts.{Count, plus, nothing, times_count, mux_cou
 use Rattle.rules.proofs.Traces.{bind_words, bind_next}
 use Rattle.rules.proofs.Chain.{chains_bind}
 use Rattle.rules.proofs.Counted.{Counted, counted_done, counted_same, counted_mux, counted_eq}
+use Rattle.rules.proofs.Written.{length_uint}
 
 -- one trace and then the trace of its value, which gives as much whatever the value is
 pub counted_bind : {A B : Type 0} (t : Trace A) (f : A → Trace B) (w v k j : ℕ) → Counted t w k → ((a : A) → Counted (f a) v j) → Counted (t >>= f) (w + v) (k + j)
@@ -32,11 +33,6 @@ counted_bind t f w v k j c d = record {
   nets = λ n. bind_next t f n ∙ (d (t n).value).nets (t n).next ∙ ap (λ (m : ℕ). m + j) (c.nets n) ∙ add_assoc n k j;
   chain = chains_bind t f c.chain (λ a. (d a).chain);
 }
-
-pub length_uint : (n x : ℕ) → length (from_uint n x) ≡ n
-unfolding from_uint
-length_uint zero x = refl
-length_uint (suc n) x = ap suc (length_uint n (x / 2))
 
 -- ---- a merging mux against zeros keeps the nets that differ
 with_zero : ℕ → Key2

@@ -36,14 +36,14 @@ pub guard_is : (at first : ℕ) (es acc acc' : List ℕ) → first + length es �
 unfolding guarded
 guard_is at first es acc acc' h e = rw (le-leb (first + length es) X h) e
 
-rows_cons : (start : ℕ → ℕ) (at width first j : ℕ) (es js acc : List ℕ)
+pub guard_cons : (start : ℕ → ℕ) (at width first j : ℕ) (es js acc : List ℕ)
     → guard_rows start at width es first (j ∷ js) acc ≡ guard_rows start at width es first js (guarded (at + j * width) es (min X (first + start j)) acc)
 unfolding guard_rows
-rows_cons start at width first j es js acc = refl
+guard_cons start at width first j es js acc = refl
 
-rows_nil : (start : ℕ → ℕ) (at width first : ℕ) (es acc : List ℕ) → guard_rows start at width es first [] acc ≡ acc
+pub guard_nil : (start : ℕ → ℕ) (at width first : ℕ) (es acc : List ℕ) → guard_rows start at width es first [] acc ≡ acc
 unfolding guard_rows
-rows_nil start at width first es acc = refl
+guard_nil start at width first es acc = refl
 
 -- ---- the rows of a piece: `to` is where row j goes
 module _ (start : ℕ → ℕ) (at width first rows j to : ℕ) (es acc whole : List ℕ) (p : to ≡ at + j * width)
@@ -51,14 +51,11 @@ module _ (start : ℕ → ℕ) (at width first rows j to : ℕ) (es acc whole : 
   pub rows_turn : (acc' : List ℕ) (f : ℕ) → j < rows → f ≡ min X (first + start j) → acc' ≡ guarded to es f acc → guard_rows start at width es first (up_from (j + 1) (rows - (j + 1))) acc' ≡ whole
   rows_turn acc' f h g k =
       ap (guard_rows start at width es first (up_from (j + 1) (rows - (j + 1)))) (k ∙ (λ i. guarded (p i) es (g i) acc))
-      ∙ sym (rows_cons start at width first j es (up_from (j + 1) (rows - (j + 1))) acc)
+      ∙ sym (guard_cons start at width first j es (up_from (j + 1) (rows - (j + 1))) acc)
       ∙ ap (λ (l : List ℕ). guard_rows start at width es first l acc) (sym (count_step j rows h)) ∙ e
 
-  pub place_turn : to + width ≡ at + (j + 1) * width
-  place_turn = omega (arith, p, ap (λ (n : ℕ). n * width) (add-one j), suc-mul j width)
-
   pub rows_end : rows ≤ j → acc ≡ whole
-  rows_end h = sym (rows_nil start at width first es acc) ∙ ap (λ (l : List ℕ). guard_rows start at width es first l acc) (sym (count_end j rows h)) ∙ e
+  rows_end h = sym (guard_nil start at width first es acc) ∙ ap (λ (l : List ℕ). guard_rows start at width es first l acc) (sym (count_end j rows h)) ∙ e
 
 -- row j lies before the end of the piece
 pub place_room : (at width rows j to : ℕ) → to ≡ at + j * width → j < rows → at + rows * width ≤ 4294967296 → to + width ≤ 4294967296
@@ -108,18 +105,6 @@ piece_place size x at e = omega (arith, ap (λ (n : ℕ). n * size) (add-one x),
 -- ---- the first net of a row, from what the walk gives
 -- ---- whether the scratch holds the pieces
 module _ (n : Pieces) (len room : ℕ) where
-  pub held_long : X < len → false ≡ held n len room
-  unfolding held
-  held_long h = rw (lt-leb len X h)
-
-  pub held-many : len ≤ X → 4294967296 < n.rows * n.count → false ≡ held n len room
-  unfolding held
-  held-many h g = rw (le-leb len X h, lt-leb (n.rows * n.count) 4294967296 g)
-
-  pub held_wide : len ≤ X → n.rows * n.count ≤ 4294967296 → X < size_of n → false ≡ held n len room
-  unfolding held
-  held_wide h g k = rw (le-leb len X h, le-leb (n.rows * n.count) 4294967296 g, lt-leb (size_of n) X k)
-
   pub held_by : (need : ℕ) → need ≡ n.count * size_of n → len ≤ X → n.rows * n.count ≤ 4294967296 → size_of n ≤ X → leb need (min room 4294967296) ≡ held n len room
   unfolding held
   held_by need e h g k = rw (e, le-leb len X h, le-leb (n.rows * n.count) 4294967296 g, le-leb (size_of n) X k)

@@ -16,10 +16,11 @@ use Rattle.rules.specs.Swizzle.{Split, load_piece, piece_start}
 use Rattle.swizzle_laws.specs.Cuts.{joined}
 use Rattle.swizzle_laws.specs.Loads.{restore_from, load_rows}
 use Rattle.swizzle_laws.proofs.Cutting.{joined_cons}
-use Rattle.swizzle_laws.proofs.Loading.{Names, rows_cons, rows_nil, piece_loaded}
+use Rattle.swizzle_laws.proofs.Loading.{Names, rows_cons, rows_nil, piece_loaded, row_length}
 use Rattle.swizzle_laws.proofs.ReadCounts.{pieces_of, length_piece}
 use Rattle.swizzle_pieces.specs.declared.Pieces.{Pieces}
 use Rattle.swizzle_pieces.specs.Steps.{start_of, size_of, guarded, guard_rows, load_one, load_each, held, load_of}
+use Rattle.swizzle_pieces.proofs.Loaded.{guard_cons, guard_nil}
 
 -- these numbers are those of a port: `total` columns have nets from the first on
 pub record Means (q : Layout) (s : Split) (total : ℕ) (n : Pieces) : Type 0 where
@@ -37,15 +38,6 @@ guarded-all : (at first : ℕ) (es acc : List ℕ) → first + length es ≤ X �
 unfolding guarded
 guarded-all at first es acc h = rw (le-leb (first + length es) X h)
 
-guard_cons : (start : ℕ → ℕ) (at width first j : ℕ) (es js acc : List ℕ)
-    → guard_rows start at width es first (j ∷ js) acc ≡ guard_rows start at width es first js (guarded (at + j * width) es (min X (first + start j)) acc)
-unfolding guard_rows
-guard_cons start at width first j es js acc = refl
-
-guard_nil : (start : ℕ → ℕ) (at width first : ℕ) (es acc : List ℕ) → guard_rows start at width es first [] acc ≡ acc
-unfolding guard_rows
-guard_nil start at width first es acc = refl
-
 -- rows whose starts are those of another function, none of which passes X
 rows_same : (f g : ℕ → ℕ) (at width first rows : ℕ) (es : List ℕ) → ((j : ℕ) → j < rows → f j ≡ g j) → ((j : ℕ) → j < rows → first + (g j + length es) ≤ X)
     → (a k : ℕ) (acc : List ℕ) → a + k ≤ rows → guard_rows f at width es first (up_from a k) acc ≡ load_rows g at width es first (up_from a k) acc
@@ -59,10 +51,6 @@ rows_same f g at width first rows es e b a (suc k) acc h =
     ∙ ap (guard_rows f at width es first (up_from (suc a) k)) (guarded-all (at + a * width) (first + g a) es acc (omega arith))
     ∙ rows_same f g at width first rows es e b (suc a) k (restore_from (at + a * width) es (first + g a) acc) (omega arith)
     ∙ sym (rows_cons g at width first a es (up_from (suc a) k) acc)
-
-row_length : (q : Layout) → row_len_of q ≡ length q.entries
-unfolding row_len_of
-row_length q = refl
 
 one_unfolds : (n : Pieces) (es : List ℕ) (x at : ℕ) (acc : List ℕ)
     → load_one n es x at acc ≡ guard_rows (start_of n (length es) x) at n.width es n.first (up_from 0 n.rows) (sets acc at (replicate (size_of n) X))

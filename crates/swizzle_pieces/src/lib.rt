@@ -63,10 +63,9 @@ impl Pieces {
         requires { RowsFit self (length entries.now) x at }
         ensures { scratch.new ≡ guard_rows (start_of self (length entries.now) x) at self.width entries.now self.first (up_from 0 self.rows) scratch.old }
     {
-        let mut to = at;
         for j in 0..self.rows {
+            let to = at + j as usize * self.width as usize;
             load_row(scratch, to, entries, self.row_first(entries.len(), x, j));
-            to += self.width as usize;
         }
     }
 
@@ -92,26 +91,22 @@ impl Pieces {
         ensures { scratch.new ≡ load_each self entries.now (up_from 0 self.count) 0 scratch.old }
     {
         let size = self.size();
-        let mut at: usize = 0;
         for x in 0..self.count {
-            self.load_piece(scratch, at, entries, x);
-            at += size;
+            self.load_piece(scratch, x as usize * size, entries, x);
         }
     }
 
     // Whether the numbers of the pieces and of their rows are 32-bit numbers, and a scratch of this length holds them.
+    #[tactic(auto, unfolding(crate::specs::Steps::held))]
     fn is_held(self, len: usize, room: usize) -> bool
         ensures { result ≡ held self len room }
     {
         let most = rules::NET_X as usize;
-        if most < len || most + 1 < self.rows as usize * self.count as usize {
-            return false;
-        }
         let size = self.size();
-        if most < size {
-            return false;
-        }
-        self.count as usize * size <= room.min(most + 1)
+        len <= most
+            && self.rows as usize * self.count as usize <= most + 1
+            && size <= most
+            && self.count as usize * size <= room.min(most + 1)
     }
 
     // Every piece, from the scratch's front on, where it holds them; else nothing.

@@ -9,15 +9,8 @@ use Rattle.rules.specs.Conditions.{bad_wide}
 use Rattle.swizzle_plan.specs.Numbers.{wides_bad}
 use mathlib.Core.List.{List, [], ◌∷◌, map}
 use lib.ListN.{length, length-map}
-use Rattle.std.specs.List.{zip}
 use Rattle.lists.specs.Lists.{any, pairs}
 use Rattle.lists.proofs.Choice.{or_left}
-
--- the library's pairs
-pub zipped : (a b : List ℕ) → zip a b ≡ pairs a b
-zipped [] b = refl
-zipped (x ∷ a) [] = refl
-zipped (x ∷ a) (y ∷ b) = ap (λ (l : List (ℕ × ℕ)). (x, y) ∷ l) (zipped a b)
 
 -- the first of each pair may be a number of something
 module _ {A : Type 0} (h : A → ℕ) where

@@ -47,8 +47,8 @@ fn wides_bad<F: Fn(u32) -> u32>(plan: Plan<'_>, ports: &[u32], news: &[u32], old
 
 // The old wide log of write port i.
 #[tactic(auto, unfolding(rules::specs::Cell::write_wide_log2, rules::specs::Cell::write_at, net_memory::specs::View::memory_of))]
-pub fn write_log(given: Given<'_>, port: u32) -> u32
-    ensures { (trits : List ℕ) → result ≡ write_wide_log2 (memory_of given.entry.memory given.entry.nets.now trits) (write_at (memory_of given.entry.memory given.entry.nets.now trits) port) }
+pub fn write_log(given: &Given<'_>, port: u32) -> u32
+    ensures { (trits : List ℕ) → result ≡ write_wide_log2 (memory_of given.now.memory given.now.nets.now trits) (write_at (memory_of given.now.memory given.now.nets.now trits) port) }
 {
     let bits = given.write_port(port as usize).bits();
     net_memory::wide::wide_log(given.memory.width, bits.len())
@@ -56,10 +56,10 @@ pub fn write_log(given: Given<'_>, port: u32) -> u32
 
 // The old wide log of a listed read port.
 #[tactic(auto, using(crate::proofs::WideLogs::read_log_is))]
-pub fn read_log(m: Memory, port: u32) -> u32
-    ensures { (nets trits : List ℕ) → result ≡ read_wide_log2 (memory_of m nets trits) (read_at_of (memory_of m nets trits) port) }
+pub fn read_log(m: &Memory, port: u32) -> u32
+    ensures { (nets trits : List ℕ) → result ≡ read_wide_log2 (memory_of m.now nets trits) (read_at_of (memory_of m.now nets trits) port) }
 {
-    let bits = net_memory::read_data_len(&m, port as usize);
+    let bits = net_memory::read_data_len(m, port as usize);
     net_memory::wide::wide_log(m.width, bits)
 }
 
@@ -68,14 +68,14 @@ fn writes_bad(given: Given<'_>, plan: Plan<'_>) -> bool
     ensures { (trits es : List ℕ) → result ≡ bad_writes (memory_of given.entry.memory given.entry.nets.now trits) (plan_of plan.entry.swizzle es plan.entry.writes.now plan.entry.reads.now) }
 {
     let ports = ports_in_use(given.memory.write_count);
-    wides_bad(plan, ports, plan.writes, |i| write_log(given, i))
+    wides_bad(plan, ports, plan.writes, |i| write_log(&given, i))
 }
 
 // Number 9 of the listed read ports.
 fn reads_bad(given: Given<'_>, ports: &[u32], plan: Plan<'_>) -> bool
     ensures { (trits es : List ℕ) → result ≡ bad_reads (memory_of given.entry.memory given.entry.nets.now trits) ports.now (plan_of plan.entry.swizzle es plan.entry.writes.now plan.entry.reads.now) }
 {
-    wides_bad(plan, ports, plan.reads, |i| read_log(given.memory, i))
+    wides_bad(plan, ports, plan.reads, |i| read_log(&given.memory, i))
 }
 
 // Number 9 of the write ports and the listed read ports.

@@ -1,55 +1,35 @@
 -- The port by its numbers is the port of the rules.
 use mathlib.Core.Path.{◌≡◌, refl, sym, ap, ◌∙◌}
-use Prim.Native.Nat.{ℕ, zero, suc, ◌+◌, ◌*◌, ◌^◌, ◌≤◌}
-use native.Mathlib.Nat.{zero-add, add-zero, suc-mul, suc-add, add-suc, zero-mul}
+use Prim.Native.Nat.{ℕ, ◌*◌, ◌^◌, ◌≤◌}
 use native.Mathlib.Omega.{arith}
 use mathlib.Core.Bool.{true}
 use mathlib.Core.Option.{none, some}
 use Rattle.std.specs.Prelude.{Option, None, Some}
-use mathlib.Core.List.{List, [], ◌∷◌, ◌++◌, append-nil}
+use mathlib.Core.List.{List, ◌++◌, append-nil}
 use lib.ListN.{length, drop}
-use lib.Seq.{sets, sets-eq}
+use lib.Seq.{sets}
 use Rattle.lists.specs.Lists.{up_from}
 use Rattle.rules.specs.Value.{Value}
 use Rattle.rules.specs.Cell.{ReadFlipFlop, ReadPort, new_flip_flop, with_enable}
 use Rattle.net_flip_flop.specs.declared.Controls.{Controls}
 use Rattle.net_flip_flop.specs.View.{controls_of}
-use Rattle.rules.specs.Log.{Entry, Trace, ◌>>=◌, ◌>>◌, done, add_void_of, add_dff_of, replace_value_of}
+use Rattle.rules.specs.Log.{Entry, Trace, ◌>>=◌, ◌>>◌, done, add_dff_of, replace_value_of}
 use Rattle.rules.specs.Geometry.{Layout, columns}
 use Rattle.rules.specs.Swizzle.{Split, WideRead, wide_flip_flop, add_voids, clocked_addr, mux_tree, swizzle_read}
-use Rattle.rules.proofs.Done.{done_value}
-use Rattle.rules.proofs.Traces.{bind_value}
-use Rattle.rules.proofs.Entries.{value_void, next_void}
 use Rattle.log_entries.specs.Emission.{Lent, run, emit}
-use Rattle.swizzle_laws.specs.Cuts.{cut, joined, Sized}
-use Rattle.swizzle_laws.proofs.Cutting.{length_joined, cut-joined}
-use Rattle.swizzle_laws.proofs.ReadCounts.{voids_more, voids_none, pieces_of, length_pieces, length_piece, sized_map}
+use Rattle.swizzle_laws.specs.Cuts.{cut, joined}
+use Rattle.swizzle_laws.proofs.Cutting.{length_joined}
+use Rattle.swizzle_laws.proofs.ReadCounts.{pieces_of, length_pieces, length_piece, sized_map}
 use Rattle.swizzle_tree.specs.Scratch.{tree_in}
 use Rattle.swizzle_pieces.specs.declared.Pieces.{Pieces}
 use Rattle.swizzle_pieces.specs.Steps.{held, load_of}
 use Rattle.swizzle_pieces.proofs.Meaning.{Means, loaded}
 use Rattle.swizzle_read.specs.Port.{addr_by, read_trace, with_first, can_read, read_of, scratch_of}
 use Rattle.lists.proofs.Store.{drop_sets}
+use Rattle.swizzle_laws.proofs.Whole.{voids_up}
+use Rattle.swizzle_tree.proofs.Treeing.{cut_stored}
 
 -- ---- the nets of the voids run on
-up_append : (a m n : ℕ) → up_from a m ++ up_from (a + m) n ≡ up_from a (m + n)
-up_append a zero n = (λ i. up_from (add-zero a i) (sym (zero-add n) i))
-up_append a (suc m) n = ap (λ (l : List ℕ). a ∷ l) (ap (λ (k : ℕ). up_from (suc a) m ++ up_from k n) (add-suc a m ∙ sym (suc-add a m)) ∙ up_append (suc a) m n) ∙ ap (up_from a) (sym (suc-add m n))
-
-more : (n w : ℕ) → w + n * w ≡ suc n * w
-more n w = omega (arith, suc-mul n w)
-
-pub voids_value : (n w m : ℕ) → (add_voids n w m).value ≡ up_from m (n * w)
-voids_value zero w m = ap (λ (t : Trace Value). (t m).value) (voids_none w) ∙ done_value [] m ∙ ap (up_from m) (sym (zero-mul w))
-voids_value (suc n) w m =
-    ap (λ (t : Trace Value). (t m).value) (voids_more n w)
-    ∙ bind_value (add_void_of w) (λ v. (add_voids n w >>= λ vs. done (v ++ vs))) m
-    ∙ bind_value (add_voids n w) (λ vs. done ((add_void_of w m).value ++ vs)) (add_void_of w m).next
-    ∙ done_value _ _
-    ∙ (λ i. value_void w m i ++ (voids_value n w (add_void_of w m).next ∙ ap (λ (k : ℕ). up_from k (n * w)) (next_void w m)) i)
-    ∙ up_append m w (n * w)
-    ∙ ap (up_from m) (more n w)
-
 -- ---- traces with the same entries
 module _ {A B C : Type 0} (t : Trace A) (f : A → Trace B) (g : A → Trace C) (m : ℕ) where
   bind_same : ((k : ℕ) → (f (t m).value k).entries ≡ (g (t m).value k).entries) → ((t >>= f) m).entries ≡ ((t >>= g) m).entries
@@ -73,12 +53,6 @@ pub addr_some : (c : Controls) (f : ReadFlipFlop) (a : Value) → f.controls ≡
 unfolding addr_by clocked_addr
 addr_some c f a e = λ i. add_dff_of (with_enable (new_flip_flop a (sym e i).clock) (sym e i).enable)
 
--- values stored at the front and cut again
-cut_stored : (w n : ℕ) (p : Value) (vs : List Value) → Sized w vs → n ≡ length vs → n * w ≤ length p → cut w n (sets p 0 (joined vs)) ≡ vs
-cut_stored w n p vs s e h =
-    let m : length (joined vs) ≡ n * w = length_joined w vs s ∙ ap (λ (k : ℕ). k * w) (sym e) in
-    ap (cut w n) (sets-eq (joined vs) p 0 (omega arith)) ∙ ap (λ (k : ℕ). cut w k (joined vs ++ drop (0 + length (joined vs)) p)) e ∙ cut-joined w vs _ s
-
 -- ---- the port
 -- these numbers are a port's, whose nets start at the log's next free net
 pub record Meant (q : Layout) (s : Split) (p : ReadPort) (n : Pieces) (voids : ℕ) (fl : Option Controls) (w : ℕ) (scratch : List ℕ) (next : ℕ) : Type 0 where
@@ -100,7 +74,7 @@ module _ (q : Layout) (s : Split) (p : ReadPort) (n : Pieces) (voids : ℕ) (fl 
   cols = (add_voids (2 ^ s.new) (columns q) first).value
 
   cols_are : cols ≡ up_from n.first (2 ^ s.new * columns q)
-  cols_are = voids_value (2 ^ s.new) (columns q) first ∙ ap (λ (k : ℕ). up_from k (2 ^ s.new * columns q)) (sym m.first_is)
+  cols_are = voids_up (2 ^ s.new) (columns q) first ∙ ap (λ (k : ℕ). up_from k (2 ^ s.new * columns q)) (sym m.first_is)
 
   count_is : n.count ≡ length (pieces_of q s cols)
   count_is = m.numbers.count ∙ sym (length_pieces q s cols)

@@ -70,7 +70,7 @@ fn write_bits(given: Given<'_>, base: u32, news: &[u32]) -> [u32; rules::MAX_POR
         base,
         ports,
         news,
-        |i| swizzle_plan::logs::write_log(given, i),
+        |i| swizzle_plan::logs::write_log(&given, i),
     )
 }
 
@@ -83,7 +83,7 @@ fn read_bits(given: Given<'_>, ports: &[u32], base: u32, news: &[u32]) -> [u32; 
         base,
         ports,
         news,
-        |i| swizzle_plan::logs::read_log(given.memory, i),
+        |i| swizzle_plan::logs::read_log(&given.memory, i),
     )
 }
 

@@ -17,6 +17,7 @@ use Rattle.lists.proofs.Choice.{if_true, if_false}
 use Rattle.swizzle_laws.specs.Masks.{rows_mask}
 use Rattle.swizzle_split.specs.declared.Low.{Low}
 use Rattle.swizzle_split.specs.Steps.{low_by}
+use Rattle.swizzle_laws.proofs.Within.{bit_cases}
 
 none_rows : (m : ℕ) → rows_mask (low_roles 0 m) ≡ 0
 unfolding low_roles rows_mask
@@ -30,14 +31,6 @@ rows_soft k mask e = rw (eq-eqb (mask % 2) 1 e) (zero-add (2 * rows_mask (low_ro
 rows_wide : (k mask : ℕ) → mask % 2 ≡ 0 → rows_mask (low_roles (suc k) mask) ≡ 1 + 2 * rows_mask (low_roles k (mask / 2))
 unfolding low_roles rows_mask is_chunk flag
 rows_wide k mask e = rw (ne_eqb (mask % 2) 1 (λ z. absurd (omega arith)))
-
-bit_cases : {P : Type 0} (m : ℕ) → (m % 2 ≡ 1 → P) → (m % 2 ≡ 0 → P) → P
-bit_cases {P} m f g = on (m % 2) refl (omega arith)
-  where
-    on : (b : ℕ) → m % 2 ≡ b → b ≤ 1 → P
-    on zero e h = g e
-    on (suc zero) e h = f e
-    on (suc (suc b)) e h = absurd (omega arith)
 
 -- the bits of a number below a power of two: the lowest, and those of its half
 low_more : (m k : ℕ) → m % 2 ^ suc k ≡ (m / 2 % 2 ^ k) * 2 + m % 2

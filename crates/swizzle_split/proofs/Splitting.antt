@@ -1,6 +1,6 @@
 -- The whole split: from the walk over an address to the rules' split.
 use mathlib.Core.Path.{◌≡◌, refl, sym, ap, ◌∙◌, subst}
-use Prim.Native.Nat.{ℕ, zero, suc, ◌+◌, ◌-◌, ◌*◌, ◌/◌, ◌%◌, ◌^◌, ◌<◌, ◌≤◌}
+use Prim.Native.Nat.{ℕ, ◌+◌, ◌-◌, ◌*◌, ◌/◌, ◌%◌, ◌^◌, ◌<◌, ◌≤◌}
 use native.Mathlib.Nat.{mul_assoc, pow-le-pow_right, le_trans, mul-le-mul, mul-le-mul_left}
 use native.Mathlib.Omega.{arith}
 use lib.Pow.{pow-add}
@@ -20,17 +20,12 @@ use Rattle.rules.specs.Geometry.{Layout, all_chunks, soft, soft_bits}
 use Rattle.rules.specs.Swizzle.{Role, Soft, Wide, Row, High, role_of, doubles, wide_after, rows_after, roles, low_roles, row_nets, mux_nets, count_doubles, split_by, split_addr}
 use Rattle.swizzle_laws.specs.Masks.{rows_mask}
 use Rattle.swizzle_laws.proofs.Masking.{rows_below}
-use Rattle.swizzle_laws.proofs.Within.{softs_of, soft-roles}
-use Rattle.swizzle_laws.proofs.Places.{softs_add, softs_mono}
+use Rattle.swizzle_laws.proofs.Within.{softs_of, soft-roles, roles_cons}
+use Rattle.swizzle_laws.proofs.Places.{softs_add, softs_mono, length_low, length_roles}
 use Rattle.swizzle_split.specs.declared.Taking.{Taking}
 use Rattle.swizzle_split.specs.Steps.{start_by, Starts, Took, Fits, Splits}
 
 -- ---- where the walk starts
-length_low : (k m : ℕ) → length (low_roles k m) ≡ k
-unfolding low_roles
-length_low zero m = refl
-length_low (suc k) m = ap suc (length_low k (m / 2))
-
 pub starts_is : (mask hard old new : ℕ) (addr : Value) → old + length addr ≤ 32 → Starts (start_by mask hard old new) addr
 starts_is mask hard old new addr h = record {
   hw_none = refl;
@@ -63,11 +58,6 @@ doubles_none : (mask wide rows : ℕ) → count_doubles (roles mask wide rows []
 unfolding roles count_doubles softs_of
 doubles_none mask wide rows = omega arith
 
-roles_cons : (mask wide rows a : ℕ) (more : Value)
-    → roles mask wide rows (a ∷ more) ≡ role_of mask wide rows ∷ roles (mask / 2) (wide_after (role_of mask wide rows) wide) (rows_after (role_of mask wide rows) rows) more
-unfolding roles
-roles_cons mask wide rows a more = refl
-
 doubles_le : (addr : Value) (mask wide rows : ℕ) → count_doubles (roles mask wide rows addr) ≤ softs_of (roles mask wide rows addr) + wide
 doubles_le [] mask wide rows = doubles_none mask wide rows
 doubles_le (a ∷ more) mask wide rows =
@@ -85,11 +75,6 @@ count_le : (l : List Role) → count_doubles l ≤ length l
 unfolding count_doubles
 count_le [] = omega arith
 count_le (r ∷ l) = omega (arith, count_one r, count_le l)
-
-length_roles : (addr : Value) (m w r : ℕ) → length (roles m w r addr) ≡ length addr
-unfolding roles
-length_roles [] m w r = refl
-length_roles (a ∷ more) m w r = ap suc (length_roles more _ _ _)
 
 -- ---- a value filled up with net 0
 zext_stored : (l l1 l2 v : Value) (len want : ℕ) → l1 ≡ sets l 0 v → len ≡ length v → l2 ≡ sets l1 len (replicate (want - len) 0) → l2 ≡ sets l 0 (zext v want)

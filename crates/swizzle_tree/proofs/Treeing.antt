@@ -23,7 +23,7 @@ use Rattle.swizzle_laws.proofs.Tree.{tree_more, tree_end, tree_value, length_tre
 use Rattle.swizzle_tree.specs.Scratch.{pairs_in, tree_in, tree_of, holds, Paired, Treed, Built}
 
 -- values stored at the front and cut again
-cut_stored : (w n : ℕ) (p : Value) (vs : List Value) → Sized w vs → n ≡ length vs → n * w ≤ length p → cut w n (sets p 0 (joined vs)) ≡ vs
+pub cut_stored : (w n : ℕ) (p : Value) (vs : List Value) → Sized w vs → n ≡ length vs → n * w ≤ length p → cut w n (sets p 0 (joined vs)) ≡ vs
 cut_stored w n p vs s e h =
     let m : length (joined vs) ≡ n * w = length_joined w vs s ∙ ap (λ (k : ℕ). k * w) (sym e) in
     ap (cut w n) (sets-eq (joined vs) p 0 (omega arith)) ∙ ap (λ (k : ℕ). cut w k (joined vs ++ drop (0 + length (joined vs)) p)) e ∙ cut-joined w vs _ s

@@ -1,4 +1,5 @@
-// The mux tree of a read port, over pieces that stand side by side in lent scratch.
+// The mux tree of a read port, over pieces that stand side by side in lent scratch. The scratch and the width of a piece go apart: a struct of both
+// would have to keep the scratch's own name in each promise.
 #![tactic(auto)]
 
 ghost use Rattle.std.specs.Prelude.{◌≡◌, false, ◌+◌, ◌-◌, ◌*◌, ◌<◌, ◌≤◌, length, take, drop};
@@ -54,7 +55,7 @@ fn last_alone(pieces: &mut [u32], left: usize, from: usize, to: usize, width: us
     pieces.copy_within(from..from + width, to);
 }
 
-// One level: pieces paired by one bit, in place; a last piece alone passes without a mux.
+// One level: pieces paired by one bit, in place; a last piece alone, from where the pairs end, passes without a mux.
 fn pair_up(log: &mut Log, bit: u32, pieces: &mut [u32], count: usize, width: usize)
     requires { count * width ≤ length pieces.old }
     ensures { Paired bit width count pieces.old pieces.new (lent_of log.old) (lent_of log.new) }

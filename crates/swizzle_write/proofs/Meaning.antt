@@ -11,11 +11,12 @@ use Rattle.rules.specs.Geometry.{Layout}
 use Rattle.rules.specs.Swizzle.{Split, split_addr, swizzle_write}
 use Rattle.log_entries.specs.Emission.{Lent, run}
 use Rattle.swizzle_laws.specs.Order.{ordered}
+use Rattle.swizzle_laws.proofs.Loading.{row_length}
 use Rattle.swizzle_laws.proofs.Places.{Splittable}
 use Rattle.swizzle_columns.specs.declared.WidePort.{WidePort}
 use Rattle.swizzle_columns.specs.Wide.{PortFits, grid_of, port_bits, bits_of}
 use Rattle.swizzle_columns.proofs.Fits.{grid_good, fits_tested, columns_can}
-use Rattle.swizzle_columns.proofs.Meaning.{Means, row_length, old_is, new_is, columns_are, starts_are}
+use Rattle.swizzle_columns.proofs.Meaning.{Means, old_is, new_is, columns_are, starts_are}
 use Rattle.swizzle_write.specs.Matches.{Matches}
 use Rattle.swizzle_write.specs.Wide.{mux_room, port_masks, masks_of}
 use Rattle.swizzle_write.proofs.Fits.{can_tested, masks_can}
@@ -31,7 +32,7 @@ module _ (q : Layout) (old new : ℕ) (addr : Value) (ok : Splittable q old new 
       mems_are = m.mems_are;
       rows_are = m.rows_are ∙ ap (λ (k : ℕ). 2 ^ k) (sym (new_is q old new addr ok p m));
       unit_is = m.unit_is;
-      len_is = row_length q;
+      len_is = sym (row_length q);
       columns_are = columns_are q old new addr ok p m;
       pieces_are = m.pieces_are;
       olds_are = m.olds_are ∙ ap (λ (k : ℕ). 2 ^ k) (sym (old_is q old new addr ok p m));

@@ -8,7 +8,7 @@ use rules::Refusal;
 use std::fmt;
 
 // How many cases were made, how many were right, and how many expect 0, 1, 2, 4, 20 and 21.
-#[derive(Clone, Copy)]
+#[derive(Clone, Copy, Default)]
 pub struct Tally {
     pub made: u32,
     pub right: u32,
@@ -40,26 +40,14 @@ impl fmt::Display for Tally {
 pub fn start() -> Tally
     ensures { result ≡ no_case }
 {
-    Tally {
-        made: 0,
-        right: 0,
-        accepted: 0,
-        large: 0,
-        unequal: 0,
-        bad: 0,
-        full: 0,
-        netless: 0,
-    }
+    Tally::default()
 }
 
 // The number of what a case expects: 0 where it is accepted.
 fn number_if(refusal: Option<Refusal>) -> u32
     ensures { result ≡ number_if refusal }
 {
-    match refusal {
-        None => 0,
-        Some(refusal) => refusal.number(),
-    }
+    refusal.map_or(0, |refusal| refusal.number())
 }
 
 // One case more, which expects this refusal, or to be accepted.

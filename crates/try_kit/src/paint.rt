@@ -49,6 +49,7 @@ pub fn fill_trits(room: &mut [u8])
 pub fn painted<T: Pattern>(room: &[T], from: usize) -> bool
     ensures { result ≡ pattern_from T.eq T.pattern room.now from }
 {
+    // by number: `from` may lie past the end
     for i in from..room.len() {
         if room[i] != T::paint_at(i) {
             return false;

@@ -123,13 +123,14 @@ pub fn with_read(m: Memory, i: usize, p: MemoryReadPort) -> Memory
 pub fn with_sizes(m: Memory, depth: u32, width: u32, init: u32, writes: u32, reads: u32) -> Memory
     ensures { result ≡ memory_with depth width init writes reads m.write_ports m.read_ports }
 {
-    let mut out = m;
-    out.depth = depth;
-    out.width = width;
-    out.init_len = init;
-    out.write_count = writes;
-    out.read_count = reads;
-    out
+    Memory {
+        depth,
+        width,
+        init_len: init,
+        write_count: writes,
+        read_count: reads,
+        ..m
+    }
 }
 
 // ---- ports and memories that most cases start from

@@ -27,10 +27,7 @@ const BAD_CODE: u8 = 3;
 pub fn select_in(neg: bool, bad: bool) -> ControlNet
     ensures { result ≡ select_in neg bad }
 {
-    if bad {
-        return ControlNet::Neg(Net(0));
-    }
-    select_of(neg)
+    control_or(bad, select_of(neg))
 }
 
 fn control_or(bad: bool, good: ControlNet) -> ControlNet

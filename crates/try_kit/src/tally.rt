@@ -6,7 +6,7 @@ use crate::MOST;
 use std::fmt;
 
 // How many comparisons were made, and how many failed.
-#[derive(Clone, Copy)]
+#[derive(Clone, Copy, Default)]
 pub struct Tally {
     pub made: u32,
     pub failed: u32,
@@ -29,7 +29,7 @@ pub(crate) fn more(n: u32, test: bool) -> u32
 pub fn start() -> Tally
     ensures { result ≡ none_made }
 {
-    Tally { made: 0, failed: 0 }
+    Tally::default()
 }
 
 // One comparison more.

@@ -9,6 +9,6 @@ use Rattle.swizzle_entries.proofs.put_entries.Given as goal
 abbrev pub invariant-loop-bit : goal.invariant-loop-bit
 invariant-loop-bit l = record {
   most : l.n ≤ l.bit * 258;
-  count : l.n + length (left l.fn.given.memory l.fn.given.nets.now l.fn.given.trits.now l.gs l.n l.bit) ≡ length (make_data_swizzle (mem_of l.fn.given) l.gs);
-  stored : sets l.out l.n (left l.fn.given.memory l.fn.given.nets.now l.fn.given.trits.now l.gs l.n l.bit) ≡ sets l.initial.out 0 (make_data_swizzle (mem_of l.fn.given) l.gs);
+  count : l.n + length (left l.given.memory l.given.nets.now l.given.trits.now l.gs l.n l.bit) ≡ length (make_data_swizzle (mem_of l.given) l.gs);
+  stored : sets l.out l.n (left l.given.memory l.given.nets.now l.given.trits.now l.gs l.n l.bit) ≡ sets l.initial.out 0 (make_data_swizzle (mem_of l.given) l.gs);
 }

@@ -1,13 +1,6 @@
 -- `c_log::requests::tablegoose_add_and` meets its contract.
-use Rattle.lists.specs.Lists.{up_from}
-use lib.ListN.{length}
-use Rattle.rules.specs.Answers.{add_pair_call}
 use Rattle.c_log.proofs.Left.{left}
 use Rattle.c_log.proofs.requests.tablegoose_add_and.Goals as goal
 
 pub returns : goal.returns
-unfolding add_pair_call
-returns c =
-    let v = c.args in
-    let q = c.add_and-r in
-    left (up_from v.st.next (length v.a.now)) v.st c.answer_struct.result q.result q.new.log _ _ _ _ c.answer_struct.ensures q.ensures
+returns c = left _ _ _ _ _ _ c.answer_struct.ensures c.add_and-r.ensures

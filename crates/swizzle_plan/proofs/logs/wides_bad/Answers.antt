@@ -5,7 +5,8 @@ use Rattle.std.proofs.lemmas.Iterator.Search.{any_from_yields_List}
 use Rattle.lists.specs.Lists.{any}
 use Rattle.rules.specs.Conditions.{bad_wide}
 use Rattle.swizzle_plan.specs.Calls.{view_plan}
-use Rattle.swizzle_plan.proofs.Wides.{zipped, any_first, wides_long, wides_equal}
+use Rattle.lists.proofs.Zips.{zip_pairs}
+use Rattle.swizzle_plan.proofs.Wides.{any_first, wides_long, wides_equal}
 use Rattle.swizzle_plan.proofs.logs.wides_bad.Goals as goal
 
 pub returns-then-news-ports : goal.returns-then-news-ports
@@ -18,5 +19,5 @@ returns g c f gives =
     let bad : ℕ × ℕ → Bool = λ (x : ℕ × ℕ). bad_wide p (f x.0) x.1 in
     wides_equal p f v.ports.now v.news.now c.if-news-ports.false _
     (any_from_yields_List bad c.any.new.self _ c.any.result c.any.ensures.ran (YieldsList-from_zip (YieldsList-from_slice v.ports.now cc) (YieldsList-from_slice v.news.now cc)) (λ x b q k. search (rules, tests))
-    ∙ ap (any bad) (zipped v.ports.now v.news.now)
+    ∙ ap (any bad) (zip_pairs v.ports.now v.news.now)
     ∙ sym (any_first f (bad_wide p) v.ports.now v.news.now))
