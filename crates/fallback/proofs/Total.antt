@@ -5,6 +5,7 @@ use Prim.Native.Nat.{ℕ, ◌+◌, ◌-◌}
 use native.Mathlib.Omega.{arith}
 use mathlib.Core.List.{List, []}
 use lib.ListN.{length}
+use Rattle.rules.proofs.Done.{done_value}
 use Rattle.rules.specs.Value.{Value}
 use Rattle.rules.specs.Cell.{Mem, output_len}
 use Rattle.rules.specs.Log.{Entry, Trace, ◌>>=◌, done, start_net, added, LogState}
@@ -38,10 +39,6 @@ pub none_lower : lower_rows [] ≡ done tt
 unfolding lower_rows
 none_lower = refl
 
-done_value : (n : ℕ) → (done {A = List Driving} [] n).value ≡ []
-unfolding done
-done_value n = refl
-
 module _ (next : ℕ) (m : Memory) (nets trits output : List ℕ) (z : lower_fallback_number next (given_of m nets trits) output ≡ 0) where
   abbrev M : Mem
   M = memory_of m nets trits
@@ -70,7 +67,7 @@ module _ (next : ℕ) (m : Memory) (nets trits output : List ℕ) (z : lower_fal
   pub flat_rest : M.width ≡ 0 → (outs : Value) → length outs ≡ output_len M → Counted (split_lowered B outs) 0 0
   flat_rest w outs e =
       subst (λ (u : Trace Unit). Counted u 0 0) (sym (flat_is outs w))
-      (counted_bind (done []) lower_rows 0 0 0 0 (counted_done []) (λ n. subst (λ (ds : List Driving). Counted (lower_rows ds) 0 0) (sym (done_value n)) (subst (λ (u : Trace Unit). Counted u 0 0) (sym none_lower) (counted_done tt))) chains_lower)
+      (counted_bind (done []) lower_rows 0 0 0 0 (counted_done []) (λ n. subst (λ (ds : List Driving). Counted (lower_rows ds) 0 0) (sym (done_value [] n)) (subst (λ (u : Trace Unit). Counted u 0 0) (sym none_lower) (counted_done tt))) chains_lower)
 
   abbrev rest : Driving → Trace Unit
   rest x = swizzle x.memory x.output (fallback_plan x.memory) >>= lower_rows
