@@ -5,7 +5,6 @@ use Prim.Native.Nat.{ℕ, ◌+◌, ◌-◌}
 use native.Mathlib.Omega.{arith}
 use mathlib.Core.List.{List, []}
 use lib.ListN.{length}
-use Rattle.rules.proofs.Done.{done_value}
 use Rattle.rules.specs.Value.{Value}
 use Rattle.rules.specs.Cell.{Mem, output_len}
 use Rattle.rules.specs.Log.{Entry, Trace, ◌>>=◌, done, start_net, added, LogState}
@@ -16,6 +15,7 @@ use Rattle.rules.specs.Refusals.{room_refusal, log_refusal, lower_fallback_numbe
 use Rattle.rules.specs.Beside.Chain.{Chained, Chains}
 use Rattle.rules.proofs.Chain.{chained_append}
 use Rattle.rules.proofs.Counted.{Counted, counted_done}
+use Rattle.rules.proofs.Done.{done_value}
 use Rattle.rules.proofs.Traces.{bind_words, bind_next, log_refusal_at}
 use Rattle.net_memory.specs.declared.Memory.{Memory}
 use Rattle.net_memory.specs.View.{memory_of}

@@ -100,7 +100,7 @@ module _ (allX : Bool) (addr bits mask a d k : List ℕ) (clock : Control) (l l1
   as_data : Gave (add_dedup_dff_of (mask_delay allX (length bits) mask clock)) l2 l3 (take (length mask) k)
   as_data = subst (λ (n : ℕ). Gave (add_dedup_dff_of (mask_delay allX n mask clock)) l2 l3 (take (length mask) k)) e g3
 
-  pub three_gave : Gave (delayed allX (port_of addr bits mask clock)) l l3 (cut (port_of addr bits mask clock) a d k)
+  three_gave : Gave (delayed allX (port_of addr bits mask clock)) l l3 (cut (port_of addr bits mask clock) a d k)
   unfolding delayed mask_delay
   three_gave =
       gave_bind (add_dff_of (new_flip_flop addr clock)) _ l l1 l3 (take (length addr) a) _ (chains_dff _) g1
@@ -116,7 +116,7 @@ on_if : (t u : Bool) → (when t then false else u) ≡ true → (t ≡ false) �
 on_if true u e = let z : ◌≡◌ {A = ℕ} 0 1 = cc in absurd (omega arith)
 on_if false u e = (refl, e)
 
-pub can_told : (addr bits mask : ℕ) → delayable addr bits mask ≡ true → Delayable addr bits mask
+can_told : (addr bits mask : ℕ) → delayable addr bits mask ≡ true → Delayable addr bits mask
 unfolding delayable
 can_told addr bits mask e =
     let a = on_if (ltb max_merge addr) _ e in
@@ -138,9 +138,16 @@ module _ (allX : Bool) (p : WritePort) (addr bits mask : List ℕ) (clock : Cont
   unfolding delayed_if
   delayed_not q e = subst (λ (t : Trace WritePort). Gave t l l q) (sym (if_false (delayable (length p.addr) (length p.bits) (length p.mask)) (delayed allX p) (done q) (sym can_is ∙ e))) (gave_done q l)
 
-  pub delayed_yes : (q : WritePort) (a d k : List ℕ) → delayable (length addr) (length bits) (length mask) ≡ true
-      → Gave (delayed allX (port_of addr bits mask clock)) l l1 (cut (port_of addr bits mask clock) a d k) → Gave (delayed_if allX p q) l l1 (cut p a d k)
+  pub delayed_yes : (q v : WritePort) → delayable (length addr) (length bits) (length mask) ≡ true → Gave (delayed allX p) l l1 v → Gave (delayed_if allX p q) l l1 v
   unfolding delayed_if
-  delayed_yes q a d k e g =
-      subst (λ (t : Trace WritePort). Gave t l l1 (cut p a d k)) (sym (if_true (delayable (length p.addr) (length p.bits) (length p.mask)) (delayed allX p) (done q) (sym can_is ∙ e)))
-      (subst (λ (x : WritePort). Gave (delayed allX x) l l1 (cut x a d k)) port_is g)
+  delayed_yes q v e g = subst (λ (t : Trace WritePort). Gave t l l1 v) (sym (if_true (delayable (length p.addr) (length p.bits) (length p.mask)) (delayed allX p) (done q) (sym can_is ∙ e))) g
+
+  pub three_port : (a d k : List ℕ) (l2 l3 : Lent) → length p.mask ≡ length p.bits → Gave (add_dff_of (new_flip_flop addr clock)) l l1 (take (length addr) a)
+      → Gave (add_dff_of (new_flip_flop bits clock)) l1 l2 (take (length bits) d) → Gave (add_dedup_dff_of (mask_delay allX (length mask) mask clock)) l2 l3 (take (length mask) k)
+      → Gave (delayed allX p) l l3 (cut p a d k)
+  three_port a d k l2 l3 e g1 g2 g3 =
+      subst (λ (x : WritePort). Gave (delayed allX x) l l3 (cut x a d k)) port_is
+      (three_gave allX addr bits mask a d k clock l l1 l2 l3 (ap length em ∙ e ∙ sym (ap length eb)) g1 g2 g3)
+
+  pub can_fit : delayable (length addr) (length bits) (length mask) ≡ true → Delayable (length p.addr) (length p.bits) (length p.mask)
+  can_fit e = can_told _ _ _ (sym can_is ∙ e)

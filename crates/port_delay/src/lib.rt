@@ -11,7 +11,7 @@ ghost use Rattle.net_value.specs.View.{control_of};
 ghost use Rattle.log_entries.specs.View.{lent_of};
 ghost use Rattle.net_memory.specs.Ports.{write_of};
 ghost use Rattle.port_transparency.specs.Gave.{Gave};
-ghost use Rattle.port_delay.specs.Delay.{start_trit, mask_delay, port_of, cut, delayable, delayed_if, Delayable};
+ghost use Rattle.port_delay.specs.Delay.{start_trit, mask_delay, cut, delayable, delayed_if, Delayable};
 ghost use Rattle.port_delay.specs.Room.{zero_room};
 
 use log_entries::Log;
@@ -113,34 +113,24 @@ impl Room {
         merge_dff::emit_dedup_dff(log, &mut self.keys, &mut self.trits, &mut self.mask, f);
     }
 
-    // The three flip-flops of a port with this clock.
-    fn emit_three(
-        &mut self,
-        log: &mut Log,
-        all_x: bool,
-        clock: ControlNet,
-        addr: &[u32],
-        bits: &[u32],
-        mask: &[u32],
-    )
-        requires { Delayable (length addr.now) (length bits.now) (length mask.now) }
-        ensures { Gave (delayed all_x (port_of addr.now bits.now mask.now (control_of clock))) (lent_of log.old) (lent_of log.new) (cut (port_of addr.now bits.now mask.now (control_of clock)) self.new.addr self.new.bits self.new.mask) }
+    // The three flip-flops of a port that fits.
+    fn emit_three(&mut self, log: &mut Log, all_x: bool, w: WritePort<'_>)
+        requires { Delayable (length (write_of w).addr) (length (write_of w).bits) (length (write_of w).mask) }
+        ensures { Gave (delayed all_x (write_of w.entry)) (lent_of log.old) (lent_of log.new) (cut (write_of w.entry) self.new.addr self.new.bits self.new.mask) }
     {
-        emit_plain(log, &mut self.addr, &mut self.starts, clock, addr);
-        emit_plain(log, &mut self.bits, &mut self.starts, clock, bits);
-        self.emit_mask(log, all_x, clock, mask);
+        let clock = w.port.clock;
+        emit_plain(log, &mut self.addr, &mut self.starts, clock, w.addr());
+        emit_plain(log, &mut self.bits, &mut self.starts, clock, w.bits());
+        self.emit_mask(log, all_x, clock, w.mask());
     }
 
     // The three flip-flops of a write port: the results are the first nets of `addr`, `bits` and `mask`.
     pub fn emit_delayed(&mut self, log: &mut Log, all_x: bool, w: WritePort<'_>)
         ensures { Gave (delayed_if all_x (write_of w.entry) (cut (write_of w.entry) self.old.addr self.old.bits self.old.mask)) (lent_of log.old) (lent_of log.new) (cut (write_of w.entry) self.new.addr self.new.bits self.new.mask) }
     {
-        let addr = w.addr();
-        let bits = w.bits();
-        let mask = w.mask();
-        if !can_delay(addr.len(), bits.len(), mask.len()) {
+        if !can_delay(w.addr().len(), w.bits().len(), w.mask().len()) {
             return;
         }
-        self.emit_three(log, all_x, w.port.clock, addr, bits, mask);
+        self.emit_three(log, all_x, w);
     }
 }

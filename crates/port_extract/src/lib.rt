@@ -41,61 +41,86 @@ fn clocked_trits<'a>(given: &Given<'a>, i: usize) -> &'a [u8]
     }
 }
 
-// Stores the listed ports' parts, as `part` gives them by a port's number, from `start` on, and says where they end. That the list is short is asked here and
-// of the three functions below: a struct that knew it would be made twice, and each clause would read the list through it.
-fn put_parts<'a, T: Copy + 'a, F: Fn(usize) -> &'a [T]>(
-    room: &mut [T],
-    start: usize,
-    list: &[u32],
-    part: F,
-) -> usize
-    requires callable { F.IsAlwaysCallable part }
-    requires few { (start ≤ 0x1800000000) × (length list.now ≤ max_ports) }
-    requires small { (k : ℕ) (r : _) → F.post part k r → length r.now < 0x300000000 }
-    ensures value { (f : ℕ → List T) → ((k : ℕ) (r : _) → F.post part k r → r.now ≡ f k) → result ≡ start + length (concat_map f list.now) }
-    ensures room_after { (f : ℕ → List T) → ((k : ℕ) (r : _) → F.post part k r → r.now ≡ f k) → room.new ≡ sets room.old start (concat_map f list.now) }
-{
-    let mut at = start;
-    for k in list {
-        let bits = part(*k as usize);
-        lists::copy(room, at, bits);
-        at += bits.len();
+// What an extraction takes: the memory, the ports of it that stay, in their order, and the outputs as they are.
+#[derive(Clone, Copy)]
+struct Extraction<'a> {
+    given: &'a Given<'a>,
+    list: &'a [u32],
+    output: &'a [u32],
+    ghost few: { length list.now ≤ max_ports },
+}
+
+impl<'a> Extraction<'a> {
+    // Stores the listed ports' parts, as `part` gives them by a port's number, from `start` on, and says where they end.
+    fn put_parts<'b, T: Copy + 'b, F: Fn(usize) -> &'b [T]>(
+        self,
+        room: &mut [T],
+        start: usize,
+        part: F,
+    ) -> usize
+        requires callable { F.IsAlwaysCallable part }
+        requires low { start ≤ 0x1800000000 }
+        requires small { (k : ℕ) (r : _) → F.post part k r → length r.now < 0x300000000 }
+        ensures value { (f : ℕ → List T) → ((k : ℕ) (r : _) → F.post part k r → r.now ≡ f k) → result ≡ start + length (concat_map f self.entry.list.now) }
+        ensures room_after { (f : ℕ → List T) → ((k : ℕ) (r : _) → F.post part k r → r.now ≡ f k) → room.new ≡ sets room.old start (concat_map f self.entry.list.now) }
+    {
+        let mut at = start;
+        for k in self.list {
+            let bits = part(*k as usize);
+            lists::copy(room, at, bits);
+            at += bits.len();
+        }
+        at
     }
-    at
-}
 
-// Stores the outputs of the listed ports, and says where they end.
-#[tactic(auto, unfolding(rules::specs::Ports::extract_read_ports))]
-fn put_outputs(room: &mut [u32], m: &Memory, output: &[u32], list: &[u32]) -> usize
-    requires { length list.now ≤ max_ports }
-    ensures by_index { (nets trits : List ℕ) → result ≡ length (new_output m.now nets trits list.now output.now) }
-    ensures by_index_2 { (nets trits : List ℕ) → room.new ≡ sets room.old 0 (new_output m.now nets trits list.now output.now) }
-{
-    put_parts(room, 0, list, |k| output_part(m, output, k))
-}
+    // Stores the outputs of the listed ports, and says where they end.
+    #[tactic(auto, unfolding(rules::specs::Ports::extract_read_ports))]
+    fn put_outputs(self, room: &mut [u32]) -> usize
+        ensures by_index { (nets trits : List ℕ) → result ≡ length (new_output self.entry.given.now.memory nets trits self.entry.list.now self.entry.output.now) }
+        ensures by_index_2 { (nets trits : List ℕ) → room.new ≡ sets room.old 0 (new_output self.entry.given.now.memory nets trits self.entry.list.now self.entry.output.now) }
+    {
+        self.put_parts(room, 0, |k| output_part(&self.given.memory, self.output, k))
+    }
 
-// Stores the new nets, and says how many they are.
-#[tactic(auto, using(crate::proofs::Stored::joined, crate::proofs::Stored::joined_length))]
-fn put_nets(room: &mut [u32], given: &Given<'_>, list: &[u32]) -> usize
-    requires { length list.now ≤ max_ports }
-    ensures value { result ≡ length (new_nets given.now.memory given.now.nets.now list.now) }
-    ensures room_after { room.new ≡ sets room.old 0 (new_nets given.now.memory given.now.nets.now list.now) }
-{
-    let front = lists::part(given.nets, 0, net_memory::reads_start(&given.memory));
-    lists::copy(room, 0, front);
-    put_parts(room, front.len(), list, |k| given.read_port(k).nets)
-}
+    // Stores the new nets, and says how many they are.
+    #[tactic(auto, using(crate::proofs::Stored::joined, crate::proofs::Stored::joined_length))]
+    fn put_nets(self, room: &mut [u32]) -> usize
+        ensures value { result ≡ length (new_nets self.entry.given.now.memory self.entry.given.now.nets.now self.entry.list.now) }
+        ensures room_after { room.new ≡ sets room.old 0 (new_nets self.entry.given.now.memory self.entry.given.now.nets.now self.entry.list.now) }
+    {
+        let given = self.given;
+        let front = lists::part(given.nets, 0, net_memory::reads_start(&given.memory));
+        lists::copy(room, 0, front);
+        self.put_parts(room, front.len(), |k| given.read_port(k).nets)
+    }
 
-// Stores the new trits, and says how many they are.
-#[tactic(auto, using(crate::proofs::Stored::joined, crate::proofs::Stored::joined_length))]
-fn put_trits(room: &mut [u8], given: &Given<'_>, list: &[u32]) -> usize
-    requires { length list.now ≤ max_ports }
-    ensures value { result ≡ length (new_trits given.now.memory given.now.trits.now list.now) }
-    ensures room_after { room.new ≡ sets room.old 0 (new_trits given.now.memory given.now.trits.now list.now) }
-{
-    let front = lists::part(given.trits, 0, net_memory::init_size(given.memory));
-    lists::copy(room, 0, front);
-    put_parts(room, front.len(), list, |k| clocked_trits(given, k))
+    // Stores the new trits, and says how many they are.
+    #[tactic(auto, using(crate::proofs::Stored::joined, crate::proofs::Stored::joined_length))]
+    fn put_trits(self, room: &mut [u8]) -> usize
+        ensures value { result ≡ length (new_trits self.entry.given.now.memory self.entry.given.now.trits.now self.entry.list.now) }
+        ensures room_after { room.new ≡ sets room.old 0 (new_trits self.entry.given.now.memory self.entry.given.now.trits.now self.entry.list.now) }
+    {
+        let given = self.given;
+        let front = lists::part(given.trits, 0, given.memory.init_len as usize);
+        lists::copy(room, 0, front);
+        self.put_parts(room, front.len(), |k| clocked_trits(given, k))
+    }
+
+    // What is to be stored does not fit its room: a run without room stores nothing that is kept.
+    fn rooms_bad(self, a: usize, b: usize, c: usize) -> bool
+        requires { Ready self.given.now.memory self.given.now.nets.now self.given.now.trits.now self.list.now }
+        ensures { result ≡ no_rooms (record { nets = a; trits = b; output = c }) (extraction_of self.entry.given.now.memory self.entry.given.now.nets.now self.entry.given.now.trits.now self.entry.list.now self.entry.output.now) }
+    {
+        let mut words = [0u32; 1];
+        let mut codes = [0u8; 1];
+        if a < self.put_nets(&mut words) {
+            return true;
+        }
+        if b < self.put_trits(&mut codes) {
+            return true;
+        }
+        c < self.put_outputs(&mut words)
+    }
 }
 
 // A port as the new memory has it: without a flip-flop it keeps no trits.
@@ -125,22 +150,6 @@ fn pick_ports(m: &Memory, list: &[u32]) -> Memory
     out
 }
 
-// What is to be stored does not fit its room: a run without room stores nothing that is kept.
-fn rooms_bad(given: &Given<'_>, list: &[u32], output: &[u32], a: usize, b: usize, c: usize) -> bool
-    requires { Ready given.now.memory given.now.nets.now given.now.trits.now list.now }
-    ensures { result ≡ no_rooms (record { nets = a; trits = b; output = c }) (extraction_of given.now.memory given.now.nets.now given.now.trits.now list.now output.now) }
-{
-    let mut words = [0u32; 1];
-    let mut codes = [0u8; 1];
-    if a < put_nets(&mut words, given, list) {
-        return true;
-    }
-    if b < put_trits(&mut codes, given, list) {
-        return true;
-    }
-    c < put_outputs(&mut words, &given.memory, output, list)
-}
-
 // 1 to 4, 15 and 20 of an extraction with rooms of these lengths.
 #[tactic(auto, using(rules::proofs::Answers::else_err), unfolding(rules::specs::Refusals::extract_read_ports_refusal, rules::specs::Conditions::long_list))]
 fn extract_refusal(
@@ -158,7 +167,12 @@ fn extract_refusal(
     if port_outputs::port_missing(given.memory, list) {
         return Err(Refusal::OutOfRange);
     }
-    if rooms_bad(&given, list, output, a, b, c) {
+    let extraction = Extraction {
+        given: &given,
+        list,
+        output,
+    };
+    if extraction.rooms_bad(a, b, c) {
         return Err(Refusal::NoRoom);
     }
     Ok(())
@@ -184,8 +198,13 @@ pub fn extract_read_ports(
         room_trits.len(),
         room_output.len(),
     )?;
-    put_nets(room_nets, &given, list);
-    put_trits(room_trits, &given, list);
-    put_outputs(room_output, &given.memory, output, list);
+    let extraction = Extraction {
+        given: &given,
+        list,
+        output,
+    };
+    extraction.put_nets(room_nets);
+    extraction.put_trits(room_trits);
+    extraction.put_outputs(room_output);
     Ok(pick_ports(&given.memory, list))
 }

@@ -41,6 +41,7 @@ impl<'a> Asked<'a> {
 }
 
 // A value has more nets than a merge takes.
+#[tactic(auto, unfolding(rules::specs::Conditions::long_value))]
 fn overlay_long(o: Asked<'_>) -> bool
     ensures { result ≡ any long_value (overlay_values (asked_of o.entry)) }
 {
@@ -59,6 +60,7 @@ fn overlay_unlike(given: Given<'_>, o: Asked<'_>, i: usize) -> bool
 }
 
 // A value has a net that is none.
+#[tactic(auto, unfolding(rules::specs::Conditions::bad_value))]
 fn overlay_bad(next: u32, o: Asked<'_>) -> bool
     ensures { result ≡ any (bad_value next) (overlay_values (asked_of o.entry)) }
 {

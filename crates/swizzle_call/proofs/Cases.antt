@@ -22,6 +22,7 @@ use Rattle.rules.specs.Swizzle.{swizzle, swizzle_rows, swizzle_empty, shared_net
 use Rattle.rules.specs.Conditions.{plan_too_large, bad_output_len, bad_value, short_ports}
 use Rattle.rules.specs.Refusals as rules
 use Rattle.rules.specs.Refusals.{driving_number, whole_plan, swizzle_plan_number, swizzle_number, swizzle_refusal}
+use Rattle.rules.proofs.Done.{done_value}
 use Rattle.std.specs.Borrow.{GName}
 use Rattle.log_entries.specs.declared.LogState.{LogState}
 use Rattle.log_entries.specs.declared.Log.{Log}
@@ -99,15 +100,11 @@ pub flat_trace : (m : Mem) (output : Value) (p : Plan) → m.width ≡ 0 → swi
 unfolding swizzle
 flat_trace m output p w = rw (eq-eqb m.width 0 w)
 
-done_none : (n : ℕ) → (done {A = List Driving} [] n).value ≡ []
-unfolding done
-done_none n = refl
-
 pub flat_acted : (m : Mem) (output : Value) (p : Plan) (q : Layout) → m.width ≡ 0 → (made : Reads) → NoneYet made → (log : Log)
     → Acted m q (swizzle m output p) (going_of log made) (going_of log made)
 flat_acted m output p q w made y log =
     let e = flat_trace m output p w in
-    none_acted m q (swizzle m output p) log made (ap (λ (t : Trace (List Driving)). (t log.state.next).value) e ∙ done_none log.state.next) y log
+    none_acted m q (swizzle m output p) log made (ap (λ (t : Trace (List Driving)). (t log.state.next).value) e ∙ done_value [] log.state.next) y log
     (sym (ap (λ (t : Trace (List Driving)). run t (lent_of log)) e ∙ run-done [] (lent_of log)))
 
 -- ---- depth 0

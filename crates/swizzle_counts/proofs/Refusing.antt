@@ -24,6 +24,7 @@ use Rattle.rules.specs.Refusals as rules
 use Rattle.rules.specs.Refusals.{room_refusal, log_refusal, lent_refusal, image_refusal, results_refusal, swizzle_plan_number, swizzle_number, swizzle_refusal}
 use Rattle.rules.specs.declared.numbers.Refusal.{Refusal}
 use Rattle.rules.specs.Refusal as refusal
+use Rattle.rules.proofs.Done.{done_value}
 use Rattle.rules.proofs.Answers.{number_nonzero}
 use Rattle.rules.proofs.Counted.{counted_done, counted_refusal}
 use Rattle.net_memory.proofs.WideLaws.{log_no_width}
@@ -189,10 +190,6 @@ module _ (r : rules.SwizzleRooms) (room : ℕ) (st : LogState) (g : Given) (outp
       unfolding swizzle
       flat_trace = rw (eq-eqb m.width 0 w)
 
-      done_value : (n : ℕ) → (done {A = List Driving} [] n).value ≡ []
-      unfolding done
-      done_value n = refl
-
       flat_scratch : swizzle_scratch m p ≡ 0
       unfolding swizzle_scratch
       flat_scratch = rw (eq-eqb m.width 0 w)
@@ -200,7 +197,7 @@ module _ (r : rules.SwizzleRooms) (room : ℕ) (st : LogState) (g : Given) (outp
       flat-results : results_refusal r m (swizzle m output p (start_net st)).value ≡ 0
       unfolding results_refusal
       flat-results =
-          ap (λ (ds : List Driving). when no_room_of r.nets (length (shared_nets m ds)) || no_room_of r.trits (length (shared_trits m ds)) then 20 else 0) (ap (λ (t : Trace (List Driving)). (t (start_net st)).value) flat_trace ∙ done_value (start_net st))
+          ap (λ (ds : List Driving). when no_room_of r.nets (length (shared_nets m ds)) || no_room_of r.trits (length (shared_trits m ds)) then 20 else 0) (ap (λ (t : Trace (List Driving)). (t (start_net st)).value) flat_trace ∙ done_value [] (start_net st))
           ∙ (λ i. when no_need r.nets _ (no_nets_lem m) i || no_need r.trits _ (no_trits_lem m) i then 20 else 0)
 
       flat-log : log_refusal room st (swizzle m output p) ≡ room_refusal room st 0 0

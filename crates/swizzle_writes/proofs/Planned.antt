@@ -19,6 +19,7 @@ use Rattle.rules.specs.Log.{Trace, ◌>>=◌, done}
 use Rattle.rules.specs.Geometry.{Layout, row_len_of, all_mems, all_chunks, soft, columns}
 use Rattle.rules.specs.Swizzle.{Split, split_addr, split_by, swizzle_write}
 use Rattle.rules.proofs.Traces.{bind_value}
+use Rattle.rules.proofs.Done.{done_value}
 use Rattle.log_entries.specs.Emission.{Lent, run}
 use Rattle.log_entries.proofs.Emission.{run_same}
 use Rattle.swizzle_laws.specs.Order.{ordered}
@@ -46,10 +47,6 @@ columns_are q = refl
 row_len : (q : Layout) → row_len_of q ≡ length q.entries
 unfolding row_len_of
 row_len q = refl
-
-pub done_value : {A : Type 0} (v : A) (n : ℕ) → (done v n).value ≡ v
-unfolding done
-done_value v n = refl
 
 pub new_is : (q : Layout) (old new : ℕ) (addr : Value) → (split_addr q old new addr).new ≡ new
 unfolding split_addr split_by

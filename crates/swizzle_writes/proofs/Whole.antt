@@ -17,6 +17,7 @@ use Rattle.rules.specs.Log.{Trace, ◌>>=◌, done}
 use Rattle.rules.specs.Geometry.{Layout, all_mems, columns}
 use Rattle.rules.specs.Swizzle.{Split, split_addr, swizzle_write, swizzle_writes, WideWrite}
 use Rattle.rules.proofs.Traces.{bind_value}
+use Rattle.rules.proofs.Done.{done_value}
 use Rattle.log_entries.specs.Emission.{Lent, is_over, run}
 use Rattle.log_entries.proofs.Emission.{run-done, run_then, run_same, run_next, run-held}
 use Rattle.port_transparency.specs.Gave.{Gave}
@@ -34,7 +35,7 @@ use Rattle.swizzle_laws.proofs.WriteCounts.{counted_write}
 use Rattle.swizzle_writes.specs.Placed.{size_of, wide_by_of, Placed, placed_if, placed_at, Filled, port_by, filled_by, placed_from, none_filled}
 use Rattle.swizzle_writes.specs.Planned.{LayoutPlanned, PortPlanned, port_nets, total_nets, PortsPlanned, WritePlanned, wide_nets, ports_by, filled_with}
 use Rattle.swizzle_split.proofs.Rows.{rows_are}
-use Rattle.swizzle_writes.proofs.Planned.{new_is, columns_are, done_value, bits_size, planned_run, planned_value}
+use Rattle.swizzle_writes.proofs.Planned.{new_is, columns_are, bits_size, planned_run, planned_value}
 use Rattle.swizzle_writes.proofs.Steps.{chains_placed_at}
 
 -- ---- the next write port

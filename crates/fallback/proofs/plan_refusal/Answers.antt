@@ -10,4 +10,4 @@ use Rattle.fallback.proofs.plan_refusal.Goals as goal
 pub returns : goal.returns
 returns c =
     let v = c.args in
-    c.swizzle_refusal.ensures ∙ ap (λ (y : Plan). swizzle_refusal (rooms_of v.r) v.room (state_of v.st) (view_given v.given) v.outs.now y) (c.plan.ensures c.of-lists.ensures c.requires)
+    c.swizzle_refusal.ensures ∙ ap (λ (y : Plan). swizzle_refusal (rooms_of v.r) v.r.log (state_of v.r.state) (view_given v.given) v.outs.now y) (c.plan.ensures c.of-lists.ensures c.requires)

@@ -13,23 +13,11 @@ returns-in_err-extract_refusal-clause-room_output_after c =
     let e = err_from_is_err_and c.from_residual.result c.from_residual.ensures.1 in
     rw (e.1, e.2) (refused v.room_nets.now v.room_trits.now v.room_output.now v.given.memory v.given.nets.now v.given.trits.now v.list.now v.output.now _ c.in_err-extract_refusal.ensures)
 
-pub put_nets-requires : goal.put_nets-requires
-put_nets-requires c =
+pub invariant_of-extraction : goal.invariant_of-extraction
+invariant_of-extraction c =
     let y = c in
     let v = y.args in
-    (good v.given.memory v.given.nets.now v.given.trits.now v.list.now v.output.now (record { nets = length v.room_nets.now; trits = length v.room_trits.now; output = length v.room_output.now }) (reads_length v.given.memory _ y.well_formed.1.1.1.0.1.1.0 v.given.nets.now v.given.trits.now) (sym c.in_ok-extract_refusal.ensures)).ready_is.listed.few
-
-pub put_trits-requires : goal.put_trits-requires
-put_trits-requires c =
-    let y = c in
-    let v = y.args in
-    (good v.given.memory v.given.nets.now v.given.trits.now v.list.now v.output.now (record { nets = length v.room_nets.now; trits = length v.room_trits.now; output = length v.room_output.now }) (reads_length v.given.memory _ y.well_formed.1.1.1.0.1.1.0 v.given.nets.now v.given.trits.now) (sym c.in_ok-extract_refusal.ensures)).ready_is.listed.few
-
-pub put_outputs-requires : goal.put_outputs-requires
-put_outputs-requires c =
-    let y = c in
-    let v = y.args in
-    (good v.given.memory v.given.nets.now v.given.trits.now v.list.now v.output.now (record { nets = length v.room_nets.now; trits = length v.room_trits.now; output = length v.room_output.now }) (reads_length v.given.memory _ y.well_formed.1.1.1.0.1.1.0 v.given.nets.now v.given.trits.now) (sym c.in_ok-extract_refusal.ensures)).ready_is.listed.few
+    record { few = (good v.given.memory v.given.nets.now v.given.trits.now v.list.now v.output.now (record { nets = length v.room_nets.now; trits = length v.room_trits.now; output = length v.room_output.now }) (reads_length v.given.memory _ y.well_formed.1.1.1.0.1.1.0 v.given.nets.now v.given.trits.now) (sym c.in_ok-extract_refusal.ensures)).ready_is.listed.few }
 
 pub pick_ports-requires : goal.pick_ports-requires
 pick_ports-requires c =

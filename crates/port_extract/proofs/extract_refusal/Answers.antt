@@ -19,6 +19,12 @@ rooms_bad-requires c =
     let v = y.args in
     ready v.given.memory v.given.nets.now v.given.trits.now v.list.now v.output.now (reads_length v.given.memory _ y.well_formed.0.1.1.0 v.given.nets.now v.given.trits.now) (sym (c.in_ok-driving_refusal.ensures ∙ ap (λ (t : Bool). driving_number t max_nets (given_of v.given.memory v.given.nets.now v.given.trits.now) v.output.now) (long_by v.list.now))) (sym (c.port_missing.ensures v.given.nets.now v.given.trits.now) ∙ c.if-port_missing.false)
 
+pub invariant_of-extraction : goal.invariant_of-extraction
+invariant_of-extraction c =
+    let y = c in
+    let v = y.args in
+    record { few = (ready v.given.memory v.given.nets.now v.given.trits.now v.list.now v.output.now (reads_length v.given.memory _ y.well_formed.0.1.1.0 v.given.nets.now v.given.trits.now) (sym (c.in_ok-driving_refusal.ensures ∙ ap (λ (t : Bool). driving_number t max_nets (given_of v.given.memory v.given.nets.now v.given.trits.now) v.output.now) (long_by v.list.now))) (sym (c.port_missing.ensures v.given.nets.now v.given.trits.now) ∙ c.if-port_missing.false)).listed.few }
+
 pub returns-then-rooms_bad : goal.returns-then-rooms_bad
 returns-then-rooms_bad c =
     let v = c.args in

@@ -44,7 +44,7 @@ returns-clause-acted c =
     let p = c.layout-q in
     let x = layout_by p.result.params p.result.entries.now in
     let q = p.ensures.layout in
-    ran_acted (rooms_of c.requires.passed.image v.made.now.nets.now v.made.now.trits.now v.scratch.now) (length v.log.now.words.now) v.log.now.state v.asked.given.memory v.asked.given.nets.now v.asked.given.trits.now v.asked.output.now plan c.requires.passed.zero (λ f. c.if-given-eq0.false (sym (mem_width v.asked.given.memory v.asked.given.nets.now v.asked.given.trits.now) ∙ f)) (λ f. c.if-given-eq0-2.false (sym (mem_depth_lem v.asked.given.memory v.asked.given.nets.now v.asked.given.trits.now) ∙ f)) (writes_length v.asked.given.memory _ c.well_formed.1.1.1.0.1.1.0 v.asked.given.nets.now) (reads_length v.asked.given.memory _ c.well_formed.1.1.1.0.1.1.0 v.asked.given.nets.now v.asked.given.trits.now) v.log.now.words.now v.made.now.nets.now v.made.now.trits.now v.log.now.words.ghost_name v.made.now.nets.ghost_name v.made.now.trits.ghost_name refl refl (length v.scratch.now) refl v.made.now.nets_at v.made.now.trits_at v.made.now.memory (going_of e.new.log e.new.made) x q e.ensures.rows_ran
+    ran_acted (rooms_of c.requires.passed.image v.made.now.nets.now v.made.now.trits.now v.scratch.now) (length v.log.now.words.now) v.log.now.state v.asked.given.memory v.asked.given.nets.now v.asked.given.trits.now v.asked.output.now plan c.requires.passed.zero (λ f. c.if-given-eq0.false (sym (mem_width v.asked.given.memory v.asked.given.nets.now v.asked.given.trits.now) ∙ f)) (λ f. c.if-given-eq0-2.false (sym (mem_depth_lem v.asked.given.memory v.asked.given.nets.now v.asked.given.trits.now) ∙ f)) (writes_length v.asked.given.memory _ c.well_formed.1.1.1.0.1.1.0.1.1.0 v.asked.given.nets.now) (reads_length v.asked.given.memory _ c.well_formed.1.1.1.0.1.1.0.1.1.0 v.asked.given.nets.now v.asked.given.trits.now) v.log.now.words.now v.made.now.nets.now v.made.now.trits.now v.log.now.words.ghost_name v.made.now.nets.ghost_name v.made.now.trits.ghost_name refl refl (length v.scratch.now) refl v.made.now.nets_at v.made.now.trits_at v.made.now.memory (going_of e.new.log e.new.made) x q e.ensures.rows_ran
 
 pub returns-clause-scratch_unchanged : goal.returns-clause-scratch_unchanged
 returns-clause-scratch_unchanged c =
@@ -55,7 +55,7 @@ returns-clause-scratch_unchanged c =
     let p = c.layout-q in
     let x = layout_by p.result.params p.result.entries.now in
     let q = p.ensures.layout in
-    scratch_kept (rooms_of c.requires.passed.image v.made.now.nets.now v.made.now.trits.now v.scratch.now) (length v.log.now.words.now) v.log.now.state v.asked.given.memory v.asked.given.nets.now v.asked.given.trits.now v.asked.output.now plan c.requires.passed.zero (λ f. c.if-given-eq0.false (sym (mem_width v.asked.given.memory v.asked.given.nets.now v.asked.given.trits.now) ∙ f)) (λ f. c.if-given-eq0-2.false (sym (mem_depth_lem v.asked.given.memory v.asked.given.nets.now v.asked.given.trits.now) ∙ f)) (writes_length v.asked.given.memory _ c.well_formed.1.1.1.0.1.1.0 v.asked.given.nets.now) (reads_length v.asked.given.memory _ c.well_formed.1.1.1.0.1.1.0 v.asked.given.nets.now v.asked.given.trits.now) x q v.scratch.now e.new.scratch e.ensures.all_kept
+    scratch_kept (rooms_of c.requires.passed.image v.made.now.nets.now v.made.now.trits.now v.scratch.now) (length v.log.now.words.now) v.log.now.state v.asked.given.memory v.asked.given.nets.now v.asked.given.trits.now v.asked.output.now plan c.requires.passed.zero (λ f. c.if-given-eq0.false (sym (mem_width v.asked.given.memory v.asked.given.nets.now v.asked.given.trits.now) ∙ f)) (λ f. c.if-given-eq0-2.false (sym (mem_depth_lem v.asked.given.memory v.asked.given.nets.now v.asked.given.trits.now) ∙ f)) (writes_length v.asked.given.memory _ c.well_formed.1.1.1.0.1.1.0.1.1.0 v.asked.given.nets.now) (reads_length v.asked.given.memory _ c.well_formed.1.1.1.0.1.1.0.1.1.0 v.asked.given.nets.now v.asked.given.trits.now) x q v.scratch.now e.new.scratch e.ensures.all_kept
 
 pub returns-clause-holds_ports : goal.returns-clause-holds_ports
 returns-clause-holds_ports c =
@@ -66,4 +66,4 @@ returns-clause-holds_ports c =
     let p = c.layout-q in
     let x = layout_by p.result.params p.result.entries.now in
     let q = p.ensures.layout in
-    λ w d. ran_ports (rooms_of c.requires.passed.image v.made.now.nets.now v.made.now.trits.now v.scratch.now) (length v.log.now.words.now) v.log.now.state v.asked.given.memory v.asked.given.nets.now v.asked.given.trits.now v.asked.output.now plan c.requires.passed.zero (λ f. c.if-given-eq0.false (sym (mem_width v.asked.given.memory v.asked.given.nets.now v.asked.given.trits.now) ∙ f)) (λ f. c.if-given-eq0-2.false (sym (mem_depth_lem v.asked.given.memory v.asked.given.nets.now v.asked.given.trits.now) ∙ f)) (writes_length v.asked.given.memory _ c.well_formed.1.1.1.0.1.1.0 v.asked.given.nets.now) (reads_length v.asked.given.memory _ c.well_formed.1.1.1.0.1.1.0 v.asked.given.nets.now v.asked.given.trits.now) v.log.now.words.now v.made.now.nets.now v.made.now.trits.now v.log.now.words.ghost_name v.made.now.nets.ghost_name v.made.now.trits.ghost_name refl refl (length v.scratch.now) refl v.made.now.nets_at v.made.now.trits_at v.made.now.memory (going_of e.new.log e.new.made) x q e.ensures.rows_ran
+    λ w d. ran_ports (rooms_of c.requires.passed.image v.made.now.nets.now v.made.now.trits.now v.scratch.now) (length v.log.now.words.now) v.log.now.state v.asked.given.memory v.asked.given.nets.now v.asked.given.trits.now v.asked.output.now plan c.requires.passed.zero (λ f. c.if-given-eq0.false (sym (mem_width v.asked.given.memory v.asked.given.nets.now v.asked.given.trits.now) ∙ f)) (λ f. c.if-given-eq0-2.false (sym (mem_depth_lem v.asked.given.memory v.asked.given.nets.now v.asked.given.trits.now) ∙ f)) (writes_length v.asked.given.memory _ c.well_formed.1.1.1.0.1.1.0.1.1.0 v.asked.given.nets.now) (reads_length v.asked.given.memory _ c.well_formed.1.1.1.0.1.1.0.1.1.0 v.asked.given.nets.now v.asked.given.trits.now) v.log.now.words.now v.made.now.nets.now v.made.now.trits.now v.log.now.words.ghost_name v.made.now.nets.ghost_name v.made.now.trits.ghost_name refl refl (length v.scratch.now) refl v.made.now.nets_at v.made.now.trits_at v.made.now.memory (going_of e.new.log e.new.made) x q e.ensures.rows_ran

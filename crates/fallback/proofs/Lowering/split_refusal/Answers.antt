@@ -25,6 +25,6 @@ pub returns : goal.returns
 returns c =
     let v = c.args in
     let l : LogState = record { used = v.self.now.st.used; next = c.later_net.result } in
-    split_refusal v.self.now.given.memory v.self.now.given.nets.now v.self.now.given.trits.now v.self.now.output.now v.self.now.st v.self.now.tables v.self.now.asked c.requires (record { image = 32768; nets = v.self.now.tables; trits = 0; scratch = 32768 }) refl refl refl (c.min-whole.result - v.words) (record { used = v.self.now.st.used; next = c.later_net.result }) (later_grows v.self.now.st.next v.made c.later_net.result c.later_net.ensures) c.bare_memory.result c.bare_memory.ensures.value (number_of c.plan_refusal.result) c.plan_refusal.ensures
+    split_refusal v.self.now.given.memory v.self.now.given.nets.now v.self.now.given.trits.now v.self.now.output.now v.self.now.st v.self.now.tables v.self.now.asked c.requires (record { log = c.min-whole.result - v.words; state = record { used = v.self.now.st.used; next = c.later_net.result }; image = 32768; nets = v.self.now.tables; trits = 0; scratch = 32768 }) refl refl refl (c.min-whole.result - v.words) (record { used = v.self.now.st.used; next = c.later_net.result }) (later_grows v.self.now.st.next v.made c.later_net.result c.later_net.ensures) c.bare_memory.result c.bare_memory.ensures.value (number_of c.plan_refusal.result) c.plan_refusal.ensures
     ∙ ap (λ (k : ℕ). room_refusal (k - v.words) l (split_words (memory_of v.self.now.given.memory v.self.now.given.nets.now v.self.now.given.trits.now)) (split_nets (memory_of v.self.now.given.memory v.self.now.given.nets.now v.self.now.given.trits.now))) c.min-whole.ensures
     ∙ left_same v.room (state_of v.self.now.st) v.words v.made (split_words (memory_of v.self.now.given.memory v.self.now.given.nets.now v.self.now.given.trits.now)) (split_nets (memory_of v.self.now.given.memory v.self.now.given.nets.now v.self.now.given.trits.now)) c.later_net.result c.later_net.ensures (omega (arith, c.min-whole.ensures, c.if-whole-words.false))

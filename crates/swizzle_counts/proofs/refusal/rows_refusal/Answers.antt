@@ -21,13 +21,10 @@ returns-then-given-eq0-2 c =
 
 pub rows_by_needs-requires : goal.rows_by_needs-requires
 rows_by_needs-requires c =
-    let k = c in
-    let v = k.args in
-    let e : Unit = k.well_formed in
-    rows_ready (rooms_of v.r) v.r.log (state_of v.r.state) v.asked.given.memory v.asked.given.nets.now v.asked.given.trits.now v.asked.plan.swizzle v.asked.plan.entries.now v.asked.plan.writes.now v.asked.plan.reads.now v.asked.output.now (sym c.in_ok-plan_refusal.ensures) c.if-given-eq0.false c.if-given-eq0-2.false (writes_length v.asked.given.memory _ k.well_formed.1.1.1.0.1.1.0 v.asked.given.nets.now) (reads_length v.asked.given.memory _ k.well_formed.1.1.1.0.1.1.0 v.asked.given.nets.now v.asked.given.trits.now)
+    let v = c.args in
+    rows_ready (rooms_of v.r) v.r.log (state_of v.r.state) v.asked.given.memory v.asked.given.nets.now v.asked.given.trits.now v.asked.plan.swizzle v.asked.plan.entries.now v.asked.plan.writes.now v.asked.plan.reads.now v.asked.output.now (sym c.in_ok-plan_refusal.ensures) c.if-given-eq0.false c.if-given-eq0-2.false (writes_length v.asked.given.memory _ c.well_formed.1.0.1.1.0.1.1.0 v.asked.given.nets.now) (reads_length v.asked.given.memory _ c.well_formed.1.0.1.1.0.1.1.0 v.asked.given.nets.now v.asked.given.trits.now)
 
 pub returns : goal.returns
 returns c =
-    let k = c in
-    let v = k.args in
-    rows_refused (rooms_of v.r) v.r.log (state_of v.r.state) v.asked.given.memory v.asked.given.nets.now v.asked.given.trits.now v.asked.plan.swizzle v.asked.plan.entries.now v.asked.plan.writes.now v.asked.plan.reads.now v.asked.output.now (sym c.in_ok-plan_refusal.ensures) c.if-given-eq0.false c.if-given-eq0-2.false (writes_length v.asked.given.memory _ k.well_formed.1.1.1.0.1.1.0 v.asked.given.nets.now) (reads_length v.asked.given.memory _ k.well_formed.1.1.1.0.1.1.0 v.asked.given.nets.now v.asked.given.trits.now) _ c.rows_by_needs.ensures
+    let v = c.args in
+    rows_refused (rooms_of v.r) v.r.log (state_of v.r.state) v.asked.given.memory v.asked.given.nets.now v.asked.given.trits.now v.asked.plan.swizzle v.asked.plan.entries.now v.asked.plan.writes.now v.asked.plan.reads.now v.asked.output.now (sym c.in_ok-plan_refusal.ensures) c.if-given-eq0.false c.if-given-eq0-2.false (writes_length v.asked.given.memory _ c.well_formed.1.0.1.1.0.1.1.0 v.asked.given.nets.now) (reads_length v.asked.given.memory _ c.well_formed.1.0.1.1.0.1.1.0 v.asked.given.nets.now v.asked.given.trits.now) _ c.rows_by_needs.ensures
