@@ -119,8 +119,10 @@ impl Room {
         ensures { Gave (delayed all_x (write_of w.entry)) (lent_of log.old) (lent_of log.new) (cut (write_of w.entry) self.new.addr self.new.bits self.new.mask) }
     {
         let clock = w.port.clock;
-        emit_plain(log, &mut self.addr, &mut self.starts, clock, w.addr());
-        emit_plain(log, &mut self.bits, &mut self.starts, clock, w.bits());
+        let addr = w.addr();
+        let bits = w.bits();
+        emit_plain(log, &mut self.addr, &mut self.starts, clock, addr);
+        emit_plain(log, &mut self.bits, &mut self.starts, clock, bits);
         self.emit_mask(log, all_x, clock, w.mask());
     }
 

@@ -30,13 +30,9 @@ behind_is : (f : ReadFlipFlop) → (λ (b : Value). flip_flop f.controls b f.cle
 unfolding flip_flop_of
 behind_is f = refl
 
--- the values that the code reads of the port r as the view has it
-pub wide_from : (m : Memory) (nets trits : List ℕ) (r : ReadPort) (n k : ℕ) → k ≡ wide_log2 m.width n → n ≡ r.data_len → k ≡ read_wide_log2 (memory_of m nets trits) r
-wide_from m nets trits r n k e d = e ∙ (λ j. wide_log2 (width_of m nets trits j) (d j)) ∙ wide_by (memory_of m nets trits) r
-
--- of a memory of this width, by the port alone
-pub wide_from_width : (v : Mem) (r : ReadPort) (w n k : ℕ) → w ≡ v.width → k ≡ wide_log2 w n → n ≡ r.data_len → k ≡ read_wide_log2 v r
-wide_from_width v r w n k ew e d = e ∙ (λ j. wide_log2 (ew j) (d j)) ∙ wide_by v r
+-- the values that the code reads of the port r as the view has it, in a memory of this width
+pub wide_from : (v : Mem) (r : ReadPort) (w n k : ℕ) → w ≡ v.width → k ≡ wide_log2 w n → n ≡ r.data_len → k ≡ read_wide_log2 v r
+wide_from v r w n k ew e d = e ∙ (λ j. wide_log2 (ew j) (d j)) ∙ wide_by v r
 
 pub slice_from : (v : Mem) (i start n : ℕ) (output bits : Value) → start ≡ output_start v i → n ≡ (read_at_of v i).data_len → bits ≡ part start n output → bits ≡ output_slice v i output
 unfolding output_slice

@@ -36,7 +36,6 @@ pub struct Driven {
 }
 
 // What an overlay reads of a read port, in a memory of this width.
-#[tactic(auto, using(crate::proofs::Emitted::wide_from))]
 pub fn reading<'a>(width: u32, own: ReadPort<'a>) -> Reading<'a>
     ensures { (v : rules.Mem) (r : rules.ReadPort) → width ≡ v.width → read_of own.entry ≡ r → ReadBy v r result × (result.count ≡ r.data_len) }
 {
@@ -49,7 +48,6 @@ pub fn reading<'a>(width: u32, own: ReadPort<'a>) -> Reading<'a>
 }
 
 // Read port i in parts, with these controls.
-#[tactic(auto, using(crate::proofs::Emitted::wide_from, crate::proofs::Emitted::slice_from))]
 pub fn parts_of<'a>(
     given: Given<'_>,
     i: usize,
@@ -139,7 +137,6 @@ impl<'a> Clocked<'a> {
 }
 
 // The pair of a read port and write port j has too few address bits.
-#[tactic(auto, using(crate::proofs::Short::short_is))]
 pub fn pair_short(given: Given<'_>, r: Reading, j: usize) -> bool
     ensures { (trits : List ℕ) (p : rules.ReadPort) → ReadBy (memory_of given.entry.memory given.entry.nets.now trits) p r.entry → result ≡ short_pair (memory_of given.entry.memory given.entry.nets.now trits) p j }
 {
