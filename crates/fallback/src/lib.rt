@@ -38,13 +38,13 @@ struct Room {
 
 // The split of a memory by the plan of a fallback, which no number refuses: its tables in `tables`, its trits in `image`.
 // The log and its state go on apart to the call that takes them so.
-fn split_rows(
+fn split_rows<'a>(
     log: &mut [u32],
     st: LogState,
     image: &mut [u8; rules::BITS_ROOM],
     tables: &mut [u32],
-    given: Given<'_>,
-    outs: &[u32],
+    given: Given<'a>,
+    outs: &'a [u32],
 ) -> Result<Swizzled, Refusal>
     requires { Passes given.memory given.nets.now given.trits.now outs.now st log.old tables.old × (given.memory.width ≤ max_row) }
     ensures { SplitDone (mem_of given.entry) outs.now (fallback_plan (mem_of given.entry)) st log.old tables.old (told st result) log.new tables.new image.new }
@@ -119,20 +119,6 @@ fn scratch_need(m: Memory) -> usize
     2 * net_memory::ports_used(m.write_count) * cells
 }
 
-// The state after a run of the unmappings without a log.
-fn dry_unmapped(st: LogState, room: &mut Room, given: Given<'_>, output: &[u32]) -> LogState
-    requires { lower_fallback_number st.next (view_given given) output.now ≡ 0 }
-    ensures { DryRun (mem_of given.entry) output.now (state_of st) (state_of result) }
-{
-    let mut dry = Log {
-        words: &mut [],
-        state: st.dry_start(),
-    };
-    let outputs = &mut room.outputs;
-    port_unmap_all::emit_unmap_all(&mut dry, &mut room.overlay, outputs, given, output);
-    dry.state
-}
-
 // The next free net after so many more. One outside the limits stays, and counts past the limit are all alike.
 fn later_net(next: u32, made: usize) -> u32
     ensures { Later next made result }
@@ -145,7 +131,7 @@ fn later_net(next: u32, made: usize) -> u32
 }
 
 // The refusal of the split of a memory by the plan of a fallback.
-fn plan_refusal(r: SwizzleRooms, given: Given<'_>, outs: &[u32]) -> Result<(), Refusal>
+fn plan_refusal<'a>(r: SwizzleRooms, given: Given<'a>, outs: &'a [u32]) -> Result<(), Refusal>
     requires { given.memory.width ≤ max_row }
     ensures { number_of result ≡ swizzle_refusal (rooms_of r) r.log (state_of r.state) (view_given given.entry) outs.now (fallback_plan (mem_of given.entry)) }
 {
@@ -156,68 +142,6 @@ fn plan_refusal(r: SwizzleRooms, given: Given<'_>, outs: &[u32]) -> Result<(), R
         plan: lists.plan(given),
     };
     swizzle_refusal::swizzle_refusal(r, asked)
-}
-
-// 20 and 21 of so many words and nets and the split's, which are counted by its refusal in what the others leave.
-fn split_refusal(
-    room: usize,
-    st: LogState,
-    words: usize,
-    made: usize,
-    tables: usize,
-    given: Given<'_>,
-    output: &[u32],
-) -> Result<(), Refusal>
-    requires { Asked given.memory given.nets.now given.trits.now output.now st tables × HasWidth given.memory }
-    ensures { number_of result ≡ room_refusal room (state_of st) (words + split_words (mem_of given.entry)) (made + split_nets (mem_of given.entry)) }
-{
-    let whole = room.min(rules::MAX_WORDS);
-    if whole < words {
-        return Err(Refusal::NoRoom);
-    }
-    let later = LogState {
-        used: st.used,
-        next: later_net(st.next, made),
-    };
-    let r = SwizzleRooms {
-        log: whole - words,
-        state: later,
-        image: rules::BITS_ROOM,
-        nets: tables,
-        trits: 0,
-        scratch: rules::BITS_ROOM,
-    };
-    let bare = Given {
-        memory: fallback_bare::bare_memory(given.memory),
-        ..given
-    };
-    plan_refusal(r, bare, output)
-}
-
-// 20 and 21 of the whole, by the state after the dry run.
-fn log_refusal(
-    room: usize,
-    st: LogState,
-    dry: LogState,
-    tables: usize,
-    given: Given<'_>,
-    output: &[u32],
-) -> Result<(), Refusal>
-    requires { Asked given.memory given.nets.now given.trits.now output.now st tables × DryRun (mem_of given) output.now (state_of st) (state_of dry) }
-    ensures { number_of result ≡ log_refusal room (state_of st) (lower_fallback (mem_of given.entry) output.now) }
-{
-    if dry.is_over() {
-        return Err(Refusal::NoRoom);
-    }
-    let start = st.dry_start();
-    let unmapped = dry.next.saturating_sub(start.next) as usize;
-    let rows = fallback_masks::rows_size(given);
-    let words = dry.used + rows.words;
-    let made = unmapped + rows.nets;
-    if given.memory.width == 0 {
-        return st.room_refusal(room, words, made);
-    }
-    split_refusal(room, st, words, made, tables, given, output)
 }
 
 // The log of a fallback that no number refuses.
@@ -234,36 +158,106 @@ fn act(log: &mut Log, tables: &mut [u32], room: &mut Room, given: Given<'_>, out
     lower_rows(log, tables, given, outs);
 }
 
-// With the room for the unmappings; no number of the input refuses it, and the scratch is long enough. It takes the log and its state apart, since of
-// a lent `Log` the proof that the caller's words are those after the loan did not close.
-fn lower_asked(
-    log: &mut [u32],
+// A fallback that no number of its input refuses: its memory and outputs, the log's state before it, and how many nets its tables are lent.
+#[derive(Clone, Copy)]
+struct Lowering<'a> {
+    given: Given<'a>,
+    output: &'a [u32],
     st: LogState,
-    tables: &mut [u32],
-    room: &mut Room,
-    given: Given<'_>,
-    output: &[u32],
-) -> Result<LogState, Refusal>
-    requires { Asked given.memory given.nets.now given.trits.now output.now st (length tables.old) }
-    ensures { Lowers given.entry.memory given.entry.nets.now given.entry.trits.now output.now st log.old tables.old (left_by st result) log.new tables.new }
-{
-    let dry = dry_unmapped(st, room, given, output);
-    log_refusal(log.len(), st, dry, tables.len(), given, output)?;
-    let mut log = Log {
-        words: log,
-        state: st,
-    };
-    act(&mut log, tables, room, given, output);
-    Ok(log.state)
+    tables: usize,
+    ghost asked: { Asked given.memory given.nets.now given.trits.now output.now st tables },
+}
+
+impl<'a> Lowering<'a> {
+    // The state after a run of the unmappings without a log.
+    fn dry_unmapped(&self, room: &mut Room) -> LogState
+        ensures { DryRun (mem_of self.now.given) self.now.output.now (state_of self.now.st) (state_of result) }
+    {
+        let mut dry = Log {
+            words: &mut [],
+            state: self.st.dry_start(),
+        };
+        let Room { outputs, overlay } = room;
+        port_unmap_all::emit_unmap_all(&mut dry, overlay, outputs, self.given, self.output);
+        dry.state
+    }
+
+    // 20 and 21 of so many words and nets and the split's, which are counted by its refusal in what the others leave.
+    fn split_refusal(&self, room: usize, words: usize, made: usize) -> Result<(), Refusal>
+        requires { HasWidth self.now.given.memory }
+        ensures { number_of result ≡ room_refusal room (state_of self.now.st) (words + split_words (mem_of self.now.given)) (made + split_nets (mem_of self.now.given)) }
+    {
+        let whole = room.min(rules::MAX_WORDS);
+        if whole < words {
+            return Err(Refusal::NoRoom);
+        }
+        let later = LogState {
+            used: self.st.used,
+            next: later_net(self.st.next, made),
+        };
+        let r = SwizzleRooms {
+            log: whole - words,
+            state: later,
+            image: rules::BITS_ROOM,
+            nets: self.tables,
+            trits: 0,
+            scratch: rules::BITS_ROOM,
+        };
+        let bare = Given {
+            memory: fallback_bare::bare_memory(self.given.memory),
+            ..self.given
+        };
+        plan_refusal(r, bare, self.output)
+    }
+
+    // 20 and 21 of the whole, by the state after the dry run.
+    fn log_refusal(&self, room: usize, dry: LogState) -> Result<(), Refusal>
+        requires { DryRun (mem_of self.now.given) self.now.output.now (state_of self.now.st) (state_of dry) }
+        ensures { number_of result ≡ log_refusal room (state_of self.now.st) (lower_fallback (mem_of self.now.given) self.now.output.now) }
+    {
+        if dry.is_over() {
+            return Err(Refusal::NoRoom);
+        }
+        let start = self.st.dry_start();
+        let unmapped = dry.next.saturating_sub(start.next) as usize;
+        let rows = fallback_masks::rows_size(self.given);
+        let words = dry.used + rows.words;
+        let made = unmapped + rows.nets;
+        if self.given.memory.width == 0 {
+            return self.st.room_refusal(room, words, made);
+        }
+        self.split_refusal(room, words, made)
+    }
+
+    // The call by a dry run and a run for good, with the room for the unmappings. It takes the log's words alone, since of a lent `Log` the proof that the
+    // caller's words are those after the loan did not close.
+    fn lower(
+        &self,
+        log: &mut [u32],
+        tables: &mut [u32],
+        room: &mut Room,
+    ) -> Result<LogState, Refusal>
+        requires { length tables.old ≡ self.now.tables }
+        ensures { Lowers self.now.given.memory self.now.given.nets.now self.now.given.trits.now self.now.output.now self.now.st log.old tables.old (left_by self.now.st result) log.new tables.new }
+    {
+        let dry = self.dry_unmapped(room);
+        self.log_refusal(log.len(), dry)?;
+        let mut log = Log {
+            words: log,
+            state: self.st,
+        };
+        act(&mut log, tables, room, self.given, self.output);
+        Ok(log.state)
+    }
 }
 
 // A memory lowered to registers and muxes. Refused: the log, its state and the scratch are as they were. Accepted: the scratch past its need is.
-pub fn lower_fallback(
+pub fn lower_fallback<'a>(
     log: &mut [u32],
     st: LogState,
     scratch: &mut [u32],
-    given: Given<'_>,
-    output: &[u32],
+    given: Given<'a>,
+    output: &'a [u32],
 ) -> Result<LogState, Refusal>
     ensures scratch_after { lowered_of (left_by st result) (fallback_scratch (mem_of given.entry)) log.new scratch.new ≡ lower_fallback_call scratch.old log.old (state_of st) (view_given given.entry) output.now }
     ensures lowers { Lowers given.entry.memory given.entry.nets.now given.entry.trits.now output.now st log.old scratch.old (left_by st result) log.new scratch.new }
@@ -276,5 +270,11 @@ pub fn lower_fallback(
         outputs: [0u32; rules::MAX_OUTPUTS],
         overlay: Overlay::new(),
     };
-    lower_asked(log, st, scratch, &mut room, given, output)
+    let lowering = Lowering {
+        given,
+        output,
+        st,
+        tables: scratch.len(),
+    };
+    lowering.lower(log, scratch, &mut room)
 }

@@ -1,28 +1,26 @@
 -- All read ports without flip-flops, and the memory of the rules.
-use mathlib.Core.Path.{◌≡◌, refl, ap, ◌∙◌}
+use mathlib.Core.Path.{◌≡◌, refl, sym, ap, ◌∙◌}
 use Prim.Native.Nat.{ℕ, zero, suc, ◌<◌, min}
 use native.Mathlib.Omega.{arith}
 use mathlib.Core.List.{List, [], ◌∷◌, map}
-use lib.ListN.{length, get_or, take, drop}
+use lib.ListN.{length, length-map, get_or, take, drop}
+use Rattle.std.proofs.lemmas.List.{ext_get_or, get_or-map}
 use Rattle.lists.specs.Views.{views}
 use Rattle.rules.specs.Limits.{max_ports}
 use Rattle.rules.specs.Cell as rules
 use Rattle.rules.specs.Cell.{with_reads}
 use Rattle.net_memory.specs.declared.MemoryReadPort.{MemoryReadPort}
 use Rattle.net_memory.specs.declared.Memory.{Memory}
-use Rattle.net_memory.specs.View.{memory_of, read_ports_of, addr_size, trit_size, read_by, reads_start}
+use Rattle.net_memory.specs.View.{no_read_port, memory_of, read_ports_of, addr_size, trit_size, read_by, reads_start}
 use Rattle.port_unmap.specs.Call.{without}
 use Rattle.port_unmap_all.specs.All.{bare, all_bare}
 use Rattle.fallback_bare.specs.Bare.{bare_of}
 
 -- ---- an image that is known place by place
 pub by_place : (xs ys : List MemoryReadPort) (n : ℕ) → length xs ≡ n → length ys ≡ n → ((i : ℕ) (d e : MemoryReadPort) → i < n → get_or ys i e ≡ without (get_or xs i d)) → ys ≡ map without xs
-by_place [] [] n hx hy h = refl
-by_place [] (y ∷ ys) n hx hy h = absurd (omega arith)
-by_place (x ∷ xs) [] n hx hy h = absurd (omega arith)
-by_place (x ∷ xs) (y ∷ ys) zero hx hy h = absurd (omega arith)
-by_place (x ∷ xs) (y ∷ ys) (suc n) hx hy h =
-    λ i. h 0 x y (omega arith) i ∷ by_place xs ys n (omega arith) (omega arith) (λ k d e l. h (suc k) d e (omega arith)) i
+by_place xs ys n hx hy h =
+    ext_get_or no_read_port ys (map without xs) (hy ∙ sym hx ∙ sym (length-map xs without))
+    (λ i l. h i no_read_port no_read_port (omega (arith, l, hy)) ∙ sym (get_or-map without xs i no_read_port no_read_port (omega (arith, l, hx, hy))))
 
 -- ---- the memory of the rules
 map_take : {A B : Type 0} (f : A → B) (n : ℕ) (l : List A) → take n (map f l) ≡ map f (take n l)

@@ -7,6 +7,7 @@ use mathlib.Core.List.{List, [], ◌∷◌}
 use lib.ListN.{length, take, drop, length-take, length-drop, length-map}
 use Rattle.lists.specs.Lists.{up_from}
 use Rattle.lists.proofs.UpFrom.{length_up}
+use Rattle.rules.proofs.Done.{done_value}
 use Rattle.rules.specs.Value.{Value, net_of_trit, of_const}
 use Rattle.rules.specs.Cell.{FlipFlop, WritePort, ReadPort, Mem, new_flip_flop, with_init, write_at}
 use Rattle.rules.specs.Log.{Trace, ◌>>=◌, ◌>>◌, done, request, add_void_of, add_dff_of, replace_value_of, LogState}
@@ -74,10 +75,6 @@ muxes_counted w (p ∷ ps) k a =
     (counted_as _ _ _ _ _ (sym (words_cons w p ps)) (omega (arith, suc-mul (length ps) w))
     (counted_bind (add_bitwise_mux_of p.mask p.bits (up_from k w)) (λ x. write_muxes ps x) _ w (mux_words w ps) (length ps * w) (over_counted w p.mask p.bits k a.0.0 a.0.1)
     (λ m. subst (λ (x : Value). Counted (write_muxes ps x) (mux_words w ps) (length ps * w)) (sym (over_value w p.mask p.bits k a.0.0 a.0.1 m)) (muxes_counted w ps m a.1)) (chains_muxes ps)))
-
-done_value : (v : Value) (n : ℕ) → (done v n).value ≡ v
-unfolding done
-done_value v n = refl
 
 muxes_long : (w : ℕ) (ps : List WritePort) (k n : ℕ) → AllWide w ps → length (write_muxes ps (up_from k w) n).value ≡ w
 unfolding AllWide

@@ -45,7 +45,8 @@ fn left_after(width: u32, left: u32) -> u32
     left - 1
 }
 
-// The runs of a mask whose rows have so many nets.
+// The runs of a mask whose rows have so many nets. (By `chunks` it would be a loop over the rows and one over the neighbours in a row, with a case for
+// rows of no nets: no plainer than one pass.)
 fn mask_runs(width: u32, mask: &[u32]) -> usize
     ensures { (result ≡ mask_runs width mask.now) × (result ≤ max_mask_nets) }
 {
@@ -63,50 +64,59 @@ fn mask_runs(width: u32, mask: &[u32]) -> usize
     runs
 }
 
-// The pieces of a port, where the widest port reaches so many rows.
-fn pieces_by(depth: usize, rows: usize, addr: usize, wide: usize) -> usize
-    requires { (depth ≤ max_depth) × (0 < rows) × (0 < wide) }
-    ensures { ((k : ℕ) → wide ≡ 2 ^ k → result ≡ pieces_by depth rows addr k) × (result ≤ depth) }
-{
-    let bits = addr.min(32) as u32;
-    let most = (lists::two_to(bits) as usize).min(rows / wide);
-    depth / rows * most
+// A memory's rows: how many, of how many bits each, and how many of them the widest write port reaches.
+#[derive(Clone, Copy)]
+struct Reach {
+    depth: usize,
+    width: u32,
+    rows: usize,
+    ghost shallow: { depth ≤ max_depth },
+    ghost some_rows: { 0 < rows },
 }
 
-// The runs of all rows, of a mask with so many.
-fn spread_runs(depth: usize, pieces: usize, wide: usize, runs: usize) -> usize
-    requires { (depth ≤ max_depth) × (pieces ≤ depth) × (wide ≤ 4294967296) × (runs ≤ max_mask_nets) }
-    ensures { ((k : ℕ) → wide ≡ 2 ^ k → result ≡ spread_runs depth pieces k runs) × (result ≤ port_most) }
-{
-    let rows = pieces * wide;
-    if depth < rows {
-        return pieces * runs;
+impl Reach {
+    // The pieces of a port.
+    fn pieces(self, addr: usize, wide: usize) -> usize
+        requires { 0 < wide }
+        ensures { ((k : ℕ) → wide ≡ 2 ^ k → result ≡ pieces_by self.depth self.rows addr k) × (result ≤ self.depth) }
+    {
+        let bits = addr.min(32) as u32;
+        let most = (lists::two_to(bits) as usize).min(self.rows / wide);
+        self.depth / self.rows * most
     }
-    pieces * runs + (depth - rows)
-}
 
-// The runs of one write port.
-fn port_runs(p: WritePort<'_>, depth: usize, width: u32, rows: usize) -> usize
-    requires { (depth ≤ max_depth) × (0 < rows) }
-    ensures { (result ≡ runs_by_of depth width rows (write_of p.entry)) × (result ≤ port_most) }
-{
-    let k = net_memory::wide::wide_log(width, p.bits().len());
-    let wide = lists::two_to(k) as usize;
-    let addr = p.addr().len();
-    let runs = mask_runs(width, p.mask());
-    spread_runs(depth, pieces_by(depth, rows, addr, wide), wide, runs)
-}
-
-// The runs of all write ports.
-fn ports_runs(given: Given<'_>, depth: usize, rows: usize) -> usize
-    requires { (depth ≤ max_depth) × (0 < rows) }
-    ensures { (result ≡ sum_by (runs_by_of depth given.entry.memory.width rows) (writes_of given.entry.memory given.entry.nets.now)) × (result ≤ 8 * port_most) }
-{
-    let mut runs: usize = 0;
-    for i in 0..net_memory::ports_used(given.memory.write_count) {
-        runs += port_runs(given.write_port(i), depth, given.memory.width, rows);
+    // The runs of all rows, of a mask with so many.
+    fn spread_runs(self, pieces: usize, wide: usize, runs: usize) -> usize
+        requires { (pieces ≤ self.depth) × (wide ≤ 4294967296) × (runs ≤ max_mask_nets) }
+        ensures { ((k : ℕ) → wide ≡ 2 ^ k → result ≡ spread_runs self.depth pieces k runs) × (result ≤ port_most) }
+    {
+        let rows = pieces * wide;
+        if self.depth < rows {
+            return pieces * runs;
+        }
+        pieces * runs + (self.depth - rows)
     }
-    runs
+
+    // The runs of one write port.
+    fn port_runs(self, p: WritePort<'_>) -> usize
+        ensures { (result ≡ runs_by_of self.depth self.width self.rows (write_of p.entry)) × (result ≤ port_most) }
+    {
+        let k = net_memory::wide::wide_log(self.width, p.bits().len());
+        let wide = lists::two_to(k) as usize;
+        let runs = mask_runs(self.width, p.mask());
+        self.spread_runs(self.pieces(p.addr().len(), wide), wide, runs)
+    }
+
+    // The runs of all write ports.
+    fn ports_runs(self, given: Given<'_>) -> usize
+        ensures { (result ≡ sum_by (runs_by_of self.depth self.width self.rows) (writes_of given.entry.memory given.entry.nets.now)) × (result ≤ 8 * port_most) }
+    {
+        let mut runs: usize = 0;
+        for i in 0..net_memory::ports_used(given.memory.write_count) {
+            runs += self.port_runs(given.write_port(i));
+        }
+        runs
+    }
 }
 
 // So many ports with so many words or nets in a row.
@@ -169,7 +179,12 @@ pub fn rows_size(given: Given<'_>) -> RowsSize
     let width = m.width as usize;
     let reads = net_memory::ports_used(m.read_count);
     let writes = net_memory::ports_used(m.write_count);
-    let runs = ports_runs(given, depth, widest_rows(given));
+    let reach = Reach {
+        depth,
+        width: m.width,
+        rows: widest_rows(given),
+    };
+    let runs = reach.ports_runs(given);
     RowsSize {
         words: words_by(depth, width, reads, writes, runs),
         nets: nets_by(depth, width, writes),

@@ -15,7 +15,7 @@ use columns::{Columns, Key};
 
 pub mod columns;
 
-// The key that was merged last, its place, and the largest first word so far.
+// The key that was merged last, its place, and the largest first word so far. Zeros say so of no keys at all: any key's place among none is 0.
 #[derive(Clone, Copy, Default)]
 struct Seen {
     key: Key,

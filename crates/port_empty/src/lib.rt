@@ -26,31 +26,18 @@ fn emit_unknown(log: &mut Log, after: &[u32], n: usize)
     log.emit_replace(&after[..n], &unknown[..n]);
 }
 
-// The emptied memory, with the rooms for its overlays and for the outputs after.
-fn emit_emptied(
-    log: &mut Log,
-    overlay: &mut Overlay,
-    after: &mut [u32; rules::MAX_OUTPUTS],
-    given: Given<'_>,
-    output: &[u32],
-)
+// Depth 0 of a swizzle, without its numbers; the same function runs dry on an empty log.
+pub fn emit_empty(log: &mut Log, given: Given<'_>, output: &[u32])
     ensures { lent_of log.new ≡ run (emptied_if (mem_of given.entry) output.now) (lent_of log.old) }
 {
     let n = output.len();
     if rules::MAX_OUTPUTS < n {
         return;
     }
-    port_unmap_all::emit_unmap_all(log, overlay, after, given, output);
-    emit_unknown(log, after, n);
-}
-
-// Depth 0 of a swizzle, without its numbers; the same function runs dry on an empty log.
-pub fn emit_empty(log: &mut Log, given: Given<'_>, output: &[u32])
-    ensures { lent_of log.new ≡ run (emptied_if (mem_of given.entry) output.now) (lent_of log.old) }
-{
     let mut after = [0u32; rules::MAX_OUTPUTS];
     let mut overlay = Overlay::new();
-    emit_emptied(log, &mut overlay, &mut after, given, output);
+    port_unmap_all::emit_unmap_all(log, &mut overlay, &mut after, given, output);
+    emit_unknown(log, &after, n);
 }
 
 // 20 and 21 of it, by a run without a log.

@@ -29,6 +29,7 @@ use Rattle.std.specs.Prelude.{Some, Result, Ok, Err}
 use Rattle.rules.specs.Refusal.{number}
 use Rattle.rules.specs.declared.numbers.Refusal.{Refusal}
 use Rattle.rules.specs.declared.numbers.Refusal.TheVariants.{Unclocked}
+use Rattle.rules.proofs.Done.{done_value}
 use Rattle.rules.proofs.Answers.{else_err}
 use Rattle.net_memory.specs.View.{memory_of, reads_of, writes_of, read_port}
 use Rattle.net_memory.specs.Given.{given_of}
@@ -93,10 +94,6 @@ module _ (v : Mem) (i : ℕ) (incl : Bool) (output : Value) (f : ReadFlipFlop) (
   as_unmapped : is_plain incl f ≡ false → unmap_reset v i incl output f ≡ unmap_read_init_reset_transparency v i incl output
   unfolding unmap_read_init_reset_transparency unmap_reset_of
   as_unmapped h = sym (ap (λ (o : Option ReadFlipFlop). unmap_reset_of o v i incl output) e ∙ if_false (is_plain incl f) (done (record { memory = v; output = output })) (unmap_reset v i incl output f) h)
-
-done_value : (d : Driving) (k : ℕ) → (done d k).value ≡ d
-unfolding done
-done_value d k = refl
 
 module _ (m : Memory) (nets trits : List ℕ) (i : ℕ) (incl : Bool) (output log : List ℕ) (st : machine.LogState) where
   abbrev Mv : Mem

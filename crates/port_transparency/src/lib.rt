@@ -83,7 +83,8 @@ impl Over for [u32; rules::MAX_MERGE] {
     }
 }
 
-// Void nets, which become the first of `out`.
+// Void nets, which become the first of `out`. (This and the three like it are an emission and a store each: one function over a closure would lend it
+// the log, of which the proof did not close.)
 pub fn void_into(log: &mut Log, out: &mut [u32], n: u32)
     ensures { n ≤ length out.old → Gave (add_void_of n) (lent_of log.old) (lent_of log.new) (take n out.new) }
 {

@@ -26,7 +26,7 @@ use Rattle.rules.proofs.Done.{done_value}
 use Rattle.std.specs.Borrow.{GName}
 use Rattle.log_entries.specs.declared.LogState.{LogState}
 use Rattle.log_entries.specs.declared.Log.{Log}
-use Rattle.log_entries.specs.Emission.{Lent, run}
+use Rattle.log_entries.specs.Emission.{run}
 use Rattle.log_entries.specs.View.{state_of, lent, lent_of}
 use Rattle.log_entries.proofs.Emission.{run-done, named, unnamed}
 use Rattle.net_memory.specs.declared.Memory.{Memory}

@@ -22,12 +22,6 @@ use Rattle.swizzle_columns.specs.Wide.{max_rows, sizes_fit, rows_fit, can_store,
 pub bounded : (a b c d : ℕ) → a ≤ c → b ≤ d → a * b ≤ c * d
 bounded a b c d h g = mul-le-mul {n₁ = a} {m₁ = b} {n₂ = c} {m₂ = d} h g
 
--- ---- the last test
-module _ (p : WidePort) (len : ℕ) where
-  pub rows_are : len ≤ max_row → p.olds ≤ max_rows → p.width ≤ max_width → leb p.pieces max_nets ≡ rows_fit p len
-  unfolding rows_fit
-  rows_are h g k = rw (le-leb len max_row h, le-leb p.olds max_rows g, le-leb p.width max_width k)
-
 -- ---- what they say
 module _ (p : WidePort) (len size : ℕ) where
   pub fits_say : sizes_fit p size ≡ true → rows_fit p len ≡ true → PortFits p len size

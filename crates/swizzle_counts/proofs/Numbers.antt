@@ -1,9 +1,9 @@
 -- A port's needs by the numbers that the code has.
-use mathlib.Core.Path.{◌≡◌, refl, sym, ap, ◌∙◌, subst}
+use mathlib.Core.Path.{◌≡◌, refl, sym, ap, ◌∙◌}
 use Prim.Native.Nat.{ℕ, ◌+◌, ◌-◌, ◌*◌, ◌≤◌, ◌<◌, max}
-use native.Mathlib.Nat.{mul-le-mul, add_assoc, add-zero, zero-add, sub-zero}
+use native.Mathlib.Nat.{add_assoc, add-zero, zero-add, sub-zero}
 use native.Mathlib.Omega.{arith}
-use mathlib.Core.Bool.{Bool, true, false}
+use mathlib.Core.Bool.{true}
 use mathlib.Core.List.{List, [], ◌∷◌, map}
 use lib.ListN.{length, get_or}
 use Rattle.lists.specs.Lists.{up_from}
@@ -13,14 +13,12 @@ use Rattle.rules.specs.Geometry.{Layout}
 use Rattle.rules.specs.Swizzle.{split_addr}
 use Rattle.net_memory.specs.declared.Memory.{Memory}
 use Rattle.image_geometry.specs.declared.Params.{Params}
-use Rattle.image_geometry.specs.View.{layout_by}
 use Rattle.swizzle_split.specs.declared.Split as machine
 use Rattle.std.specs.Prelude.{Option, None, Some}
-use Rattle.std.specs.Option.{is_some, UnwrapsOrElse}
-use Rattle.net_memory.specs.FlipFlop.{MemoryReadFlipFlop}
+use Rattle.std.specs.Option.{UnwrapsOrElse}
 use Rattle.swizzle_split.specs.Steps.{can_split, Answers}
 use Rattle.swizzle_counts.specs.declared.Needs.{Needs}
-use Rattle.swizzle_counts.specs.Needs.{no_needs, plus_needs, all_needs, Most, port_most, split_of, Lengths, PortFits, Ranges, is_clocked, read_from, read_needs, reads_needs, mux_words, mux_nets, write_from, write_needs, writes_needs}
+use Rattle.swizzle_counts.specs.Needs.{no_needs, plus_needs, all_needs, Most, port_most, Lengths, read_needs, reads_needs, write_needs, writes_needs}
 
 -- ---- the answer of the split: there is one where the limits are kept
 pub split_or : (q : Layout) (old new : ℕ) (addr hw₀ hw mux₀ mux : Value) (o : Option machine.Split) → Answers q old new addr hw₀ hw mux₀ mux o

@@ -1,26 +1,17 @@
 -- How many trits a port has.
 use mathlib.Core.Path.{◌≡◌, refl, ap, ◌∙◌}
-use Prim.Native.Nat.{ℕ, ◌+◌, ◌-◌, ◌*◌, ◌^◌, ◌≤◌}
-use native.Mathlib.Nat.{pow-le-pow_right, mul_left_comm}
-use native.Mathlib.Omega.{arith}
-use mathlib.Core.Bool.{Bool, true, false}
-use mathlib.Core.List.{List, [], ◌∷◌}
-use lib.ListN.{length, replicate, length-append, length-replicate}
-use Rattle.lists.specs.Choice.{when◌then◌else◌}
-use Rattle.rules.specs.Limits.{addr_bits}
-use Rattle.rules.specs.Numbers.{bits_for}
-use Rattle.rules.specs.Value.{Value, zext}
+use Prim.Native.Nat.{ℕ, ◌+◌, ◌-◌, ◌*◌, ◌^◌}
+use native.Mathlib.Nat.{mul_left_comm}
+use mathlib.Core.List.{List}
+use lib.ListN.{length, length-append}
 use mathlib.Core.Option.{Option, none, some}
 use Rattle.rules.specs.Cell.{ReadFlipFlop}
 use Rattle.rules.specs.Geometry.{Layout, all_mems, columns}
-use Rattle.rules.specs.Swizzle.{Role, is_row, row_nets, mux_nets, Split, split_by, split_addr, const_columns, wide_flip_flop}
-use Rattle.rules.proofs.Walks.{tops_le}
+use Rattle.rules.specs.Swizzle.{Split, const_columns, wide_flip_flop}
 use Rattle.swizzle_laws.specs.Order.{ordered}
 use Rattle.swizzle_laws.proofs.Parts.{length_ordered}
 use Rattle.swizzle_laws.proofs.Whole.{const_whole}
 use Rattle.swizzle_result.specs.Held.{clock_trits}
-use Rattle.swizzle_split.specs.Steps.{Fits}
-use Rattle.swizzle_split.proofs.Splitting.{pieces_low}
 use Rattle.swizzle_reads.specs.Going.{trits_if}
 
 module _ (q : Layout) (s : Split) where

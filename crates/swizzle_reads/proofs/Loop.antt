@@ -14,7 +14,7 @@ use Rattle.rules.specs.Value.{Value}
 use Rattle.rules.specs.Geometry.{Layout}
 use Rattle.net_memory.specs.declared.Memory.{Memory}
 use Rattle.net_memory.specs.declared.MemoryReadPort.{MemoryReadPort}
-use Rattle.net_memory.specs.View.{no_read_port, addr_size, trit_size, read_ports_of, reads_start, read_port, read_nets, read_trits, memory_of}
+use Rattle.net_memory.specs.View.{no_read_port, addr_size, trit_size, read_ports_of, reads_start, read_port, read_nets, read_trits}
 use Rattle.net_memory.proofs.Ports.{part_at}
 use Rattle.swizzle_reads.specs.Going.{Going, InPort, in_port, in_ports, port_of, port_if, ports_from, need_of, most_need, ScratchKept, AllKept}
 

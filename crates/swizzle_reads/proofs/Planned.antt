@@ -1,15 +1,12 @@
 -- All read ports of a memory under its plan: what the call leaves, in terms of the rules.
 use mathlib.Core.Path.{◌≡◌, refl, sym, ap, ◌∙◌, subst}
-use Prim.Native.Nat.{ℕ, ◌+◌, ◌-◌, ◌≤◌, min}
-use native.Mathlib.Omega.{arith}
+use Prim.Native.Nat.{ℕ, ◌+◌, ◌-◌, ◌≤◌}
 use mathlib.Core.Bool.{true}
 use mathlib.Core.List.{List, [], ◌∷◌, map}
 use lib.ListN.{length, take, drop}
 use lib.Seq.{sets}
 use Rattle.lists.specs.Lists.{concat_map}
 use Rattle.lists.specs.Views.{views}
-use Rattle.lists.proofs.Stores.{take_stored}
-use Rattle.rules.specs.Limits.{max_ports}
 use Rattle.rules.specs.Value.{Value}
 use Rattle.rules.specs.Cell as rules
 use Rattle.rules.specs.Geometry.{Layout}
@@ -18,9 +15,6 @@ use Rattle.log_entries.specs.Emission.{run}
 use Rattle.net_memory.specs.declared.Memory.{Memory}
 use Rattle.net_memory.specs.declared.MemoryReadPort.{MemoryReadPort}
 use Rattle.net_memory.specs.View.{memory_of, read_ports_of, addr_size, trit_size, read_by, reads_start}
-use Rattle.swizzle_result.specs.declared.WideReadPort.{WideReadPort}
-use Rattle.swizzle_result.specs.declared.WideMemory.{WideMemory}
-use Rattle.swizzle_result.specs.View as result
 use Rattle.swizzle_result.specs.Held.{HeldRead, read_trits, read_nets}
 use Rattle.swizzle_reads.specs.Going.{Going, InPort, in_port, in_ports, ports_from, has_rows, reads_if}
 use Rattle.swizzle_reads.specs.Planned.{addrs_of, trits_of, LayoutPlanned, ReadPlanned}

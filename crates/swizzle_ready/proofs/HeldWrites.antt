@@ -1,17 +1,14 @@
 -- The write ports of the rules are held by the structs that the code leaves.
 use mathlib.Core.Path.{◌≡◌, refl, sym, ap, ◌∙◌}
 use Prim.Native.Nat.{ℕ, suc, ◌*◌, ◌^◌, ◌≤◌, ◌<◌, min}
-use native.Mathlib.Nat.{add-zero}
-use native.Mathlib.Numerals.{add-one}
 use native.Mathlib.Omega.{arith}
 use mathlib.Core.List.{List, [], ◌∷◌, ◌++◌, map}
 use lib.ListN.{length, drop, get_or, set, length-drop, length-take}
-use lib.Seq.{sets, get_or-drop, drop-drop}
+use lib.Seq.{sets}
 use Rattle.lists.specs.Lists.{concat_map}
 use Rattle.lists.proofs.Views.{length_views}
 use Rattle.rules.specs.Limits.{max_ports}
-use Rattle.rules.specs.Value.{Pos}
-use Rattle.rules.specs.Cell.{WritePort, Mem, write_at, write_wide_log2}
+use Rattle.rules.specs.Cell.{WritePort, Mem, write_wide_log2}
 use Rattle.rules.specs.Log.{◌>>=◌, done}
 use Rattle.rules.specs.Geometry.{Layout, columns}
 use Rattle.rules.specs.Swizzle.{Split, split_addr, swizzle_write, swizzle_writes}

@@ -11,21 +11,20 @@ use Rattle.lists.specs.Lists.{up_from}
 use Rattle.rules.specs.Limits.{X, max_words}
 use Rattle.rules.specs.Value.{Value}
 use Rattle.rules.specs.Cell.{Mem, Given, Plan}
-use Rattle.rules.specs.Log.{Trace, ◌>>=◌, done, LogState, start_net, added, state_after}
+use Rattle.rules.specs.Log.{Trace, ◌>>=◌, done, LogState, added, state_after}
 use Rattle.rules.specs.Ports.{Driving}
 use Rattle.rules.specs.Geometry.{Layout, layout_of, all_mems}
 use Rattle.rules.specs.Image.{layout}
 use Rattle.rules.specs.Swizzle.{WideWrite, swizzle_writes, WideRead, swizzle_reads, result_mem, swizzle_rows}
 use Rattle.rules.specs.Refusals.{SwizzleRooms, swizzle_refusal}
 use Rattle.rules.proofs.Counted.{Counted}
-use Rattle.rules.proofs.Traces.{next_after, start_same}
+use Rattle.rules.proofs.Traces.{next_after}
 use Rattle.log_entries.specs.Emission.{Lent, is_over, run}
 use Rattle.log_entries.proofs.Rooms.{Fits}
-use Rattle.log_entries.proofs.Emission.{run_named, not_over, ran, run_fits, run_then, run_same, accepted_held}
-use Rattle.swizzle_laws.proofs.ReadsCounts.{reads_count_of, counted_reads}
-use Rattle.swizzle_laws.proofs.WritesCounts.{writes_count_of, counted_writes, counted_rows}
-use Rattle.swizzle_facts.proofs.Counting.{reads_readable}
-use Rattle.swizzle_ready.proofs.Planned.{taken, number_0, log_fits}
+use Rattle.log_entries.proofs.Emission.{not_over, ran, run_fits, run_then, run_same}
+use Rattle.swizzle_laws.proofs.ReadsCounts.{reads_count_of}
+use Rattle.swizzle_laws.proofs.WritesCounts.{writes_count_of, counted_writes}
+use Rattle.swizzle_ready.proofs.Planned.{log_fits}
 
 used_after : {A : Type 0} (t : Trace A) (s : LogState) → (state_after s (t s.next)).used ≡ s.used + length (added (t s.next))
 unfolding state_after

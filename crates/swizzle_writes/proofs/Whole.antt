@@ -26,8 +26,6 @@ use Rattle.net_memory.specs.declared.MemoryWritePort.{MemoryWritePort}
 use Rattle.net_memory.specs.declared.Memory.{Memory}
 use Rattle.net_memory.specs.View.{no_write_port, memory_of}
 use Rattle.net_memory.proofs.Ports.{write_of_view, writes_at}
-use Rattle.swizzle_result.specs.Held.{HeldWrite, write_nets}
-use Rattle.swizzle_result.proofs.Holding.{holding_write, holding_port}
 use Rattle.swizzle_laws.specs.Order.{ordered}
 use Rattle.swizzle_laws.proofs.Parts.{length_ordered}
 use Rattle.swizzle_laws.proofs.Whole.{mask_whole}

@@ -449,18 +449,15 @@ fn largest(
     )
 }
 
-fn image_room() -> [u8; IMAGE_ROOM] {
-    [0u8; IMAGE_ROOM]
-}
-
-fn bytes_room() -> [u8; RECORD_ROOM] {
-    [0u8; RECORD_ROOM]
+// A function gives the rooms: a check with arrays of this size in it runs out of stack.
+fn room<const N: usize>() -> [u8; N] {
+    [0u8; N]
 }
 
 fn largest_case(rt: &impl Print) -> io::Result<()> {
-    let mut image = image_room();
-    let mut back = image_room();
-    let mut bytes = bytes_room();
+    let mut image = room::<IMAGE_ROOM>();
+    let mut back = room::<IMAGE_ROOM>();
+    let mut bytes = room::<RECORD_ROOM>();
     largest(rt, &mut image, &mut bytes, &mut back, DEEP)
 }
 

@@ -35,13 +35,13 @@ returns-then-scratch-scratch_need c =
     let whole = promises (kept v.given.memory v.given.nets.now v.given.trits.now v.output.now v.st v.log.now v.scratch.now NoRoom (whole_scratch v.given.memory v.given.nets.now v.given.trits.now v.output.now v.st (length v.log.now) (length v.scratch.now) (sym c.in_ok-lower_refusal.ensures) (omega (arith, n, c.if-scratch-scratch_need.true)))) in
     record { scratch_after = whole.0; lowers = whole.1 }
 
-pub lower_asked-requires : goal.lower_asked-requires
-lower_asked-requires c =
+pub lower-requires : goal.lower-requires
+lower-requires c =
     let v = c.args in
     let n = need_is v.given.memory v.given.nets.now v.given.trits.now c.scratch_need.result (writes_length v.given.memory _ c.well_formed.1.1.1.0.1.1.0 v.given.nets.now) c.scratch_need.ensures in
     record { number = sym c.in_ok-lower_refusal.ensures; room = omega (arith, n, c.if-scratch-scratch_need.false) }
 
 pub returns : goal.returns
 returns c =
-    let whole = promises c.lower_asked.ensures in
+    let whole = promises c.lower.ensures in
     record { scratch_after = whole.0; lowers = whole.1 }

@@ -1,5 +1,5 @@
 -- `swizzle_counts::needs_of` meets its contract.
-use Rattle.std.proofs.Common.{ℕ, length, get_or, arith}
+use Rattle.std.proofs.Common.{length, get_or, arith}
 use Rattle.swizzle_counts.proofs.Numbers.{none_is, needs_start, needs_turn, needs_end, most-more, most_up}
 use Rattle.swizzle_counts.proofs.needs_of.Goals as goal
 

@@ -1,4 +1,4 @@
--- `fallback_masks::port_runs` meets its contract.
+-- `fallback_masks::Reach::port_runs` meets its contract.
 use mathlib.Core.Path.{◌≡◌, ap, ◌∙◌}
 use Prim.Native.Nat.{ℕ, ◌^◌, min}
 use native.Mathlib.Omega.{arith}
@@ -8,7 +8,7 @@ use Rattle.rules.specs.Cell.{wide_log2}
 use Rattle.net_memory.specs.Ports.{write_of}
 use Rattle.fallback_masks.specs.Sizes.{mask_runs}
 use Rattle.fallback_masks.proofs.Numbers.{port_is}
-use Rattle.fallback_masks.proofs.port_runs.Goals as goal
+use Rattle.fallback_masks.proofs.Reach.port_runs.Goals as goal
 
 pub returns : goal.returns
 returns c =
@@ -16,7 +16,7 @@ returns c =
     let k = c.wide_log-k.result in
     let low : min k 32 ≡ k = omega (arith, c.wide_log-k.ensures.1) in
     let wide = c.two_to-wide.ensures.value ∙ ap (λ (n : ℕ). 2 ^ n) low in (
-      port_is v.depth v.width v.rows _ k _ _ _ (write_of v.p) (c.wide_log-k.ensures.0 ∙ ap (λ (l : List ℕ). wide_log2 v.width (length l)) c.bits.ensures.0) (ap length c.addr-addr.ensures)
-          (c.mask_runs-runs.ensures.0 ∙ ap (mask_runs v.width) c.mask.ensures) (c.pieces_by.ensures.0 k wide) (c.spread_runs.ensures.0 k wide),
+      port_is v.self.depth v.self.width v.self.rows _ k _ _ _ (write_of v.p) (c.wide_log-k.ensures.0 ∙ ap (λ (l : List ℕ). wide_log2 v.self.width (length l)) c.bits.ensures.0) (ap length c.addr.ensures)
+          (c.mask_runs-runs.ensures.0 ∙ ap (mask_runs v.self.width) c.mask.ensures) (c.pieces.ensures.0 k wide) (c.spread_runs.ensures.0 k wide),
       c.spread_runs.ensures.1,
     )

@@ -1,4 +1,4 @@
--- `port_empty::emit_emptied` meets its contract.
+-- `port_empty::emit_empty` meets its contract.
 use mathlib.Core.Path.{◌≡◌, refl}
 use lib.ListN.{length}
 use Rattle.log_entries.specs.View.{lent_of}
@@ -6,7 +6,7 @@ use Rattle.net_memory.specs.View.{memory_of}
 use Rattle.rules.specs.Limits.{max_outputs}
 use Rattle.port_empty.proofs.Empty.{empty_many, empty_ran}
 use borrow.Author.Rules.{rules}
-use Rattle.port_empty.proofs.emit_emptied.Goals as goal
+use Rattle.port_empty.proofs.emit_empty.Goals as goal
 
 pub returns-then-n-gt-MAX_OUTPUTS : goal.returns-then-n-gt-MAX_OUTPUTS
 returns-then-n-gt-MAX_OUTPUTS c =
@@ -18,5 +18,4 @@ returns c =
     let v = c.args in
     let a = c.emit_unmap_all in
     let u = c.emit_unknown in
-    let g : length v.after.now ≡ max_outputs = search rules in
-    empty_ran (memory_of v.given.memory v.given.nets.now v.given.trits.now) v.output.now (lent_of v.log.now) v.after.now a.new.after (lent_of a.new.log) (lent_of u.new.log) (length v.output.now) refl c.if-n-gt-MAX_OUTPUTS.false g a.auto.after a.ensures u.ensures
+    empty_ran (memory_of v.given.memory v.given.nets.now v.given.trits.now) v.output.now (lent_of v.log.now) _ a.new.after (lent_of a.new.log) (lent_of u.new.log) (length v.output.now) refl c.if-n-gt-MAX_OUTPUTS.false (search rules) a.auto.after a.ensures u.ensures
