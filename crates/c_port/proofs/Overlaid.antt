@@ -27,7 +27,7 @@ pub overlay_left : (v : Overlay) (st : machine.LogState) (r : Logged) (p : Resul
     → overlay_left_by v r log' bits' mask' ≡ lent_overlay (state_of st) (transparency_mux_call bits mask log (state_of st) g i j o)
 unfolding transparency_mux_call
 overlay_left v st r p log' bits' mask' bits mask log g i j o e q =
-    let l = left v st r p log' _ _ _ _ e (ap (λ (x : rules.Overlaid). x.logged) q) in
+    let l = left v st r p log' _ e (ap (λ (x : rules.Overlaid). x.logged) q) in
     let b = ap (λ (x : rules.Overlaid). x.bits) q in
     let k = ap (λ (x : rules.Overlaid). x.mask) q in
     λ h. record { returned = l h; bits = b h; mask = k h }

@@ -198,8 +198,8 @@ const MANY: Sizes = Sizes {
 
 // Lists the record of an image of the largest size.
 fn list_deep(rt: &impl Print, out: &mut [u8]) -> io::Result<()> {
-    let mut image = image_room();
-    let mut bytes = bytes_room();
+    let mut image = room::<IMAGE_ROOM>();
+    let mut bytes = room::<{ rules::MAX_RECORD }>();
     fill_trits(&mut image);
     let _ = record_codec::write_record(&mut bytes, DEEP, &image);
     list(
@@ -216,47 +216,35 @@ const MOST_SUM: u64 = 4196023880;
 
 const MOST_BYTES: usize = 545974;
 
+// A byte less.
+const SHORT: usize = MOST_BYTES - 1;
+
+// A function gives the rooms: a check with arrays of this size in it runs out of stack.
+fn room<const N: usize>() -> [u8; N] {
+    [0u8; N]
+}
+
 fn list_most(rt: &impl Print, out: &mut [u8], name: &str) -> io::Result<()> {
-    let mut image = image_room();
-    let mut bytes = bytes_room();
+    let mut image = room::<IMAGE_ROOM>();
+    let mut bytes = room::<{ rules::MAX_RECORD }>();
     fill_trits(&mut image);
     let _ = record_codec::write_record(&mut bytes, MANY, &image);
     list_as(rt, out, name, &bytes, None, Want::Sum(MOST_SUM))
 }
 
-fn image_room() -> [u8; IMAGE_ROOM] {
-    [0u8; IMAGE_ROOM]
-}
-
-fn bytes_room() -> [u8; rules::MAX_RECORD] {
-    [0u8; rules::MAX_RECORD]
-}
-
-fn text_room() -> [u8; TEXT_ROOM] {
-    [0u8; TEXT_ROOM]
-}
-
 // Room for the longest text, and some more that is kept.
 const TEXT_ROOM: usize = record_listing::MAX_TEXT + 8;
 
-fn exact_room() -> [u8; MOST_BYTES] {
-    [0u8; MOST_BYTES]
-}
-
-fn short_room() -> [u8; MOST_BYTES - 1] {
-    [0u8; MOST_BYTES - 1]
-}
-
 fn large_room(rt: &impl Print) -> io::Result<()> {
-    let mut text = text_room();
+    let mut text = room::<TEXT_ROOM>();
     list_deep(rt, &mut text)?;
     list_most(rt, &mut text, "the most ")
 }
 
 fn small_rooms(rt: &impl Print) -> io::Result<()> {
-    let mut exact = exact_room();
+    let mut exact = room::<MOST_BYTES>();
     list_most(rt, &mut exact, "the most into exact room ")?;
-    let mut short = short_room();
+    let mut short = room::<SHORT>();
     list_most(rt, &mut short, "the most into a short room ")
 }
 

@@ -21,10 +21,6 @@ const LOG_WORDS: usize = 16640;
 
 const CASES: u32 = 450;
 
-fn word_at(s: &[u32], i: usize) -> u32 {
-    if i < s.len() { s[i] } else { 0 }
-}
-
 // The distinct pairs of a merge: the first `count` of both arrays.
 #[derive(Drop)]
 struct Pairs {
@@ -126,39 +122,7 @@ fn expect_run(
     }
 }
 
-// Whether a run of equal neighbours starts at i.
-fn starts_run(s: &[u32], i: usize) -> bool {
-    i == 0 || word_at(s, i) != word_at(s, i.saturating_sub(1))
-}
-
-// The end of the run of equal neighbours that starts at i.
-fn run_end(s: &[u32], i: usize) -> usize {
-    for e in plus(i, 1)..s.len() {
-        if word_at(s, e) != word_at(s, i) {
-            return e;
-        }
-    }
-    s.len()
-}
-
-// What a bitwise mux leaves of the run that starts at i, if one does.
-fn expect_bit(
-    want: &mut [u32],
-    st: LogState,
-    s: &[u32],
-    a: &[u32],
-    b: &[u32],
-    i: usize,
-    nets: &mut [u32],
-) -> LogState {
-    if !starts_run(s, i) {
-        return st;
-    }
-    let e = run_end(s, i);
-    expect_run(want, st, false, word_at(s, i), a, b, i, e, nets)
-}
-
-// What a bitwise mux leaves.
+// What a bitwise mux leaves: of each run of equal neighbours a mux.
 fn expect_runs(
     want: &mut [u32],
     st: LogState,
@@ -168,8 +132,12 @@ fn expect_runs(
     nets: &mut [u32],
 ) -> LogState {
     let mut state = st;
-    for i in 0..s.len() {
-        state = expect_bit(want, state, s, a, b, i, nets);
+    let mut i: usize = 0;
+    for run in s.chunk_by(|x, y| x == y) {
+        let net = run.first().copied().unwrap_or(0);
+        let e = plus(i, run.len());
+        state = expect_run(want, state, false, net, a, b, i, e, nets);
+        i = e;
     }
     state
 }

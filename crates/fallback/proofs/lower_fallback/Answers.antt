@@ -1,5 +1,5 @@
 -- `fallback::lower_fallback` meets its contract.
-use mathlib.Core.Path.{◌≡◌, sym, subst}
+use mathlib.Core.Path.{◌≡◌, refl, sym, subst}
 use native.Mathlib.Omega.{arith}
 use lib.ListN.{length}
 use Rattle.std.specs.Prelude.{Result, Err}
@@ -35,11 +35,14 @@ returns-then-scratch-scratch_need c =
     let whole = promises (kept v.given.memory v.given.nets.now v.given.trits.now v.output.now v.st v.log.now v.scratch.now NoRoom (whole_scratch v.given.memory v.given.nets.now v.given.trits.now v.output.now v.st (length v.log.now) (length v.scratch.now) (sym c.in_ok-lower_refusal.ensures) (omega (arith, n, c.if-scratch-scratch_need.true)))) in
     record { scratch_after = whole.0; lowers = whole.1 }
 
-pub lower-requires : goal.lower-requires
-lower-requires c =
+pub invariant_of-lowering : goal.invariant_of-lowering
+invariant_of-lowering c =
     let v = c.args in
     let n = need_is v.given.memory v.given.nets.now v.given.trits.now c.scratch_need.result (writes_length v.given.memory _ c.well_formed.1.1.1.0.1.1.0 v.given.nets.now) c.scratch_need.ensures in
-    record { number = sym c.in_ok-lower_refusal.ensures; room = omega (arith, n, c.if-scratch-scratch_need.false) }
+    record { asked = record { number = sym c.in_ok-lower_refusal.ensures; room = omega (arith, n, c.if-scratch-scratch_need.false) } }
+
+pub lower-requires : goal.lower-requires
+lower-requires c = refl
 
 pub returns : goal.returns
 returns c =
