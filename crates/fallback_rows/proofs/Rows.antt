@@ -76,9 +76,6 @@ held_is : (w : ℕ) (clock : Control) (init v q : Value) → w ≤ max_merge →
 unfolding held_if
 held_is w clock init v q h = rw (le-ltb max_merge w h)
 
-pub same_row : (w : ℕ) (row row' q own : List ℕ) → own ≡ part 0 w q → row' ≡ sets row 0 own → w ≤ length q → w ≤ length row → take w row' ≡ take w q
-same_row w row row' q own eo e h k = take_stored row row' (take w q) w (e ∙ ap (sets row 0) eo) (sym (length-take-le w q h)) k
-
 module _ (g : WideMemory) (m : Mem) (init : Const) (w : ℕ) (ew : w ≡ g.unit) (hw : g.unit ≤ max_unit) where
   pub register_gave : (q v r : Value) (l l1 l2 l3 : Lent) → Gave (start_if g.unit v) l l1 q → Gave (writes_by w m (write_numbers g) q) l1 l2 r → l3 ≡ run (held_if w (clock_of g) init r q) l2
       → Gave (register_by g m init) l l3 q

@@ -133,9 +133,6 @@ none_mux p bits e h o es = sym (no_bits p.depth (bits + p.hard) (⊎_elim none_s
 
 -- ---- the sizes made of the memories, for entries of this length
 module _ (p : Params) (len : ℕ) (n : Narrow p len) (m : Mems) (e : (es : List ℕ) → length es ≡ len → m ≡ mems_of (layout_by p es)) where
-  some_layout : Layout
-  some_layout = layout_by p (replicate len 0)
-
   same_len : len ≡ row_len_of (layout_by p (replicate len 0))
   unfolding row_len_of
   same_len = sym (length-replicate len 0)

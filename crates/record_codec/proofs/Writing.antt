@@ -95,7 +95,3 @@ words s g =
       partial_word = omega (arith, k.partial_max);
       partial_depth_word = omega (arith, k.partial_depth_max);
     }
-
-pub head_room : (z : Sizes) (room : ℕ) → record_bytes z ≤ room → 12 ≤ room
-unfolding record_bytes
-head_room z room h = omega arith

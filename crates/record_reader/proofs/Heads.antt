@@ -32,7 +32,3 @@ module _ (bytes : List ℕ) (small : (i : ℕ) → get_or bytes i 0 < 256) where
   word : (i : ℕ) → rules.word_at bytes i < 65536
   unfolding rules.word_at
   word i = omega (arith, small i, small (suc i))
-
-  pub head_trits_max : rules.size_trits (rules.head_sizes bytes) ≤ 1125899906842624
-  unfolding rules.size_trits rules.head_sizes
-  head_trits_max = five _ _ _ _ _ (word 2) (word 4) (word 6) (word 8) (word 10)

@@ -137,9 +137,6 @@ module _ (bytes : List ℕ) (at : ℕ) where
   unfolding trit_there
   has t e = has_code (has_trit_at bytes at) _ t e
 
-  pub found_below : (t : ℕ) → trit_there bytes at ≡ Some t → at - 12 < size_trits (head_sizes bytes)
-  found_below t e = ltb-true (at - 12) (size_trits (head_sizes bytes)) (and_true (ltb (at - 12) (size_trits (head_sizes bytes))) _ (if_false (ltb at 12) _ (has t e))).0
-
   pub found_is : is_some (trit_there bytes at) ≡ has_trit_at bytes at
   unfolding trit_there
   found_is = if_some (has_trit_at bytes at) _

@@ -30,21 +30,6 @@ module _ (q : Layout) (s : Split) (p : rules.WritePort) (n : ℕ) where
   unfolding swizzle_write ◌>>=◌ done
   write_clock = refl
 
-  pub holding_write : (w : WideWritePort) → w.addr_len ≡ length s.addr → w.wide ≡ s.new → control_of w.clock ≡ p.clock → HeldWrite q
-  holding_write w a e c = record {
-    struct = w;
-    port = (swizzle_write q s p n).value;
-    addr_len = a ∙ ap length (sym write_addr_lem);
-    wide_is = e ∙ ap (λ (x : Split). x.new) (sym write_split);
-    clock_is = c ∙ sym write_clock;
-    bits_whole = bits_whole q s p n ∙ ap (λ (x : Split). 2 ^ x.new * columns q) (sym write_split);
-    mask_whole = mask_whole q s p n ∙ ap (λ (x : Split). 2 ^ x.new * columns q) (sym write_split);
-  }
-
-  pub holding_port : (w : WideWritePort) (a : w.addr_len ≡ length s.addr) (e : w.wide ≡ s.new) (c : control_of w.clock ≡ p.clock) → (holding_write w a e c).port ≡ (swizzle_write q s p n).value
-  unfolding holding_write
-  holding_port w a e c = refl
-
 -- ---- a read port
 -- the flip-flop of the port before, and what stands for it
 abbrev pub SameFlipFlop : MemoryReadFlipFlop → List ℕ → Option rules.ReadFlipFlop → Type 0

@@ -21,10 +21,6 @@ at_most true q = omega arith
 at_most false true = omega arith
 at_most false false = omega arith
 
-pub char_small : (t : ℕ) → char_of t ≤ 120
-unfolding char_of
-char_small t = at_most (eqb t 0) (eqb t 1)
-
 -- ---- the trits of a row
 pub length_bits : (rows : List ℕ) (from k : ℕ) → length (bits_text rows from k []) ≡ k
 unfolding bits_text

@@ -149,10 +149,6 @@ module _ (out line after : List ℕ) (q : Layout) where
       ∙ ap (λ (l : List ℕ). rows_end_of out line q.depth q.width (record_rows q z (replicate 32768 0) l) (drop n after)) g
       ∙ ap (λ (m : ℕ). rows_end_of out line q.depth q.width (record_rows q z (replicate 32768 0) (take m after)) (drop m after)) e
 
-  pub no_sizes : (s : Answer Sizes) (n : ℕ) → s ≡ Refused n → refused_end out n ≡ record_end out line q after s
-  unfolding record_end
-  no_sizes s n e = rw e
-
 -- by the header's table, whose layout is `layout_in t`
 pub good_head : (out line after : List ℕ) (t : Table) (r : BackEnd) (q : Layout) (l : Laid) (s : Answer Sizes) → q ≡ layout_in t
     → l ≡ handed_on q → s ≡ sizes_call l → r ≡ record_end out line q after s → r ≡ head_end out line after (parsed_of (Ok t))

@@ -31,14 +31,6 @@ use Rattle.table_rows.specs.Rows.{rows_on, image_rows, read_rows_refusal_by, rea
 
 -- ---- numbers
 module _ (depth width size room len : ℕ) where
-  pub rows_20_image : len < size → read_rows_refusal_by depth width size room len ≡ 20
-  unfolding read_rows_refusal_by no_room_of
-  rows_20_image a = rw (lt-ltb len size a)
-
-  pub rows_20_room : size ≤ len → room < depth * width → read_rows_refusal_by depth width size room len ≡ 20
-  unfolding read_rows_refusal_by no_room_of
-  rows_20_room a b = rw (le-ltb len size a, lt-ltb room (depth * width) b)
-
   pub rows_0 : size ≤ len → depth * width ≤ room → read_rows_refusal_by depth width size room len ≡ 0
   unfolding read_rows_refusal_by no_room_of
   rows_0 a b = rw (le-ltb len size a, le-ltb room (depth * width) b)

@@ -44,14 +44,6 @@ no_byte text i h = drop_of_length-le (text ++ (10 ∷ [])) {i = i} (omega (arith
 
 -- ---- stores
 module _ (h : Head) (b : ℕ) (ws : List ℕ) where
-  pub head_stored_lem : (eqb h.kind 1 && is_stop b) ≡ true → set ws h.count (low_word h.value) ≡ head_stored h b ws
-  unfolding head_stored
-  head_stored_lem e = rw e
-
-  pub head_kept : (eqb h.kind 1 && is_stop b) ≡ false → ws ≡ head_stored h b ws
-  unfolding head_stored
-  head_kept e = rw e
-
 length_if : (t : Bool) (ws : List ℕ) (i v : ℕ) → length (when t then set ws i v else ws) ≡ length ws
 length_if true ws i v = length-set ws i v
 length_if false ws i v = refl
@@ -61,14 +53,6 @@ unfolding head_stored
 length_head_stored h b ws = length_if (eqb h.kind 1 && is_stop b) ws h.count (low_word h.value)
 
 module _ (depth width : ℕ) (s : Scan) (b : ℕ) (rows : List ℕ) where
-  pub scan_stored_lem : is_stored depth width s b ≡ true → set rows (place_of width s) (trit_of b) ≡ scan_stored depth width s b rows
-  unfolding scan_stored
-  scan_stored_lem e = rw e
-
-  pub scan_kept : is_stored depth width s b ≡ false → rows ≡ scan_stored depth width s b rows
-  unfolding scan_stored
-  scan_kept e = rw e
-
   pub length_scan_stored : length (scan_stored depth width s b rows) ≡ length rows
   unfolding scan_stored
   length_scan_stored = length_if (is_stored depth width s b) rows (place_of width s) (trit_of b)
@@ -114,7 +98,3 @@ at_most false true r s = omega arith
 at_most false false true s = omega arith
 at_most false false false true = omega arith
 at_most false false false false = omega arith
-
-pub trit_small : (b : ℕ) → trit_of b ≤ 3
-unfolding trit_of
-trit_small b = at_most (eqb b 48) (eqb b 49) (eqb b 120) (eqb b 88)
