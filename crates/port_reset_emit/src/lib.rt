@@ -164,12 +164,7 @@ fn start_over(overlay: &mut Overlay, mask: &mut Mask, n: usize)
 }
 
 // A clocked port, the data and the mask of the write ports laid over none.
-fn emit_laid<'a>(
-    log: &mut Log,
-    room: &mut Room,
-    given: Given<'a>,
-    port: Parts<'a>,
-) -> ResetNets
+fn emit_laid<'a>(log: &mut Log, room: &mut Room, given: Given<'a>, port: Parts<'a>) -> ResetNets
     requires { port.reading.count ≤ max_merge }
     ensures { (trits : List ℕ) → Gave (reset_laid (memory_of given.entry.memory given.entry.nets.now trits) port.entry.reading.k (read_of port.entry.reading) port.entry.reading.count port.entry.relations.now (with_bits port.entry.flip_flop) (mask_of port.entry.flip_flop port.entry.reading.count) port.entry.flip_flop.bits.now) (lent_of log.old) (lent_of log.new) (up_from result.first (result.last - result.first)) }
 {
