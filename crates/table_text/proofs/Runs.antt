@@ -43,8 +43,6 @@ pub no_byte : (text : List ℕ) (i : ℕ) → length text < i → drop i (text +
 no_byte text i h = drop_of_length-le (text ++ (10 ∷ [])) {i = i} (omega (arith, length-append text (10 ∷ [])))
 
 -- ---- stores
-module _ (h : Head) (b : ℕ) (ws : List ℕ) where
-
 length_if : (t : Bool) (ws : List ℕ) (i v : ℕ) → length (when t then set ws i v else ws) ≡ length ws
 length_if true ws i v = length-set ws i v
 length_if false ws i v = refl
