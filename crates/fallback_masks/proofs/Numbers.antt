@@ -36,14 +36,6 @@ module _ (left last n : ℕ) where
   unfolding starts_run
   start_row e = sym (if_true (eqb left 0) 1 _ (eq-eqb left 0 e))
 
-  pub start_same : left ≢ 0 → last ≡ n → 0 ≡ starts_run left last n
-  unfolding starts_run flag
-  start_same h e = sym (if_false (eqb left 0) 1 _ (ne_eqb left 0 h) ∙ ap (λ (t : Bool). flag (not t)) (eq-eqb last n e))
-
-  pub start_new : left ≢ 0 → last ≢ n → 1 ≡ starts_run left last n
-  unfolding starts_run flag
-  start_new h e = sym (if_false (eqb left 0) 1 _ (ne_eqb left 0 h) ∙ ap (λ (t : Bool). flag (not t)) (ne_eqb last n e))
-
 module _ (w left : ℕ) where
   pub left_row : left ≡ 0 → w - 1 ≡ left_after_of w left
   unfolding left_after_of

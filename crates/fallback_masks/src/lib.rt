@@ -23,16 +23,11 @@ pub struct RowsSize {
 const MAX_MASK_NETS: usize = 2048;
 
 // 1 where a run starts with this net.
+#[tactic(auto, unfolding(crate::specs::Steps::starts_run, rules::specs::Log::flag))]
 fn starts_run(left: u32, last: u32, net: u32) -> usize
     ensures { (result ≡ starts_run left last net) × (result ≤ 1) }
 {
-    if left == 0 {
-        return 1;
-    }
-    if last == net {
-        return 0;
-    }
-    1
+    usize::from(left == 0 || last != net)
 }
 
 // The nets of a row that are still to come after one.

@@ -33,10 +33,7 @@ use rules::Refusal;
 fn wanted_short(given: Given<'_>, i: usize, incl: bool) -> bool
     ensures { result ≡ (incl && short_port (mem_of given.entry) (read_at_of (mem_of given.entry) i)) }
 {
-    if !incl {
-        return false;
-    }
-    port_unmap::port_short(given, i)
+    incl && port_unmap::port_short(given, i)
 }
 
 // 1 to 4, 14 and 15.

@@ -59,12 +59,9 @@ fn emit_at(
     requires { i < min max_ports given.memory.read_count }
     ensures { Gave (unmapped_at (mem_of given.entry) i output.now after.old) (lent_of log.old) (lent_of log.new) after.new }
 {
-    match given.read_port(i).port.flip_flop {
-        None => {}
-        Some(controls) => {
-            let port = Clocked { given, i, controls };
-            emit_clocked(log, overlay, after, port, output)
-        }
+    if let Some(controls) = given.read_port(i).port.flip_flop {
+        let port = Clocked { given, i, controls };
+        emit_clocked(log, overlay, after, port, output);
     }
 }
 

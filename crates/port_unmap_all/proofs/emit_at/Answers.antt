@@ -8,10 +8,10 @@ use Rattle.port_unmap.proofs.Passed.{flip_none, flip_some}
 use Rattle.port_unmap_all.proofs.Port.{at_none, at_some}
 use Rattle.port_unmap_all.proofs.emit_at.Goals as goal
 
-pub returns-in-None : goal.returns-in-None
-returns-in-None c =
+pub returns-in_default : goal.returns-in_default
+returns-in_default c =
     let v = c.args in
-    let e = ap (λ (p : MemoryReadPort). p.flip_flop) (sym (c.read_port.ensures.own c.requires)) ∙ c.in-None.is in
+    let e = ap (λ (p : MemoryReadPort). p.flip_flop) (sym (c.read_port.ensures.own c.requires)) ∙ c.in_default.is in
     at_none (mem_of v.given) v.i v.output.now v.after.now (lent_of v.log.now) (flip_none v.given.memory v.given.nets.now v.given.trits.now v.i c.requires e)
 
 pub returns-in-Some : goal.returns-in-Some
