@@ -33,7 +33,7 @@ pub struct Grid {
 
 // A wide port's numbers: so many memories, columns of each, new rows; old rows of so many bits each; the bits of a piece's number that are chunk
 // bits, and the pieces.
-#[derive(Clone, Copy)]
+#[derive(Clone, Copy, Default)]
 pub struct WidePort {
     pub mems: u32,
     pub unit: u32,
@@ -61,7 +61,7 @@ impl WidePort {
     }
 
     // The columns of one new row.
-    fn columns(self) -> usize
+    pub fn columns(self) -> usize
         ensures { result ≡ self.mems * self.unit }
     {
         self.mems as usize * self.unit as usize
