@@ -104,7 +104,8 @@ pub struct Memories<'a> {
 }
 
 impl Memories<'_> {
-    // A port of a memory of this width, with its new wide log, from a place on: nothing where it cannot be split, or has no room.
+    // A port of a memory of this width, with its new wide log, from a place on: nothing where it cannot be split, or has no room. The rooms of its split
+    // live in the frame, without a heap, so that a function for reads and writes could not hand the parts back.
     fn place_port(
         self,
         log: &mut Log,
