@@ -321,7 +321,7 @@ impl Grid {
     }
 }
 
-// The same from a port within the limits.
+// Stores piece x of a port within the limits.
 fn store_in(to: &mut [u32], p: WidePort, len: usize, v: &[u32], x: usize)
     requires { Stores p len (length to.old) (length v.now) x }
     ensures { to.new ≡ spill_at p.mems p.rows p.unit len (port_starts p len x) v.now to.old }
