@@ -33,7 +33,7 @@ pub struct Grid {
 
 // A wide port's numbers: so many memories, columns of each, new rows; old rows of so many bits each; the bits of a piece's number that are chunk
 // bits, and the pieces.
-#[derive(Clone, Copy)]
+#[derive(Clone, Copy, Default)]
 pub struct WidePort {
     pub mems: u32,
     pub unit: u32,
@@ -61,7 +61,7 @@ impl WidePort {
     }
 
     // The columns of one new row.
-    fn columns(self) -> usize
+    pub fn columns(self) -> usize
         ensures { result ≡ self.mems * self.unit }
     {
         self.mems as usize * self.unit as usize
@@ -122,50 +122,6 @@ struct Cursor {
     mem: usize,
 }
 
-// The column of an index.
-fn cursor_at(g: Grid, size: usize, at: usize) -> Cursor
-    requires { Good g size × (at < size) }
-    ensures { At g at result }
-{
-    let block = at / g.unit;
-    let bit = at % g.unit;
-    let mem = block % g.mems;
-    let row = block / g.mems;
-    Cursor {
-        index: (mem * g.rows + row) * g.unit + bit,
-        bit,
-        mem,
-    }
-}
-
-// The next column.
-fn next(c: Cursor, g: Grid) -> Cursor
-    requires { Steppable c g }
-    ensures { result ≡ next_of g c }
-{
-    let bit = c.bit + 1;
-    if bit < g.unit {
-        return Cursor {
-            index: c.index + 1,
-            bit,
-            mem: c.mem,
-        };
-    }
-    let mem = c.mem + 1;
-    if mem < g.mems {
-        return Cursor {
-            index: c.index + 1 + g.hop,
-            bit: 0,
-            mem,
-        };
-    }
-    Cursor {
-        index: c.index + 1 - g.back,
-        bit: 0,
-        mem: 0,
-    }
-}
-
 // The bit of the data that an entry names, by where its old row starts, or none.
 fn source(base: u32, e: u32) -> usize
     ensures { result ≡ source_of base e }
@@ -215,6 +171,7 @@ fn arrange_rows<T: Copy>(out: &mut [T], olds: u32, width: u32, entries: &[u32], 
     requires { Bases olds width (length entries.now) (length out.old) }
     ensures { out.new ≡ sets out.old 0 (arrange blank (all_sources olds width entries.now) v.now) }
 {
+    // By number: rows of no entries have no chunks.
     for j in 0..olds {
         arrange_row(
             out,
@@ -233,6 +190,7 @@ fn repeat_rows(out: &mut [u32], olds: u32, width: u32, entries: &[u32], v: &[u32
     ensures { out.new ≡ sets out.old 0 (repeating X (all_sources olds width entries.now) v.now) }
 {
     let mut last = rules::NET_X;
+    // By number: rows of no entries have no chunks.
     for j in 0..olds {
         last = repeat_row(out, j as usize * entries.len(), j * width, entries, v, last);
     }
@@ -258,66 +216,112 @@ impl Grid {
             *start = self.start_of((j + first) as u32);
         }
     }
-}
 
-// Stores a run of nets from a column on.
-fn store_from<T: Copy>(to: &mut [T], g: Grid, start: usize, n: usize, v: &[T])
-    requires good { Good g (length to.old) }
-    requires n_nonzero { (0 < n) × (n ≡ min (length v.now) (length to.old - start)) }
-    ensures { to.new ≡ spill_fit g.mems g.rows g.unit to.old start v.now }
-{
-    let mut c = cursor_at(g, to.len(), start);
-    for bit in &v[..n] {
-        lists::put(to, c.index, *bit);
-        c = next(c, g);
+    // The column of an index. That the grid is that of the lent array is asked for here and below: a struct of both is no plainer, since each promise
+    // would also say that the slice stays the lent one.
+    fn cursor_at(self, size: usize, at: usize) -> Cursor
+        requires { Good self size × (at < size) }
+        ensures { At self at result }
+    {
+        let block = at / self.unit;
+        let bit = at % self.unit;
+        let mem = block % self.mems;
+        let row = block / self.mems;
+        Cursor {
+            index: (mem * self.rows + row) * self.unit + bit,
+            bit,
+            mem,
+        }
+    }
+
+    // The next column.
+    fn next(self, c: Cursor) -> Cursor
+        requires { Steppable c self }
+        ensures { result ≡ next_of self c }
+    {
+        let bit = c.bit + 1;
+        if bit < self.unit {
+            return Cursor {
+                index: c.index + 1,
+                bit,
+                mem: c.mem,
+            };
+        }
+        let mem = c.mem + 1;
+        if mem < self.mems {
+            return Cursor {
+                index: c.index + 1 + self.hop,
+                bit: 0,
+                mem,
+            };
+        }
+        Cursor {
+            index: c.index + 1 - self.back,
+            bit: 0,
+            mem: 0,
+        }
+    }
+
+    // Stores a run of nets from a column on.
+    fn store_from<T: Copy>(self, to: &mut [T], start: usize, n: usize, v: &[T])
+        requires good { Good self (length to.old) }
+        requires n_nonzero { (0 < n) × (n ≡ min (length v.now) (length to.old - start)) }
+        ensures { to.new ≡ spill_fit self.mems self.rows self.unit to.old start v.now }
+    {
+        let mut c = self.cursor_at(to.len(), start);
+        for bit in &v[..n] {
+            lists::put(to, c.index, *bit);
+            c = self.next(c);
+        }
+    }
+
+    // The same where there may be none.
+    fn store_run<T: Copy>(self, to: &mut [T], start: usize, v: &[T])
+        requires { Good self (length to.old) }
+        ensures { to.new ≡ spill_fit self.mems self.rows self.unit to.old start v.now }
+    {
+        let n = v.len().min(to.len().saturating_sub(start));
+        if n == 0 {
+            return;
+        }
+        self.store_from(to, start, n, v);
+    }
+
+    // Stores a piece: so many entries from each start on.
+    fn store_piece<T: Copy>(self, to: &mut [T], starts: &[usize], v: &[T])
+        requires good { Good self (length to.old) }
+        requires rowed { Rowed self starts.now v.now }
+        ensures { to.new ≡ spill_at self.mems self.rows self.unit self.entries starts.now v.now to.old }
+    {
+        // By number: rows of no entries have no chunks.
+        for (j, start) in starts.iter().enumerate() {
+            self.store_run(to, *start, lists::part(v, j * self.entries, self.entries));
+        }
+    }
+
+    // Stores piece x; its starts stand in lent scratch.
+    fn store_at<T: Copy>(self, to: &mut [T], starts: &mut [usize], v: &[T], x: usize)
+        requires good { Good self (length to.old) }
+        requires v_len { (length v.now ≡ length starts.old * self.entries) × Narrow (length starts.old) self.columns self.entries x }
+        ensures { to.new ≡ spill_at self.mems self.rows self.unit self.entries (starts_by self.chunks self.columns self.entries (length starts.old) x) v.now to.old }
+    {
+        self.piece_starts(starts, x);
+        self.store_piece(to, starts, v);
+    }
+
+    // A row stored as each piece.
+    fn store_pieces<T: Copy>(self, to: &mut [T], pieces: usize, starts: &mut [usize], v: &[T])
+        requires good { Good self (length to.old) }
+        requires v_len { (length v.now ≡ length starts.old * self.entries) × Narrow (length starts.old) self.columns self.entries pieces }
+        ensures { to.new ≡ spill_each self.mems self.rows self.unit self.entries (starts_by self.chunks self.columns self.entries (length starts.old)) (up_from 0 pieces) v.now to.old }
+    {
+        for x in 0..pieces {
+            self.store_at(to, starts, v, x);
+        }
     }
 }
 
-// The same where there may be none.
-fn store_run<T: Copy>(to: &mut [T], g: Grid, start: usize, v: &[T])
-    requires { Good g (length to.old) }
-    ensures { to.new ≡ spill_fit g.mems g.rows g.unit to.old start v.now }
-{
-    let n = v.len().min(to.len().saturating_sub(start));
-    if n == 0 {
-        return;
-    }
-    store_from(to, g, start, n, v);
-}
-
-// Stores a piece: so many entries from each start on.
-fn store_piece<T: Copy>(to: &mut [T], g: Grid, starts: &[usize], v: &[T])
-    requires good { Good g (length to.old) }
-    requires rowed { Rowed g starts.now v.now }
-    ensures { to.new ≡ spill_at g.mems g.rows g.unit g.entries starts.now v.now to.old }
-{
-    for (j, start) in starts.iter().enumerate() {
-        store_run(to, g, *start, lists::part(v, j * g.entries, g.entries));
-    }
-}
-
-// Stores piece x; its starts stand in lent scratch.
-fn store_at<T: Copy>(to: &mut [T], g: Grid, starts: &mut [usize], v: &[T], x: usize)
-    requires good { Good g (length to.old) }
-    requires v_len { (length v.now ≡ length starts.old * g.entries) × Narrow (length starts.old) g.columns g.entries x }
-    ensures { to.new ≡ spill_at g.mems g.rows g.unit g.entries (starts_by g.chunks g.columns g.entries (length starts.old) x) v.now to.old }
-{
-    g.piece_starts(starts, x);
-    store_piece(to, g, starts, v);
-}
-
-// A row stored as each piece.
-fn store_pieces<T: Copy>(to: &mut [T], g: Grid, pieces: usize, starts: &mut [usize], v: &[T])
-    requires good { Good g (length to.old) }
-    requires v_len { (length v.now ≡ length starts.old * g.entries) × Narrow (length starts.old) g.columns g.entries pieces }
-    ensures { to.new ≡ spill_each g.mems g.rows g.unit g.entries (starts_by g.chunks g.columns g.entries (length starts.old)) (up_from 0 pieces) v.now to.old }
-{
-    for x in 0..pieces {
-        store_at(to, g, starts, v, x);
-    }
-}
-
-// The same from a port within the limits.
+// Stores piece x of a port within the limits.
 fn store_in(to: &mut [u32], p: WidePort, len: usize, v: &[u32], x: usize)
     requires { Stores p len (length to.old) (length v.now) x }
     ensures { to.new ≡ spill_at p.mems p.rows p.unit len (port_starts p len x) v.now to.old }
@@ -325,7 +329,7 @@ fn store_in(to: &mut [u32], p: WidePort, len: usize, v: &[u32], x: usize)
     let size = to.len();
     let g = grid_of(p, len, size);
     let mut starts = [0usize; MAX_ROWS as usize];
-    store_at(to, g, &mut starts[..p.olds as usize], v, x);
+    g.store_at(to, &mut starts[..p.olds as usize], v, x);
 }
 
 // Whether a port is within the limits, its room as large as its columns, a row as long as its old rows, and x one of its pieces.
@@ -370,7 +374,7 @@ fn columns_in<T: Copy>(to: &mut [T], row: &mut [T], p: WidePort, entries: &[u32]
     let mut starts = [0usize; MAX_ROWS as usize];
     arrange_rows(row, p.olds, p.width, entries, v, blank);
     lists::fill(to, 0, size, blank);
-    store_pieces(to, g, p.pieces as usize, &mut starts[..olds], &row[..n]);
+    g.store_pieces(to, p.pieces as usize, &mut starts[..olds], &row[..n]);
 }
 
 // The same of any port. The row is lent: an array of a T is not known to fit a memory.

@@ -158,13 +158,9 @@ fn port_mask_count(width: u32, olds: u32, entries: &[u32], mask: &[u32]) -> usiz
     ensures { (result ≡ kept_nets olds width entries.now mask.now) × (result ≤ max_merge) }
 {
     let w = WidePort {
-        mems: 0,
-        unit: 0,
-        rows: 0,
         olds,
         width,
-        chunks: 0,
-        pieces: 0,
+        ..WidePort::default()
     };
     let n = product(olds as usize, entries.len());
     mask_count(w, n, entries, mask)

@@ -1,44 +1,55 @@
--- Laws of the padding to a multiple of each granularity.
-use mathlib.Core.Path.{◌≡◌, refl, ap, ◌∙◌}
-use Prim.Native.Nat.{ℕ, zero, suc, ◌+◌, ◌-◌, ◌≤◌}
+-- The padding to a multiple of each granularity is the first number of None that brings one, or one past the row's limit.
+use mathlib.Core.Path.{◌≡◌, refl, sym, ap, ◌∙◌}
+use Prim.Native.Nat.{ℕ, zero, suc, ◌+◌, ◌≤◌}
 use native.Mathlib.Omega.{arith}
-use mathlib.Core.Bool.{true, false}
+use mathlib.Core.Bool.{Bool, true, false}
 use mathlib.Core.List.{List}
+use lib.ListN.{length}
+use Rattle.std.specs.List.{position, range_with_len}
+use Rattle.std.specs.Option.{unwrap_or}
+use Rattle.std.proofs.lemmas.List.FromFn.{length-range_with_len}
+use Rattle.lists.specs.Distinct.{place_in}
+use Rattle.lists.proofs.Distinct.{place_le}
+use Rattle.lists.proofs.Zips.{found_place}
 use Rattle.rules.specs.Geometry.{aligned, padding, padded}
 
-hit : (k n : ℕ) (gs : List ℕ) → aligned gs n ≡ true → padding k gs n ≡ 0
+hit : (k n : ℕ) (gs : List ℕ) → aligned gs n ≡ true → padding (suc k) gs n ≡ 0
 unfolding padding
-hit zero n gs e = refl
-hit (suc k) n gs e = rw (padding, e)
+hit k n gs e = rw (padding, e)
 
 miss : (k n : ℕ) (gs : List ℕ) → aligned gs n ≡ false → padding (suc k) gs n ≡ suc (padding k gs (suc n))
 unfolding padding
 miss k n gs e = rw (padding, e)
 
-none : (n : ℕ) (gs : List ℕ) → padding 0 gs n ≡ 0
-unfolding padding
-none n gs = refl
+module _ (gs : List ℕ) (n : ℕ) where
+  abbrev fits : ℕ → ℕ → Bool
+  fits k m = aligned gs (m + k)
 
--- the loop: c of them are there
-module _ (gs : List ℕ) (n c : ℕ) (q : c + padding (257 - c) gs (n + c) ≡ padded gs n) where
-  pub pad_hit : aligned gs (n + c) ≡ true → c ≡ padded gs n
-  pad_hit e = omega (arith, hit (257 - c) (n + c) gs e)
+  place_pad : (k a : ℕ) → place_in fits n (range_with_len a k) ≡ padding k gs (n + a)
+  unfolding padding
+  place_pad zero a = refl
+  place_pad (suc k) a = on (aligned gs (n + a)) refl (place_pad k (a + 1) ∙ ap (padding k gs) (omega arith))
+    where
+      on : (t : Bool) → aligned gs (n + a) ≡ t → place_in fits n (range_with_len (a + 1) k) ≡ padding k gs (suc (n + a))
+          → place_in fits n (range_with_len a (suc k)) ≡ padding (suc k) gs (n + a)
+      on true e m =
+          let p : place_in fits n (range_with_len a (suc k)) ≡ 0 = rw e refl in
+          p ∙ sym (hit k (n + a) gs e)
+      on false e m =
+          let p : place_in fits n (range_with_len a (suc k)) ≡ suc (padding k gs (suc (n + a))) = rw e (ap suc m) in
+          p ∙ sym (miss k (n + a) gs e)
 
-  pub pad_miss : c ≤ 256 → aligned gs (n + c) ≡ false → c + 1 + padding (257 - (c + 1)) gs (n + (c + 1)) ≡ padded gs n
-  pad_miss h e =
-      let a : 257 - c ≡ suc (257 - (c + 1)) = omega arith in
-      let b : suc (n + c) ≡ n + (c + 1) = omega arith in
-      let m = ap (λ (k : ℕ). padding k gs (n + c)) a ∙ miss (257 - (c + 1)) (n + c) gs e ∙ ap (λ (k : ℕ). suc (padding (257 - (c + 1)) gs k)) b in
-      omega (arith, m)
+  first_size : length (range_with_len 0 257) ≡ 257
+  first_size = length-range_with_len 0 257
 
-  pub pad_end : c ≡ 257 → c ≡ padded gs n
-  pad_end e =
-      let a : 257 - c ≡ 0 = omega arith in
-      omega (arith, ap (λ (k : ℕ). padding k gs (n + c)) a ∙ none (n + c) gs)
+  whole : place_in fits n (range_with_len 0 257) ≡ padded gs n
+  unfolding padded
+  whole =
+      let e : n + 0 ≡ n = omega arith in
+      place_pad 257 0 ∙ ap (padding 257 gs) e
 
-pub pad_start : (gs : List ℕ) (n : ℕ) → 0 + padding (257 - 0) gs (n + 0) ≡ padded gs n
-unfolding padded
-pad_start gs n =
-    let e : n + 0 ≡ n = omega arith in
-    let z : 0 + padding 257 gs (n + 0) ≡ padding 257 gs (n + 0) = omega arith in
-    z ∙ ap (padding 257 gs) e
+  pub first_padded : unwrap_or (position (λ k. aligned gs (n + k)) (range_with_len 0 257)) 257 ≡ padded gs n
+  first_padded = ap (unwrap_or (position (λ k. aligned gs (n + k)) (range_with_len 0 257))) (sym first_size) ∙ found_place fits n (range_with_len 0 257) ∙ whole
+
+  pub padded_most : padded gs n ≤ 257
+  padded_most = omega (arith, place_le fits n (range_with_len 0 257), first_size, whole)

@@ -4,7 +4,7 @@
 ghost use Rattle.std.specs.Prelude.{◌≡◌, ◌||◌, List, [], ◌∷◌, ◌++◌, ℕ, ◌+◌, ◌-◌, ◌%◌, ◌<◌, ◌≤◌, length, get_or, set, replicate, eqb, ltb};
 ghost use Rattle.std.proofs.lemmas.List.Edits.{sets};
 ghost use Rattle.lists.specs.Choice.{when◌then◌else◌};
-ghost use Rattle.std.specs.List.{range_with_len};
+ghost use Rattle.std.specs.List.{position, range_with_len};
 ghost use Rattle.lists.specs.Lists.{all};
 ghost use Rattle.rules.specs.Cell.{Mem};
 ghost use Rattle.rules.specs.Limits.{X, None, max_granularity};
@@ -54,18 +54,22 @@ fn is_aligned(gs: &[u32], n: usize) -> bool
     gs.iter().all(|g| n.is_multiple_of(*g as usize))
 }
 
+// The first number of None that brings n entries to a multiple of each granularity.
+fn first_padding(gs: &[u32], n: usize) -> Option<usize>
+    requires { n ≤ 0x1000000000000 }
+    ensures { result ≡ position (λ k. aligned gs.now (n + k)) (range_with_len 0 257) }
+{
+    (0..rules::MAX_ROW + 1).position(|count| is_aligned(gs, n + count))
+}
+
 // How many None bring n entries to a multiple of each granularity; one past the row's limit is enough to refuse.
 // That n can be counted is a fact of its own here and where it is handed on: a struct for it would hold one number.
+#[tactic(auto, using(crate::proofs::Padding::first_padded, crate::proofs::Padding::padded_most))]
 fn padding_of(gs: &[u32], n: usize) -> usize
     requires { n ≤ 0x1000000000000 }
     ensures { (result ≡ padded gs.now n) × (result ≤ 257) }
 {
-    for count in 0..rules::MAX_ROW + 1 {
-        if is_aligned(gs, n + count) {
-            return count;
-        }
-    }
-    rules::MAX_ROW + 1
+    first_padding(gs, n).unwrap_or(rules::MAX_ROW + 1)
 }
 
 // A write port has the same mask nets at a bit as at the one before.

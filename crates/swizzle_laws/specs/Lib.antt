@@ -4,3 +4,4 @@ pub mod Masks
 pub mod Loads
 pub mod Order
 pub mod Stores
+pub mod Rooms

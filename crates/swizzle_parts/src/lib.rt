@@ -1,6 +1,7 @@
 // What a swizzle gives, memory by memory: small functions that find a memory's part of the ports, trits and image in the lent arrays, and its output nets.
 //
-// A struct whose numbers pass the limits of a swizzle, which no swizzle gives, holds no memory.
+// A struct whose numbers pass the limits of a swizzle, which no swizzle gives, holds no memory. `g, n, i` go apart: each call answers one question
+// of C's, and a struct of them would be built for that one call.
 #![tactic(auto)]
 
 ghost use Rattle.std.specs.Prelude.{◌≡◌, List, ℕ, ◌+◌, ◌*◌, ◌<◌, ◌≤◌, min, get_or};
@@ -144,7 +145,8 @@ impl Memories {
         at
     }
 
-    // Where the trits of read port i start. No one loop for nets and trits: a closure for a port's size would have to be told that each port's numbers are small.
+    // Where the trits of read port i start. One loop for nets and trits is no plainer: the ports are of two types, and each call would hand a list, a
+    // start and a closure for a port's size, which is all that the loop here says.
     fn trit_start(self, i: usize) -> usize
         requires { i ≤ min max_ports self.g.read_count }
         ensures { (result ≡ trit_start self.g i) × (result ≤ i * 0x200000000) }

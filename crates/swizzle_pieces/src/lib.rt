@@ -19,7 +19,8 @@ pub struct Pieces {
     pub count: u32,
 }
 
-// Stores one net at the place that its entry names. An entry of None stores nothing.
+// Stores one net at the place that its entry names. An entry of None stores nothing. Scratch, place and entries go apart here and below: the place is
+// another one in each call, and a struct of the rest would hold what the caller lends once.
 fn place_net(scratch: &mut [u32], at: usize, entry: u32, net: u32)
     requires { at ≤ 4294967296 }
     ensures { scratch.new ≡ placed at entry net scratch.old }

@@ -44,7 +44,7 @@ fn any_wide(logs: &[u32]) -> bool
     logs.iter().any(|log| rules::MAX_WIDE < *log)
 }
 
-// A memory and a plan are handed apart here, as C hands them to each call: a struct of both would be built to be taken apart.
+// A memory and a plan are handed apart, as C's calls hand them: a struct of both would be built for the private functions alone, of few lines each.
 impl<'a> Plan<'a> {
     // Its sizes with those of a memory.
     pub fn params(self, m: Memory) -> Params

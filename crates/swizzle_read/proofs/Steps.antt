@@ -35,7 +35,8 @@ use Rattle.swizzle_laws.proofs.ReadCounts.{chains_voids, voids_more, voids_none}
 use Rattle.swizzle_tree.specs.Scratch.{tree_in, tree_of, holds, Built}
 use Rattle.swizzle_pieces.specs.declared.Pieces.{Pieces}
 use Rattle.swizzle_pieces.specs.Steps.{load_of}
-use Rattle.swizzle_read.specs.Port.{mux_room, addr_flip_flop, addr_by, Addressed, read_trace, Ready, with_first, can_read, read_of, scratch_of}
+use Rattle.swizzle_laws.specs.Rooms.{mux_room}
+use Rattle.swizzle_read.specs.Port.{addr_flip_flop, addr_by, Addressed, read_trace, Ready, with_first, can_read, read_of, scratch_of}
 
 -- ---- voids: what is left gives the whole
 module _ (width : ℕ) (l l1 : Lent) (e : l1 ≡ run (add_void_of width) l) where

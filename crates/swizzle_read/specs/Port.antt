@@ -9,13 +9,10 @@ use Rattle.rules.specs.Swizzle.{add_voids}
 use Rattle.net_value.specs.View.{control_of}
 use Rattle.net_flip_flop.specs.declared.Controls.{Controls}
 use Rattle.log_entries.specs.Emission.{Lent, is_over, run}
+use Rattle.swizzle_laws.specs.Rooms.{mux_room}
 use Rattle.swizzle_tree.specs.Scratch.{tree_in}
 use Rattle.swizzle_pieces.specs.declared.Pieces.{Pieces}
 use Rattle.swizzle_pieces.specs.Steps.{load_of}
-
--- the nets of a mux address that a port has room for
-abbrev pub mux_room : ℕ
-mux_room = 64
 
 -- the flip-flop of a mux address, of a port with these controls
 abbrev pub addr_flip_flop : Controls → Value → FlipFlop

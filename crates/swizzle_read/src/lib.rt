@@ -10,16 +10,15 @@ ghost use Rattle.net_value.specs.View.{control_of};
 ghost use Rattle.net_flip_flop.specs.View.{controls_of};
 ghost use Rattle.log_entries.specs.Emission.{run};
 ghost use Rattle.log_entries.specs.View.{lent_of};
-ghost use Rattle.swizzle_read.specs.Port.{mux_room, addr_flip_flop, addr_by, Addressed, Ready, can_read, scratch_of};
+ghost use Rattle.swizzle_laws.specs.Rooms.{mux_room};
+ghost use Rattle.swizzle_read.specs.Port.{addr_flip_flop, addr_by, Addressed, Ready, can_read, scratch_of};
 ghost use Rattle.swizzle_read.specs.View.{trace_of, port_trace};
 ghost use Rattle.swizzle_pieces.specs.Steps.{load_of};
 
 use log_entries::Log;
 use net_flip_flop::{Controls, FlipFlop};
+use swizzle_laws::MUX_ROOM;
 use swizzle_pieces::Pieces;
-
-// The nets of a mux address that a port has room for.
-const MUX_ROOM: usize = 64;
 
 // So many voids of so many nets.
 pub fn emit_voids(log: &mut Log, count: u32, width: u32)

@@ -23,7 +23,8 @@ use Rattle.swizzle_laws.proofs.Places.{Splittable}
 use Rattle.swizzle_pieces.specs.declared.Pieces.{Pieces}
 use Rattle.swizzle_split.specs.declared.Split.{Split}
 use Rattle.swizzle_columns.proofs.Fits.{bounded}
-use Rattle.swizzle_read.specs.Port.{mux_room, addr_by, scratch_of, can_read, with_first}
+use Rattle.swizzle_laws.specs.Rooms.{mux_room}
+use Rattle.swizzle_read.specs.Port.{addr_by, scratch_of, can_read, with_first}
 use Rattle.swizzle_read.proofs.Meant.{Meant, addr_none, addr_some, read_rules, scratch_kept}
 use Rattle.swizzle_read.proofs.Ported.{Ports, port_meant}
 use Rattle.swizzle_result.specs.Held.{clock_trits}

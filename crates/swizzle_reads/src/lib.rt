@@ -202,7 +202,7 @@ impl Reads<'_> {
         self.trits_at += x.trit_count(r.flip_flop);
     }
 
-    // One port.
+    // One port. The rooms of its split live in this frame, without a heap: what reads and writes share is `split_addr`, which fills them.
     fn read_port(&mut self, log: &mut Log, scratch: &mut [u32], rows: Rows<'_>, port: Port<'_>)
         ensures ports_after { going_of log.new self.new ≡ port_if (layout_of rows.entry.layout) (length scratch.old) port.entry.number (in_port port.entry.read.port port.entry.read.nets.now port.entry.read.trits.now) port.entry.wide port.entry.output.now (going_of log.old self.old) }
         ensures scratch_kept { ScratchKept (layout_of rows.entry.layout) (in_port port.entry.read.port port.entry.read.nets.now port.entry.read.trits.now) port.entry.wide scratch.old scratch.new }

@@ -32,6 +32,7 @@ pub struct WideReadPort {
     pub flip_flop: Option<Controls>,
 }
 
+// A constant, though each field has a default: `WideMemory::NONE` is built of it, and a constant calls no `default()`.
 impl WideReadPort {
     pub const NONE: WideReadPort = WideReadPort {
         addr_len: 0,

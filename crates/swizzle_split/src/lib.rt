@@ -59,7 +59,8 @@ struct Low {
 }
 
 impl Taking {
-    // A bit of an address by its role. The two rooms are lent apart: a struct of both would have to keep their names in each promise.
+    // A bit of an address by its role. The two rooms go apart, as they come: a struct of both is no plainer, since a promise tells of each room alone,
+    // and would also say that the two lent slices stay what they are.
     #[tactic(auto, unfolding(rules::specs::Swizzle::role_of))]
     fn take(self, net: u32, hw: &mut [u32], mux: &mut [u32]) -> Taking
         requires { Roomy self }

@@ -1,5 +1,5 @@
-// The mux tree of a read port, over pieces that stand side by side in lent scratch. The scratch and the width of a piece go apart: a struct of both
-// would have to keep the scratch's own name in each promise.
+// The mux tree of a read port, over pieces that stand side by side in lent scratch. The scratch and the width of a piece go apart: a struct of both,
+// lent on from call to call, is no plainer: each promise would also say that the width and the lent slice stay what they are.
 #![tactic(auto)]
 
 ghost use Rattle.std.specs.Prelude.{◌≡◌, false, ◌+◌, ◌-◌, ◌*◌, ◌<◌, ◌≤◌, length, take, drop};
@@ -60,6 +60,7 @@ fn pair_up(log: &mut Log, bit: u32, pieces: &mut [u32], count: usize, width: usi
     requires { count * width ≤ length pieces.old }
     ensures { Paired bit width count pieces.old pieces.new (lent_of log.old) (lent_of log.new) }
 {
+    // By number: the pairs go to the front of the array that they stand in, and the last one is looked for where these end.
     let mut from = 0;
     let mut to = 0;
     for _ in 0..count / 2 {

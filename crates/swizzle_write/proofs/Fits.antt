@@ -18,7 +18,8 @@ use Rattle.swizzle_columns.specs.declared.WidePort.{WidePort}
 use Rattle.swizzle_columns.specs.Rows.{all_sources}
 use Rattle.swizzle_columns.specs.Wide.{sizes_fit, rows_fit, PortFits, port_starts, mask_row}
 use Rattle.swizzle_columns.proofs.Fits.{bounded, fits_say, fits_tested, mask_can}
-use Rattle.swizzle_write.specs.Wide.{mux_room, can_write, Writes, port_masks, masks_of}
+use Rattle.swizzle_laws.specs.Rooms.{mux_room}
+use Rattle.swizzle_write.specs.Wide.{can_write, Writes, port_masks, masks_of}
 
 module _ (p : WidePort) (len short size : ℕ) where
   pub can_say : can_write p len short size ≡ true → Writes p len short size

@@ -18,7 +18,8 @@ use Rattle.swizzle_columns.specs.Wide.{PortFits, grid_of, port_bits, bits_of}
 use Rattle.swizzle_columns.proofs.Fits.{grid_good, fits_tested, columns_can}
 use Rattle.swizzle_columns.proofs.Meaning.{Means, old_is, new_is, columns_are, starts_are}
 use Rattle.swizzle_write.specs.Matches.{Matches}
-use Rattle.swizzle_write.specs.Wide.{mux_room, port_masks, masks_of}
+use Rattle.swizzle_laws.specs.Rooms.{mux_room}
+use Rattle.swizzle_write.specs.Wide.{port_masks, masks_of}
 use Rattle.swizzle_write.proofs.Fits.{can_tested, masks_can}
 use Rattle.swizzle_write.proofs.Matched.{matched_run, matched_mask, matched_bits}
 

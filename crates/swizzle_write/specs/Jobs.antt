@@ -5,7 +5,7 @@ use Rattle.rules.specs.Merge.{Key2}
 use Rattle.merge_keys.specs.Keys.{MergeOf}
 use Rattle.swizzle_columns.specs.Wide.{PortFits}
 use Rattle.swizzle_write.specs.declared.Masked.{Masked}
-use Rattle.swizzle_write.specs.Wide.{mux_room}
+use Rattle.swizzle_laws.specs.Rooms.{mux_room}
 
 -- the keys of a mask against zeros
 abbrev pub with_zeros : List ℕ → List Key2

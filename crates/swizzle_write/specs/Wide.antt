@@ -6,14 +6,11 @@ use Rattle.rules.specs.Limits.{X}
 use Rattle.rules.specs.Value.{Value}
 use Rattle.rules.specs.Log.{Trace, done}
 use Rattle.rules.specs.Swizzle.{repeating}
+use Rattle.swizzle_laws.specs.Rooms.{mux_room}
 use Rattle.swizzle_laws.specs.Stores.{spill_masks}
 use Rattle.swizzle_columns.specs.declared.WidePort.{WidePort}
 use Rattle.swizzle_columns.specs.Rows.{all_sources}
 use Rattle.swizzle_columns.specs.Wide.{sizes_fit, rows_fit, PortFits, port_starts}
-
--- the nets of a mux address that a port has room for
-abbrev pub mux_room : ℕ
-mux_room = 64
 
 unfoldable pub can_write : WidePort → ℕ → ℕ → ℕ → Bool
 can_write p len short size = sizes_fit p size && (rows_fit p len && leb short mux_room)

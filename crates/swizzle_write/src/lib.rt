@@ -8,11 +8,12 @@ ghost use Rattle.rules.specs.Value.{from_uint};
 ghost use Rattle.log_entries.specs.Emission.{is_over, run};
 ghost use Rattle.log_entries.specs.View.{state_of, lent_of};
 ghost use Rattle.merge_keys.specs.Keys.{MergeOf};
+ghost use Rattle.swizzle_laws.specs.Rooms.{mux_room};
 ghost use Rattle.swizzle_laws.specs.Stores.{spill_at, piece_by};
 ghost use Rattle.swizzle_columns.specs.Wide.{port_starts};
 ghost use Rattle.swizzle_write.specs.Jobs.{with_zeros, Job};
 ghost use Rattle.swizzle_write.specs.View.{masks_by};
-ghost use Rattle.swizzle_write.specs.Wide.{mux_room, can_write, Writes, port_masks, masks_of};
+ghost use Rattle.swizzle_write.specs.Wide.{can_write, Writes, port_masks, masks_of};
 
 use log_entries::Log;
 use merge_keys::columns::Columns;
@@ -20,9 +21,7 @@ use merge_keys::{Kept, Keys};
 use merge_mux::emit;
 use net_value::{ControlNet, Net};
 use swizzle_columns::WidePort;
-
-// The nets of a mux address that a port has room for.
-const MUX_ROOM: usize = 64;
+use swizzle_laws::MUX_ROOM;
 
 // A port with the nets of its mux address, a row of its mask and what a merge of the row with zeros keeps, and so many entries to a row of the layout.
 #[derive(Clone, Copy)]

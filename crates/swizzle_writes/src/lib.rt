@@ -40,7 +40,7 @@ const ADDR_ROOM: usize = 64;
 fn is_roomy(p: WidePort, len: usize, at: usize, room: usize) -> bool
     ensures { result ≡ roomy p len at room }
 {
-    let columns = p.mems as usize * p.unit as usize;
+    let columns = p.columns();
     if ADDR_ROOM < len || (rules::MAX_COLUMNS as usize) < columns || room < at {
         return false;
     }
@@ -73,6 +73,7 @@ impl Port<'_> {
     }
 
     // The whole port from a place on: nothing where it has no room.
+    #[tactic(auto, using(crate::proofs::Steps::roomy_says))]
     fn place(self, log: &mut Log, to: &mut [u32], at: usize) -> Placing
         ensures { Gave (placed self.entry.wide self.entry.hw.now self.entry.mux.now self.entry.entries.now self.entry.bits.now self.entry.mask.now at to.old) (lent_of log.old) (lent_of log.new) (record { room = to.new; next = result.next; addr_len_of = result.addr_len }) }
     {
@@ -84,7 +85,7 @@ impl Port<'_> {
                 addr_len: 0,
             };
         }
-        let size = p.rows as usize * (p.mems as usize * p.unit as usize);
+        let size = p.rows as usize * p.columns();
         let from = at + len;
         lists::copy(to, at, self.hw);
         self.place_nets(log, to, from, size);
@@ -103,7 +104,8 @@ pub struct Memories<'a> {
 }
 
 impl Memories<'_> {
-    // A port of a memory of this width, with its new wide log, from a place on: nothing where it cannot be split, or has no room.
+    // A port of a memory of this width, with its new wide log, from a place on: nothing where it cannot be split, or has no room. The rooms of its split
+    // live in the frame, without a heap, so that a function for reads and writes could not hand the parts back.
     fn place_port(
         self,
         log: &mut Log,

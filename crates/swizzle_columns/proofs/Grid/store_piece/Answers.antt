@@ -1,4 +1,4 @@
--- `swizzle_columns::store_piece` meets its contract.
+-- `swizzle_columns::Grid::store_piece` meets its contract.
 use mathlib.Core.Path.{refl, sym, ap, ◌∙◌, subst}
 use Prim.Native.Nat.{ℕ, ◌+◌, ◌*◌}
 use native.Mathlib.Omega.{arith}
@@ -6,22 +6,22 @@ use lib.ListN.{length, drop, get_or}
 use Rattle.swizzle_laws.specs.Stores.{spill_at, spill_fit}
 use Rattle.swizzle_columns.specs.Steps.{Good}
 use Rattle.swizzle_columns.proofs.Rows.{rows_in, row_next, piece_turn, piece_ends}
-use Rattle.swizzle_columns.proofs.store_piece.Goals as goal
+use Rattle.swizzle_columns.proofs.Grid.store_piece.Goals as goal
 
 pub overflow_mul-j : goal.overflow_mul-j
 overflow_mul-j g c =
     let v = c.args in
-    omega (arith, rows_in (length v.starts.now) c.loop-j.j v.g.entries _ (length v.v.now) c.loop-j-test.true refl (omega (arith, c.requires.rowed.enough)))
+    omega (arith, rows_in (length v.starts.now) c.loop-j.j v.self.entries _ (length v.v.now) c.loop-j-test.true refl (omega (arith, c.requires.rowed.enough)))
 
 pub store_run-requires : goal.store_run-requires
 store_run-requires g c =
-    subst (λ (n : ℕ). Good c.args.g n) (sym c.loop-j.invariant.1) c.requires.good
+    subst (λ (n : ℕ). Good c.args.self n) (sym c.loop-j.invariant.1) c.requires.good
 
 pub loop-j-preserved : goal.loop-j-preserved
 loop-j-preserved g c =
     let h = c.loop-j in
     let v = c.args in
-    let g = v.g in
+    let g = v.self in
     let w = h.invariant in
     let p = c.store_run in (
       omega arith,
@@ -35,5 +35,5 @@ pub returns : goal.returns
 returns g c =
     let h = c.loop-j in
     let v = c.args in
-    let g = v.g in
+    let g = v.self in
     sym (piece_ends g.mems g.rows g.unit g.entries v.starts.now v.v.now h.to h.j (h.j * g.entries) c.loop-j-test.false) ∙ h.invariant.2

@@ -1,1 +1,0 @@
--- `swizzle_sizes::read_bits` meets its contract.
