@@ -52,7 +52,7 @@ pub(crate) struct ByValue;
 fn plain_pos(log: &mut [u32], st: LogState, c: Case) -> Got {
     let r = log_requests::into_pos(log, st, c.select());
     Got {
-        answer: r.map(|made| Made::of_net(made.net)),
+        answer: r.map(|made| Made::of_net(made.value)),
         state: r.map_or(st, |made| made.state),
     }
 }
@@ -60,7 +60,7 @@ fn plain_pos(log: &mut [u32], st: LogState, c: Case) -> Got {
 fn plain_remap(log: &mut [u32], st: LogState, c: Case) -> Got {
     let r = log_requests::remap_reset_over_enable(log, st, c.controls());
     Got {
-        answer: r.map(|made| Made::of_controls(made.controls)),
+        answer: r.map(|made| Made::of_controls(made.value)),
         state: r.map_or(st, |made| made.state),
     }
 }
