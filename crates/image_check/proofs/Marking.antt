@@ -1,5 +1,5 @@
 -- Marks made entry by entry, and what they say at the end.
-use Prim.Native.Nat.{ℕ, zero, suc, ◌+◌, ◌-◌, ◌≤◌, ◌<◌, min}
+use Prim.Native.Nat.{ℕ, zero, suc, ◌+◌, ◌-◌, ◌*◌, ◌≤◌, ◌<◌, min}
 use mathlib.Core.Path.{◌≡◌, sym, ap, ◌∙◌}
 use mathlib.Core.Logic.{◌≢◌}
 use mathlib.Core.Bool.{Bool, true, false, not, ◌||◌}
@@ -11,9 +11,10 @@ use lib.Dec.{eqb, ltb, leb}
 use lib.ListN.{length, get_or, set, drop, replicate, get_or-replicate, length-set}
 use lib.Seq.{drop-cons, drop-length, get_or-set_same, get_or-set_other}
 use borrow.Author.Tests.{lt-ltb, le-ltb, le-leb, lt-leb, eq-eqb, ne_eqb}
+use Rattle.std.specs.List.{range_with_len}
 use Rattle.lists.specs.Choice.{when◌then◌else◌}
 use Rattle.lists.specs.Lists.{any, up_from}
-use Rattle.lists.proofs.Choice.{or_left, or_right, or_both, or_rest, cases_le}
+use Rattle.lists.proofs.Choice.{or_left, or_right, or_both, cases_le}
 use Rattle.lists.proofs.UpFrom.{any_same, any_up}
 use Rattle.rules.specs.Conditions.{times}
 use Rattle.rules.proofs.Named.{times_hit, times_miss, times_none}
@@ -133,26 +134,26 @@ block_is base es marks count h l =
     any_same _ _ 0 base count
     (λ j k. ap not (ap (λ (n : ℕ). eqb (get_or marks n 0) 1) (omega arith) ∙ once_same (get_or marks j 0) (times (base + j) es) (h.each j (omega arith))))
 
--- ---- block after block
-module _ (f : ℕ → Bool) (width base : ℕ) (l : base ≤ width) (e : any f (up_from base (width - base)) ≡ any f (up_from 0 width)) where
-  block_step : (n : ℕ) → n ≤ width - base → any f (up_from base (width - base)) ≡ (any f (up_from base n) || any f (up_from (base + n) (width - (base + n))))
-  block_step n h =
-      let a : width - base ≡ n + (width - (base + n)) = omega arith in
-      ap (λ (k : ℕ). any f (up_from base k)) a ∙ any_up f base n (width - (base + n))
+-- ---- all blocks
+blocks_any : (f : ℕ → Bool) (width n b : ℕ) → width ≤ (b + n) * max_width
+    → any (λ k. any f (up_from (k * max_width) (min (width - k * max_width) max_width))) (range_with_len b n) ≡ any f (up_from (b * max_width) (width - b * max_width))
+blocks_any f width zero b h = let z : width - b * max_width ≡ 0 = omega arith in sym (ap (λ (k : ℕ). any f (up_from (b * max_width) k)) z)
+blocks_any f width (suc n) b h =
+    let g : ℕ → Bool = λ k. any f (up_from (k * max_width) (min (width - k * max_width) max_width)) in
+    let base = b * max_width in
+    let m = min (width - base) max_width in
+    let s : width - base ≡ m + (width - (b + 1) * max_width) = omega arith in
+    ap (λ (t : Bool). g b || t) (blocks_any f width n (b + 1) (omega arith))
+    ∙ cases_le width ((b + 1) * max_width)
+    (λ l.
+    let z : width - (b + 1) * max_width ≡ 0 = omega arith in
+    ap (λ (k : ℕ). g b || any f (up_from ((b + 1) * max_width) k)) z ∙ sym (ap (λ (k : ℕ). g b || any f (up_from (base + m) k)) z))
+    (λ l. let y : (b + 1) * max_width ≡ base + m = omega arith in ap (λ (k : ℕ). g b || any f (up_from k (width - (b + 1) * max_width))) y)
+    ∙ sym (ap (λ (k : ℕ). any f (up_from base k)) s ∙ any_up f base m (width - (b + 1) * max_width))
 
-  pub block_found : (n : ℕ) → n ≤ width - base → any f (up_from base n) ≡ true → true ≡ any f (up_from 0 width)
-  block_found n h t = sym (block_step n h ∙ or_left _ t) ∙ e
-
-  pub block_pass : (n : ℕ) → n ≤ width - base → any f (up_from base n) ≡ false → any f (up_from (base + n) (width - (base + n))) ≡ any f (up_from 0 width)
-  block_pass n h t = sym (block_step n h ∙ or_rest t) ∙ e
-
-  -- the bits after the block, whose end is the width or the next block's start
-  pub block_after : (n : ℕ) → n ≤ width - base → any f (up_from base n) ≡ false → (next : ℕ) → width - next ≡ width - (base + n) → (base + n < width → next ≡ base + n)
-      → any f (up_from next (width - next)) ≡ any f (up_from 0 width)
-  block_after n h t next e w =
-      cases_le width (base + n)
-      (λ l.
-      let a : width - next ≡ 0 = omega arith in
-      let b : width - (base + n) ≡ 0 = omega arith in
-      ap (λ (k : ℕ). any f (up_from next k)) a ∙ sym (ap (λ (k : ℕ). any f (up_from (base + n) k)) b) ∙ block_pass n h t)
-      (λ l. ap (λ (k : ℕ). any f (up_from k (width - k))) (w l) ∙ block_pass n h t)
+pub all_blocks : (f : ℕ → Bool) (width n : ℕ) → width ≤ n * max_width
+    → any (λ k. any f (up_from (k * max_width) (min (width - k * max_width) max_width))) (range_with_len 0 n) ≡ any f (up_from 0 width)
+all_blocks f width n h =
+    let y : 0 * max_width ≡ 0 = omega arith in
+    let z : width - 0 ≡ width = omega arith in
+    blocks_any f width n 0 (omega arith) ∙ ap (λ (k : ℕ). any f (up_from k (width - k))) y ∙ ap (λ (k : ℕ). any f (up_from 0 k)) z

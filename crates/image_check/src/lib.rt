@@ -78,13 +78,10 @@ fn block_bad(base: u32, count: usize, entries: &[u32]) -> bool
 fn bits_bad(width: u32, entries: &[u32]) -> bool
     ensures { result ≡ any (not_once entries.now) (up_from 0 width) }
 {
-    for block in 0..width.div_ceil(rules::MAX_WIDTH) {
+    (0..width.div_ceil(rules::MAX_WIDTH)).any(|block| {
         let base = block * rules::MAX_WIDTH;
-        if block_bad(base, (width - base).min(rules::MAX_WIDTH) as usize, entries) {
-            return true;
-        }
-    }
-    false
+        block_bad(base, (width - base).min(rules::MAX_WIDTH) as usize, entries)
+    })
 }
 
 #[tactic(auto, unfolding(rules::specs::Conditions::bad_entries))]

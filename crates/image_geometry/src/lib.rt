@@ -316,7 +316,7 @@ pub fn next_row(mask: u32, hard: u32, row: u32, spot: Spot) -> Spot
 {
     let mut w = Walk::from(u64::from(spot.chunk), u64::from(spot.row), hard);
     let mut soft = mask;
-    for i in 0..row.trailing_ones() {
+    for _ in 0..row.trailing_ones() {
         w = w.pass(soft);
         soft /= 2;
     }

@@ -19,6 +19,7 @@ use rules::Refusal;
 // trits of all.
 #[derive(Clone, Copy)]
 pub struct Calls<'a> {
+    // four numbers a call, as C hands the list
     pub words: &'a [u32],
     pub trits: &'a [u8],
 }
@@ -55,12 +56,13 @@ fn call_at(buffer: &mut [u8], layout: Layout<'_>, calls: Calls<'_>, i: usize) ->
     call_one(buffer, layout, calls.words[at], trits, room)
 }
 
-// The calls of a list, in order, on an image with this layout; the number of each goes into `numbers`.
+// The calls of a list, in order, on an image with this layout; the number of each goes into `numbers`. (Buffer and numbers are lent apart, here and
+// in the two below: a call without a list has no numbers.)
 fn call_each(buffer: &mut [u8], numbers: &mut [u32], layout: Layout<'_>, calls: Calls<'_>)
     ensures numbers_after { numbers.new ≡ sets numbers.old 0 (patch_numbers (handed_on (layout_of layout.entry)) (length buffer.old) (list_of calls.entry)) }
     ensures buffer_after { buffer.new ≡ patched (handed_on (layout_of layout.entry)) (list_of calls.entry) buffer.old }
 {
-    // by number: the place of the call's number is `i` too, past the end of `numbers` as well
+    // by number: what a call does is said by its number in the list, which is also the place of its answer
     for i in 0..calls.words.len() / WORDS {
         let number = rules::number_of(call_at(buffer, layout, calls, i));
         lists::put(numbers, i, number);

@@ -46,7 +46,7 @@ struct Cursor {
     start: u64,
 }
 
-// A row's number with its spot.
+// A row's number with its spot. Behind the last row the number is the depth: that it is lower is a fact of the calls, not of the line.
 #[derive(Clone, Copy)]
 struct Line {
     number: u32,
@@ -271,7 +271,7 @@ impl<'a> Rows<'a> {
     }
 }
 
-// Numbers 4, 15 and 20 of a patch, where the image has `size` trits.
+// Numbers 4, 15 and 20 of a patch, where the image has `size` trits. (This check and the two below test each the sizes that its own call has.)
 #[tactic(auto, unfolding(rules::specs::Refusals::patch_refusal_by, rules::specs::Conditions::bad_trits, rules::specs::Conditions::not_below, rules::specs::Conditions::no_room_of))]
 fn check_patch(room: usize, p: Params, size: u64, row: u32, trits: &[u8]) -> Result<(), Refusal>
     ensures { number_of result ≡ patch_refusal_by p.width p.depth size row trits.now room }

@@ -33,7 +33,7 @@ pub struct Laid {
 }
 
 impl Laid {
-    // The state before any swizzle is accepted.
+    // The state before any swizzle is accepted. (By hand: an array of 256 has no `Default`.)
     pub fn unset() -> Laid
         ensures value { result ≡ unset_laid }
         ensures result_value { laid_of result ≡ none }

@@ -23,7 +23,8 @@ fn rest(input: &mut impl Read) -> io::Result<usize>
     ensures { IfOk result (λ n. n ≤ 72057594037927936) }
 {
     let mut count: usize = 0;
-    for turn in 0..TURNS {
+    // bounded: an input need not end
+    for _ in 0..TURNS {
         let got = more(input)?;
         if got == 0 {
             return Ok(count);

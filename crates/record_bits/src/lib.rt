@@ -40,12 +40,10 @@ pub fn bit_at(byte: u8, i: usize) -> u8
 
 // ---- eight trits
 
-// The lowest known bit and value bit are in error: of a trit, or where all are spare.
+// A known bit and a value bit are in error: of a trit, or where both are spare.
 fn is_bad_pair(spare: bool, known: u8, value: u8) -> bool
-    ensures { result ≡ bad_pair spare (known % 2) (value % 2) }
+    ensures { result ≡ bad_pair spare known value }
 {
-    let known = known % 2;
-    let value = value % 2;
     if spare {
         known == 1 || value == 1
     } else {
@@ -94,16 +92,7 @@ impl Group {
     pub fn is_bad(self, count: usize) -> bool
         ensures { result ≡ bad_group count self.known self.value }
     {
-        let mut known = self.known;
-        let mut value = self.value;
-        for i in 0..8 {
-            if is_bad_pair(count <= i, known, value) {
-                return true;
-            }
-            known /= 2;
-            value /= 2;
-        }
-        false
+        (0..8).any(|i| is_bad_pair(count <= i, bit_at(self.known, i), bit_at(self.value, i)))
     }
 }
 
@@ -115,7 +104,7 @@ pub fn put_arrays(out: &mut [u8], at: usize, ts: &[u8])
         return;
     }
     let n = ts.len().div_ceil(8);
-    // by number: `j` gives the places of both bytes, so `chunks` would be no plainer
+    // by number: a group's two bytes go to at + j and at + n + j, so by `chunks(8).enumerate()` the two sums stand here too
     for j in 0..n {
         let group = Group::pack(ts, 8 * j);
         lists::put(out, at + j, group.known);

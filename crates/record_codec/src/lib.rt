@@ -191,6 +191,7 @@ fn bad_arrays(count: usize, ks: &[u8], vs: &[u8]) -> bool
     requires { (length ks.now ≡ length vs.now) × (length ks.now ≤ many_bytes) }
     ensures { result ≡ bad_by count (bits_of ks.now) (bits_of vs.now) }
 {
+    // a loop: the library has no law of `any` over a `zip`
     for (j, (known, value)) in ks.iter().zip(vs).enumerate() {
         let group = Group {
             known: *known,

@@ -78,21 +78,20 @@ module _ (bytes : List ℕ) (e : record_number bytes ≡ 0) where
     value_sum v q a m h = ap (λ (x : List ℕ). sum_by (λ (b : ℕ). b) (part a m (bits_of x))) q ∙ counted value_bit (value_bits bytes) (decoded_value bytes bytes_are e) a m h
 
 -- ---- a turn of the loop that counts
-module _ (array : List ℕ) (from count i : ℕ) where
+module _ (array : List ℕ) (to j : ℕ) where
   abbrev left : ℕ → ℕ
-  left k = sum_by (λ b. b) (part (from + k) (count - k) (bits_of array))
+  left k = sum_by (λ b. b) (part k (to - k) (bits_of array))
 
-  pub ones_turn : i < count → from + count ≤ 8 * length array → (b : ℕ) → b ≡ get_or (from_uint 8 (get_or array ((from + i) / 8) 0)) ((from + i) % 8) 0 → left i ≡ b + left (i + 1)
+  pub ones_turn : j < to → to ≤ 8 * length array → (b : ℕ) → b ≡ get_or (from_uint 8 (get_or array (j / 8) 0)) (j % 8) 0 → left j ≡ b + left (j + 1)
   ones_turn h g b q =
-      let x : count - i ≡ suc (count - (i + 1)) = omega arith in
-      let y : from + i + 1 ≡ from + (i + 1) = omega arith in
-      let z : get_or (bits_of array) (from + i) 0 ≡ b = bits_at array (from + i) (omega arith) ∙ sym q in
-      ap (λ (m : ℕ). sum_by (λ (b : ℕ). b) (part (from + i) m (bits_of array))) x
-      ∙ ap (sum_by (λ (b : ℕ). b)) (part_cons (from + i) (count - (i + 1)) (bits_of array) 0 (omega (arith, length_bits array)))
-      ∙ (rw (z, y))
+      let x : to - j ≡ suc (to - (j + 1)) = omega arith in
+      let z : get_or (bits_of array) j 0 ≡ b = bits_at array j (omega arith) ∙ sym q in
+      ap (λ (m : ℕ). sum_by (λ (b : ℕ). b) (part j m (bits_of array))) x
+      ∙ ap (sum_by (λ (b : ℕ). b)) (part_cons j (to - (j + 1)) (bits_of array) 0 (omega (arith, length_bits array)))
+      ∙ (rw z)
 
-  pub ones_end : count ≤ i → left i ≡ 0
-  ones_end h = let x : count - i ≡ 0 = omega arith in rw x
+  pub ones_end : to ≤ j → left j ≡ 0
+  ones_end h = let x : to - j ≡ 0 = omega arith in rw x
 
 -- ---- with the machine's sizes
 module _ (bytes : List ℕ) (s : Machine) (i from : ℕ) (t : Starts bytes s i from) where

@@ -30,7 +30,7 @@ pub const MAX_TEXT: usize = 1638437;
 
 // ---- parts of a line
 
-// A space and a number.
+// A space and a number. (`text.old.at` + k is no fact of Text: how many bytes are still to come differs from call to call.)
 fn put_field(text: &mut Text<'_>, n: usize)
     requires { text.old.at + 11 ≤ max_place }
     ensures { Added text.old (space ∷ decimal n) text.new × (text.new.at ≤ text.old.at + 11) }
@@ -94,8 +94,7 @@ fn ones_in(array: &[u8], from: usize, count: usize) -> usize
     ensures { result ≡ sum_by (λ b. b) (part from count (bits_of array.now)) }
 {
     let mut sum: usize = 0;
-    for i in 0..count {
-        let j = from + i;
+    for j in from..from + count {
         sum += record_bits::bit_at(array[j / 8], j % 8) as usize;
     }
     sum

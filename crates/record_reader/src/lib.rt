@@ -51,7 +51,8 @@ impl HeadWords {
         Reader::new(bytes).next_head()
     }
 
-    // The sizes that the words after the first give.
+    // The sizes that the words after the first give. Where a head ends within a word they are not `head_sizes`: here that word is not there and
+    // counts 0, there its one byte counts.
     #[tactic(auto, unfolding(crate::specs::Reading::sizes_by))]
     pub fn sizes(self) -> Sizes
         ensures { (view_sizes result ≡ sizes_by self) × Words result }

@@ -65,13 +65,14 @@ fn put_last(text: &mut Text<'_>, count: usize)
 
 // ---- all rows
 
-// How many differ, with a line for each.
+// How many differ, with a line for each. (`text.old.at` is no fact of Text: how many bytes are still to come differs from call to call.)
 fn put_all(text: &mut Text<'_>, size: Size, a: &[u8], b: &[u8]) -> usize
     requires { (size.depth ≤ max_depth) × (text.old.at ≡ 0) }
     ensures { Added text.old (diff_lines size.width a.now b.now 0 size.depth) text.new × (result ≡ differing size.width a.now b.now 0 size.depth) × (text.new.at ≤ 274 * size.depth) }
 {
     let w = size.width as usize;
     let mut count: usize = 0;
+    // by number: rows of width 0 have no chunks
     let mut from: usize = 0;
     for row in 0..size.depth {
         count = put_row(

@@ -34,6 +34,7 @@ fn put_bits(text: &mut Text<'_>, rows: &[u8], from: usize, size: Size)
     requires { (text.old.at ≤ 1000000000) × (from ≤ 1000000000) }
     ensures { Added text.old (bits_text rows.now from size.width []) text.new }
 {
+    // by number: past the end of the rows stands X
     for left in (0..size.width).rev() {
         text.put_byte(char_of(trit_at(rows, from + left as usize)));
     }
@@ -54,6 +55,7 @@ fn put_all(out: &mut [u8], size: Size, rows: &[u8]) -> usize
     ensures { (out.new ≡ sets out.old 0 (rows_from size.width rows.now 0 size.depth [])) × (result ≡ size.depth * (size.width + 1)) }
 {
     let mut text = Text { out, at: 0 };
+    // by number: rows of width 0 have no chunks
     let mut from: usize = 0;
     for row in 0..size.depth {
         put_row(&mut text, rows, from, size);

@@ -22,7 +22,8 @@ use rules::Refusal;
 use std::fmt;
 use table_read::{Fault, Table};
 
-// What refuses a text: a fault of the header or of the table behind the record, or a call.
+// What refuses a text: a fault of the header or of the table behind the record, or a call. (No enum for split too: a split has no table behind a
+// record, so table_record's would have a variant that it never gives.)
 #[derive(Clone, Copy, Debug, PartialEq, Eq)]
 pub enum Refused {
     Text(Fault),

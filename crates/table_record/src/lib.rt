@@ -24,7 +24,8 @@ pub fn record_of(out: &mut [u8], layout: Layout<'_>, rows: &[u8]) -> Result<usiz
     record_codec::write_record(out, sizes, &image)
 }
 
-// What refuses the record of a table's text: the text's fault, or a call.
+// What refuses the record of a table's text: the text's fault, or a call. (Not table_readback's enum: a split has no table behind a record, so it
+// would have a variant that it never gives.)
 #[derive(Clone, Copy, Debug, PartialEq, Eq)]
 pub enum Refused {
     Text(Fault),

@@ -35,6 +35,7 @@ fn put_all(room: &mut [u8], layout: Layout<'_>, image: &[u8])
     ensures { room.new ≡ sets room.old 0 (image_rows (layout_of layout.entry) image.now) }
 {
     let width = layout.params.width as usize;
+    // by number: rows of width 0 have no chunks
     let mut at: usize = 0;
     for row in 0..layout.params.depth {
         put_row(room, at, layout, image, row);
@@ -42,7 +43,7 @@ fn put_all(room: &mut [u8], layout: Layout<'_>, image: &[u8])
     }
 }
 
-// Number 20, where the image has `size` trits.
+// Number 20, where the image has `size` trits. (It tests the sizes that its own call has, as the checks of image_rows do.)
 #[tactic(auto, unfolding(crate::specs::Rows::read_rows_refusal_by, rules::specs::Conditions::no_room_of))]
 fn check_room(room: usize, p: Params, size: u64, len: usize) -> Result<(), Refusal>
     ensures { number_of result ≡ read_rows_refusal_by p.depth p.width size room len }

@@ -79,67 +79,69 @@ fn put_not(want: &mut [u32], at: usize, c: ControlNet, next: u32) {
     }
 }
 
-// The answer that a case expects: the net and the state.
-fn wanted_pos(c: ControlNet, room: usize, next: u32) -> Result<(Net, LogState), Refusal> {
-    if !good(c, next) {
-        return Err(Refusal::BadValue);
-    }
-    let state = state_after(next, not_size(c));
-    state_refusal(room, state.used, next, state.next)?;
-    Ok((Net(pos_net(c, next)), state))
-}
-
-fn call_pos(
-    log: &mut [u32],
+// A control that becomes a plain net, the words of the log and the next free net.
+#[derive(Clone, Copy)]
+struct Pos {
+    control: ControlNet,
     room: usize,
     next: u32,
-    c: ControlNet,
-) -> Result<(Net, LogState), Refusal> {
+}
+
+fn pos_at(k: u32) -> Pos {
+    let control = CONTROLS[k as usize % 6];
+    let z = not_size(control);
+    Pos {
+        control,
+        room: room_at(k / 6 % 4, 3, z.words),
+        next: next_at(k / 24 % 6, z.nets),
+    }
+}
+
+// The answer that a case expects: the net and the state.
+fn wanted_pos(c: Pos) -> Result<(Net, LogState), Refusal> {
+    if !good(c.control, c.next) {
+        return Err(Refusal::BadValue);
+    }
+    let state = state_after(c.next, not_size(c.control));
+    state_refusal(c.room, state.used, c.next, state.next)?;
+    Ok((Net(pos_net(c.control, c.next)), state))
+}
+
+fn call_pos(log: &mut [u32], c: Pos) -> Result<(Net, LogState), Refusal> {
+    let room = c.room;
     if log.len() < room {
         // no case expects this one
         return Err(Refusal::OutOfRange);
     }
-    let st = LogState { used: 3, next };
-    let made = log_requests::into_pos(&mut log[..room], st, c)?;
+    let st = LogState {
+        used: 3,
+        next: c.next,
+    };
+    let made = log_requests::into_pos(&mut log[..room], st, c.control)?;
     Ok((made.value, made.state))
 }
 
 // The log expected.
-fn want_pos(want: &mut [u32], accepted: bool, c: ControlNet, next: u32) {
+fn want_pos(want: &mut [u32], accepted: bool, c: Pos) {
     paint(want);
     if accepted {
-        put_not(want, 3, c, next);
+        put_not(want, 3, c.control, c.next);
     }
 }
 
-fn try_pos(
-    t: Tally,
-    log: &mut [u32],
-    want: &mut [u32],
-    c: ControlNet,
-    room: usize,
-    next: u32,
-) -> Tally {
-    let answer = wanted_pos(c, room, next);
-    want_pos(want, answer.is_ok(), c, next);
+fn try_pos(t: Tally, log: &mut [u32], want: &mut [u32], c: Pos) -> Tally {
+    let answer = wanted_pos(c);
+    want_pos(want, answer.is_ok(), c);
     paint(log);
-    let r = call_pos(log, room, next, c);
+    let r = call_pos(log, c);
     let ok = r == answer && &*log == &*want;
     numbered::add(t, answer.err(), ok)
-}
-
-fn pos_case(t: Tally, log: &mut [u32], want: &mut [u32], k: u32) -> Tally {
-    let c = CONTROLS[k as usize % 6];
-    let z = not_size(c);
-    let room = room_at(k / 6 % 4, 3, z.words);
-    let next = next_at(k / 24 % 6, z.nets);
-    try_pos(t, log, want, c, room, next)
 }
 
 fn pos_cases(log: &mut [u32], want: &mut [u32]) -> Tally {
     let mut t = numbered::start();
     for k in 0..144 {
-        t = pos_case(t, log, want, k);
+        t = try_pos(t, log, want, pos_at(k));
     }
     t
 }
@@ -156,15 +158,15 @@ struct Remap {
 }
 
 // Whether the reset becomes its and with the enable.
-fn gated(reset: ControlNet, enable: ControlNet, over: bool) -> bool {
-    !over && reset != ControlNet::Pos(Net(0)) && net_of(enable) != 1
+fn gated(c: Remap) -> bool {
+    !c.over && c.reset != ControlNet::Pos(Net(0)) && net_of(c.enable) != 1
 }
 
-fn remap_size(reset: ControlNet, enable: ControlNet, over: bool) -> Size {
-    if !gated(reset, enable, over) {
+fn remap_size(c: Remap) -> Size {
+    if !gated(c) {
         return Size { words: 0, nets: 0 };
     }
-    let k = plus(not_size(reset).nets, not_size(enable).nets);
+    let k = plus(not_size(c.reset).nets, not_size(c.enable).nets);
     Size {
         words: plus(6, plus(plus(k, k), plus(k, plus(k, k)))),
         nets: plus(1, k),
@@ -172,17 +174,17 @@ fn remap_size(reset: ControlNet, enable: ControlNet, over: bool) -> Size {
 }
 
 fn remap_at(k: u32) -> Remap {
-    let reset = CONTROLS[k as usize % 6];
-    let enable = CONTROLS[k as usize / 6 % 6];
-    let over = k / 36 % 2 == 1;
-    let z = remap_size(reset, enable, over);
-    Remap {
-        reset,
-        enable,
-        over,
-        room: room_at(k / 72 % 4, 3, z.words),
-        next: next_at(k / 288 % 6, z.nets),
-    }
+    let mut c = Remap {
+        reset: CONTROLS[k as usize % 6],
+        enable: CONTROLS[k as usize / 6 % 6],
+        over: k / 36 % 2 == 1,
+        room: 0,
+        next: 0,
+    };
+    let z = remap_size(c);
+    c.room = room_at(k / 72 % 4, 3, z.words);
+    c.next = next_at(k / 288 % 6, z.nets);
+    c
 }
 
 // The answer that a case expects: the controls and the state.
@@ -190,7 +192,7 @@ fn wanted_remap(c: Remap) -> Result<(Controls, LogState), Refusal> {
     if !good(c.reset, c.next) || !good(c.enable, c.next) {
         return Err(Refusal::BadValue);
     }
-    let state = state_after(c.next, remap_size(c.reset, c.enable, c.over));
+    let state = state_after(c.next, remap_size(c));
     state_refusal(c.room, state.used, c.next, state.next)?;
     Ok((controls_of(new_reset(c), c.enable, true), state))
 }
@@ -201,7 +203,13 @@ fn after_not(at: usize, c: ControlNet) -> usize {
 }
 
 // The nots of reset and enable, and their and.
-fn put_gated(want: &mut [u32], reset: ControlNet, enable: ControlNet, next: u32) {
+fn put_gated(want: &mut [u32], c: Remap) {
+    let Remap {
+        reset,
+        enable,
+        next,
+        ..
+    } = c;
     let at = after_not(3, reset);
     let second = net_above(next, not_size(reset).nets);
     let third = net_above(second, not_size(enable).nets);
@@ -215,10 +223,10 @@ fn put_gated(want: &mut [u32], reset: ControlNet, enable: ControlNet, next: u32)
 
 // The reset that the call gives.
 fn new_reset(c: Remap) -> ControlNet {
-    if !gated(c.reset, c.enable, c.over) {
+    if !gated(c) {
         return c.reset;
     }
-    let z = remap_size(c.reset, c.enable, c.over);
+    let z = remap_size(c);
     ControlNet::Pos(Net(net_above(c.next, z.nets.saturating_sub(1))))
 }
 
@@ -250,8 +258,8 @@ fn call_remap(log: &mut [u32], c: Remap) -> Result<(Controls, LogState), Refusal
 // The log expected.
 fn want_remap(want: &mut [u32], accepted: bool, c: Remap) {
     paint(want);
-    if accepted && gated(c.reset, c.enable, c.over) {
-        put_gated(want, c.reset, c.enable, c.next);
+    if accepted && gated(c) {
+        put_gated(want, c);
     }
 }
 

@@ -10,7 +10,8 @@ pub(crate) const TRITS: usize = 200;
 
 pub(crate) const OUTS: usize = 200;
 
-// A memory, how many nets, trits and outputs are lent with it, and the element that is put in another's place, if there is one at that place.
+// A memory, how many nets, trits and outputs are lent with it, and the element that is put in another's place, if there is one at that place. (No
+// `Option`: a place past what is lent spoils nothing, and cases try such places.)
 #[derive(Clone, Copy)]
 pub(crate) struct Case {
     pub(crate) m: Memory,

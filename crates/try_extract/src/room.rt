@@ -48,12 +48,8 @@ fn is_run<T: Pattern, L: Lent<T>>(
     count: usize,
 ) -> bool {
     let run = lists::part(room, at, count);
-    for (i, x) in run.iter().enumerate() {
-        if *x != lent.at(plus(from, i)) {
-            return false;
-        }
-    }
-    run.len() == count
+    let mut items = run.iter().enumerate();
+    run.len() == count && items.all(|(i, x)| *x == lent.at(plus(from, i)))
 }
 
 // The room holds parts of what is lent, each given by where it starts there and its length, and is painted after them.

@@ -1,20 +1,17 @@
 -- `image_check::bits_bad` meets its contract.
-use mathlib.Core.Path.{sym, ◌∙◌}
-use Prim.Native.Nat.{◌*◌, ◌≤◌}
-use native.Mathlib.Omega.{arith}
+use Rattle.std.proofs.Common.{rules, tests, arith, ◌-◌, ◌*◌, ◌∙◌, refl, min, ℕ}
+use Rattle.std.proofs.lemmas.Grind.{div_ceil_times}
+use Rattle.std.proofs.lemmas.Iterator.{YieldsList-from_range}
+use Rattle.std.proofs.lemmas.Iterator.Search.{any_from_yields_List}
+use Rattle.lists.specs.Lists.{any, up_from}
 use Rattle.rules.specs.Limits.{max_width}
 use Rattle.image_check.specs.Marks.{not_once}
-use Rattle.image_check.proofs.Marking.{block_found, block_after}
+use Rattle.image_check.proofs.Marking.{all_blocks}
 use Rattle.image_check.proofs.bits_bad.Goals as goal
 
-pub returns-then-block_bad : goal.returns-then-block_bad
-returns-then-block_bad c =
-    let l = c.loop-block in
-    let n : l.block * max_width ≤ c.args.width = omega arith in
-    block_found (not_once c.args.entries.now) _ _ n l.invariant c.min.result (omega arith) (sym c.block_bad.ensures ∙ c.if-block_bad.true)
-
-pub loop-block-preserved : goal.loop-block-preserved
-loop-block-preserved c =
-    let l = c.loop-block in
-    let n : l.block * max_width ≤ c.args.width = omega arith in
-    block_after (not_once c.args.entries.now) _ _ n l.invariant c.min.result (omega arith) (sym c.block_bad.ensures ∙ c.if-block_bad.false) _ (omega arith) (omega arith)
+pub returns : goal.returns
+returns c =
+    let w = c.args.width in
+    let f = not_once c.args.entries.now in
+    any_from_yields_List (λ (k : ℕ). any f (up_from (k * max_width) (min (w - k * max_width) max_width))) _ _ _ c.any.ensures.ran (YieldsList-from_range 0 c.div_ceil.result c.div_ceil.result refl (omega arith)) (λ x b q k. search (rules, tests))
+    ∙ all_blocks f w c.div_ceil.result (omega (arith, c.div_ceil.ensures, (div_ceil_times w max_width (omega arith)).0))

@@ -6,7 +6,7 @@ use Rattle.rules.specs.Geometry.{walk}
 use Rattle.image_geometry.proofs.Carrying.{Ones, Small, Carrying, held}
 use Rattle.image_geometry.proofs.next_row.Given as goal
 
-abbrev pub invariant-loop-i : goal.invariant-loop-i
-invariant-loop-i l =
-    let rest = l.row / 2 ^ l.i in
-    Ones rest (l.i-end - l.i) × Small l.w rest × (l.row < 4294967295 → held l.initial.w ≡ walk addr_bits l.mask l.hard l.row → Carrying l.mask l.hard l.row l.w l.soft rest)
+abbrev pub invariant-loop : goal.invariant-loop
+invariant-loop l =
+    let rest = l.row / 2 ^ l.counter in
+    Ones rest (l.end - l.counter) × Small l.w rest × (l.row < 4294967295 → held l.initial.w ≡ walk addr_bits l.mask l.hard l.row → Carrying l.mask l.hard l.row l.w l.soft rest)

@@ -2,5 +2,5 @@
 use Rattle.std.proofs.Common.{◌*◌, ◌≤◌}
 use Rattle.lister.proofs.rest.Given as goal
 
-abbrev pub invariant-loop-turn : goal.invariant-loop-turn
-invariant-loop-turn g l = l.count ≤ 65536 * l.turn
+abbrev pub invariant-loop : goal.invariant-loop
+invariant-loop g l = l.count ≤ 65536 * l.counter
