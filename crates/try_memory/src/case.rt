@@ -7,7 +7,8 @@ const NETS: usize = 600;
 const TRITS: usize = 34900;
 
 // (try_extract's case has outputs, rooms and contents of its own: one struct for both would need a contract for each constructor.)
-// How many nets and trits are lent, and the net and the trit that are put at a place, if it is there.
+// How many nets and trits are lent, and the net and the trit that are put at a place, if it is there. (No `Option`: a place past what is lent
+// spoils nothing, and cases try such places.)
 #[derive(Clone, Copy)]
 pub(crate) struct Case {
     pub(crate) m: Memory,

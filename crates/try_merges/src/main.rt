@@ -21,7 +21,7 @@ const LOG_WORDS: usize = 16640;
 
 const CASES: u32 = 450;
 
-// The distinct pairs of a merge: the first `count` of both arrays.
+// The distinct pairs of a merge: the first `count` of both arrays. (By hand: an entry has the firsts and then the seconds, and there is no heap.)
 #[derive(Drop)]
 struct Pairs {
     first: [u32; NETS],
@@ -142,7 +142,7 @@ fn expect_runs(
     state
 }
 
-// A merge's case: its values' lengths, whether its select is Neg, what is bad, and the next free net.
+// A merge's case: its values' lengths, whether its select is Neg, what is bad, and the next free net. (try_kit's cases are others.)
 #[derive(Clone, Copy)]
 struct Case {
     n: usize,
