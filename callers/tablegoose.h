@@ -711,12 +711,12 @@ tablegoose_count tablegoose_list_input(uint8_t *out, size_t out_len, const uint8
 
 /* ---- stack: what each function takes at most, in bytes, beside the structs that it is given; read from the x86-64 code by scripts/stack.py
  *     384 tablegoose_add_and
- *   63104 tablegoose_add_bitwise_mux
- *   92288 tablegoose_add_dedup_dff
- *   62976 tablegoose_add_dedup_mux
+ *   52864 tablegoose_add_bitwise_mux
+ *   82048 tablegoose_add_dedup_dff
+ *   52864 tablegoose_add_dedup_mux
  *     896 tablegoose_add_dff
  *     384 tablegoose_add_eq
- *     384 tablegoose_add_mux
+ *     512 tablegoose_add_mux
  *     256 tablegoose_add_not
  *     384 tablegoose_add_or
  *     384 tablegoose_add_shl
@@ -730,8 +730,8 @@ tablegoose_count tablegoose_list_input(uint8_t *out, size_t out_len, const uint8
  *     128 tablegoose_const_or
  *     128 tablegoose_control_is_always
  *     128 tablegoose_control_not
- *  156544 tablegoose_emulate_read_before_write
- *   11648 tablegoose_extract_read_ports
+ *  144768 tablegoose_emulate_read_before_write
+ *    9856 tablegoose_extract_read_ports
  *    1792 tablegoose_fill
  *    2304 tablegoose_fill_and_patch
  *     768 tablegoose_fill_rows
@@ -740,8 +740,8 @@ tablegoose_count tablegoose_list_input(uint8_t *out, size_t out_len, const uint8
  *    1152 tablegoose_laid_out
  *     384 tablegoose_list_input
  *     384 tablegoose_list_record
- *  901248 tablegoose_lower_fallback
- *    6656 tablegoose_make_data_swizzle
+ *  841728 tablegoose_lower_fallback
+ *    6528 tablegoose_make_data_swizzle
  *     128 tablegoose_measure
  *    4992 tablegoose_memory_refusal
  *     128 tablegoose_memory_summary
@@ -756,16 +756,16 @@ tablegoose_count tablegoose_list_input(uint8_t *out, size_t out_len, const uint8
  *     640 tablegoose_patch_row
  *     128 tablegoose_place_of
  *    1536 tablegoose_read_laid_row
- *    5888 tablegoose_read_port_output_slice
+ *    5760 tablegoose_read_port_output_slice
  *     384 tablegoose_read_record
- *     384 tablegoose_read_row
+ *     512 tablegoose_read_row
  *     256 tablegoose_record_header
  *     640 tablegoose_remap_reset_over_enable
  *     384 tablegoose_replace_value
  *    1408 tablegoose_sizes_of
  *     128 tablegoose_slice_refusal
- *  511616 tablegoose_swizzle
- *  510848 tablegoose_swizzle_and_patch
+ *  478592 tablegoose_swizzle
+ *  477696 tablegoose_swizzle_and_patch
  *    4992 tablegoose_swizzle_depths
  *    6272 tablegoose_swizzle_mux_bits
  *    2304 tablegoose_swizzled_clear
@@ -778,12 +778,12 @@ tablegoose_count tablegoose_list_input(uint8_t *out, size_t out_len, const uint8
  *    1536 tablegoose_swizzled_write_addr
  *    2304 tablegoose_swizzled_write_data
  *    2304 tablegoose_swizzled_write_mask
- *  171136 tablegoose_transparency_mux
+ *  158208 tablegoose_transparency_mux
  *     128 tablegoose_trit_and
  *     128 tablegoose_trit_not
  *     128 tablegoose_trit_or
- *  157440 tablegoose_unmap_read_dff
- *  196352 tablegoose_unmap_read_init_reset_transparency
+ *  145152 tablegoose_unmap_read_dff
+ *  202880 tablegoose_unmap_read_init_reset_transparency
  *     128 tablegoose_unset
  *     128 tablegoose_value_is_undef
  *     128 tablegoose_wide_log2
