@@ -1,2 +1,3 @@
--- Laws of lists in lent room.
+-- Laws of lists in lent room, and of what is no control.
 pub mod Listed
+pub mod NoControl

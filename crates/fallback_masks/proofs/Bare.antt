@@ -22,6 +22,10 @@ module _ (m : Mem) where
   unfolding all_bare with_reads
   bare_depth = refl
 
+  pub bare_init : B.init ≡ m.init
+  unfolding all_bare with_reads
+  bare_init = refl
+
   pub bare_writes : B.writes ≡ m.writes
   unfolding all_bare with_reads
   bare_writes = refl

@@ -157,8 +157,17 @@ module _ (b : Mem) where
     pub all_wide : (outs : Value) (n : ℕ) → AllRows (swizzle b outs P n).value
     all_wide outs n = subst AllRows (sym (rows_are outs n)) (rows_from_lem outs n 0 b.depth (omega (arith, zero-add b.depth)))
 
+    pub row_width : (outs : Value) (n i : ℕ) → (row outs n i).memory.width ≡ b.width
+    unfolding result_mem
+    row_width outs n i = unit_is
+
     pub count_rows : (outs : Value) (n : ℕ) → length (swizzle b outs P n).value ≡ b.depth
     count_rows outs n = ap length (rows_are outs n) ∙ length-map (up_from 0 b.depth) (row outs n) ∙ length_up 0 b.depth
+
+    pub width_at : (outs : Value) (n i : ℕ) (d : Driving) → i < length (swizzle b outs P n).value → (get_or (swizzle b outs P n).value i d).memory.width ≡ b.width
+    width_at outs n i d l =
+        ap (λ (ds : List Driving). (get_or ds i d).memory.width) (rows_are outs n)
+        ∙ ap (λ (x : Driving). x.memory.width) (get_d_up (row outs n) 0 b.depth i d (omega (arith, l, count_rows outs n))) ∙ row_width outs n (0 + i)
 
 -- ---- a memory that no number refuses
 module _ (next : ℕ) (m : Memory) (nets trits output : List ℕ) (z : lower_fallback_number next (given_of m nets trits) output ≡ 0) where
@@ -189,6 +198,11 @@ module _ (next : ℕ) (m : Memory) (nets trits output : List ℕ) (z : lower_fal
   -- each memory is one row, whatever the outputs and the first net are
   pub all_rows : (outs : Value) (n : ℕ) → AllRows (swizzle B outs (fallback_plan B) n).value
   all_rows outs n = ⊎_elim (λ e. subst AllRows (sym (flat_none B outs n e)) no_rows) (λ p. all_wide B most divided (λ e. omega (arith, p, e)) outs n) (eq-zero-or-pos B.width)
+
+  -- as wide as the memory, and as many as it has rows
+  pub row_widths : (outs : Value) (n i : ℕ) (d : Driving) → i < length (swizzle B outs (fallback_plan B) n).value → (get_or (swizzle B outs (fallback_plan B) n).value i d).memory.width ≡ M.width
+  row_widths outs n i d l =
+      ⊎_elim (λ e. absurd (omega (arith, l, ap length (flat_none B outs n e)))) (λ p. width_at B most divided (λ e. omega (arith, p, e)) outs n i d l ∙ bare_width M) (eq-zero-or-pos B.width)
 
   pub row_count : (outs : Value) (n : ℕ) → M.width ≢ 0 → length (swizzle B outs (fallback_plan B) n).value ≡ M.depth
   row_count outs n w = count_rows B most divided (λ e. w (sym (bare_width M) ∙ e)) outs n ∙ bare_depth M

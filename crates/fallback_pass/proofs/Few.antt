@@ -56,7 +56,24 @@ module _ (next : ℕ) (m : Memory) (nets trits output : List ℕ) (z : lower_fal
     reads_nets : (reads_count_of B q B.reads P.read_wide_of).nets ≤ length M.reads * (2 * (M.depth * M.width))
     reads_nets = reads_most B (M.depth * M.width) M.reads reads_are (omega (arith, columns-all next m nets trits output z w)) (pieces_low next m nets trits output z)
 
+    rows_nets_lem : M.depth ≢ 0 → split_nets M ≤ most
+    rows_nets_lem d =
+        let a : (swizzle_count B P).nets ≡ (split_rows M).nets = ap (λ (c : Count). c.nets) (count_is next m nets trits output z) in
+        omega (arith, (rows_of M d).1, a, count_nets B P, writes_nets, reads_nets)
+
+    pub split_most : split_nets M ≤ most
+    split_most = ⊎_elim (λ d. omega (arith, (empty_of M d).1)) (λ p. rows_nets_lem (λ d. omega (arith, p, d))) (eq-zero-or-pos M.depth)
+
     bits_max : M.depth * M.width ≤ 32768
     bits_max =
         let e : M.depth * M.width ≡ m.depth * m.width = λ i. mem_depth_lem next m nets trits output z i * mem_width next m nets trits output z i in
         omega (arith, e, (sized next m nets trits output z).bits_ok)
+
+    -- with the limits of a memory
+    pub split_max : split_nets M ≤ 1048576
+    split_max =
+        let r = ready next m nets trits output z in
+        let d : M.depth ≤ 32768 = omega (arith, mem_depth_lem next m nets trits output z, (sized next m nets trits output z).depth_ok) in
+        let a : length M.writes * (M.depth + M.depth * M.width) ≤ 524288 = mul-le-mul {n₂ = 8} {m₂ = 65536} r.few (omega (arith, d, bits_max)) in
+        let b : length M.reads * (2 * (M.depth * M.width)) ≤ 524288 = mul-le-mul {n₂ = 8} {m₂ = 65536} r.reads_few (omega (arith, bits_max)) in
+        omega (arith, split_most, a, b)

@@ -57,6 +57,7 @@ pub record Exact (m : Memory) (nets trits : List ℕ) : Type 0 where
   pub reads_few : m.read_count ≤ 8
   pub nets_exact : length nets ≡ nets_total m
   pub trits_exact : length trits ≡ trits_total m
+  pub relations_few : any long_relations (read_ports_of m) ≡ false
 
 pub exact : {one two four : Bool} {next : ℕ} {m : Memory} {nets trits : List ℕ} → Valid one two four next m nets trits → Exact m nets trits
 unfolding too_many_ports bad_lens
@@ -69,6 +70,7 @@ exact {m = m} {nets = nets} {trits = trits} v =
       reads_few = ltb-false 8 m.read_count a.1;
       nets_exact = eqb-true (length nets) (nets_total m) (not-false _ b.0);
       trits_exact = eqb-true (length trits) (trits_total m) (not-false _ c.0);
+      relations_few = c.1;
     }
 
 pub record Sizes (m : Memory) : Type 0 where

@@ -71,3 +71,15 @@ module _ (bytes : List ℕ) where
     not_zero : record_number bytes ≢ 0
     unfolding record_number
     not_zero e = too_long (else_zero (header_refusal bytes (length bytes)) _ e).0
+
+    long_listed : lister_stored first (length bytes) ≡ lister bytes
+    long_listed =
+        sym (stored_part first (length bytes) (record_number bytes) (λ e. absurd (omega (arith, length_first))) (sym number_is)) ∙ lister_refused bytes (record_number bytes) refl not_zero
+
+  short_listed : length bytes ≤ max_record → lister_stored first (length bytes) ≡ lister bytes
+  unfolding first
+  short_listed h = ap (λ (l : List ℕ). lister_stored l (length bytes)) (take_all max_record bytes h) ∙ sym (stored_whole bytes (length bytes) refl)
+
+  pub stored_listed : lister_stored (take max_record bytes) (length bytes) ≡ lister bytes
+  unfolding first
+  stored_listed = cases_le (length bytes) max_record short_listed long_listed

@@ -116,17 +116,17 @@ same_if : (t : Bool) (x y z : Head) → x ≡ z → y ≡ z → (when t then x e
 same_if true x y z e f = e
 same_if false x y z e f = f
 
-nine_step : (f c b : ℕ) → head_step_of (head_as 9 f c 0) b ≡ head_as 9 f c 0
+nine_step : (f c v b : ℕ) → head_step_of (head_as 9 f c v) b ≡ head_as 9 f c v
 unfolding head_step_of head_digit head_blank head_comma head_break head_word head_entry head_letter
-nine_step f c b =
+nine_step f c v b =
     same_if (is_digit_of b) _ _ _ refl
     (same_if (is_blank b) _ _ _ refl (same_if (eqb b 44) _ _ _ refl (same_if (eqb b 10) _ _ _ refl (same_if (eqb b 45) _ _ _ refl (same_if (eqb b 112) _ _ _ refl refl)))))
 
-run_nine : (f c : ℕ) (ws x : List ℕ) → (head_run (head_as 9 f c 0) ws x).state ≡ head_as 9 f c 0
+run_nine : (f c v : ℕ) (ws x : List ℕ) → (head_run (head_as 9 f c v) ws x).state ≡ head_as 9 f c v
 unfolding head_run
-run_nine f c ws [] = refl
-run_nine f c ws (b ∷ x) =
-    ap (λ (h : Head). (head_run h (head_stored (head_as 9 f c 0) b ws) x).state) (nine_step f c b) ∙ run_nine f c (head_stored (head_as 9 f c 0) b ws) x
+run_nine f c v ws [] = refl
+run_nine f c v ws (b ∷ x) =
+    ap (λ (h : Head). (head_run h (head_stored (head_as 9 f c v) b ws) x).state) (nine_step f c v b) ∙ run_nine f c v (head_stored (head_as 9 f c v) b ws) x
 
 -- ---- the table by what follows the break
 abbrev pub by_head_of : ℕ → Layout → List ℕ → Parsed
@@ -141,16 +141,16 @@ table_three : (f c v : ℕ) (ws x : List ℕ) → head_table (head_run (head_as 
 unfolding head_table
 table_three f c v ws x = ap head_table (run_three f c v ws x)
 
-nine_number : (f c : ℕ) → head_number (head_as 9 f c 0) ≡ 9
+nine_number : (f c v : ℕ) → head_number (head_as 9 f c v) ≡ 9
 unfolding head_number
-nine_number f c = refl
+nine_number f c v = refl
 
 by_state : (e : HeadEnd) (n : ℕ) → head_number e.state ≡ n → eqb n 0 ≡ false → head_table e ≡ NoTable 1 n
 unfolding head_table
 by_state e n k z = rw (k, z)
 
-table_nine : (f c : ℕ) (ws x : List ℕ) (q : Layout) → head_table (head_run (head_as 9 f c 0) ws x) ≡ by_head_of 9 q x
-table_nine f c ws x q = by_state (head_run (head_as 9 f c 0) ws x) 9 (ap head_number (run_nine f c ws x) ∙ nine_number f c) refl
+table_nine : (f c v : ℕ) (ws x : List ℕ) (q : Layout) → head_table (head_run (head_as 9 f c v) ws x) ≡ by_head_of 9 q x
+table_nine f c v ws x q = by_state (head_run (head_as 9 f c v) ws x) 9 (ap head_number (run_nine f c v ws x) ∙ nine_number f c v) refl
 
 pub head_line_lem : (body : List ℕ) → OneLine body → HeadLine body
 unfolding head_break
@@ -176,7 +176,7 @@ head_line_lem body e = on (eqb (head_blank h).kind 0 && eqb (head_blank h).field
     on false k = record {
       number = 9;
       layout = layout_read ws 0;
-      table = λ x. ap head_table (to_break x ∙ ap (λ (g : Head). head_run g ws x) (rw k)) ∙ table_nine h.field h.count ws x (layout_read ws 0);
+      table = λ x. ap head_table (to_break x ∙ ap (λ (g : Head). head_run g ws x) (rw k)) ∙ table_nine h.field h.count h.value ws x (layout_read ws 0);
     }
 
 -- ---- where the line ends

@@ -239,3 +239,7 @@ module _ (body x : List ℕ) (one : OneLine body) (t : Table) (parsed : parse_ta
       ∙ ap (λ (l : List ℕ). rows_table t.layout (l ++ (10 ∷ []))) shown_is
       ∙ ap (rows_table t.layout) (rows_append t.layout.width t.rows 0 t.layout.depth [] (10 ∷ []))
       ∙ rows_parse t.layout good.good t.rows good.sized good.trits
+
+-- a text that fits the room is written whole
+pub text_written : (out text : List ℕ) → length text ≤ length out → text_end out text ≡ record { answer = IsBack (Accepted (length text)); out = sets out 0 text }
+text_written out text h = sym (text_accepted out text (sets out 0 text) (length text) refl refl h)
