@@ -1,31 +1,55 @@
 #!/usr/bin/env python3
 """Fails where a public function of a library crate promises too little, as far as its text shows: exports count as public.
 
-Each has an `ensures` and no `requires`; its clauses name the result and what each `&mut` parameter holds after the call, not only in
-a premise; no clause says that a thing equals itself, and none has a premise that cannot hold. `test_contracts.py` tries this script.
+Each has an `ensures` and no `requires`; its clauses name the result and what each `&mut` parameter holds after the call, a lent struct
+whole or by each of its fields, not only in a premise; no clause says that a thing equals itself, and none has a premise that cannot hold.
+The methods of a public trait are public. `test_contracts.py` tries this script.
 """
+import functools
 import glob
+import itertools
 import os
 import re
 import sys
 
-# Emissions inside other calls, with room that the call clears once: what it holds afterwards is open, and nobody reads it.
+
+def inside(room, *fields):
+    return tuple(f'{room}.{field}' for field in fields)
+
+
+# Emissions inside other calls, with room that the call clears once: what these arrays hold afterwards is open, and nobody reads it.
+KEYS = inside('keys', 'x', 'y', 'at')
+TRITS = inside('trits', 'packed', 'clear', 'reset', 'init')
+MUXES = ('spare',) + KEYS
+OVERLAY = ('bits', 'mask', 'select') + MUXES
 OPEN = {
-    'crates/merge_mux/src/emit.rt emit_dedup_mux': ('keys',),
-    'crates/merge_mux/src/emit.rt emit_bitwise_mux': ('keys',),
-    'crates/merge_keys/src/lib.rt merge': ('self',),
-    'crates/merge_dff/src/lib.rt emit_dedup_dff': ('keys', 'trits'),
-    'crates/port_overlay/src/lib.rt emit_unmap': ('overlay',),
-    'crates/port_unmap/src/lib.rt emit': ('overlay',),
-    'crates/port_unmap_all/src/lib.rt emit_unmap_all': ('overlay',),
-    'crates/port_reset_emit/src/lib.rt emit_reset': ('room',),
-    'crates/fallback_row/src/lib.rt emit_held': ('row',),
+    'crates/merge_keys/src/lib.rt merge': inside('self', 'x', 'y', 'at'),
+    'crates/merge_mux/src/emit.rt emit_dedup_mux': KEYS,
+    'crates/merge_mux/src/emit.rt emit_bitwise_nets': KEYS,
+    'crates/merge_mux/src/emit.rt emit_bitwise_mux': KEYS,
+    'crates/merge_dff/src/lib.rt emit_dedup_dff': KEYS + TRITS,
+    'crates/port_delay/src/lib.rt emit_delayed': inside('self', 'starts', *KEYS, *TRITS),
+    'crates/port_transparency/src/lib.rt emit_transparency': inside('self', *OVERLAY),
+    'crates/port_transparency/src/lib.rt add': inside('overlay', *OVERLAY),
+    'crates/port_overlay/src/lib.rt emit_pair': inside('overlay', *OVERLAY),
+    'crates/port_overlay/src/lib.rt emit_pairs': inside('overlay', *OVERLAY),
+    'crates/port_overlay/src/lib.rt emit_unmap': inside('overlay', 'under', *OVERLAY),
+    'crates/port_unmap/src/lib.rt emit': inside('overlay', 'under', *OVERLAY),
+    'crates/port_unmap_all/src/lib.rt emit_unmap_all': inside('overlay', 'under', *OVERLAY),
+    'crates/port_reset_emit/src/lib.rt emit_reset': inside('room', *inside('overlay', 'under', *OVERLAY), *inside('mask', 'over', *TRITS, 'ones', 'starts')),
+    'crates/fallback_row/src/lib.rt emit_start': inside('row', *MUXES),
+    'crates/fallback_row/src/lib.rt emit_over': inside('row', *MUXES),
+    'crates/fallback_row/src/lib.rt emit_held': inside('row', *MUXES),
     'crates/fallback_row/src/lib.rt emit_drive': ('spare',),
 }
 
 PUBLIC = re.compile(r'\bpub\b(?!\s*\()[^;{}()=]*?\bfn\s+(\w+)')
 EXPORTED = re.compile(r'#\[[^\]]*\bno_mangle\b[^\]]*\](?:\s*#\[[^\]]*\])*\s*(?:pub\s*\([^)]*\))?[^;{}()=]*?\bfn\s+(\w+)')
 QUOTED = re.compile(r'''b?r(#*)".*?"\1|"(?:\\.|[^"\\])*"|b?'(?:\\(?:x..|.)|[^'\\\n])\'''', re.S)
+TRAIT = re.compile(r'\bpub\b(?!\s*\()[^;{}()=]*?\btrait\s+\w+[^{]*\{')
+STRUCT = re.compile(r'\bstruct\s+(\w+)[^;{(]*\{')
+METHOD = re.compile(r'\bfn\s+(\w+)')
+IMPL = re.compile(r'\bimpl\b([^;{]*)\{')
 MUT = re.compile(r"&\s*(?:'\w+\s*)?mut\b")
 TOKEN = re.compile(r'«[^»]*»|\.[^\s(){}.;,@"«»]+|[(){}.;,@"]|[^\s(){}.;,@"«»]+')
 CLOSES = {'(': ')', '{': '}'}
@@ -104,6 +128,7 @@ def taken_apart(text, start):
     while True:
         i += 1
         if i >= len(text) or text[i] == ';':
+            result = text[from_:i].strip() if result is None else result
             break
         if text[i] in '([':
             i = closing(text, i)
@@ -128,14 +153,64 @@ def holders(text):
     return {name for name, body in kinds if MUT.search(body)}
 
 
-def lent(params, holding=()):
-    """The names of the parameters through which the function writes."""
-    names = []
-    for part in re.split(r',(?![^<(\[]*[>)\]])', params):
+def typed(text):
+    """The name and the type of each parameter or field; a receiver has a type alone, and one that is only read is left out."""
+    for part in re.split(r',(?![^<(\[]*[>)\]])', text):
         name, _, kind = part.partition(':')
-        if MUT.search(kind or name) or set(re.findall(r'\w+', kind)) & set(holding):
-            names.append('self' if not kind else name.split()[-1])
-    return names
+        if kind:
+            yield name.split()[-1], kind
+        elif part.strip() and (MUT.search(part) or '&' not in part):
+            yield 'self', re.sub(r'^\s*mut\b', '', re.sub(r'\bself\b', 'Self', part))
+
+
+def owner(text, place):
+    """The type whose `impl` a place stands in."""
+    around = [m.group(1).strip() for m in IMPL.finditer(text, 0, place) if closing(text, m.end() - 1) > place]
+    head = around[-1] if around else ''
+    head = head[closing(head, 0) + 1:] if head.startswith('<') else head
+    return re.split(r'\bwhere\b', re.split(r'\bfor\b', head)[-1])[0]
+
+
+def structs(text, path):
+    """Each struct with named fields: its file, its name, and its fields with their types."""
+    return [(path, m.group(1), list(typed(text[m.end():closing(text, m.end() - 1)]))) for m in STRUCT.finditer(text)]
+
+
+def crate_of(path):
+    return path.split('/')[1] if '/' in path else ''
+
+
+def fields_of(kind, path, text, declared):
+    """The fields of the struct that a file's type names: its own, one of the crates that its paths name, its crate's; else of all so named."""
+    parts = re.fullmatch(rf'\s*(?:{MUT.pattern}\s*)?((?:\w+\s*::\s*)*)(\w+)\s*(?:<.*>)?\s*', kind, re.S)
+    if not parts:
+        return []
+    within, name = parts.groups()
+    known = [(place, fields) for place, other, fields in declared if other == name]
+    paths = re.findall(rf'\b(\w+)\s*::(?:\s*\w+\s*::)*\s*(?:\{{[^}}]*?\b)?{name}\b', within + name if within else text)
+    crates = {crate_of(path) if x in ('crate', 'self', 'super') else x for x in paths}
+    nearer = [lambda x: x == path and not within, lambda x: crate_of(x) in crates, lambda x: crate_of(x) == crate_of(path), lambda x: True]
+    found = ([x for place, fields in known if near(place) for x in fields] for near in nearer)
+    return next((fields for fields in found if fields), [])
+
+
+def leaves(name, kind, fields):
+    """What is written through a name: itself, or each field of its struct, and so on within these."""
+    inner = [x for field, its in fields(kind) for x in leaves(f'{name}.{field}', its, fields)]
+    return inner or [name]
+
+
+def lent(params, fields, holding, own):
+    """What the function may write: a parameter, or the fields of a lent struct; `own` is the type of `self`."""
+    written = []
+    for name, kind in typed(params):
+        kind = re.sub(r'\bSelf\b', lambda _: own, kind)
+        if MUT.search(kind):
+            written += leaves(name, kind, fields)
+        elif set(re.findall(r'\w+', kind)) & set(holding):
+            held = [x for field, its in fields(kind) if MUT.search(its) for x in leaves(f'{name}.{field}', its, fields)]
+            written += held or [name]
+    return written
 
 
 # ---- the words of a clause
@@ -329,6 +404,27 @@ def empty(items):
             yield from empty(item)
 
 
+def in_let(words):
+    """Whether a `let` takes what follows these words, so that it is not yet said."""
+    since = words[len(words) - words[::-1].index('in'):] if 'in' in words else words
+    return words[-1:] == ['='] and 'let' in since
+
+
+def named_in(words):
+    """What a clause's words name: the result, and a parameter after the call, whole or by a field."""
+    named = {'result'} & set(words)
+    for i, word in enumerate(words):
+        if words[i + 1:i + 2] == ['.new'] and not in_let(words[:i]):
+            fields = itertools.takewhile(lambda x: str(x).startswith('.'), words[i + 2:])
+            named.add(f'{word}{"".join(fields)}')
+    return named
+
+
+def is_named(thing, named):
+    """Whether the thing is named, or a struct that it is a field of."""
+    return any(f'{thing}.'.startswith(f'{name}.') for name in named)
+
+
 # ---- the faults
 
 def clause_faults(clause, params):
@@ -338,34 +434,37 @@ def clause_faults(clause, params):
     found += sorted(set(empty(body)))
     again = bound(body) & ({'result'} | set(params))
     found += [f'binds {x} anew in a clause' for x in sorted(again)]
-    words = said(body)
-    named = {'result'} & set(words)
-    named |= {x for x, y in zip(words, words[1:]) if y == '.new'}
-    return found, named
+    return found, named_in(said(body))
 
 
-def function_faults(text, start, holding):
+def function_faults(text, start, fields, holding):
     """The faults of the function whose name ends at `start`, and what its clauses leave unsaid."""
     params, result, clauses, others = taken_apart(text, start)
     promises = [body for kind, body in clauses if kind == 'ensures']
-    found = [] if promises else ['has no ensures']
-    found += ['has a requires'] if len(promises) < len(clauses) else []
+    found = ['has a requires'] if len(promises) < len(clauses) else []
     found += ['has a clause of another kind'] if others else []
-    written = lent(params, holding)
+    written = lent(params, fields, holding, owner(text, start))
     named = set()
     for clause in promises:
-        wrong, names = clause_faults(clause, written)
+        wrong, names = clause_faults(clause, {x.split('.')[0] for x in written})
         found += wrong
         named |= names
     wanted = written + (['result'] if re.sub(r'[\s()]', '', result.replace('->', '')) else [])
-    return found, [x for x in wanted if x not in named]
+    return found, ([] if promises else ['ensures']) + [x for x in wanted if not is_named(x, named)]
+
+
+def unsaid_fault(name, x):
+    if x == 'ensures':
+        return f'{name} has no ensures'
+    return f'no clause of {name} says ' + ('its result' if x == 'result' else f'{x} after the call')
 
 
 def functions(text):
-    """The name and its end of each public function."""
-    found = {m.end(): m.group(1) for m in PUBLIC.finditer(text)}
-    found.update({m.end(): m.group(1) for m in EXPORTED.finditer(text)})
-    return sorted(found.items())
+    """The name and its end of each public function, the methods of a public trait among them."""
+    found = [*PUBLIC.finditer(text), *EXPORTED.finditer(text)]
+    for m in TRAIT.finditer(text):
+        found += METHOD.finditer(text, m.end(), closing(text, m.end() - 1))
+    return sorted({m.end(): m.group(1) for m in found}.items())
 
 
 def strange_signs(text):
@@ -377,27 +476,29 @@ def strange_signs(text):
                 yield text.count('\n', 0, m.start()) + 1, name
 
 
-def text_faults(text, path='', left_open=None, holding=()):
-    """The faults of one file, where `left_open` lists its functions' scratch, and `holding` other files' types that hold a `&mut`."""
+def text_faults(text, path='', left_open=None, holding=(), declared=()):
+    """The faults of one file. `left_open` lists what its functions may leave unsaid; other files have types that hold a `&mut`, and structs."""
     left_open = {} if left_open is None else left_open
     text = without_comments(text)
     holding = holders(text) | set(holding)
+    declared = [x for x in declared if x[0] != path] + structs(text, path)
+    fields = functools.partial(fields_of, path=path, text=text, declared=declared)
     for line, name in strange_signs(text):
         yield f'{path}:{line}: {name} is brought in from another module than its own'
+    unsaid = {}
     for start, name in functions(text):
-        found, missing = function_faults(text, start, holding)
+        found, missing = function_faults(text, start, fields, holding)
         line = text.count('\n', 0, start) + 1
         for fault in found:
             yield f'{path}:{line}: {name} {fault}'
-        scratch = left_open.get(f'{path} {name}', ())
         for x in missing:
-            if x not in scratch:
-                what = 'its result' if x == 'result' else f'{x} after the call'
-                yield f'{path}:{line}: no clause of {name} says {what}'
-        head = text[start:text.find('{', start)]
-        for x in scratch:
-            if x not in missing and re.search(rf'\b{x}\b', head):  # another function of that name may not take it
-                yield f'{path}:{line}: {name} says {x}, which scripts/contracts.py has as open: take it from the list'
+            if x not in left_open.get(f'{path} {name}', ()):
+                yield f'{path}:{line}: {unsaid_fault(name, x)}'
+        unsaid[name] = unsaid.get(name, []) + missing
+    for name, missing in unsaid.items():
+        for x in left_open.get(f'{path} {name}', ()):
+            if x not in missing:
+                yield f'{path}: {name} says {x}, which scripts/contracts.py has as open: take it from the list'
 
 
 def faults():
@@ -405,14 +506,15 @@ def faults():
     texts = {}
     for root in sorted(glob.glob('crates/*/src/lib.rt')):
         for path in sorted(glob.glob(os.path.join(os.path.dirname(root), '**', '*.rt'), recursive=True)):
-            texts[path] = open(path, encoding='utf-8').read()
-    holding = set().union(*(holders(without_comments(text)) for text in texts.values()))
+            texts[path] = without_comments(open(path, encoding='utf-8').read())
+    holding = set().union(*(holders(text) for text in texts.values()))
+    declared = [x for path, text in texts.items() for x in structs(text, path)]
     there = set()
     for path, text in texts.items():
-        yield from text_faults(text, path, OPEN, holding)
-        there |= {f'{path} {name}' for _, name in functions(without_comments(text))}
+        yield from text_faults(text, path, OPEN, holding, declared)
+        there |= {f'{path} {name}' for _, name in functions(text)}
     for key in sorted(set(OPEN) - there):
-        yield f'{key} has scratch in scripts/contracts.py and is not there'
+        yield f'{key} is left open in scripts/contracts.py and is not there'
     if not there:
         yield 'no public function was found'
 

@@ -13,6 +13,11 @@ FILLED = '{ filled_with result out.new ≡ fill_call out.old n }'
 # A function with scratch: found, unless the list has it.
 WITH_SCRATCH = 'pub fn f(out: &mut [u8], n: u32) -> u32 ensures { result ≡ n } { n }'
 
+# A lent struct, and a function of it that leaves a field open: found, unless the list has the field.
+ROOM = 'pub struct Room { pub nets: [u32; 4], #[a(b, c)] pub spare: [u32; 4] } '
+LAST = 'pub struct Outer<\'a> { room: Room, st: &\'a mut Room, at: usize } '
+HALF = 'pub fn f(room: &mut Room) ensures { room.new.nets ≡ g } { }'
+
 # A function's text, and a part of what contracts.py must say of it.
 TRICKS = [
     ('pub fn f(x: u32) -> u32 { x }', 'has no ensures'),
@@ -63,10 +68,29 @@ TRICKS = [
     ('pub fn f(out: &mut [u8], n: u32) ensures { out.old ≡ g n } { }', 'says out after the call'),
     ('pub fn f(out: &mut [u8]) ensures { length out.new ≡ length out.old } { }', 'says out after the call'),
     ('pub fn f(a: &mut [u8], b: &\'a mut S) ensures { a.new ≡ g } { }', 'says b after the call'),
-    ('pub struct W<\'a> { out: &\'a mut [u8] } pub fn f<\'a>(w: W<\'a>) ensures { g ≡ 3 } { }', 'says w after the call'),
+    ('pub struct W<\'a> { out: &\'a mut [u8] } pub fn f<\'a>(w: W<\'a>) ensures { g ≡ 3 } { }', 'says w.out after the call'),
+    ('pub struct W<\'a> { out: &\'a mut [u8] } impl W<\'_> { pub fn f(self) ensures { g ≡ 3 } { } }', 'says self.out after the call'),
     ('type Room<\'a> = &\'a mut [u8]; pub fn f<\'a>(to: Room<\'a>) ensures { g ≡ 3 } { }', 'says to after the call'),
     ('pub fn f(&mut self) ensures { g ≡ 3 } { }', 'says self after the call'),
     ('pub fn f(n: [u8; 4], out: &mut [u8; 4]) ensures { n ≡ g } { }', 'says out after the call'),
+    (ROOM + HALF, 'says room.spare after the call'),
+    (ROOM + 'pub fn f(room: &\'a mut Room) ensures { g ≡ 3 } { }', 'says room.nets after the call'),
+    (ROOM + 'impl Room { fn g() {} pub fn f(&mut self) ensures { self.new.nets ≡ g } { } }', 'says self.spare after the call'),
+    (ROOM + 'impl Over<Room> for Room { pub fn f(other: &mut Self) ensures { other.new.nets ≡ g } { } }', 'says other.spare after the call'),
+    (ROOM + 'pub fn f(room: &mut Room) ensures { (room.new).nets ≡ length room.new.spare } { }', 'says room.spare after the call'),
+    (ROOM + 'pub fn f(room: &mut Room) ensures { (room.new.spare ≡ g → room.new.nets ≡ g) } { }', 'says room.spare after the call'),
+    (ROOM + 'pub fn f(room: &mut Room) ensures { let r = room.new in r.nets ≡ g } { }', 'says room.spare after the call'),
+    (ROOM + 'pub fn f(room: &mut Room) ensures { let y = g in let r = (room.new) in r.nets ≡ y } { }', 'says room.spare after the call'),
+    (ROOM + LAST + 'pub fn f(o: &mut Outer) ensures { (o.new.room ≡ g) × ((o.new.st.nets ≡ g) × (o.new.at ≡ 3)) } { }', 'says o.st.spare after the call'),
+    (ROOM + LAST + 'pub fn f(o: &mut Outer) ensures { (o.new.room.nets ≡ g) × ((o.new.st ≡ g) × (o.new.at ≡ 3)) } { }', 'says o.room.spare after the call'),
+    ('pub fn f(room: &mut Strange) ensures { room.new.nets ≡ g } { }', 'says room after the call'),
+    ('pub trait T { fn f(self) -> u32; }', 'f has no ensures'),
+    ('pub unsafe trait T: Copy + From<[u8; 4]> { fn g(); fn f(self) -> u32; }', 'f has no ensures'),
+    ('pub trait T { fn g() -> u32 ensures { result ≡ 3 }; final fn f(x: u32) -> u32 { x } }', 'f has no ensures'),
+    ('pub trait T { fn f(x: u32) -> u32 requires { x < 9 } ensures { result ≡ x }; }', 'has a requires'),
+    ('pub trait T { fn f(x: u32) -> u32 ensures { x ≡ 3 }; }', 'says its result'),
+    ('pub trait T { fn f(&mut self, x: u32) -> u32 ensures { result ≡ x }; }', 'says self after the call'),
+    (ROOM + 'pub trait T { fn f(&self, room: &mut Room) ensures { room.new.nets ≡ g }; }', 'says room.spare after the call'),
     ('pub fn f(x: u32) -> u32 ensures { result ≡ x } trusted { 1 } { x }', 'clause of another kind'),
     ('ghost use specs.Lies.{◌≡◌};', 'another module'),
     ('ghost use specs.Lies.{same as ◌≡◌};', 'another module'),
@@ -85,6 +109,18 @@ GOOD = [
     'pub fn f(x: u32) -> u32 ensures value { result ≡ x } ensures more { g x ≡ h } { x }',
     'pub fn f(x: u32) -> u32 ensures value { (is_whole x ≡ false → result ≡ 0) } ensures more { Put x result } { x }',
     'pub fn f(x: u32) -> u32 ensures { let y = g x in result ≡ map (λ z. z + y) x } { x }',
+    ROOM + 'pub fn f(room: &mut Room) ensures { room.new ≡ g } { }',
+    ROOM + 'pub fn f(room: &mut Room) ensures { Made (length room.old.nets) room.new } { }',
+    ROOM + 'pub fn f(room: &mut Room) ensures { made room.old ≡ record { state = 3; room = room.new; at = 4 } } { }',
+    ROOM + 'pub fn f(room: &mut Room) ensures { (room.new.nets ≡ g) × (take 3 room.new.spare ≡ h) } { }',
+    ROOM + 'pub fn f(room: &mut Room) ensures nets { room.new.nets ≡ g } ensures spare { room.new.spare ≡ room.old.spare } { }',
+    ROOM + 'pub fn f(room: &mut Room) ensures { let r = g room.new in r ≡ h } { }',
+    ROOM + 'impl<\'a> Room { pub fn f(&mut self) -> u32 ensures { result ≡ g self.new } { 0 } }',
+    ROOM + 'impl Room { pub fn f(&self) -> u32 ensures { result ≡ g self.now.nets } { 0 } }',
+    'pub struct W<\'a> { out: &\'a mut [u8] } impl W<\'_> { pub fn f(&self) -> u32 ensures { result ≡ g self.now } { 0 } }',
+    ROOM + LAST + 'pub fn f(o: &mut Outer) ensures { (o.new.room ≡ g) × ((o.new.st ≡ g) × (o.new.at ≡ 3)) } { }',
+    'pub trait T { ghost op: { ℕ → ℕ }; fn f(x: u32) -> u32 ensures { result ≡ op x }; }',
+    'trait T { fn f(self) -> u32; } pub(crate) trait U { fn f(x: u32) -> u32 requires { x < 9 }; }',
     'fn f(x: u32) -> u32 requires { x < 9 } { x }',
     'pub(crate) fn f(x: u32) -> u32 requires { x < 9 } { x }',
     '// pub fn f(x: u32) -> u32 { x }\n/* pub fn g() {} */',
@@ -92,6 +128,29 @@ GOOD = [
     'pub const N: usize = 4;\nfn f() -> u32 { 0 }',
     'ghost use Rattle.std.specs.Prelude.{◌≡◌};',
 ]
+
+# Two functions of one name, of which one leaves `self` open.
+TWO = 'pub fn f(a: &mut [u8]) ensures { a.new ≡ g } { } impl S { pub fn f(&mut self) ensures { Good } { } }'
+
+# A text, what the list has of its `f`, and whether that is just what is open.
+LISTS = [
+    (WITH_SCRATCH, ('out',), True),
+    (GOOD[2], ('out',), False),
+    (ROOM + HALF, ('room.spare',), True),
+    (ROOM + HALF, ('room.spare', 'room.nets'), False),
+    (ROOM + HALF, ('room',), False),
+    (ROOM + 'pub fn f(room: &mut Room) ensures { Made room.new } { }', ('room.spare',), False),
+    (TWO, ('self',), True),
+    (TWO, ('self', 'a'), False),
+    (TWO, (), False),
+    ('pub trait T { fn f(x: u32) -> u32; }', ('ensures', 'result'), True),
+    ('pub trait T { fn f(x: u32) -> u32 ensures { result ≡ x }; }', ('ensures', 'result'), False),
+]
+
+# Structs of one name in two crates, what a third crate's file says before `HALF`, and whether `HALF` then says all.
+ROOMS = [('crates/a/src/lib.rt', 'Room', [('nets', '[u32; 4]'), ('spare', '[u32; 4]')]), ('crates/b/src/room.rt', 'Room', [('nets', '[u32; 4]')])]
+USES = [('use a::Room;', False), ('use a::{Other, Room};', False), ('use b::room::Room;', True), ('use b::{Other, Room};', True), ('', False),
+        (ROOM, False)]
 
 # Stored output with a fault, and without.
 WRONG_OUTPUT = ['nets: 9 compared, 3 wrong', 'kind 1: 7 of 8: accepted 3', 'nets: 0 compared, 0 wrong', 'kind 1: 0 of 0: accepted 0',
@@ -140,10 +199,14 @@ def main():
     for text in GOOD:
         for fault in contracts.text_faults(text, 'f.rt'):
             failed.append(f'found in a good text: {text!r}: {fault}')
-    left_open = list(contracts.text_faults(WITH_SCRATCH, 'f.rt', {'f.rt f': ('out',)}))
-    needless = list(contracts.text_faults(GOOD[2], 'f.rt', {'f.rt f': ('out',)}))
-    if left_open or not needless:
-        failed.append(f'scratch: {left_open}, {needless}')
+    for text, left_open, just in LISTS:
+        found = list(contracts.text_faults(text, 'f.rt', {'f.rt f': left_open}))
+        if just == bool(found):
+            failed.append(f'list: {text!r}, {left_open}: {found}')
+    for before, whole in USES:
+        found = list(contracts.text_faults(before + HALF, 'crates/c/src/lib.rt', declared=ROOMS))
+        if whole == bool(found):
+            failed.append(f'struct of {before!r}: {found}')
     failed += [f'output passes: {text!r}' for text in WRONG_OUTPUT if not list(stdouts.text_faults(text))]
     failed += [f'output fails: {text!r}' for text in RIGHT_OUTPUT if list(stdouts.text_faults(text))]
     failed += [f'edit does not count: {told!r}' for told in FACTS if edits.fault(told)]

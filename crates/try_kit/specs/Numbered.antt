@@ -1,5 +1,5 @@
 -- Counts of cases by the number that each expects.
-use Rattle.std.specs.Prelude.{ℕ, Bool, true, eqb}
+use Rattle.std.specs.Prelude.{ℕ, zero, suc, ◌≡◌, Bool, true, eqb}
 use Rattle.try_kit.specs.Tally.{more}
 use Rattle.try_kit.specs.declared.numbered.Tally.{Tally}
 
@@ -17,3 +17,12 @@ one_case t number ok = record {
   full = more t.full (eqb number 20);
   netless = more t.netless (eqb number 21);
 }
+
+-- u counts one case more than t: of some number, right or not
+unfoldable pub one_case_more : Tally → Tally → Type 0
+one_case_more t u = (number : ℕ) × ((ok : Bool) × (u ≡ one_case t number ok))
+
+-- u counts n cases more than t, one after the other
+unfoldable pub cases_more : ℕ → Tally → Tally → Type 0
+cases_more zero t u = u ≡ t
+cases_more (suc n) t u = (v : Tally) × (cases_more n t v × one_case_more v u)

@@ -3,6 +3,7 @@
 ghost use Rattle.std.specs.Prelude.{◌≡◌, min, ◌+◌};
 ghost use Rattle.rules.specs.Answers.{slice_call};
 ghost use Rattle.net_logic.specs.View.{given_part};
+ghost use Rattle.try_kit.specs.Numbered.{no_case, one_case_more, cases_more};
 ghost use Rattle.try_kit.specs.Spoilt.{is_control, select_in, controls_in};
 ghost use Rattle.try_kit.specs.Requests.{kind_of, words_of, results_of, bad_one_of, sum_of, clear_of, reset_of, init_of};
 
@@ -267,9 +268,12 @@ const NETS: usize = 4100;
 
 // What is tried of each case, and then all the cases of a request.
 pub trait Trial {
-    fn tried(t: Tally, c: Case, x: Inputs<'_>) -> Tally;
+    fn tried(t: Tally, c: Case, x: Inputs<'_>) -> Tally
+        ensures { one_case_more t result };
 
-    final fn try_case(t: Tally, c: Case) -> Tally {
+    final fn try_case(t: Tally, c: Case) -> Tally
+        ensures { one_case_more t result }
+    {
         let mut a = [0u32; NETS];
         let mut b = [0u32; NETS];
         let mut trits = [0u8; NETS];
@@ -282,7 +286,9 @@ pub trait Trial {
         Self::tried(t, c, inputs)
     }
 
-    final fn try_all(request: Request) -> Tally {
+    final fn try_all(request: Request) -> Tally
+        ensures { cases_more 720 no_case result }
+    {
         let mut t = numbered::start();
         for k in 0..CASES {
             t = Self::try_case(t, Case::at(request, k));
