@@ -1,9 +1,20 @@
 // Copies, fills, stores and parts of slices, and powers of two, that ask nothing: what lies past the end of a lent array is not stored.
 #![tactic(auto)]
 
-ghost use Rattle.std.specs.Prelude.{◌≡◌, ◌-◌, ◌^◌, ◌<◌, ◌≤◌, min, length, replicate, set};
+ghost use Rattle.std.specs.Prelude.{◌≡◌, ◌+◌, ◌-◌, ◌^◌, ◌<◌, ◌≤◌, min, length, replicate, set, take};
 ghost use Rattle.std.proofs.lemmas.List.Edits.{sets};
 ghost use Rattle.lists.specs.Lists.{part, up_from};
+
+// Copies so many elements.
+fn copy_part<T: Copy>(to: &mut [T], at: usize, from: &[T], n: usize)
+    requires { (at + n ≤ length to.old) × (n ≤ length from.now) }
+    ensures { to.new ≡ sets to.old at (take n from.now) }
+{
+    // one by one: `copy_from_slice` calls a function of the C library for one element too
+    for (i, x) in from[..n].iter().enumerate() {
+        to[at + i] = *x;
+    }
+}
 
 // Copies `from` into `to` from `at` on.
 pub fn copy<T: Copy>(to: &mut [T], at: usize, from: &[T])
@@ -11,7 +22,7 @@ pub fn copy<T: Copy>(to: &mut [T], at: usize, from: &[T])
 {
     let start = at.min(to.len());
     let n = from.len().min(to.len() - start);
-    to[start..start + n].copy_from_slice(&from[..n]);
+    copy_part(to, start, from, n);
 }
 
 // Stores `count` times `value` from `at` on.

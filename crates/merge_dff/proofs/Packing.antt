@@ -10,7 +10,8 @@ use Rattle.std.proofs.lemmas.List.{nil_from_length}
 use lib.ListN.{length, take, get_or, set, length-map}
 use lib.Seq.{sets}
 use Rattle.lists.specs.Lists.{pairs}
-use Rattle.lists.proofs.Pairs.{pairs_size}
+use Rattle.lists.proofs.Pairs.{pairs_size, take_pairs}
+use Rattle.lists.proofs.Joined.{map_take}
 use Rattle.lists.proofs.Maps.{map_turn}
 use Rattle.lists.proofs.Store.{copy_done}
 use Rattle.merge_dff.specs.Packs.{pack_of, packed_byte, packs}
@@ -25,6 +26,11 @@ module _ (r c i : List ℕ) where
   packs_none e to k =
       let n : length (packs r c i) ≡ 0 = ⊎_elim (λ h. omega (arith, packs_size, h)) (⊎_elim (λ h. omega (arith, packs_size, h)) (λ h. omega (arith, packs_size, h))) e in
       ap (sets to k) (sym (nil_from_length (packs r c i) n))
+
+  -- of the first n of each
+  pub packs_take : (n : ℕ) → packs (take n r) (take n c) (take n i) ≡ take n (packs r c i)
+  unfolding packs
+  packs_take n = rw (← take_pairs n c i, ← take_pairs n r (pairs c i)) (map_take _ n (pairs r (pairs c i)))
 
   -- a turn: one of each
   pub pack_turn : (to : List ℕ) (k : ℕ) {r' c' i' to' : List ℕ} {x y z w k' : ℕ} → r ≡ x ∷ r' → c ≡ y ∷ c' → i ≡ z ∷ i' → w ≡ pack_of x y z → k' ≡ k + 1

@@ -39,11 +39,12 @@ fn pack_trits(to: &mut [u32], reset: &[u8], clear: &[u8], init: &[u8]) -> usize
     ensures to_after { to.new ≡ sets to.old 0 (packs reset.now clear.now init.now) }
     ensures bytes { Bytes reset.now clear.now init.now }
 {
-    let trits = reset.iter().zip(clear.iter().zip(init));
+    let n = to.len().min(reset.len().min(clear.len().min(init.len())));
+    let trits = reset[..n].iter().zip(clear[..n].iter().zip(&init[..n]));
     for (i, (reset, (clear, init))) in trits.enumerate() {
         lists::put(to, i, pack(*reset, *clear, *init));
     }
-    to.len().min(reset.len().min(clear.len().min(init.len())))
+    n
 }
 
 // Stores the byte of weight `by` of each word in `to`, as far as it reaches.

@@ -3,23 +3,22 @@ use mathlib.Core.Path.{◌≡◌, refl, sym, ap, ◌∙◌}
 use mathlib.Core.Logic.{◌⊎◌, inl, inr}
 use mathlib.Core.Bool.{Bool, true, false, ◌||◌}
 use Prim.Native.Nat.{ℕ, zero, suc, ◌+◌, ◌-◌, ◌/◌, ◌%◌, ◌^◌, ◌<◌, ◌≤◌, min}
-use native.Mathlib.Nat.{pow-suc, pow-succ', div-one, div-div-eq-div-mul}
-use native.Mathlib.Numerals.{add-one}
+use native.Mathlib.Nat.{pow-succ', div-one, div-div-eq-div-mul}
 use native.Mathlib.Omega.{arith}
-use mathlib.Core.List.{List, [], ◌∷◌, ◌++◌}
-use lib.ListN.{take, drop, get_or, set}
-use lib.Seq.{sets, take-nil, drop-nil}
+use mathlib.Core.List.{List, [], ◌∷◌, ◌++◌, map}
+use lib.ListN.{length, take, drop, get_or, set}
+use lib.Seq.{sets, take_all, take-nil, drop-nil}
 use Rattle.std.proofs.Math.ListN.{get_or-eq_default}
 use Rattle.rules.proofs.Written.{length_uint}
 use lib.Dec.{eqb, ltb, leb}
 use borrow.Author.Tests.{le-leb, lt-leb}
 use Rattle.lists.specs.Lists.{any, pairs}
 use Rattle.lists.proofs.Choice.{cases_le}
+use Rattle.lists.proofs.Pairs.{length_pairs}
 use Rattle.lists.proofs.Joined.{or_assoc, any-joined}
-use Rattle.std.specs.List.{range_with_len}
 use Rattle.rules.specs.Value.{from_uint}
 use Rattle.rules.specs.Record.{trit_by}
-use Rattle.record_bits.specs.Groups.{trits_by, bad_by, bad_pair}
+use Rattle.record_bits.specs.Groups.{trits_by, group_trits, bad_by, bad_pair}
 
 -- ---- the bits of a number
 pub bit_of : (n b i : ℕ) → i < n → b / 2 ^ i % 2 ≡ get_or (from_uint n b) i 0
@@ -36,9 +35,6 @@ unfolding from_uint
 uint_step n x i h =
     let e : n - i ≡ suc (n - (i + 1)) = omega arith in
     rw e
-
-halved : (x i : ℕ) → x / 2 ^ (i + 1) ≡ x / 2 ^ i / 2
-halved x i = ap (λ (k : ℕ). x / k) (ap (λ (j : ℕ). 2 ^ j) (add-one i) ∙ pow-suc 2 i) ∙ sym (div-div-eq-div-mul x (2 ^ i) 2)
 
 -- ---- trits
 -- those left from bit i on
@@ -61,6 +57,14 @@ pub trits_end : (l : List ℕ) (at count k v i : ℕ) → min count 8 ≤ i → 
 trits_end l at count k v i h =
     ap (sets l at) (cases_le count i (λ g. trits_none (count - i) (8 - i) k v (inl (omega arith))) (λ g. trits_none (count - i) (8 - i) k v (inr (omega arith))))
 
+-- of eight or more, all the trits are there
+pub group_whole : (count k v : ℕ) → 8 ≤ count → group_trits 8 k v ≡ group_trits count k v
+unfolding group_trits
+group_whole count k v h =
+    let ps = pairs (from_uint 8 k) (from_uint 8 v) in
+    let e : length ps ≡ 8 = length_pairs (from_uint 8 k) (from_uint 8 v) (length_uint 8 k ∙ sym (length_uint 8 v)) ∙ length_uint 8 k in
+    ap (map (λ p. trit_by p.0 p.1)) (take_all 8 ps (omega (arith, e)) ∙ sym (take_all count ps (omega (arith, e))))
+
 -- ---- errors
 or_shift : (a b x y : Bool) → (a || (x || (b || y))) ≡ ((a || b) || (x || y))
 or_shift true b x y = refl
@@ -77,7 +81,7 @@ bad_more (suc n) k v ks vs =
     rw (e, lt-leb (suc n) 0 (omega arith)) (or_assoc (ltb k v) (any (λ p. ltb p.0 p.1) (take n (pairs ks vs))) (any (eqb 1) (drop n ks ++ drop n vs)))
 
 -- those left from bit i on
-abbrev bad_left : (count k v i : ℕ) → Bool
+abbrev pub bad_left : (count k v i : ℕ) → Bool
 bad_left count k v i = bad_by (count - i) (from_uint (8 - i) k) (from_uint (8 - i) v)
 
 spare : (count i : ℕ) → leb (count - i) 0 ≡ leb count i
@@ -86,26 +90,13 @@ spare count i =
     (λ h. le-leb (count - i) 0 (omega arith) ∙ sym (le-leb count i h))
     (λ h. lt-leb (count - i) 0 (omega arith) ∙ sym (lt-leb count i h))
 
-bad_turn : (count k v i : ℕ) → i < 8 → bad_left count k v i ≡ (bad_pair (leb count i) (k % 2) (v % 2) || bad_left count (k / 2) (v / 2) (i + 1))
+pub bad_turn : (count k v i : ℕ) → i < 8 → bad_left count k v i ≡ (bad_pair (leb count i) (k % 2) (v % 2) || bad_left count (k / 2) (v / 2) (i + 1))
 bad_turn count k v i h =
     let e : count - (i + 1) ≡ count - i - 1 = omega arith in
     rw (uint_step 8 k i h, uint_step 8 v i h, e, ← spare count i) (bad_more (count - i) (k % 2) (v % 2) (from_uint (8 - (i + 1)) (k / 2)) (from_uint (8 - (i + 1)) (v / 2)))
 
-bad_end : (count k v i : ℕ) → 8 ≤ i → bad_left count k v i ≡ false
+pub bad_end : (count k v i : ℕ) → 8 ≤ i → bad_left count k v i ≡ false
 unfolding from_uint
 bad_end count k v i h =
     let e : 8 - i ≡ 0 = omega arith in
     rw (e, take-nil {A = ℕ × ℕ} (count - i), drop-nil {A = ℕ} (count - i))
-
-bads_any : (count k v n i : ℕ) → i + n ≡ 8
-    → any (λ j. bad_pair (leb count j) (get_or (from_uint 8 k) j 0) (get_or (from_uint 8 v) j 0)) (range_with_len i n) ≡ bad_left count (k / 2 ^ i) (v / 2 ^ i) i
-bads_any count k v zero i e = sym (bad_end count (k / 2 ^ i) (v / 2 ^ i) i (omega (arith, e)))
-bads_any count k v (suc n) i e =
-    let half : (x : ℕ) → x / 2 ^ (i + 1) ≡ x / 2 ^ i / 2 = λ x. halved x i in
-    rw (bad_turn count (k / 2 ^ i) (v / 2 ^ i) i (omega (arith, e)), bit_of 8 k i (omega (arith, e)), bit_of 8 v i (omega (arith, e)), ← half k, ← half v)
-    (ap (λ (t : Bool). bad_pair (leb count i) (get_or (from_uint 8 k) i 0) (get_or (from_uint 8 v) i 0) || t) (bads_any count k v n (i + 1) (omega (arith, e))))
-
-pub all_bads : (count k v : ℕ) → any (λ j. bad_pair (leb count j) (get_or (from_uint 8 k) j 0) (get_or (from_uint 8 v) j 0)) (range_with_len 0 8) ≡ bad_by count (from_uint 8 k) (from_uint 8 v)
-all_bads count k v =
-    let z : count - 0 ≡ count = omega arith in
-    bads_any count k v 8 0 (omega arith) ∙ (rw (div-one k, div-one v, z))

@@ -1,7 +1,7 @@
 // Trits and their two bits, known and value, eight trits to a byte, lowest bit first.
 #![tactic(auto)]
 
-ghost use Rattle.std.specs.Prelude.{◌≡◌, ◌++◌, map, ◌%◌, length, take, drop, get_or};
+ghost use Rattle.std.specs.Prelude.{◌≡◌, ◌++◌, map, ◌%◌, ◌≤◌, length, take, drop, get_or};
 ghost use Rattle.std.proofs.lemmas.List.Edits.{sets};
 ghost use Rattle.rules.specs.Value.{from_uint};
 ghost use Rattle.rules.specs.Record.{byte_of, pack_bits, array_bytes, known_bit, value_bit, trit_by};
@@ -40,10 +40,12 @@ pub fn bit_at(byte: u8, i: usize) -> u8
 
 // ---- eight trits
 
-// A known bit and a value bit are in error: of a trit, or where both are spare.
+// The lowest known bit and value bit are in error: of a trit, or where both are spare.
 fn is_bad_pair(spare: bool, known: u8, value: u8) -> bool
-    ensures { result ≡ bad_pair spare known value }
+    ensures { result ≡ bad_pair spare (known % 2) (value % 2) }
 {
+    let known = known % 2;
+    let value = value % 2;
     if spare {
         known == 1 || value == 1
     } else {
@@ -59,21 +61,35 @@ pub struct Group {
 }
 
 impl Group {
-    // Those of the eight trits from a place on, or of as many as are there.
-    pub fn pack(ts: &[u8], at: usize) -> Group
-        ensures { (result.known ≡ byte_of (map known_bit (take 8 (drop at ts.now)))) × (result.value ≡ byte_of (map value_bit (take 8 (drop at ts.now)))) }
+    // Those of no more than eight trits.
+    fn of(ts: &[u8]) -> Group
+        requires { length ts.now ≤ 8 }
+        ensures { (result.known ≡ byte_of (map known_bit ts.now)) × (result.value ≡ byte_of (map value_bit ts.now)) }
     {
         let mut known: u8 = 0;
         let mut value: u8 = 0;
-        for t in lists::part(ts, at, 8).iter().rev() {
+        for t in ts.iter().rev() {
             known = known_bit(*t) + 2 * known;
             value = value_bit(*t) + 2 * value;
         }
         Group { known, value }
     }
 
+    // Those of the eight trits from a place on, or of as many as are there.
+    pub fn pack(ts: &[u8], at: usize) -> Group
+        ensures { (result.known ≡ byte_of (map known_bit (take 8 (drop at ts.now)))) × (result.value ≡ byte_of (map value_bit (take 8 (drop at ts.now)))) }
+    {
+        let group = lists::part(ts, at, 8);
+        // of eight trits the compiler knows the turns, and writes them out
+        if group.len() == 8 {
+            Group::of(&group[..8])
+        } else {
+            Group::of(group)
+        }
+    }
+
     // Stores their trits from a place on, as many as are left up to eight.
-    pub fn spread(self, image: &mut [u8], at: usize, count: usize)
+    fn spread_left(self, image: &mut [u8], at: usize, count: usize)
         ensures { image.new ≡ sets image.old at (group_trits count self.known self.value) }
     {
         if image.len() <= at {
@@ -88,11 +104,33 @@ impl Group {
         }
     }
 
+    // The same.
+    #[tactic(auto, using(crate::proofs::Groups::group_whole))]
+    pub fn spread(self, image: &mut [u8], at: usize, count: usize)
+        ensures { image.new ≡ sets image.old at (group_trits count self.known self.value) }
+    {
+        // of eight trits the compiler knows the turns, and writes them out
+        if count < 8 {
+            self.spread_left(image, at, count)
+        } else {
+            self.spread_left(image, at, 8)
+        }
+    }
+
     // A value bit without its known bit, or a spare bit set, where count trits are left.
     pub fn is_bad(self, count: usize) -> bool
         ensures { result ≡ bad_group count self.known self.value }
     {
-        (0..8).any(|i| is_bad_pair(count <= i, bit_at(self.known, i), bit_at(self.value, i)))
+        let mut known = self.known;
+        let mut value = self.value;
+        for i in 0..8 {
+            if is_bad_pair(count <= i, known, value) {
+                return true;
+            }
+            known /= 2;
+            value /= 2;
+        }
+        false
     }
 }
 

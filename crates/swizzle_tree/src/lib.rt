@@ -44,6 +44,16 @@ fn pair_at(log: &mut Log, bit: u32, pieces: &mut [u32], from: usize, to: usize, 
     lists::store_run(pieces, to, first, log.state.next);
 }
 
+// Moves a piece down. (One by one: `copy_within` needs a function of the C library that nothing else here needs.)
+fn move_down(pieces: &mut [u32], from: usize, to: usize, width: usize)
+    requires { (to ≤ from) × (from + width ≤ length pieces.old) }
+    ensures { pieces.new ≡ sets pieces.old to (part from width pieces.old) }
+{
+    for i in 0..width {
+        pieces[to + i] = pieces[from + i];
+    }
+}
+
 // The piece that is left where there is no other to pair it with.
 fn last_alone(pieces: &mut [u32], left: usize, from: usize, to: usize, width: usize)
     requires { (left ≤ 1) × (to ≤ from) × (from + left * width ≤ length pieces.old) }
@@ -52,7 +62,7 @@ fn last_alone(pieces: &mut [u32], left: usize, from: usize, to: usize, width: us
     if left == 0 {
         return;
     }
-    pieces.copy_within(from..from + width, to);
+    move_down(pieces, from, to, width);
 }
 
 // One level: pieces paired by one bit, in place; a last piece alone, from where the pairs end, passes without a mux.

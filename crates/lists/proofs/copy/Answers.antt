@@ -1,7 +1,10 @@
 -- `lists::copy` meets its contract.
-use Rattle.std.proofs.Common.{arith}
-use Rattle.lists.proofs.Mids.{written}
+use Rattle.std.proofs.Common.{◌∙◌}
+use Rattle.lists.proofs.Store.{copy_done}
+use Rattle.lists.proofs.Mids.{sets_from}
 use Rattle.lists.proofs.copy.Goals as goal
 
 pub returns : goal.returns
-returns g c = written _ _ _ _ _ _ (omega arith) c.copy_from_slice.ensures.after (omega arith) (omega arith)
+returns g c =
+    copy_done c.args.to.now c.copy_part.new.to c.min-start.result c.min-n.result c.args.from.now c.copy_part.ensures c.min-n.ensures
+    ∙ sets_from c.args.to.now c.args.from.now c.args.at c.min-start.result c.min-start.ensures

@@ -1,7 +1,11 @@
 -- `merge_dff::pack_trits` meets its contract.
 use Rattle.std.proofs.Common.{arith, ◌∙◌}
 use mathlib.Core.Logic.{inl, inr, ⊎_elim}
-use Rattle.merge_dff.proofs.Packing.{packs_size, packs_none, pack_turn}
+use mathlib.Core.Path.{ap}
+use lib.Seq.{sets}
+use Rattle.lists.proofs.Store.{copy_done}
+use Rattle.merge_dff.specs.Packs.{packs}
+use Rattle.merge_dff.proofs.Packing.{packs_size, packs_none, packs_take, pack_turn}
 use Rattle.merge_dff.proofs.pack_trits.Goals as goal
 
 pub loop-i-preserved : goal.loop-i-preserved
@@ -13,12 +17,14 @@ loop-i-preserved c =
 pub returns : goal.returns
 returns c =
     let v = c.args in
+    let n = c.min-n.result in
     let i = c.loop-i.invariant in
+    let size = packs_size v.reset.now v.clear.now v.init.now in
     let left = packs_none _ _ _
     (⊎_elim (λ h. inl h.1.0) (λ h. inr (⊎_elim (λ g. inl g.1.0) (λ g. inr g.1.0) h.1)) c.in-None.ensures.steps.0)
     c.loop-i.to c.loop-i.i-iterator.count in
     record {
-      value = omega (arith, packs_size v.reset.now v.clear.now v.init.now, i.0, c.min-3.ensures, c.min-2.ensures, c.min.ensures);
-      to_after = left ∙ i.1;
+      value = omega (arith, size, c.min-n.ensures, c.min-2.ensures, c.min.ensures);
+      to_after = copy_done v.to.now c.loop-i.to 0 n (packs v.reset.now v.clear.now v.init.now) (left ∙ i.1 ∙ ap (sets v.to.now 0) (packs_take v.reset.now v.clear.now v.init.now n)) (omega (arith, size, c.min-n.ensures, c.min-2.ensures, c.min.ensures));
       bytes = record { resets = λ k. omega (arith, c.type_inv.reset k); clears = λ k. omega (arith, c.type_inv.clear k); inits = λ k. omega (arith, c.type_inv.init k) };
     }

@@ -1,18 +1,32 @@
 -- `record_bits::Group::is_bad` meets its contract.
-use Rattle.std.proofs.Common.{rules, tests, arith, ◌∙◌, refl, ℕ, get_or}
-use Rattle.std.proofs.lemmas.Iterator.{YieldsList-from_range}
-use Rattle.std.proofs.lemmas.Iterator.Search.{any_from_yields_List}
-use lib.Dec.{leb}
-use Rattle.rules.specs.Value.{from_uint}
-use Rattle.record_bits.specs.Groups.{bad_pair, bad_group}
-use Rattle.record_bits.proofs.Groups.{all_bads}
+use Rattle.record_bits.proofs.Groups.{bad_turn, bad_end}
+use Rattle.record_bits.specs.Groups.{bad_group}
+use Rattle.lists.proofs.Choice.{or_stop, or_skip}
+use mathlib.Core.Path.{◌≡◌, refl, sym, ◌∙◌}
+use Prim.Native.Nat.{◌-◌}
+use native.Mathlib.Omega.{arith}
 use Rattle.record_bits.proofs.Group.is_bad.Goals as goal
 
-pub returns : goal.returns
+pub loop-i-init : goal.loop-i-init
 unfolding bad_group
+loop-i-init c =
+    let y : c.args.count - 0 ≡ c.args.count = omega arith in
+    rw y
+
+pub returns-then-is_bad_pair : goal.returns-then-is_bad_pair
+returns-then-is_bad_pair c =
+    let l = c.loop-i in
+    let a = c.args in
+    or_stop _ (sym c.is_bad_pair.ensures ∙ c.if-is_bad_pair.true) ∙ sym (bad_turn a.count l.known l.value l.i (omega arith)) ∙ l.invariant
+
+pub loop-i-preserved : goal.loop-i-preserved
+loop-i-preserved c =
+    let l = c.loop-i in
+    let a = c.args in
+    or_skip (sym c.is_bad_pair.ensures ∙ c.if-is_bad_pair.false) refl ∙ sym (bad_turn a.count l.known l.value l.i (omega arith)) ∙ l.invariant
+
+pub returns : goal.returns
 returns c =
-    let k = c.args.self.known in
-    let v = c.args.self.value in
-    let n = c.args.count in
-    any_from_yields_List (λ (j : ℕ). bad_pair (leb n j) (get_or (from_uint 8 k) j 0) (get_or (from_uint 8 v) j 0)) _ _ _ c.any.ensures.ran (YieldsList-from_range 0 8 8 refl (omega arith)) (λ x b q k. search (rules, tests))
-    ∙ all_bads n k v
+    let l = c.loop-i in
+    let a = c.args in
+    sym (bad_end a.count l.known l.value l.i (omega arith)) ∙ l.invariant

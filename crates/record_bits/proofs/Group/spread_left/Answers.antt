@@ -1,4 +1,4 @@
--- `record_bits::Group::spread` meets its contract.
+-- `record_bits::Group::spread_left` meets its contract.
 use Rattle.record_bits.proofs.Groups.{trits_left, trits_turn, trits_end}
 use Rattle.record_bits.specs.Groups.{group_trits}
 use Rattle.lists.proofs.Store.{sets_out}
@@ -7,7 +7,7 @@ use Prim.Native.Nat.{ℕ, ◌+◌, ◌-◌, ◌/◌}
 use native.Mathlib.Omega.{arith}
 use mathlib.Core.List.{List}
 use lib.Seq.{sets}
-use Rattle.record_bits.proofs.Group.spread.Goals as goal
+use Rattle.record_bits.proofs.Group.spread_left.Goals as goal
 
 pub returns-then-image-at : goal.returns-then-image-at
 returns-then-image-at c =
