@@ -45,7 +45,7 @@ fn over_row(log: &mut Log, row: &mut Row, w: usize, mask: &[u32], bits: &[u32])
     ensures { Gave (over mask.now bits.now (take w row.old.nets)) (lent_of log.old) (lent_of log.new) (take w row.new.nets) }
 {
     let under = &row.nets[..w];
-    merge_mux::emit::emit_bitwise_mux(log, &mut row.keys, &mut row.spare, mask, bits, under);
+    merge_mux::emit::emit_bitwise_nets(log, &mut row.keys, &mut row.spare, mask, bits, under);
     lists::copy(&mut row.nets, 0, &row.spare[..w]);
 }
 
@@ -62,7 +62,8 @@ pub fn emit_over(log: &mut Log, row: &mut Row, w: usize, mask: &[u32], bits: &[u
 // The flip-flop of the row, whose results take the place of the first w nets of `q`.
 fn held_row(log: &mut Log, row: &mut Row, w: usize, clock: ControlNet, init: &[u8], q: &[u32])
     requires { (w ≤ max_merge) × (max_merge ≤ length q.now) }
-    ensures { lent_of log.new ≡ run (held_back (control_of clock) init.now (take w row.old.nets) (take w q.now)) (lent_of log.old) }
+    ensures log_after { lent_of log.new ≡ run (held_back (control_of clock) init.now (take w row.old.nets) (take w q.now)) (lent_of log.old) }
+    ensures nets_kept { row.new.nets ≡ row.old.nets }
 {
     let f = FlipFlop {
         controls: Controls::plain(clock),
@@ -75,7 +76,7 @@ fn held_row(log: &mut Log, row: &mut Row, w: usize, clock: ControlNet, init: &[u
     log.emit_replace(&q[..w], &row.spare[..w]);
 }
 
-// The same of any w.
+// The same of any w. The row keeps its nets.
 pub fn emit_held(
     log: &mut Log,
     row: &mut Row,
@@ -84,7 +85,8 @@ pub fn emit_held(
     init: &[u8],
     q: &[u32; rules::MAX_MERGE],
 )
-    ensures { lent_of log.new ≡ run (held_if w (control_of clock) init.now (take w row.old.nets) (take w q.now)) (lent_of log.old) }
+    ensures log_after { lent_of log.new ≡ run (held_if w (control_of clock) init.now (take w row.old.nets) (take w q.now)) (lent_of log.old) }
+    ensures nets_kept { row.new.nets ≡ row.old.nets }
 {
     if rules::MAX_MERGE < w {
         return;

@@ -97,3 +97,6 @@ pub laid_lent : (l : Laid) (p : Params) (n : ℕ) → p ≡ lent_params l → n 
 laid_lent l p n e f = (λ i. handed_on (layout_by (e i) (take (f i) l.entries))) ∙ lent_is l
 
 -- ---- the state of an accepted swizzle is laid out
+pub handed_on_lem : (next : ℕ) (g : Given) (output : Value) (p : Plan) → swizzle_number next g output p ≡ 0
+    → (l : Laid) → laid_of l ≡ handed_on (layout_of g.mem p) → laid_of l ≡ some (layout_of g.mem p)
+handed_on_lem next g output p e l h = h ∙ handed_some (layout_of g.mem p) (layout_good next g output p e)

@@ -1,7 +1,8 @@
 // Images: the state that a swizzle hands on, and by it an image laid out from rows, a row patched, a row read back and the record's sizes.
 #![tactic(auto)]
 
-ghost use Rattle.std.specs.Prelude.{◌≡◌, false, List, ℕ, ◌≤◌, length};
+ghost use Rattle.std.specs.Prelude.{◌≡◌, false, List, ℕ, ◌≤◌, length, min, take};
+ghost use Rattle.rules.specs.Limits.{max_row};
 ghost use Rattle.std.proofs.Math.Option.{none};
 ghost use Rattle.rules.specs.Record.{Sizes, depth_if, sizes_of};
 ghost use Rattle.rules.specs.Conditions.{bad_sizes};
@@ -11,7 +12,7 @@ ghost use Rattle.rules.specs.Answers.{Accepted, patch_call, sizes_call, filled_w
 ghost use Rattle.rules.specs.Refusal.{number_of};
 ghost use Rattle.record_sizes.specs.View.{view_sizes};
 ghost use Rattle.image_geometry.specs.View.{layout_by, layout_of, shape_by};
-ghost use Rattle.image_state.specs.View.{laid_of, unset_laid, laid_by, sizes_answer};
+ghost use Rattle.image_state.specs.View.{laid_of, lent_params, unset_laid, laid_by, sizes_answer};
 ghost use Rattle.image_state.specs.Counts.{Counted};
 
 use image_check::check_layout;
@@ -75,7 +76,9 @@ impl Laid {
     // The layout by which the calls go: of the entries in use, as many as there is place for. Where the length passes that place the unit is 0, as
     // before any swizzle: the calls by such a state are refused by 23.
     pub fn layout(&self) -> Layout<'_>
-        ensures { handed_on (layout_of result) ≡ laid_of self.now }
+        ensures value { handed_on (layout_of result) ≡ laid_of self.now }
+        ensures params { result.params ≡ lent_params self.now }
+        ensures entries { result.entries.now ≡ take (min max_row self.now.len) self.now.entries }
     {
         let len = self.len as usize;
         Layout {

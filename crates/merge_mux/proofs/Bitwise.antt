@@ -10,6 +10,7 @@ use Rattle.lists.proofs.Choice.{cases_le}
 use Rattle.lists.specs.Lists.{part, pairs}
 use Rattle.lists.specs.Distinct.{places}
 use Rattle.lists.proofs.Store.{sets_append}
+use Rattle.lists.proofs.Stores.{take_stored}
 use Rattle.lists.proofs.Parts.{length_part}
 use Rattle.lists.proofs.Pairs.{pairs_size}
 use Rattle.lists.proofs.Distinct.{length_places}
@@ -172,6 +173,14 @@ module _ (s a b : Value) (n : ℕ) (w : Within s a b n) where
       let y = length-take-le n a w.in_a in
       let z = length-take-le n b w.in_b in
       record { first = y ∙ sym x; second = z ∙ sym x; few = rw x w.few }
+
+  -- what the loop stored in spare room is the value
+  pub cut_value : (nets nets' : List ℕ) (k : ℕ) → max_merge ≤ length nets → nets' ≡ sets nets 0 (add_bitwise_mux_of (take n s) (take n a) (take n b) k).value
+      → take n nets' ≡ (add_bitwise_mux_of (take n s) (take n a) (take n b) k).value
+  cut_value nets nets' k h e =
+      take_stored nets nets' _ n e
+      (sym (bitwise_length (take n s) (take n a) (take n b) cut_bits.first cut_bits.second k ∙ length-take-le n s w.in_s))
+      (omega (arith, w.few))
 
   pub cut_is : n ≡ bits_taken s a b → add_bitwise_mux_of (take n s) (take n a) (take n b) ≡ bitwise_of s a b
   unfolding bitwise_of

@@ -125,7 +125,7 @@ fn bits_of(s: &[u32], a: &[u32], b: &[u32]) -> usize
 // add_bitwise_mux without its numbers: a merging mux for each run of equal neighbouring selects. The result net of each bit goes to `nets`, which is left
 // open where the emission overflowed.
 #[tactic(auto, using(crate::proofs::Bitwise::cut_bits, crate::proofs::Bitwise::cut_is))]
-pub fn emit_bitwise_mux(
+pub fn emit_bitwise_nets(
     log: &mut Log,
     keys: &mut Keys,
     nets: &mut [u32],
@@ -138,4 +138,25 @@ pub fn emit_bitwise_mux(
 {
     let n = bits_of(s, a, b);
     mux_runs(log, keys, nets, &s[..n], &a[..n], &b[..n]);
+}
+
+// The same, where `out` keeps what it has if the emission overflows.
+pub fn emit_bitwise_mux(
+    log: &mut Log,
+    keys: &mut Keys,
+    out: &mut [u32],
+    s: &[u32],
+    a: &[u32],
+    b: &[u32],
+)
+    ensures log_after { lent_of log.new ≡ run (bitwise_of s.now a.now b.now) (lent_of log.old) }
+    ensures out_after { out.new ≡ results (is_over (state_of log.new.state)) out.old 0 (bitwise_of s.now a.now b.now log.old.state.next).value }
+{
+    let n = bits_of(s, a, b);
+    let mut nets = [0u32; rules::MAX_MERGE];
+    mux_runs(log, keys, &mut nets, &s[..n], &a[..n], &b[..n]);
+    if log.state.is_over() {
+        return;
+    }
+    lists::copy(out, 0, &nets[..n]);
 }

@@ -136,7 +136,7 @@ fn bitwise_log_refusal(
         words: &mut [],
         state: st.dry_start(),
     };
-    emit::emit_bitwise_mux(&mut dry, keys, &mut [], s, a, b);
+    emit::emit_bitwise_nets(&mut dry, keys, &mut [], s, a, b);
     st.dry_refusal(room, dry.state)
 }
 
@@ -158,6 +158,6 @@ pub fn add_bitwise_mux(
         words: log,
         state: st,
     };
-    emit::emit_bitwise_mux(&mut log, &mut keys, out, s, a, b);
+    emit::emit_bitwise_nets(&mut log, &mut keys, out, s, a, b);
     Ok(log.state)
 }

@@ -270,9 +270,9 @@ fn narrower_of<'a>(waddr: &'a [u32], raddr: &'a [u32], kw: u32, kr: u32) -> (&'a
 pub fn narrower_select<'a>(waddr: &'a [u32], raddr: &'a [u32], kw: u32, kr: u32) -> &'a [u32]
     ensures { result.now ≡ given_part (narrower_select_call kw kr waddr.now raddr.now) }
 {
-    let (narrower, bits) = narrower_of(waddr, raddr, kw, kr);
-    if narrower.len() < bits {
+    if narrower_select_refusal(waddr, raddr, kw, kr).is_err() {
         return &raddr[..0];
     }
+    let (narrower, bits) = narrower_of(waddr, raddr, kw, kr);
     &narrower[..bits]
 }

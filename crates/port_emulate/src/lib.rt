@@ -54,7 +54,8 @@ impl<'a> Emulation<'a> {
     fn emit_port(self, log: &mut Log, room: &mut Room, j: usize, w: WritePort<'_>)
         ensures { (nets trits : List ℕ) → Gave (delayed_by (is_read self.entry.memory.now nets trits j) self.entry.all_x (write_of w.entry) (cut (write_of w.entry) room.old.addr room.old.bits room.old.mask)) (lent_of log.old) (lent_of log.new) (cut_by (is_read self.entry.memory.now nets trits j) (write_of w.entry) room.new.addr room.new.bits room.new.mask) }
     {
-        if !port_relations::relates_to(self.memory, j, MemoryPortRelation::ReadBeforeWrite) {
+        let before = u8::from(MemoryPortRelation::ReadBeforeWrite);
+        if !port_relations::relates_to(self.memory, j, before) {
             return;
         }
         room.emit_delayed(log, self.all_x, w);
@@ -75,7 +76,8 @@ impl<'a> Emulation<'a> {
     {
         let own = lists::part(nets, at, net_memory::write_size(p));
         self.emit_port(log, room, j, WritePort { port: p, nets: own });
-        if port_relations::relates_to(self.memory, j, MemoryPortRelation::ReadBeforeWrite) {
+        let before = u8::from(MemoryPortRelation::ReadBeforeWrite);
+        if port_relations::relates_to(self.memory, j, before) {
             store_port(nets, at, p, room);
         }
     }

@@ -55,26 +55,33 @@ fn relation_to(p: MemoryReadPort, j: usize) -> u8
     p.relations().get(j).copied().unwrap_or(undefined)
 }
 
-// The port is clocked, and has this relation to write port j.
-fn port_relates(p: MemoryReadPort, j: usize, relation: MemoryPortRelation) -> bool
-    ensures { result ≡ port_relates (code_of relation) j p }
+// The port is clocked, and has the relation of this code to write port j.
+fn port_relates(p: MemoryReadPort, j: usize, code: u8) -> bool
+    ensures { result ≡ port_relates code j p }
 {
-    p.flip_flop.is_some() && relation_to(p, j) == u8::from(relation)
+    p.flip_flop.is_some() && relation_to(p, j) == code
+}
+
+// One of these ports is clocked, and has the relation of this code to write port j.
+fn any_has(ports: &[MemoryReadPort], j: usize, code: u8) -> bool
+    ensures { result ≡ any (port_relates code j) ports.now }
+{
+    ports.iter().any(|port| port_relates(*port, j, code))
 }
 
 // One of these ports is clocked, and has this relation to write port j.
 pub fn any_relates(ports: &[MemoryReadPort], j: usize, relation: MemoryPortRelation) -> bool
     ensures { result ≡ any (port_relates (code_of relation) j) ports.now }
 {
-    ports.iter().any(|port| port_relates(*port, j, relation))
+    any_has(ports, j, u8::from(relation))
 }
 
-// Some clocked read port has this relation to write port j.
-pub fn relates_to(m: &Memory, j: usize, relation: MemoryPortRelation) -> bool
-    ensures { (nets trits : List ℕ) → result ≡ any (has_relation (code_of relation) j) (flip_flops_from m.now nets trits 0) }
+// Some clocked read port has the relation of this code to write port j; any code.
+pub fn relates_to(m: &Memory, j: usize, code: u8) -> bool
+    ensures { (nets trits : List ℕ) → result ≡ any (has_relation code j) (flip_flops_from m.now nets trits 0) }
 {
     let count = net_memory::ports_used(m.read_count);
-    any_relates(&m.read_ports[..count], j, relation)
+    any_has(&m.read_ports[..count], j, code)
 }
 
 // Both ReadBeforeWrite and Transparent relate these ports to write port j.

@@ -117,7 +117,7 @@ fn emit_choice(log: &mut Log, overlay: &mut Overlay, from: &[u32], n: usize)
     requires { n ≤ max_merge }
     ensures { Gave (choice (take n overlay.old.mask) (take n overlay.old.bits) (take n overlay.old.under) from.now) (lent_of log.old) (lent_of log.new) (take n overlay.old.under) }
 {
-    merge_mux::emit::emit_bitwise_mux(
+    merge_mux::emit::emit_bitwise_nets(
         log,
         &mut overlay.keys,
         &mut overlay.spare,

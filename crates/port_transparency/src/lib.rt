@@ -57,10 +57,9 @@ pub trait Over {
     // The first nets of the mask, where there is one.
     ghost mask: { Self → ℕ → Option Value };
 
-    // The overlay's write mask of n nets added where the addresses are equal, by the net of the address test.
+    // The overlay's write mask of n nets added where the addresses are equal, by the net of the address test. No mask has more nets than a merge takes.
     fn add(&mut self, overlay: &mut Overlay, log: &mut Log, same: u32, n: usize)
-        requires { n ≤ max_merge }
-        ensures mask_after { Gave (overlaid_mask same (take n overlay.old.mask) (mask self.old n)) (lent_of log.old) (lent_of log.new) (mask self.new n) }
+        ensures mask_after { n ≤ max_merge → Gave (overlaid_mask same (take n overlay.old.mask) (mask self.old n)) (lent_of log.old) (lent_of log.new) (mask self.new n) }
         ensures data_stays { overlay.new.under ≡ overlay.old.under };
 }
 
@@ -79,7 +78,9 @@ impl Over for [u32; rules::MAX_MERGE] {
     ghost mask = { λ over n. some (take n over) };
 
     fn add(&mut self, overlay: &mut Overlay, log: &mut Log, same: u32, n: usize) {
-        overlay.emit_over(log, self, same, n);
+        if n <= rules::MAX_MERGE {
+            overlay.emit_over(log, self, same, n);
+        }
     }
 }
 
@@ -279,7 +280,7 @@ impl Overlay {
             &self.mask[..n],
             &self.spare[..n],
         );
-        merge_mux::emit::emit_bitwise_mux(
+        merge_mux::emit::emit_bitwise_nets(
             log,
             &mut self.keys,
             &mut self.spare,

@@ -140,14 +140,14 @@ pub fn swizzle(
         scratch: scratch.len(),
     };
     swizzle_refusal::swizzle_refusal(r, asked)?;
-    // What follows refuses no swizzle that passed.
-    let laid = Laid::laid_out(asked.plan.layout(asked.given));
-    let sizes = laid.sizes()?;
-    fill_init(image, laid, asked.given)?;
     let mut log = Log {
         words: log,
         state: st,
     };
     let made = make(&mut log, nets_to, trits_to, scratch, asked);
+    // What follows refuses no swizzle that passed.
+    let laid = Laid::laid_out(asked.plan.layout(asked.given));
+    let sizes = laid.sizes()?;
+    fill_init(image, laid, asked.given)?;
     Ok(Swizzled { made, laid, sizes })
 }

@@ -98,12 +98,12 @@ module _ (q : Layout) (rows text : List ℕ) (at : ℕ) (s : Scan) (left : List 
   abbrev Scanned : Type 0
   Scanned = scan_run q.depth q.width scan_start rows (drop at (text ++ (10 ∷ []))) ≡ record { state = scan_of s; rows = left }
 
-  pub rows_refused : (r : Reason) → Scanned → s.kind ≡ Refused r
+  pub rows_refused : (r : Reason) (m v : ℕ) → Scanned → s.kind ≡ Refused r m v
       → NoTable s.line (reason_number r) ≡ table_of q (scan_run q.depth q.width scan_start rows (drop at (text ++ (10 ∷ []))))
   unfolding table_of
-  rows_refused r h k = rw (h, k, reason_not_0 r)
+  rows_refused r m v h k = rw (h, k, reason_not_0 r)
 
-  pub rows_given : Scanned → ((r : Reason) → s.kind ≢ Refused r)
+  pub rows_given : Scanned → ((r : Reason) (m v : ℕ) → s.kind ≢ Refused r m v)
       → IsTable (record { layout = q; rows = take (q.depth * q.width) left }) ≡ table_of q (scan_run q.depth q.width scan_start rows (drop at (text ++ (10 ∷ []))))
   unfolding table_of
   rows_given h n =

@@ -175,7 +175,7 @@ impl Header {
         let mut rows = [rules::TRIT_X; MAX_TRITS];
         let end = scan::read_rows(&mut rows, params.depth, params.width, text.bytes, at);
         match end.kind {
-            scan::Kind::Refused(reason) => Err(Fault {
+            scan::Kind::Refused { reason, .. } => Err(Fault {
                 line: end.line,
                 reason,
             }),

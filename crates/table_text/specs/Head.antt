@@ -5,7 +5,8 @@ use Rattle.lists.specs.Choice.{when◌then◌else◌}
 use Rattle.rules.specs.Limits.{None}
 use Rattle.table_text.specs.Bytes.{max_text, bump, more, low_word, is_blank, is_digit_of, letter_of, next_letter}
 
--- the machine that reads the line: a kind, the field in hand, the words stored, and the number in hand, which is 0 where the kind has none
+-- the machine that reads the line: a kind, the field in hand, the words stored, and the number in hand, which is 0 where the kind has none and which a
+-- refused machine keeps
 pub record Head : Type 0 where
   pub kind : ℕ
   pub field : ℕ
@@ -21,7 +22,7 @@ head_start = head_as 0 0 0 0
 
 -- refused
 abbrev pub head_bad : Head → Head
-head_bad h = head_as 9 h.field h.count 0
+head_bad h = head_as 9 h.field h.count h.value
 
 -- a number ends, in the field `field`
 unfoldable pub number_end : Head → ℕ → Head

@@ -5,7 +5,7 @@ use Rattle.rules.specs.Limits.{max_width}
 use Rattle.table_text.specs.Bytes.{max_text, bump, more, low_word, is_end, trit_of, hex_of}
 
 -- the machine that reads the rows: a kind, the line and the row in hand, the bits of a word that are still to come, and a row number; both are 0 where the
--- kind has none
+-- kind has none, and a refused machine keeps them
 pub record Scan : Type 0 where
   pub kind : ℕ
   pub line : ℕ
@@ -13,16 +13,16 @@ pub record Scan : Type 0 where
   pub left : ℕ
   pub value : ℕ
 
--- kinds: 0 between words, 1 in a word, 2 in a row number, 3 after one slash, 4 in a comment, 5 after `@`, and from 8 on refused
+-- kinds: 0 between words, 1 in a word, 2 in a row number, 3 after one slash, 4 in a comment, 5 after `@`, and from 9 on refused
 abbrev pub scan_as : ℕ → ℕ → ℕ → ℕ → ℕ → Scan
 scan_as kind line row left value = record { kind = kind; line = line; row = row; left = left; value = value }
 
 abbrev pub scan_start : Scan
 scan_start = scan_as 0 2 0 0 0
 
--- a kind that has neither; refused: 11 a byte that does not belong there, 12 a word that is too short, 13 one that is too long, 14 a row past the depth
+-- refused: 11 a byte that does not belong there, 12 a word that is too short, 13 one that is too long, 14 a row past the depth
 abbrev pub with_kind : Scan → ℕ → Scan
-with_kind s kind = scan_as kind s.line s.row 0 0
+with_kind s kind = scan_as kind s.line s.row s.left s.value
 
 -- the machine and the rows at the end of a text
 pub record ScanEnd : Type 0 where
@@ -91,7 +91,7 @@ module _ (depth width : ℕ) where
 
   unfoldable pub scan_step_of : Scan → ℕ → Scan
   scan_step_of s b =
-      when ltb 7 s.kind then s
+      when ltb 8 s.kind then s
       else when eqb s.kind 4 then scan_comment s b
       else when eqb s.kind 3 then scan_slash s b
       else scan_plain s b

@@ -27,7 +27,7 @@ head_kind (heads.Number v) = 1
 head_kind heads.AfterPlain = 2
 head_kind heads.Read = 3
 head_kind (heads.Plain k) = 4
-head_kind (heads.Refused r) = reason_number r
+head_kind (heads.Refused r v) = reason_number r
 
 abbrev pub scan_kind : ScanKind → ℕ
 scan_kind scans.Gap = 0
@@ -36,7 +36,7 @@ scan_kind (scans.Number v) = 2
 scan_kind scans.Slash = 3
 scan_kind scans.Comment = 4
 scan_kind scans.At = 5
-scan_kind (scans.Refused r) = reason_number r
+scan_kind (scans.Refused r n v) = reason_number r
 
 -- the number in hand, 0 where there is none
 abbrev pub head_value : HeadKind → ℕ
@@ -45,7 +45,7 @@ head_value (heads.Number v) = v
 head_value heads.AfterPlain = 0
 head_value heads.Read = 0
 head_value (heads.Plain k) = k
-head_value (heads.Refused r) = 0
+head_value (heads.Refused r v) = v
 
 -- the bits that are to come, and the row number, 0 where there are none
 abbrev pub scan_left : ScanKind → ℕ
@@ -55,7 +55,7 @@ scan_left (scans.Number v) = 0
 scan_left scans.Slash = 0
 scan_left scans.Comment = 0
 scan_left scans.At = 0
-scan_left (scans.Refused r) = 0
+scan_left (scans.Refused r n v) = n
 
 abbrev pub scan_value : ScanKind → ℕ
 scan_value scans.Gap = 0
@@ -64,7 +64,7 @@ scan_value (scans.Number v) = v
 scan_value scans.Slash = 0
 scan_value scans.Comment = 0
 scan_value scans.At = 0
-scan_value (scans.Refused r) = 0
+scan_value (scans.Refused r n v) = v
 
 abbrev pub head_of : HeadMachine → Head
 head_of h = record { kind = head_kind h.kind; field = h.field; count = h.count; value = head_value h.kind }

@@ -1,6 +1,6 @@
 // Bytes of a table's text: digits, what separates words, and numbers that grow digit by digit.
 ghost use Rattle.std.specs.Prelude.{◌≡◌, get_or};
-ghost use Rattle.table_text.specs.Bytes.{bump, more, low_word, is_blank, is_end, trit_of, hex_of, below, letter_of, next_letter};
+ghost use Rattle.table_text.specs.Bytes.{bump, more, low_word, is_blank, is_end, is_digit_of, trit_of, hex_of, below, letter_of, next_letter};
 
 // The longest text that is read.
 pub const MAX_TEXT: usize = 1048576;
@@ -15,7 +15,7 @@ pub fn bumped(n: u32) -> u32
 }
 
 // A number with one digit more.
-pub fn more(base: u8, value: u64, digit: u8) -> u64
+pub fn more(base: u8, value: u64, digit: u32) -> u64
     ensures { result ≡ more base value digit }
 {
     if value < 4294967296 {
@@ -32,44 +32,53 @@ pub fn low_word(value: u64) -> u32
     u32::try_from(value).unwrap_or(0)
 }
 
-// ---- bytes
+// ---- bytes, as numbers of any size
 
+// Space, tab and return.
 #[tactic(auto, unfolding(crate::specs::Bytes::is_blank))]
-pub fn is_blank(b: u8) -> bool
+pub fn is_blank(b: u32) -> bool
     ensures { result ≡ is_blank b }
 {
-    b == b' ' || b == b'\t' || b == b'\r'
+    b == 32 || b == 9 || b == 13
 }
 
+// What ends a word of the rows: a blank, a line break or a slash.
 #[tactic(auto, unfolding(crate::specs::Bytes::is_end))]
-pub fn is_end(b: u8) -> bool
+pub fn is_end(b: u32) -> bool
     ensures { result ≡ is_end b }
 {
-    is_blank(b) || b == b'\n' || b == b'/'
+    is_blank(b) || b == 10 || b == 47
 }
 
-// The trit of a byte.
+#[tactic(auto, unfolding(crate::specs::Bytes::is_digit_of))]
+pub fn is_digit(b: u32) -> bool
+    ensures { result ≡ is_digit_of b }
+{
+    48 <= b && b <= 57
+}
+
+// The trit of 0, 1, X or x.
 #[tactic(auto, unfolding(crate::specs::Bytes::trit_of))]
-pub fn trit_of(b: u8) -> Option<u8>
+pub fn trit_of(b: u32) -> Option<u8>
     ensures { result ≡ below 3 (trit_of b) }
 {
     match b {
-        b'0' => Some(0),
-        b'1' => Some(1),
-        b'x' | b'X' => Some(2),
+        48 => Some(0),
+        49 => Some(1),
+        88 | 120 => Some(2),
         _ => None,
     }
 }
 
-// The value of a hex digit.
+// The value of a hex digit: 0 to 9, a to f, A to F.
 #[tactic(auto, unfolding(crate::specs::Bytes::hex_of, crate::specs::Bytes::is_digit_of))]
-pub fn hex_of(b: u8) -> Option<u8>
+pub fn hex_of(b: u32) -> Option<u32>
     ensures { result ≡ below 16 (hex_of b) }
 {
     match b {
-        b'0'..=b'9' => Some(b - b'0'),
-        b'a'..=b'f' => Some(b - b'a' + 10),
-        b'A'..=b'F' => Some(b - b'A' + 10),
+        48..=57 => Some(b - 48),
+        97..=102 => Some(b - 87),
+        65..=70 => Some(b - 55),
         _ => None,
     }
 }

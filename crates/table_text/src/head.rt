@@ -26,7 +26,8 @@ pub enum Kind {
     Read,
     // the letter of `plain` with this number
     Plain(u64),
-    Refused(Reason),
+    // nothing: the number in hand is kept
+    Refused { reason: Reason, value: u64 },
 }
 
 // The machine that reads the line: what it waits for, the field in hand, and the words stored.
@@ -41,7 +42,7 @@ pub struct Head {
 fn is_stop(b: u8) -> bool
     ensures { result ≡ is_stop b }
 {
-    bytes::is_blank(b) || b == b',' || b == b'\n'
+    bytes::is_blank(u32::from(b)) || b == b',' || b == b'\n'
 }
 
 impl Head {
@@ -51,21 +52,33 @@ impl Head {
         Head { kind, field, count }
     }
 
+    // The number in hand, 0 where there is none.
+    fn value(self) -> u64
+        ensures { result ≡ (head_of self).value }
+    {
+        match self.kind {
+            Kind::Number(value) | Kind::Plain(value) | Kind::Refused { value, .. } => value,
+            Kind::Gap | Kind::AfterPlain | Kind::Read => 0,
+        }
+    }
+
     fn bad(self) -> Head
         ensures { head_of result ≡ head_bad (head_of self) }
     {
+        let reason = Reason::BadHeader;
+        let value = self.value();
         Head {
-            kind: Kind::Refused(Reason::BadHeader),
+            kind: Kind::Refused { reason, value },
             ..self
         }
     }
 
     // A number is at its end, and the next word is of that field.
     #[tactic(auto, unfolding(crate::specs::Head::number_end))]
-    fn number_end(self, value: u64, field: u32) -> Head
-        ensures { head_of result ≡ number_end (head_as 1 self.field self.count value) field }
+    fn number_end(self, field: u32) -> Head
+        ensures { head_of result ≡ number_end (head_of self) field }
     {
-        if value < 4294967296 {
+        if self.value() < 4294967296 {
             Head::new(Kind::Gap, field, bytes::bumped(self.count))
         } else {
             self.bad()
@@ -78,9 +91,9 @@ impl Head {
     {
         match self.kind {
             Kind::Gap => self,
-            Kind::Number(value) => self.number_end(value, bytes::bumped(self.field)),
+            Kind::Number(_) => self.number_end(bytes::bumped(self.field)),
             Kind::AfterPlain => Head::new(Kind::Gap, bytes::bumped(self.field), self.count),
-            Kind::Read | Kind::Plain(_) | Kind::Refused(_) => self.bad(),
+            Kind::Read | Kind::Plain(_) | Kind::Refused { .. } => self.bad(),
         }
     }
 
@@ -88,11 +101,8 @@ impl Head {
     fn comma(self) -> Head
         ensures { head_of result ≡ head_comma (head_of self) }
     {
-        let Kind::Number(value) = self.kind else {
-            return self.bad();
-        };
-        if self.field == ENTRIES {
-            self.number_end(value, ENTRIES)
+        if matches!(self.kind, Kind::Number(_)) && self.field == ENTRIES {
+            self.number_end(ENTRIES)
         } else {
             self.bad()
         }
@@ -117,7 +127,7 @@ impl Head {
         match self.kind {
             Kind::Gap => Some(0),
             Kind::Number(value) => Some(value),
-            Kind::AfterPlain | Kind::Read | Kind::Plain(_) | Kind::Refused(_) => None,
+            Kind::AfterPlain | Kind::Read | Kind::Plain(_) | Kind::Refused { .. } => None,
         }
     }
 
@@ -128,7 +138,7 @@ impl Head {
         let Some(value) = self.number() else {
             return self.bad();
         };
-        let more = bytes::more(10, value, b.saturating_sub(b'0'));
+        let more = bytes::more(10, value, u32::from(b.saturating_sub(b'0')));
         Head::new(Kind::Number(more), self.field, self.count)
     }
 
@@ -184,9 +194,9 @@ impl Head {
     fn step(self, b: u8) -> Head
         ensures { head_of result ≡ head_step_of (head_of self) b }
     {
-        if b.is_ascii_digit() {
+        if bytes::is_digit(u32::from(b)) {
             self.digit(b)
-        } else if bytes::is_blank(b) {
+        } else if bytes::is_blank(u32::from(b)) {
             self.blank()
         } else if b == b',' {
             self.comma()
@@ -244,8 +254,9 @@ pub fn read_head(words: &mut [u32], text: &[u8]) -> Ended
     ensures { head_read words.old text.now ≡ record { state = head_of result.head; words = words.new; rest = drop result.at (text.now ++ (10 ∷ [])) } }
 {
     if bytes::MAX_TEXT < text.len() {
+        let reason = Reason::TextTooLong;
         return Ended {
-            head: Head::new(Kind::Refused(Reason::TextTooLong), 0, 0),
+            head: Head::new(Kind::Refused { reason, value: 0 }, 0, 0),
             at: 0,
         };
     }

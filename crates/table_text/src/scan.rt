@@ -1,5 +1,5 @@
 // The rows of a table's text.
-ghost use Rattle.std.specs.Prelude.{◌≡◌, ◌∷◌, [], ◌++◌, ◌≤◌, ◌&&◌, eqb, ltb, leb, drop, length};
+ghost use Rattle.std.specs.Prelude.{◌≡◌, ◌∷◌, [], ◌++◌, ◌≤◌, ◌&&◌, true, false, eqb, ltb, leb, drop, length};
 ghost use Rattle.rules.specs.Limits.{max_width};
 ghost use Rattle.table_text.specs.Bytes.{max_text};
 ghost use Rattle.table_text.specs.View.{reason_number, scan_kind, scan_left, scan_value, scan_of};
@@ -23,7 +23,12 @@ pub enum Kind {
     Comment,
     // after `@`
     At,
-    Refused(Reason),
+    // refused, with the bits that were to come and the row number so far
+    Refused {
+        reason: Reason,
+        left: u32,
+        value: u64,
+    },
 }
 
 // How many rows there are, and the bits of each: no more than a memory has.
@@ -55,17 +60,41 @@ impl Scan {
         Scan { kind, ..self }
     }
 
+    // The bits of the word in hand that are to come.
+    fn left(self) -> u32
+        ensures { result ≡ (scan_of self).left }
+    {
+        match self.kind {
+            Kind::Word(left) | Kind::Refused { left, .. } => left,
+            Kind::Gap | Kind::Number(_) | Kind::Slash | Kind::Comment | Kind::At => 0,
+        }
+    }
+
+    // The row number so far.
+    fn number(self) -> u64
+        ensures { result ≡ (scan_of self).value }
+    {
+        match self.kind {
+            Kind::Number(value) | Kind::Refused { value, .. } => value,
+            Kind::Gap | Kind::Word(_) | Kind::Slash | Kind::Comment | Kind::At => 0,
+        }
+    }
+
     fn refused(self, reason: Reason) -> Scan
         ensures { scan_of result ≡ with_kind (scan_of self) (reason_number reason) }
     {
-        self.turned(Kind::Refused(reason))
+        self.turned(Kind::Refused {
+            reason,
+            left: self.left(),
+            value: self.number(),
+        })
     }
 
     #[tactic(auto, unfolding(crate::specs::Scan::word_end))]
-    fn word_end(self, left: u32) -> Scan
-        ensures { scan_of result ≡ word_end (scan_as 1 self.line self.row left 0) }
+    fn word_end(self) -> Scan
+        ensures { scan_of result ≡ word_end (scan_of self) }
     {
-        if left == 0 {
+        if self.left() == 0 {
             Scan::new(Kind::Gap, self.line, bytes::bumped(self.row))
         } else {
             self.refused(Reason::ShortWord)
@@ -73,9 +102,10 @@ impl Scan {
     }
 
     #[tactic(auto, unfolding(crate::specs::Scan::number_end))]
-    fn number_end(self, value: u64, size: Size) -> Scan
-        ensures { scan_of result ≡ number_end size.depth (scan_as 2 self.line self.row 0 value) }
+    fn number_end(self, size: Size) -> Scan
+        ensures { scan_of result ≡ number_end size.depth (scan_of self) }
     {
+        let value = self.number();
         if value <= u64::from(size.depth) {
             Scan::new(Kind::Gap, self.line, bytes::low_word(value))
         } else {
@@ -90,9 +120,9 @@ impl Scan {
     {
         match self.kind {
             Kind::Gap => self,
-            Kind::Word(left) => self.word_end(left),
-            Kind::Number(value) => self.number_end(value, size),
-            Kind::Slash | Kind::Comment | Kind::At | Kind::Refused(_) => self.refused(
+            Kind::Word(_) => self.word_end(),
+            Kind::Number(_) => self.number_end(size),
+            Kind::Slash | Kind::Comment | Kind::At | Kind::Refused { .. } => self.refused(
                 Reason::BadByte,
             ),
         }
@@ -113,15 +143,15 @@ impl Scan {
         }
     }
 
-    // The bits of the word in hand that are to come.
+    // The bits that are to come before a trit: a new word has all.
     #[tactic(auto, unfolding(crate::specs::Scan::left_of))]
     fn left_of(self, size: Size) -> u32
         ensures { result ≡ left_of size.width (scan_of self) }
     {
         match self.kind {
             Kind::Gap => size.width,
-            Kind::Word(left) => left,
-            Kind::Number(_) | Kind::Slash | Kind::Comment | Kind::At | Kind::Refused(_) => 0,
+            Kind::Word(left) | Kind::Refused { left, .. } => left,
+            Kind::Number(_) | Kind::Slash | Kind::Comment | Kind::At => 0,
         }
     }
 
@@ -137,17 +167,6 @@ impl Scan {
             self.refused(Reason::LongWord)
         } else {
             Scan::new(Kind::Word(left - 1), self.line, self.row)
-        }
-    }
-
-    // The row number so far.
-    fn number(self) -> u64
-        ensures { result ≡ (scan_of self).value }
-    {
-        match self.kind {
-            Kind::Number(value) => value,
-            Kind::Gap | Kind::Word(_) | Kind::Slash | Kind::Comment | Kind::At | Kind::Refused(_) =>
-                { 0 }
         }
     }
 
@@ -170,7 +189,7 @@ impl Scan {
     fn hex(self, b: u8) -> Scan
         ensures { scan_of result ≡ scan_hex (scan_of self) b }
     {
-        let Some(digit) = bytes::hex_of(b) else {
+        let Some(digit) = bytes::hex_of(u32::from(b)) else {
             return self.refused(Reason::BadByte);
         };
         let value = bytes::more(16, self.number(), digit);
@@ -190,6 +209,7 @@ impl Scan {
 
     #[tactic(auto, unfolding(crate::specs::Scan::scan_slash))]
     fn slash(self, b: u8) -> Scan
+        requires { eqb (scan_of self).kind 3 ≡ true }
         ensures { scan_of result ≡ scan_slash (scan_of self) b }
     {
         if b == b'/' {
@@ -204,7 +224,7 @@ impl Scan {
     fn word(self, size: Size, b: u8) -> Scan
         ensures { scan_of result ≡ scan_word size.depth size.width (scan_of self) b }
     {
-        if bytes::trit_of(b).is_some() {
+        if bytes::trit_of(u32::from(b)).is_some() {
             self.trit(size)
         } else if self.is_in_word() && b == b'_' {
             self
@@ -220,7 +240,7 @@ impl Scan {
     fn plain(self, size: Size, b: u8) -> Scan
         ensures { scan_of result ≡ scan_plain size.depth size.width (scan_of self) b }
     {
-        if bytes::is_end(b) {
+        if bytes::is_end(u32::from(b)) {
             self.end_word(size).gap(b)
         } else if self.takes_trits() {
             self.word(size, b)
@@ -229,13 +249,14 @@ impl Scan {
         }
     }
 
-    // One byte.
+    // One byte; the machine has not refused the text as too long, which that of the header does.
     #[tactic(auto, unfolding(crate::specs::Scan::scan_step_of))]
     fn step(self, size: Size, b: u8) -> Scan
+        requires { eqb (scan_of self).kind 8 ≡ false }
         ensures { scan_of result ≡ scan_step_of size.depth size.width (scan_of self) b }
     {
         match self.kind {
-            Kind::Refused(_) => self,
+            Kind::Refused { .. } => self,
             Kind::Comment => self.comment(b),
             Kind::Slash => self.slash(b),
             Kind::Gap | Kind::Word(_) | Kind::Number(_) | Kind::At => self.plain(size, b),
@@ -262,7 +283,7 @@ impl Scan {
     fn store(self, rows: &mut [u8], size: Size, b: u8)
         ensures { rows.new ≡ scan_stored size.depth size.width (scan_of self) b rows.old }
     {
-        let Some(trit) = bytes::trit_of(b) else {
+        let Some(trit) = bytes::trit_of(u32::from(b)) else {
             return;
         };
         if self.has_place(size) {
@@ -291,7 +312,15 @@ pub fn read_rows(rows: &mut [u8], depth: u32, width: u32, text: &[u8], from: usi
     ensures { rows_read depth width rows.old text.now from ≡ record { state = scan_of result; rows = rows.new } }
 {
     if rules::MAX_WIDTH < width || bytes::MAX_TEXT < text.len() {
-        return Scan::new(Kind::Refused(Reason::Unread), 1, 0);
+        return Scan::new(
+            Kind::Refused {
+                reason: Reason::Unread,
+                left: 0,
+                value: 0,
+            },
+            1,
+            0,
+        );
     }
     read_from(rows, Size { depth, width }, text, from)
 }

@@ -11,8 +11,8 @@ use Rattle.log_entries.specs.View.{lent_of}
 use Rattle.port_overlay.proofs.Laid.{behind_ran}
 use Rattle.fallback_row.proofs.held_row.Goals as goal
 
-pub returns : goal.returns
-returns c =
+pub returns-clause-log_after : goal.returns-clause-log_after
+returns-clause-log_after c =
     let v = c.args in
     let k = c.plain in
     let row = take v.w v.row.now.nets in

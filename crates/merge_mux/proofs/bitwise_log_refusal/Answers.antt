@@ -9,7 +9,7 @@ pub returns : goal.returns
 returns c =
     let v = c.args in
     let t = bitwise_of v.s.now v.a.now v.b.now in
-    let p = c.emit_bitwise_mux in
+    let p = c.emit_bitwise_nets in
     let e = unnamed t 0 _ _ p.ensures.log_after in
     let q = c.dry_refusal in
     dry_called t v.room (state_of v.st) _ (chains_bitwise v.s.now v.a.now v.b.now) (bitwise_below v.s.now v.a.now v.b.now (state_of v.st))

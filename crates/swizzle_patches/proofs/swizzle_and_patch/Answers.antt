@@ -23,7 +23,7 @@ returns-clause-joined c =
     let v = c.args in
     let x = c.in_ok-swizzled.swizzled in
     let called : patched_to (number_of c.patch_each-patches.result) c.patch_each-patches.new.numbers c.patch_each-patches.new.buffer ≡ patches_call v.numbers.now (laid_of x.laid) (calls_of v.calls.words.now v.calls.trits.now) c.swizzle.new.image =
-    c.patch_each-patches.ensures ∙ ap (λ (l : images.Laid). patches_call v.numbers.now l (calls_of v.calls.words.now v.calls.trits.now) c.swizzle.new.image) c.layout.ensures in
+    c.patch_each-patches.ensures ∙ ap (λ (l : images.Laid). patches_call v.numbers.now l (calls_of v.calls.words.now v.calls.trits.now) c.swizzle.new.image) c.layout.ensures.value in
     record {
       left = c.swizzle.new.image;
       swizzled = c.in_ok-swizzled.ensures.scratch_after;

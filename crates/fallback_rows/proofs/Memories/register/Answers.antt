@@ -24,4 +24,4 @@ returns c =
     register_gave s.g m v.init.now s.g.unit refl s.narrow q (take s.g.unit v.room.now.held) r
     (lent_of v.log.now) (lent_of a.new.log) (lent_of b.new.log) (lent_of h.new.log) a.ensures.nets
     (subst (λ (x : Value). Gave (writes_by s.g.unit m (write_numbers s.g) x) (lent_of a.new.log) (lent_of b.new.log) r) (a.ensures.row (omega (arith, s.narrow))) (b.ensures trits image))
-    h.ensures
+    h.ensures.log_after

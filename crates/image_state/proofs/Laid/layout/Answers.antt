@@ -1,9 +1,11 @@
 -- `image_state::Laid::layout` meets its contract.
 use mathlib.Core.Path.{◌≡◌, sym, ap, ◌∙◌}
 use mathlib.Core.Bool.{Bool}
+use Prim.Native.Nat.{ℕ}
 use native.Mathlib.Omega.{arith}
+use lib.ListN.{take}
 use Rattle.lists.specs.Choice.{when◌then◌else◌}
-use Rattle.image_state.specs.View.{lent_unit}
+use Rattle.image_state.specs.View.{lent_unit, lent_params}
 use Rattle.image_state.proofs.Laying.{laid_lent}
 use Rattle.image_state.proofs.Laid.layout.Goals as goal
 use Rattle.image_state.proofs.Laid.layout.Goals.{then-row_bad, else-row_bad}
@@ -15,4 +17,5 @@ returns c =
       | then-row_bad w ↦ w.result-is ∙ sym (ap (λ (t : Bool). when t then 0 else l.unit) (sym c.row_bad.ensures ∙ w.if-row_bad.true))
       | else-row_bad w ↦ w.result-is ∙ sym (ap (λ (t : Bool). when t then 0 else l.unit) (sym c.row_bad.ensures ∙ w.if-row_bad.false))
     ] in
-    laid_lent l _ c.min.result (λ i. record { depth = l.depth; width = l.width; soft_mask = l.soft_mask; hard = l.hard; unit = unit_is i }) (omega arith)
+    let params_are : _ ≡ lent_params l = λ i. record { depth = l.depth; width = l.width; soft_mask = l.soft_mask; hard = l.hard; unit = unit_is i } in
+    record { value = laid_lent l _ c.min.result params_are (omega arith); params = params_are; entries = ap (λ (n : ℕ). take n l.entries) (omega arith) }

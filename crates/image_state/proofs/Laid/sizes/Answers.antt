@@ -8,6 +8,6 @@ use Rattle.image_state.proofs.Laid.sizes.Goals as goal
 pub returns : goal.returns
 returns c =
     record {
-      result_value = c.sizes_by.ensures ∙ ap sizes_call c.layout.ensures;
+      result_value = c.sizes_by.ensures ∙ ap sizes_call c.layout.ensures.value;
       z_value = λ z h. sizes_good (layout_of c.layout.result) z (sym c.sizes_by.ensures ∙ h);
     }

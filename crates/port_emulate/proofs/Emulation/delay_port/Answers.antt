@@ -3,7 +3,8 @@ use mathlib.Core.Path.{sym, ap, ◌∙◌, subst}
 use Prim.Native.Nat.{ℕ}
 use native.Mathlib.Omega.{arith}
 use mathlib.Core.List.{List, []}
-use Rattle.lists.specs.Lists.{part}
+use Rattle.lists.specs.Lists.{any, part}
+use Rattle.port_relations.specs.Clocked.{has_relation, flip_flops_from}
 use Rattle.log_entries.specs.View.{lent_of}
 use Rattle.net_memory.specs.View.{write_by, write_size}
 use Rattle.port_emulate.proofs.Bounds.{writes_by}
@@ -22,7 +23,7 @@ returns-else-relates_to c =
     let l1 = lent_of e.new.log in
     let own = c.part-own.ensures.part ∙ ap (λ (n : ℕ). part v.at n v.nets.now) c.write_size.ensures.0 in
     kept-done v.self.memory.now v.nets.now v.j v.at v.p c.requires v.self.all_x (cut (write_by v.p (part v.at (write_size v.p) v.nets.now) []) v.room.now.addr v.room.now.bits v.room.now.mask) e.new.room.addr e.new.room.bits e.new.room.mask l l1
-    (λ x y. sym (c.relates_to.ensures x y) ∙ c.if-relates_to.false)
+    (λ x y. sym (c.relates_to.ensures x y ∙ (λ i. any (has_relation (c.from-before.ensures i) v.j) (flip_flops_from v.self.memory.now x y 0))) ∙ c.if-relates_to.false)
     (λ x y. subst (λ (o : List ℕ). Gave (delayed_by (is_read v.self.memory.now x y v.j) v.self.all_x (write_by v.p o []) (cut (write_by v.p o []) v.room.now.addr v.room.now.bits v.room.now.mask)) l l1 (cut_by (is_read v.self.memory.now x y v.j) (write_by v.p o []) e.new.room.addr e.new.room.bits e.new.room.mask)) own (e.ensures x y))
 
 pub store_port-requires : goal.store_port-requires
@@ -41,5 +42,5 @@ returns-then-relates_to c =
     let n = writes_by v.self.memory.now v.self.eight v.nets.now in
     let own = c.part-own.ensures.part ∙ ap (λ (n : ℕ). part v.at n v.nets.now) c.write_size.ensures.0 in
     stored_done v.self.memory.now v.nets.now v.j v.at v.p c.requires s.new.nets e.new.room.addr e.new.room.bits e.new.room.mask (omega (arith, f.1, s.ensures.lens.0)) (omega (arith, f.2, s.ensures.lens.1)) (omega (arith, f.3, s.ensures.lens.2)) s.ensures.nets_after v.self.all_x (cut (write_by v.p (part v.at (write_size v.p) v.nets.now) []) v.room.now.addr v.room.now.bits v.room.now.mask) l l1 (omega (arith, n, c.requires.there))
-    (λ x y. sym (c.relates_to.ensures x y) ∙ c.if-relates_to.true)
+    (λ x y. sym (c.relates_to.ensures x y ∙ (λ i. any (has_relation (c.from-before.ensures i) v.j) (flip_flops_from v.self.memory.now x y 0))) ∙ c.if-relates_to.true)
     (λ x y. subst (λ (o : List ℕ). Gave (delayed_by (is_read v.self.memory.now x y v.j) v.self.all_x (write_by v.p o []) (cut (write_by v.p o []) v.room.now.addr v.room.now.bits v.room.now.mask)) l l1 (cut_by (is_read v.self.memory.now x y v.j) (write_by v.p o []) e.new.room.addr e.new.room.bits e.new.room.mask)) own (e.ensures x y))

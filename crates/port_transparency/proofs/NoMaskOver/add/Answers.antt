@@ -5,4 +5,4 @@ use Rattle.port_transparency.proofs.Covered.{no_mask}
 use Rattle.port_transparency.proofs.NoMaskOver.add.Goals as goal
 
 pub returns-clause-mask_after : goal.returns-clause-mask_after
-returns-clause-mask_after c = no_mask c.args.same (take c.args.n c.args.overlay.now.mask) (lent_of c.args.log.now)
+returns-clause-mask_after c = λ few. no_mask c.args.same (take c.args.n c.args.overlay.now.mask) (lent_of c.args.log.now)

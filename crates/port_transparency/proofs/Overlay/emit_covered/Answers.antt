@@ -13,7 +13,7 @@ returns c =
     let v = c.args in
     let s = v.self.now in
     let p = c.emit_dedup_mux in
-    let q = c.emit_bitwise_mux in
+    let q = c.emit_bitwise_nets in
     let z : Sized (take v.n s.bits) (take v.n s.mask) v.n = record { few = c.requires; in_bits = length-take-le v.n s.bits (omega arith); in_mask = length-take-le v.n s.mask (omega arith) } in
     record {
       data_after = covered-all v.same v.n (take v.n s.mask) (take v.n s.bits) s.under c.copy.new.to s.spare c.fill.new.to q.new.nets s.select p.new.out

@@ -19,12 +19,6 @@ emit_laid-same-requires g c =
     let r = c.args.r in
     fits w.k r.k (length w.addr.now) (length r.addr.now) (length w.bits.now) (length w.mask.now) r.count (sym c.pair_fits.ensures ∙ not-false _ (ap not c.if-not-pair_fits.false))
 
-pub add-requires : goal.add-requires
-add-requires g c =
-    let w = c.args.w in
-    let r = c.args.r in
-    (fits w.k r.k (length w.addr.now) (length r.addr.now) (length w.bits.now) (length w.mask.now) r.count (sym c.pair_fits.ensures ∙ not-false _ (ap not c.if-not-pair_fits.false))).few
-
 pub returns : goal.returns
 returns g c =
     let v = c.args in
@@ -32,6 +26,8 @@ returns g c =
     let q = c.add in
     let n = v.r.count in
     let k = g.O.Over.mask in
+    let w = v.w in
+    let fit = fits w.k v.r.k (length w.addr.now) (length v.r.addr.now) (length w.bits.now) (length w.mask.now) n (sym c.pair_fits.ensures ∙ not-false _ (ap not c.if-not-pair_fits.false)) in
     rw q.ensures.data_stays
     (laid_fits v.w.k v.r.k (write_of v.w) (read_of v.r) (data_and (take n v.self.now.under) (k v.over.now n)) (lent_of v.log.now) (lent_of q.new.log) (data_and (take n p.new.self.under) (k q.new.self n)) (sym c.pair_fits.ensures ∙ not-false _ (ap not c.if-not-pair_fits.false))
-    (p.ensures (k v.over.now n) (k q.new.self n) (lent_of q.new.log) q.ensures.mask_after))
+    (p.ensures (k v.over.now n) (k q.new.self n) (lent_of q.new.log) (q.ensures.mask_after fit.few)))

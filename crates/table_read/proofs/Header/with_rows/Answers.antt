@@ -9,7 +9,7 @@ pub returns-in-Refused : goal.returns-in-Refused
 unfolding parsed_of rows_table
 returns-in-Refused c =
     let a = c.args in
-    rows_refused (layout_given a.self.now.params a.self.now.entries) _ a.text.bytes.now a.at _ _ _ (sym (rows_short _ _ _ _ _ c.requires a.text.short) ∙ c.read_rows-end.ensures) c.in-Refused.is
+    rows_refused (layout_given a.self.now.params a.self.now.entries) _ a.text.bytes.now a.at _ _ _ _ _ (sym (rows_short _ _ _ _ _ c.requires a.text.short) ∙ c.read_rows-end.ensures) c.in-Refused.is
 
 pub returns-in_default : goal.returns-in_default
 unfolding parsed_of rows_table
