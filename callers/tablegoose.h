@@ -710,18 +710,18 @@ tablegoose_count tablegoose_list_record(uint8_t *out, size_t out_len, const uint
 tablegoose_count tablegoose_list_input(uint8_t *out, size_t out_len, const uint8_t *first, size_t first_len, size_t total);
 
 /* ---- stack: what each function takes at most, in bytes, beside the structs that it is given; read from the x86-64 code by scripts/stack.py
- *     384 tablegoose_add_and
- *   52864 tablegoose_add_bitwise_mux
- *   82048 tablegoose_add_dedup_dff
- *   52864 tablegoose_add_dedup_mux
- *     896 tablegoose_add_dff
- *     384 tablegoose_add_eq
- *     512 tablegoose_add_mux
+ *     256 tablegoose_add_and
+ *   52736 tablegoose_add_bitwise_mux
+ *   81920 tablegoose_add_dedup_dff
+ *   52736 tablegoose_add_dedup_mux
+ *     768 tablegoose_add_dff
+ *     256 tablegoose_add_eq
+ *     384 tablegoose_add_mux
  *     256 tablegoose_add_not
- *     384 tablegoose_add_or
+ *     256 tablegoose_add_or
  *     384 tablegoose_add_shl
  *     384 tablegoose_add_ushr
- *     256 tablegoose_add_void
+ *     128 tablegoose_add_void
  *    4992 tablegoose_can_lower_fallback
  *     128 tablegoose_cell_of_net
  *     128 tablegoose_const_and
@@ -732,15 +732,15 @@ tablegoose_count tablegoose_list_input(uint8_t *out, size_t out_len, const uint8
  *     128 tablegoose_control_not
  *  144768 tablegoose_emulate_read_before_write
  *    9856 tablegoose_extract_read_ports
- *    1792 tablegoose_fill
- *    2304 tablegoose_fill_and_patch
- *     768 tablegoose_fill_rows
- *    1152 tablegoose_fill_then_patch
- *     384 tablegoose_into_pos
- *    1152 tablegoose_laid_out
+ *    1664 tablegoose_fill
+ *    2176 tablegoose_fill_and_patch
+ *     512 tablegoose_fill_rows
+ *    1024 tablegoose_fill_then_patch
+ *     128 tablegoose_into_pos
+ *    1280 tablegoose_laid_out
  *     384 tablegoose_list_input
  *     384 tablegoose_list_record
- *  841728 tablegoose_lower_fallback
+ *  836864 tablegoose_lower_fallback
  *    6528 tablegoose_make_data_swizzle
  *     128 tablegoose_measure
  *    4992 tablegoose_memory_refusal
@@ -750,10 +750,10 @@ tablegoose_count tablegoose_list_input(uint8_t *out, size_t out_len, const uint8
  *     128 tablegoose_net_is_const
  *     128 tablegoose_net_of_cell
  *    4992 tablegoose_output_len
- *    1792 tablegoose_patch
- *    1920 tablegoose_patch_all
- *     768 tablegoose_patch_each
- *     640 tablegoose_patch_row
+ *    1664 tablegoose_patch
+ *    1792 tablegoose_patch_all
+ *     640 tablegoose_patch_each
+ *     512 tablegoose_patch_row
  *     128 tablegoose_place_of
  *    1536 tablegoose_read_laid_row
  *    5760 tablegoose_read_port_output_slice
@@ -761,11 +761,11 @@ tablegoose_count tablegoose_list_input(uint8_t *out, size_t out_len, const uint8
  *     512 tablegoose_read_row
  *     256 tablegoose_record_header
  *     640 tablegoose_remap_reset_over_enable
- *     384 tablegoose_replace_value
+ *     256 tablegoose_replace_value
  *    1408 tablegoose_sizes_of
  *     128 tablegoose_slice_refusal
- *  478592 tablegoose_swizzle
- *  477696 tablegoose_swizzle_and_patch
+ *  473728 tablegoose_swizzle
+ *  472960 tablegoose_swizzle_and_patch
  *    4992 tablegoose_swizzle_depths
  *    6272 tablegoose_swizzle_mux_bits
  *    2304 tablegoose_swizzled_clear
