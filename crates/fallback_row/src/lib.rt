@@ -19,11 +19,12 @@ use merge_keys::Keys;
 use net_flip_flop::{Controls, FlipFlop};
 use net_value::ControlNet;
 
-// A row: its nets as the write ports leave them, and room for muxes. It is lent, so that many rows clear it once.
+// A row: its nets as the write ports leave them, and room for muxes. It is lent, so that many rows clear it once. The room stands first: what is copied
+// from it goes upwards, and is no memmove.
 #[derive(Drop)]
 pub struct Row {
-    pub nets: [u32; rules::MAX_MERGE],
     pub spare: [u32; rules::MAX_MERGE],
+    pub nets: [u32; rules::MAX_MERGE],
     pub keys: Keys,
 }
 

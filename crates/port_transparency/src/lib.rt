@@ -41,14 +41,14 @@ pub struct Reading<'a> {
 }
 
 // Room for overlays: what is read, and then what is laid over it; a write port's data and mask as the read port sees them; and the muxes' nets. It is
-// lent, so that many overlays clear it once.
+// lent, so that many overlays clear it once. The muxes' nets stand first: what is copied from them goes upwards, and is no memmove.
 #[derive(Drop)]
 pub struct Overlay {
+    pub spare: [u32; rules::MAX_MERGE],
     pub under: [u32; rules::MAX_MERGE],
     pub bits: [u32; rules::MAX_MERGE],
     pub mask: [u32; rules::MAX_MERGE],
     pub select: [u32; rules::MAX_MERGE],
-    pub spare: [u32; rules::MAX_MERGE],
     pub keys: Keys,
 }
 
@@ -255,11 +255,11 @@ impl Overlay {
         ensures { result ≡ zero_overlay }
     {
         Overlay {
+            spare: [0; rules::MAX_MERGE],
             under: [0; rules::MAX_MERGE],
             bits: [0; rules::MAX_MERGE],
             mask: [0; rules::MAX_MERGE],
             select: [0; rules::MAX_MERGE],
-            spare: [0; rules::MAX_MERGE],
             keys: Keys::new(),
         }
     }
