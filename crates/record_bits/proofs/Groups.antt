@@ -3,7 +3,8 @@ use mathlib.Core.Path.{◌≡◌, refl, sym, ap, ◌∙◌}
 use mathlib.Core.Logic.{◌⊎◌, inl, inr}
 use mathlib.Core.Bool.{Bool, true, false, ◌||◌}
 use Prim.Native.Nat.{ℕ, zero, suc, ◌+◌, ◌-◌, ◌/◌, ◌%◌, ◌^◌, ◌<◌, ◌≤◌, min}
-use native.Mathlib.Nat.{pow-succ', div-one, div-div-eq-div-mul}
+use native.Mathlib.Nat.{pow-suc, pow-succ', div-one, div-div-eq-div-mul}
+use native.Mathlib.Numerals.{add-one}
 use native.Mathlib.Omega.{arith}
 use mathlib.Core.List.{List, [], ◌∷◌, ◌++◌, map}
 use lib.ListN.{length, take, drop, get_or, set}
@@ -16,6 +17,7 @@ use Rattle.lists.specs.Lists.{any, pairs}
 use Rattle.lists.proofs.Choice.{cases_le}
 use Rattle.lists.proofs.Pairs.{length_pairs}
 use Rattle.lists.proofs.Joined.{or_assoc, any-joined}
+use Rattle.std.specs.List.{range_with_len}
 use Rattle.rules.specs.Value.{from_uint}
 use Rattle.rules.specs.Record.{trit_by}
 use Rattle.record_bits.specs.Groups.{trits_by, group_trits, bad_by, bad_pair}
@@ -100,3 +102,20 @@ unfolding from_uint
 bad_end count k v i h =
     let e : 8 - i ≡ 0 = omega arith in
     rw (e, take-nil {A = ℕ × ℕ} (count - i), drop-nil {A = ℕ} (count - i))
+
+-- ---- the same by the places of the bits
+halved : (x i : ℕ) → x / 2 ^ (i + 1) ≡ x / 2 ^ i / 2
+halved x i = ap (λ (k : ℕ). x / k) (ap (λ (j : ℕ). 2 ^ j) (add-one i) ∙ pow-suc 2 i) ∙ sym (div-div-eq-div-mul x (2 ^ i) 2)
+
+bads_any : (count k v n i : ℕ) → i + n ≡ 8
+    → any (λ j. bad_pair (leb count j) (get_or (from_uint 8 k) j 0) (get_or (from_uint 8 v) j 0)) (range_with_len i n) ≡ bad_left count (k / 2 ^ i) (v / 2 ^ i) i
+bads_any count k v zero i e = sym (bad_end count (k / 2 ^ i) (v / 2 ^ i) i (omega (arith, e)))
+bads_any count k v (suc n) i e =
+    let half : (x : ℕ) → x / 2 ^ (i + 1) ≡ x / 2 ^ i / 2 = λ x. halved x i in
+    rw (bad_turn count (k / 2 ^ i) (v / 2 ^ i) i (omega (arith, e)), bit_of 8 k i (omega (arith, e)), bit_of 8 v i (omega (arith, e)), ← half k, ← half v)
+    (ap (λ (t : Bool). bad_pair (leb count i) (get_or (from_uint 8 k) i 0) (get_or (from_uint 8 v) i 0) || t) (bads_any count k v n (i + 1) (omega (arith, e))))
+
+pub all_bads : (count k v : ℕ) → any (λ j. bad_pair (leb count j) (get_or (from_uint 8 k) j 0) (get_or (from_uint 8 v) j 0)) (range_with_len 0 8) ≡ bad_by count (from_uint 8 k) (from_uint 8 v)
+all_bads count k v =
+    let z : count - 0 ≡ count = omega arith in
+    bads_any count k v 8 0 (omega arith) ∙ (rw (div-one k, div-one v, z))

@@ -26,3 +26,8 @@ one_case_more t u = (number : ℕ) × ((ok : Bool) × (u ≡ one_case t number o
 unfoldable pub cases_more : ℕ → Tally → Tally → Type 0
 cases_more zero t u = u ≡ t
 cases_more (suc n) t u = (v : Tally) × (cases_more n t v × one_case_more v u)
+
+-- n turns lead from t to u, one after the other
+unfoldable pub turns : (Tally → Tally → Type 0) → ℕ → Tally → Tally → Type 0
+turns turn zero t u = u ≡ t
+turns turn (suc n) t u = (v : Tally) × (turns turn n t v × turn v u)

@@ -3,7 +3,8 @@
 ghost use Rattle.std.specs.Prelude.{◌≡◌, min, ◌+◌};
 ghost use Rattle.rules.specs.Answers.{slice_call};
 ghost use Rattle.net_logic.specs.View.{given_part};
-ghost use Rattle.try_kit.specs.Numbered.{no_case, one_case_more, cases_more};
+ghost use Rattle.try_kit.specs.declared.numbered.Tally.{Tally};
+ghost use Rattle.try_kit.specs.Numbered.{no_case, turns, one_case_more, cases_more};
 ghost use Rattle.try_kit.specs.Spoilt.{is_control, select_in, controls_in};
 ghost use Rattle.try_kit.specs.Requests.{kind_of, words_of, results_of, bad_one_of, sum_of, clear_of, reset_of, init_of};
 
@@ -266,8 +267,41 @@ impl<'a> Inputs<'a> {
 // The nets and the trits that a buffer has room for.
 const NETS: usize = 4100;
 
-// What is tried of each case, and then all the cases of a request.
+// What is tried of each case, and then all the cases of a request. A trial may say by `turn` what a case does to the tally; else nothing is promised of it.
 pub trait Trial {
+    ghost turn: { Tally → Tally → Type 0 } = { λ t u. Unit {0} };
+
+    fn tried(t: Tally, c: Case, x: Inputs<'_>) -> Tally
+        ensures { turn t result };
+
+    final fn try_case(t: Tally, c: Case) -> Tally
+        ensures { turn t result }
+    {
+        let mut a = [0u32; NETS];
+        let mut b = [0u32; NETS];
+        let mut trits = [0u8; NETS];
+        c.set_inputs(&mut a, &mut b, &mut trits);
+        let x = Inputs {
+            a: net_value::value_slice(&a, 0, c.n),
+            b: net_value::value_slice(&b, 0, c.m),
+            trits: &trits,
+        };
+        Self::tried(t, c, x)
+    }
+
+    final fn try_all(request: Request) -> Tally
+        ensures { turns turn 720 no_case result }
+    {
+        let mut t = numbered::start();
+        for place in 0..CASES {
+            t = Self::try_case(t, Case::at(request, place));
+        }
+        t
+    }
+}
+
+// The same, where each case is one case more, whatever its number and its verdict.
+pub trait CountedTrial {
     fn tried(t: Tally, c: Case, x: Inputs<'_>) -> Tally
         ensures { one_case_more t result };
 
@@ -294,5 +328,26 @@ pub trait Trial {
             t = Self::try_case(t, Case::at(request, k));
         }
         t
+    }
+}
+
+#[cfg(test)]
+mod tests {
+    use super::*;
+
+    // It writes and proves no more than its method.
+    struct EachTwice;
+
+    impl Trial for EachTwice {
+        fn tried(t: Tally, c: Case, x: Inputs<'_>) -> Tally {
+            numbered::add(numbered::add(t, None, true), None, x.a.len() == c.n)
+        }
+    }
+
+    #[test]
+    fn a_trial_counts_as_it_likes(rt: HostRuntime) {
+        let tally = EachTwice::try_all(Request::Not);
+        assert_eq!(rt; tally.made, 1440);
+        assert_eq!(rt; tally.right, 1440);
     }
 }

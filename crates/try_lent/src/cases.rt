@@ -5,7 +5,7 @@ use log_entries::LogState;
 use try_kit::numbered;
 use try_kit::numbered::Tally;
 use try_kit::paint::paint;
-use try_kit::requests::{Case, Inputs, Trial};
+use try_kit::requests::{Case, CountedTrial, Inputs};
 
 const LOG_WORDS: usize = 16640;
 
@@ -28,7 +28,7 @@ fn called<W: Way>(log: &mut [u32], out: &mut [u32], c: Case, x: Inputs<'_>) -> O
 // The answer, the state and every word of log and room, against those of the request by value.
 pub(crate) struct BothWays;
 
-impl Trial for BothWays {
+impl CountedTrial for BothWays {
     fn tried(t: Tally, c: Case, x: Inputs<'_>) -> Tally {
         let mut want = [0u32; LOG_WORDS];
         let mut room = [0u32; NETS];

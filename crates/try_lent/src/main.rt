@@ -9,7 +9,7 @@ mod got;
 
 use cases::BothWays;
 use std::io;
-use try_kit::requests::{OF_ANY, OF_ONE_ENTRY, Request, Trial};
+use try_kit::requests::{CountedTrial, OF_ANY, OF_ONE_ENTRY, Request};
 
 fn report(rt: &impl Print, request: Request) -> io::Result<()> {
     println!(rt; "{request}: {}", BothWays::try_all(request))

@@ -6,7 +6,7 @@ use try_kit::borders::state_refusal;
 use try_kit::numbered;
 use try_kit::numbered::Tally;
 use try_kit::paint::paint;
-use try_kit::requests::{Case, Inputs, Request, Trial};
+use try_kit::requests::{Case, CountedTrial, Inputs, Request};
 use try_kit::spoilt::Bad;
 use try_kit::words::{net_above, plus, word};
 
@@ -185,7 +185,7 @@ fn compared(c: Case, answer: Result<LogState, Refusal>, want: &[u32], x: Inputs<
 
 pub(crate) struct OneEntry;
 
-impl Trial for OneEntry {
+impl CountedTrial for OneEntry {
     fn tried(t: Tally, c: Case, x: Inputs<'_>) -> Tally {
         let mut want = [0u32; LOG_WORDS];
         let answer = wanted(c);

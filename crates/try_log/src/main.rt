@@ -6,7 +6,7 @@ mod cells;
 
 use cells::OneEntry;
 use std::io;
-use try_kit::requests::{OF_ONE_ENTRY, Trial};
+use try_kit::requests::{CountedTrial, OF_ONE_ENTRY};
 
 // The kinds of entries: void, not, and, or, mux, eq, shl, ushr, flip-flop and replace.
 fn main(rt: HostRuntime) -> io::Result<()> {

@@ -1,6 +1,6 @@
 -- The invariants of `try_kit::requests::Trial::try_all`.
-use Rattle.try_kit.specs.Numbered.{no_case, cases_more}
+use Rattle.try_kit.specs.Numbered.{no_case, turns}
 use Rattle.try_kit.proofs.requests.Trial.try_all.Given as goal
 
-abbrev pub invariant-loop-k : goal.invariant-loop-k
-invariant-loop-k g l = cases_more l.k no_case l.t
+abbrev pub invariant-loop-place : goal.invariant-loop-place
+invariant-loop-place g l = turns g.Self.Trial.turn l.place no_case l.t

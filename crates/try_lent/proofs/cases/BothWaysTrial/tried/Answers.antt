@@ -1,7 +1,0 @@
--- `try_lent::cases::BothWaysTrial::tried` meets its contract.
-use Rattle.try_kit.specs.Numbered.{one_case_more}
-use Rattle.try_lent.proofs.cases.BothWaysTrial.tried.Goals as goal
-
-pub returns : goal.returns
-unfolding one_case_more
-returns c = (_, (_, c.add.ensures))
