@@ -346,6 +346,8 @@ mod tests {
 
     #[test]
     fn a_trial_counts_as_it_likes(rt: HostRuntime) {
+        let case = Case::at(Request::Not, 0);
+        assert_eq!(rt; EachTwice::try_case(numbered::start(), case).made, 2);
         let tally = EachTwice::try_all(Request::Not);
         assert_eq!(rt; tally.made, 1440);
         assert_eq!(rt; tally.right, 1440);
