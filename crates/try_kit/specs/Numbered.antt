@@ -1,4 +1,4 @@
--- Counts of cases by the number that each expects.
+-- Counts of cases by the number that each expects, and how the cases of a trial lead from one count to the next.
 use Rattle.std.specs.Prelude.{ℕ, zero, suc, ◌≡◌, Bool, true, eqb}
 use Rattle.try_kit.specs.Tally.{more}
 use Rattle.try_kit.specs.declared.numbered.Tally.{Tally}
@@ -22,12 +22,15 @@ one_case t number ok = record {
 unfoldable pub one_case_more : Tally → Tally → Type 0
 one_case_more t u = (number : ℕ) × ((ok : Bool) × (u ≡ one_case t number ok))
 
--- u counts n cases more than t, one after the other
-unfoldable pub cases_more : ℕ → Tally → Tally → Type 0
-cases_more zero t u = u ≡ t
-cases_more (suc n) t u = (v : Tally) × (cases_more n t v × one_case_more v u)
+-- each request is tried in so many cases
+abbrev pub cases : ℕ
+cases = 720
 
 -- n turns lead from t to u, one after the other
 unfoldable pub turns : (Tally → Tally → Type 0) → ℕ → Tally → Tally → Type 0
 turns turn zero t u = u ≡ t
 turns turn (suc n) t u = (v : Tally) × (turns turn n t v × turn v u)
+
+-- u counts n cases more than t, one after the other
+unfoldable pub cases_more : ℕ → Tally → Tally → Type 0
+cases_more n t u = turns one_case_more n t u

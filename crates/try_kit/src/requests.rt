@@ -4,7 +4,7 @@ ghost use Rattle.std.specs.Prelude.{◌≡◌, min, ◌+◌};
 ghost use Rattle.rules.specs.Answers.{slice_call};
 ghost use Rattle.net_logic.specs.View.{given_part};
 ghost use Rattle.try_kit.specs.declared.numbered.Tally.{Tally};
-ghost use Rattle.try_kit.specs.Numbered.{no_case, turns, one_case_more, cases_more};
+ghost use Rattle.try_kit.specs.Numbered.{cases, no_case, turns, one_case_more, cases_more};
 ghost use Rattle.try_kit.specs.Spoilt.{is_control, select_in, controls_in};
 ghost use Rattle.try_kit.specs.Requests.{kind_of, words_of, results_of, bad_one_of, sum_of, clear_of, reset_of, init_of};
 
@@ -152,6 +152,7 @@ pub struct Case {
     pub out: usize,
 }
 
+// As specs/Numbered.antt has it.
 const CASES: u32 = 720;
 
 // Where the last is, one value is longer.
@@ -228,6 +229,15 @@ pub struct Inputs<'a> {
 }
 
 impl<'a> Inputs<'a> {
+    // Those of a case, whose values and trits are set.
+    fn of(c: Case, a: &'a [u32], b: &'a [u32], trits: &'a [u8]) -> Inputs<'a> {
+        Inputs {
+            a: net_value::value_slice(a, 0, c.n),
+            b: net_value::value_slice(b, 0, c.m),
+            trits,
+        }
+    }
+
     // The trits that a case's flip-flop clears to, resets to and starts from.
     pub fn clear(self, c: Case) -> &'a [u8]
         ensures { result.now ≡ clear_of self.entry.trits.now c }
@@ -281,16 +291,12 @@ pub trait Trial {
         let mut b = [0u32; NETS];
         let mut trits = [0u8; NETS];
         c.set_inputs(&mut a, &mut b, &mut trits);
-        let x = Inputs {
-            a: net_value::value_slice(&a, 0, c.n),
-            b: net_value::value_slice(&b, 0, c.m),
-            trits: &trits,
-        };
+        let x = Inputs::of(c, &a, &b, &trits);
         Self::tried(t, c, x)
     }
 
     final fn try_all(request: Request) -> Tally
-        ensures { turns turn 720 no_case result }
+        ensures { turns turn cases no_case result }
     {
         let mut t = numbered::start();
         for place in 0..CASES {
@@ -312,16 +318,12 @@ pub trait CountedTrial {
         let mut b = [0u32; NETS];
         let mut trits = [0u8; NETS];
         c.set_inputs(&mut a, &mut b, &mut trits);
-        let inputs = Inputs {
-            a: net_value::value_slice(&a, 0, c.n),
-            b: net_value::value_slice(&b, 0, c.m),
-            trits: &trits,
-        };
+        let inputs = Inputs::of(c, &a, &b, &trits);
         Self::tried(t, c, inputs)
     }
 
     final fn try_all(request: Request) -> Tally
-        ensures { cases_more 720 no_case result }
+        ensures { cases_more cases no_case result }
     {
         let mut t = numbered::start();
         for k in 0..CASES {
